@@ -1,0 +1,1 @@
+//! The case corpus and seeded random files, run on a checker.
