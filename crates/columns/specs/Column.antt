@@ -1,0 +1,12 @@
+-- Columns: a table lent as columns is as long as its shortest column, and what is past its rows is zero.
+use Prim.Native.Nat.{ℕ, _-_}
+use mathlib.Core.List.{List, _++_}
+use lib.ListN.{length, replicate, take}
+
+-- a column with zeros from an index on
+abbrev pub cleared : {A : Type 0} → A → ℕ → List A → List A
+cleared z n c = take n c ++ replicate (length c - n) z
+
+-- values, and zeros behind them up to n entries
+abbrev pub padded : {A : Type 0} → A → ℕ → List A → List A
+padded z n vs = vs ++ replicate (n - length vs) z
