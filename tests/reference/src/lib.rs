@@ -158,7 +158,7 @@ fn parsed(
 ) -> Result<Vec<SyntaxRow>, Refusal> {
     let nodes = parser::read(terminals).map_err(|stop| {
         // A text that stops early is refused at its length.
-        let number = tokens.get(stop.token).map_or(bytes.len() as u64, |token| u64::from(token.start));
+        let number = tokens.get(stop.token as usize).map_or(bytes.len() as u64, |token| u64::from(token.start));
         Refusal { reply: stop.reply, number }
     })?;
     fits(&nodes, node_rows, 7)?;

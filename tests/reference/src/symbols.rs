@@ -58,8 +58,7 @@ impl<'a> Interner<'a> {
     fn symbol(&mut self, text: &'a [u8]) -> u32 {
         let hash = hash(text);
         let mut slot = (hash >> self.shift) as usize;
-        loop {
-            let Some(symbol) = self.slots[slot].checked_sub(1) else { break };
+        while let Some(symbol) = self.slots[slot].checked_sub(1) {
             let known = &self.spellings[symbol as usize];
             if known.hash == hash && known.text.eq_ignore_ascii_case(text) {
                 return symbol;
