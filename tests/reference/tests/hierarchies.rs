@@ -144,8 +144,8 @@ impl Model {
             return Ok(Some(attribute.1));
         }
         let items = self.items.iter().filter(|items| items.contains(&name)).count();
-        match (self.inherited(entity, name)[..], self.constants.contains(&name), items) {
-            ([attribute], ..) => Ok(Some(attribute)),
+        match (&self.inherited(entity, name)[..], self.constants.contains(&name), items) {
+            ([attribute], ..) => Ok(Some(*attribute)),
             ([], true, _) | ([], false, 1) => Ok(None),
             ([], false, 0) => Err(10),
             _ => Err(12),
