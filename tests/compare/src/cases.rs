@@ -25,6 +25,11 @@ impl Case {
     }
 }
 
+/// The rows that the tables hold after the check of a case, as `NAME.rows` gives them, if there is such a file.
+pub fn rows(case: &Case) -> Option<String> {
+    fs::read_to_string(folder().join(format!("{}.rows", case.name))).ok()
+}
+
 /// The reply that a listing begins with, and the number beside it.
 fn reply(listing: &[u8]) -> Option<(u32, u64)> {
     let text = std::str::from_utf8(listing).ok()?;
@@ -50,7 +55,7 @@ pub fn all() -> Vec<Case> {
         .lines()
         .map(|line| {
             let columns: Vec<&str> = line.split('\t').collect();
-            let [name, lengths, fill, sentence] = columns[..] else { panic!("INDEX: not four columns: {line}") };
+            let [name, lent, fill, sentence] = columns[..] else { panic!("INDEX: not four columns: {line}") };
             let mut input = read(format!("{name}.exp"));
             if fill != "-" {
                 let bytes: usize = fill.parse().unwrap_or_else(|_| panic!("INDEX: {name}: no number of bytes: {fill}"));
@@ -59,7 +64,7 @@ pub fn all() -> Vec<Case> {
             }
             Case {
                 name: name.to_string(),
-                lengths: rows(lengths).unwrap_or_else(|| panic!("INDEX: {name}: no three lengths: {lengths}")),
+                lengths: rows_lent(lent).unwrap_or_else(|| panic!("INDEX: {name}: no three lengths: {lent}")),
                 sentence: sentence.to_string(),
                 input,
                 expected: read(format!("{name}.out")),
@@ -68,7 +73,7 @@ pub fn all() -> Vec<Case> {
         .collect()
 }
 
-fn rows(column: &str) -> Option<[usize; 3]> {
+fn rows_lent(column: &str) -> Option<[usize; 3]> {
     if column == "-" {
         return Some(PROGRAM_LENGTHS);
     }

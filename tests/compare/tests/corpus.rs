@@ -55,7 +55,7 @@ fn listings_are_as_expected() {
 fn reports_are_as_expected() {
     each(|case, checked| {
         let (reply, number) = case.reply();
-        let Report { tokens, nodes, constants, .. } = checked.report;
+        let Report { tokens, nodes, .. } = checked.report;
         let want = match reply {
             0 => Report { reply, number: 0, tokens, nodes, constants: number as u32 },
             _ => Report { reply, number, tokens: 0, nodes: 0, constants: 0 },
@@ -82,6 +82,32 @@ fn tables_are_zero_after_a_refusal_and_past_the_counts() {
             && nodes[used[1]..].iter().all(|row| *row == NodeRow::default())
             && answers[used[2]..].iter().all(|row| *row == AnswerRow::default());
         if zero { Ok(()) } else { Err(format!("an entry past {used:?} is not zero")) }
+    });
+}
+
+#[test]
+fn rows_are_as_expected() {
+    each(|case, checked| {
+        let Some(want) = cases::rows(case) else { return Ok(()) };
+        let Checked { report, tokens, nodes, answers } = checked;
+        let mut got: Vec<String> = Vec::new();
+        got.extend(tokens[..report.tokens as usize].iter().map(|r| format!("token {} {} {}", r.kind, r.start, r.length)));
+        got.extend(nodes[..report.nodes as usize].iter().map(|r| format!("node {} {} {} {}", r.kind, r.token, r.size, r.binding)));
+        got.extend(answers[..report.constants as usize].iter().map(|r| format!("answer {} {} {}", r.kind, r.number, r.length)));
+        let mut faults = Vec::new();
+        for table in ["token ", "node ", "answer "] {
+            let want: Vec<&str> = want.lines().filter(|row| row.starts_with(table)).collect();
+            let got: Vec<&str> = got.iter().map(String::as_str).filter(|row| row.starts_with(table)).collect();
+            if want.is_empty() {
+                continue;
+            }
+            for i in 0..want.len().max(got.len()) {
+                if want.get(i) != got.get(i) {
+                    faults.push(format!("\n  row {i}: expected {:?}, got {:?}", want.get(i), got.get(i)));
+                }
+            }
+        }
+        if faults.is_empty() { Ok(()) } else { Err(format!("other rows{}", faults.concat())) }
     });
 }
 
@@ -121,6 +147,17 @@ fn index_and_files_agree() {
     }
     let mut want: BTreeSet<String> = names.iter().flat_map(|name| [format!("{name}.exp"), format!("{name}.out")]).collect();
     want.extend(["INDEX", "README.md", ".gitattributes"].map(str::to_string));
+    let rows: BTreeSet<String> = files.iter().filter(|file| file.ends_with(".rows")).cloned().collect();
+    assert!(rows.len() >= 5, "{} files of rows", rows.len());
+    for file in rows {
+        let text = std::fs::read_to_string(cases::folder().join(&file)).unwrap();
+        for line in text.lines() {
+            let known = ["token ", "node ", "answer "].iter().any(|table| line.starts_with(table));
+            assert!(known, "{file}: {line}");
+        }
+        assert!(names.contains(file.trim_end_matches(".rows")), "{file}: no such case");
+        want.insert(file);
+    }
     assert_eq!(files.symmetric_difference(&want).collect::<Vec<_>>(), Vec::<&String>::new());
     for case in &all {
         assert!(case.name.bytes().all(|b| b.is_ascii_lowercase() || b.is_ascii_digit() || b == b'-'), "{}", case.name);
