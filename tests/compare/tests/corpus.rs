@@ -127,6 +127,20 @@ fn every_reserved_word_is_no_name() {
 }
 
 #[test]
+fn every_byte_alone() {
+    for byte in 0..=255u8 {
+        let want = match byte {
+            9..=13 | 32 => (4, 1),
+            b'a'..=b'z' | b'A'..=b'Z' | b'0'..=b'9' => (4, 0),
+            _ if b"?.,;:*+-=\\/<>[]{}|()".contains(&byte) => (4, 0),
+            _ => (2, 0),
+        };
+        let Report { reply, number, .. } = check(&[byte], PROGRAM_LENGTHS).report;
+        assert_eq!((reply, number), want, "byte {byte}");
+    }
+}
+
+#[test]
 fn the_corpus_has_every_reply() {
     let all = cases::all();
     assert!(all.len() >= 150, "{} cases", all.len());
