@@ -117,7 +117,8 @@ impl Grammar {
                 }
                 None => {
                     let name = self.rules[rule].name;
-                    let waiting = sets[origin].iter().filter(|&&(rule, dot, _)| self.rules[rule].parts.get(dot) == Some(&name));
+                    let waiting =
+                        sets[origin].iter().filter(|&&(rule, dot, _)| self.rules[rule].parts.get(dot) == Some(&name));
                     more.extend(waiting.map(|&(rule, dot, origin)| (rule, dot + 1, origin)));
                 }
             }
@@ -178,8 +179,13 @@ fn damage(text: &mut Vec<&'static str>, terminals: &[&'static str], random: &mut
 #[test]
 fn refusals_stand_at_the_first_token_that_no_text_goes_through() {
     let grammar = Grammar::new();
-    let mut terminals: Vec<&str> =
-        grammar.rules.iter().flat_map(|rule| &rule.parts).copied().filter(|part| !grammar.of.contains_key(part)).collect();
+    let mut terminals: Vec<&str> = grammar
+        .rules
+        .iter()
+        .flat_map(|rule| &rule.parts)
+        .copied()
+        .filter(|part| !grammar.of.contains_key(part))
+        .collect();
     terminals.sort();
     terminals.dedup();
     terminals.extend(STRAY);
