@@ -117,7 +117,8 @@ impl Grammar {
                 }
                 None => {
                     let name = self.rules[rule].name;
-                    let waiting = sets[origin].iter().filter(|&&(rule, dot, _)| self.rules[rule].parts.get(dot) == Some(&name));
+                    let waiting =
+                        sets[origin].iter().filter(|&&(rule, dot, _)| self.rules[rule].parts.get(dot) == Some(&name));
                     more.extend(waiting.map(|&(rule, dot, origin)| (rule, dot + 1, origin)));
                 }
             }
@@ -178,14 +179,19 @@ fn damage(text: &mut Vec<&'static str>, terminals: &[&'static str], random: &mut
 #[test]
 fn refusals_stand_at_the_first_token_that_no_text_goes_through() {
     let grammar = Grammar::new();
-    let mut terminals: Vec<&str> =
-        grammar.rules.iter().flat_map(|rule| &rule.parts).copied().filter(|part| !grammar.of.contains_key(part)).collect();
+    let mut terminals: Vec<&str> = grammar
+        .rules
+        .iter()
+        .flat_map(|rule| &rule.parts)
+        .copied()
+        .filter(|part| !grammar.of.contains_key(part))
+        .collect();
     terminals.sort();
     terminals.dedup();
     terminals.extend(STRAY);
     let mut random = Random(0x2545_F491_4F6C_DD1D);
     let mut accepted = 0;
-    for _ in 0..4_000 {
+    for _ in 0..2_000 {
         let budget = 20 + random.below(200);
         let mut text = grammar.text(&mut random, budget);
         damage(&mut text, &terminals, &mut random);
@@ -205,7 +211,7 @@ fn refusals_stand_at_the_first_token_that_no_text_goes_through() {
             }
         }
     }
-    assert!(accepted > 1_000);
+    assert!(accepted > 500);
 }
 
 /// Names are drawn from a small stock, so that they often meet.
@@ -227,7 +233,7 @@ fn no_input_makes_the_checker_panic() {
     let grammar = Grammar::new();
     let mut random = Random(0x9E37_79B9_7F4A_7C15);
     let mut replies = [0; 16];
-    for round in 0..60_000 {
+    for round in 0..20_000 {
         let budget = 10 + random.below(60);
         let text = grammar.text(&mut random, budget);
         let mut bytes = named(&text, &mut random).into_bytes();

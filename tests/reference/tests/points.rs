@@ -156,22 +156,28 @@ fn kinds() {
     refused(15, "SCHEMA s; CONSTANT @c : INTEGER := TRUE; END_CONSTANT; END_SCHEMA;");
     refused(14, "SCHEMA s; CONSTANT c : @REAL := 1.; END_CONSTANT; END_SCHEMA;");
     refused(14, "SCHEMA s; CONSTANT c : INTEGER := @d; d : REAL := 1.; END_CONSTANT; END_SCHEMA;");
-    refused(14, "SCHEMA s; CONSTANT c : @t := 1; END_CONSTANT; TYPE t = u; END_TYPE; TYPE u = STRING; END_TYPE; END_SCHEMA;");
+    refused(
+        14,
+        "SCHEMA s; CONSTANT c : @t := 1; END_CONSTANT; TYPE t = u; END_TYPE; TYPE u = STRING; END_TYPE; END_SCHEMA;",
+    );
     refused(14, "SCHEMA s; CONSTANT c : @t := 1; END_CONSTANT; TYPE t = SELECT (e); END_TYPE; ENTITY e; END_ENTITY; END_SCHEMA;");
     refused(14, "SCHEMA s; CONSTANT c : @e := 1; END_CONSTANT; ENTITY e; END_ENTITY; END_SCHEMA;");
     // A renaming of an enumeration is the enumeration's kind; one of an integer an integer.
     accepted("SCHEMA s; CONSTANT c : t := d + 1; d : u := 2; END_CONSTANT; TYPE t = INTEGER; END_TYPE; TYPE u = t; END_TYPE; END_SCHEMA;");
     // Only constants are typed.
-    accepted("SCHEMA s; ENTITY e; a : REAL; DERIVE b : INTEGER := 'x' / TRUE + a; WHERE NOT 1; END_ENTITY; END_SCHEMA;");
+    accepted(
+        "SCHEMA s; ENTITY e; a : REAL; DERIVE b : INTEGER := 'x' / TRUE + a; WHERE NOT 1; END_ENTITY; END_SCHEMA;",
+    );
 }
 
 #[test]
 fn tokens_at_their_edges() {
     assert_eq!(token_texts("1.e"), ["1.", "e"]);
     assert_eq!(token_texts("1.e+5e-6 12ab 1..2"), ["1.e+5", "e", "-", "6", "12", "ab", "1.", ".", "2"]);
-    assert_eq!(token_texts(":=: :<>: := : :<> <* <** ***) || |"), [
-        ":=:", ":<>:", ":=", ":", ":", "<>", "<*", "<*", "*", "**", "*", ")", "||", "|"
-    ]);
+    assert_eq!(
+        token_texts(":=: :<>: := : :<> <* <** ***) || |"),
+        [":=:", ":<>:", ":=", ":", ":", "<>", "<*", "<*", "*", "**", "*", ")", "||", "|"]
+    );
     assert_eq!(token_texts("a(*(**)*)b(*)*)c(**)d--e\nf--"), ["a", "b", "c", "d", "f"]);
     assert_eq!(token_texts("'it''s' ''''%01"), ["'it''s'", "''''", "%01"]);
     assert_eq!(token_texts("%012"), ["%01", "2"]);
@@ -270,7 +276,10 @@ fn declared_twice() {
 
 #[test]
 fn names_of_types() {
-    refused(10, "SCHEMA s; CONSTANT c : @t := d; END_CONSTANT; END_SCHEMA; SCHEMA u; TYPE t = REAL; END_TYPE; END_SCHEMA;");
+    refused(
+        10,
+        "SCHEMA s; CONSTANT c : @t := d; END_CONSTANT; END_SCHEMA; SCHEMA u; TYPE t = REAL; END_TYPE; END_SCHEMA;",
+    );
     refused(11, "SCHEMA s; CONSTANT c : @c := 1; END_CONSTANT; END_SCHEMA;");
     refused(11, "SCHEMA s; TYPE t = @e; END_TYPE; ENTITY e; END_ENTITY; END_SCHEMA;");
     refused(11, "SCHEMA s; ENTITY e SUBTYPE OF (@t); END_ENTITY; TYPE t = REAL; END_TYPE; END_SCHEMA;");
@@ -285,7 +294,10 @@ fn cycles() {
     refused(13, "SCHEMA s; ENTITY a SUBTYPE OF (b); END_ENTITY; ENTITY @b SUBTYPE OF (b); END_ENTITY; END_SCHEMA;");
     refused(13, "SCHEMA s; TYPE t = SELECT (e); END_TYPE; ENTITY @e SUBTYPE OF (f); a : t; END_ENTITY; ENTITY f SUBTYPE OF (e); END_ENTITY; TYPE u = u; END_TYPE; END_SCHEMA;");
     accepted("SCHEMA s; TYPE t = SELECT (e); END_TYPE; ENTITY e; a : t; END_ENTITY; END_SCHEMA;");
-    refused(13, "SCHEMA s; CONSTANT a : REAL := b; @b : REAL := c + d; d : REAL := 1; c : REAL := b; END_CONSTANT; END_SCHEMA;");
+    refused(
+        13,
+        "SCHEMA s; CONSTANT a : REAL := b; @b : REAL := c + d; d : REAL := 1; c : REAL := b; END_CONSTANT; END_SCHEMA;",
+    );
     refused(13, "SCHEMA s; TYPE @t = t; END_TYPE; ENTITY e; WHERE nothing; END_ENTITY; END_SCHEMA;");
 }
 
@@ -335,7 +347,10 @@ fn hierarchies_wider_than_a_word() {
     // Two hundred entities that declare `x` beside one, reached over a chain, that declares it too.
     let mut text = String::from("SCHEMA s; ENTITY r; x : REAL; END_ENTITY; ENTITY e0 SUBTYPE OF (r); END_ENTITY; ");
     for number in 0..200 {
-        text += &format!("ENTITY f{number}; x : REAL; END_ENTITY; ENTITY e{} SUBTYPE OF (e{number}); WHERE x > 0; END_ENTITY; ", number + 1);
+        text += &format!(
+            "ENTITY f{number}; x : REAL; END_ENTITY; ENTITY e{} SUBTYPE OF (e{number}); WHERE x > 0; END_ENTITY; ",
+            number + 1
+        );
     }
     accepted(&(text.clone() + "END_SCHEMA;"));
     refused(12, &(text.clone() + "ENTITY g SUBTYPE OF (e200, f0); WHERE @x; END_ENTITY; END_SCHEMA;"));
@@ -350,13 +365,37 @@ fn rows_of_a_small_file() {
     assert_eq!(checked.report.reply, 0);
     let rows: Vec<_> =
         checked.nodes[..checked.report.nodes as usize].iter().map(|row| (row.kind, row.size, row.binding)).collect();
-    assert_eq!(rows, [
-        (6, 1, 11), (7, 1, 13), (17, 3, 0),
-        (6, 1, 15), (6, 1, 3), (1, 1, 0), (10, 3, 0), (23, 4, 0), (8, 1, 0), (23, 2, 0), (18, 8, 0),
-        (14, 1, 0), (14, 1, 0), (15, 3, 0), (18, 4, 0),
-        (19, 1, 0), (19, 1, 0), (13, 1, 0), (21, 4, 0), (24, 5, 0), (25, 21, 0), (26, 22, 0),
-    ]);
-    assert_eq!(checked.answers, [AnswerRow { kind: 4, number: 12, length: 0 }, AnswerRow::default(), AnswerRow::default()]);
+    assert_eq!(
+        rows,
+        [
+            (6, 1, 11),
+            (7, 1, 13),
+            (17, 3, 0),
+            (6, 1, 15),
+            (6, 1, 3),
+            (1, 1, 0),
+            (10, 3, 0),
+            (23, 4, 0),
+            (8, 1, 0),
+            (23, 2, 0),
+            (18, 8, 0),
+            (14, 1, 0),
+            (14, 1, 0),
+            (15, 3, 0),
+            (18, 4, 0),
+            (19, 1, 0),
+            (19, 1, 0),
+            (13, 1, 0),
+            (21, 4, 0),
+            (24, 5, 0),
+            (25, 21, 0),
+            (26, 22, 0),
+        ]
+    );
+    assert_eq!(
+        checked.answers,
+        [AnswerRow { kind: 4, number: 12, length: 0 }, AnswerRow::default(), AnswerRow::default()]
+    );
     let roles: Vec<_> = parse(text.as_bytes(), &checked.tokens[..checked.report.tokens as usize], 100).rows[..10]
         .iter()
         .map(|row| row.role)
