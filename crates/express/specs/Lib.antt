@@ -1,3 +1,7 @@
 pub mod Answer
+pub mod Bits
+pub mod Integer
+pub mod Logic
+pub mod Relation
 pub mod Tree
 pub mod Formed
