@@ -1,2 +1,4 @@
 pub mod Answer
+pub mod Bytes
+pub mod Terminal
 pub mod Tree
