@@ -1,4 +1,5 @@
 pub mod Answer
 pub mod Bytes
+pub mod Lexis
 pub mod Terminal
 pub mod Tree
