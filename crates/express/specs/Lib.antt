@@ -3,6 +3,7 @@ pub mod Bits
 pub mod Bytes
 pub mod Formed
 pub mod Integer
+pub mod Lexis
 pub mod Logic
 pub mod Relation
 pub mod Terminal
