@@ -1,2 +1,9 @@
 pub mod Answer
+pub mod NodeKind
+pub mod Select
+pub mod Spelling
 pub mod Tree
+pub mod Reach
+pub mod Scope
+pub mod Fault
+pub mod Names
