@@ -1,10 +1,17 @@
 pub mod Answer
 pub mod Bits
 pub mod Bytes
+pub mod Fault
 pub mod Formed
 pub mod Integer
 pub mod Lexis
 pub mod Logic
+pub mod Names
+pub mod NodeKind
+pub mod Reach
 pub mod Relation
+pub mod Scope
+pub mod Select
+pub mod Spelling
 pub mod Terminal
 pub mod Tree
