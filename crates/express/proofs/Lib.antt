@@ -1,1 +1,4 @@
+pub mod Select
+pub mod Spelling
+pub mod Reach
 pub mod NameCases
