@@ -2,3 +2,4 @@ pub mod Select
 pub mod Spelling
 pub mod Reach
 pub mod NameCases
+pub mod TokenExamples

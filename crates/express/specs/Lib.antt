@@ -1,4 +1,7 @@
 pub mod Answer
+pub mod Bytes
+pub mod Lexis
+pub mod Terminal
 pub mod NodeKind
 pub mod Select
 pub mod Spelling
