@@ -3,3 +3,4 @@ pub mod Spelling
 pub mod Reach
 pub mod NameCases
 pub mod TokenExamples
+pub mod Names
