@@ -4,3 +4,4 @@ pub mod Reach
 pub mod NameCases
 pub mod TokenExamples
 pub mod Names
+pub mod Once
