@@ -2,4 +2,9 @@ pub mod Bits
 pub mod Divide
 pub mod Logic
 pub mod NameCases
+pub mod Names
+pub mod Once
+pub mod Reach
+pub mod Select
+pub mod Spelling
 pub mod TokenExamples

@@ -1,14 +1,11 @@
 -- Which tokens are spelled alike: "Letters match without case."
-use mathlib.Core.Bool.{Bool, true, false, cond, _&&_}
+use mathlib.Core.Bool.{Bool, true, false, _&&_}
 use mathlib.Core.List.{List, [], _∷_, map}
-use Prim.Native.Nat.{ℕ, _+_}
-use lib.Dec.{eqb, leb}
+use Prim.Native.Nat.{ℕ}
+use lib.Dec.{eqb}
 use lib.ListN.{length, getD, take, drop}
+use Rattle.express.specs.Bytes.{lower}
 use Rattle.express.specs.Select.{span, firstFrom}
-
--- a byte, a capital letter as the small one
-abbrev pub lower : ℕ → ℕ
-lower b = cond (leb 65 b && leb b 90) (b + 32) b
 
 -- the bytes of a token, in lower case
 abbrev pub spelling : List ℕ → List ℕ → List ℕ → ℕ → List ℕ
