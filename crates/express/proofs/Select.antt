@@ -2,7 +2,7 @@
 use mathlib.Core.Path.{_≡_, refl, sym, ap, _∙_}
 use mathlib.Core.Logic.{_⊎_, inl, inr, ⊎-elim}
 use mathlib.Core.Bool.{Bool, true, false, cond, _&&_, _||_, false≢true, and-eq-true-iff}
-use mathlib.Core.List.{List, [], _∷_, List·Memᴰ, List·Memᴰ·head, List·Memᴰ·tail, List·Memᴰ·cases-cons, List·Memᴰ·not-nil}
+use mathlib.Core.List.{List, [], _∷_, _++_, flatMap, List·Memᴰ, List·Memᴰ·head, List·Memᴰ·tail, List·Memᴰ·cases-cons, List·Memᴰ·not-nil, List·Memᴰ·append-cases, Memᴰ·append-left, Memᴰ·append-right, Memᴰ·cast}
 use Prim.Native.Nat.{ℕ, zero, suc, _+_, _-_, _≤_, _<_}
 use native.Mathlib.Numerals.{add-one}
 use native.Mathlib.Omega.{arith}
@@ -176,3 +176,17 @@ module _ {A : Type 0} where
       by : (b : Bool) → length (keep p xs) ≤ length xs → length (cond b (x ∷ keep p xs) (keep p xs)) ≤ suc (length xs)
       by true l = omega arith
       by false l = omega arith
+
+-- what is in one of the lists
+module _ {A B : Type 0} (f : A → List B) where
+  pub flat-mem : (xs : List A) {y : B} → List·Memᴰ y (flatMap f xs) → (x : A) × List·Memᴰ x xs × List·Memᴰ y (f x)
+  unfolding flatMap
+  flat-mem [] m = absurd (List·Memᴰ·not-nil m)
+  flat-mem (x ∷ xs) m =
+      ⊎-elim (λ l. (x, List·Memᴰ·head refl, l)) (λ l. let r = flat-mem xs l in (r .0, List·Memᴰ·tail (r .1), r .2)) (List·Memᴰ·append-cases (f x) m)
+
+  pub mem-flat : (xs : List A) {x : A} {y : B} → List·Memᴰ x xs → List·Memᴰ y (f x) → List·Memᴰ y (flatMap f xs)
+  unfolding flatMap
+  mem-flat [] m l = absurd (List·Memᴰ·not-nil m)
+  mem-flat (z ∷ zs) {x} {y} m l =
+      ⊎-elim (λ q. let l′ : List·Memᴰ y (f z) = rw q at l in Memᴰ·append-left (flatMap f zs) l′) (λ m′. Memᴰ·append-right (f z) (mem-flat zs m′ l)) (List·Memᴰ·cases-cons m)
