@@ -8,3 +8,4 @@ pub mod Reach
 pub mod Select
 pub mod Spelling
 pub mod TokenExamples
+pub mod Topological
