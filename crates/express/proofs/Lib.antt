@@ -9,3 +9,4 @@ pub mod Select
 pub mod Spelling
 pub mod TokenExamples
 pub mod Topological
+pub mod Inside
