@@ -10,3 +10,4 @@ pub mod Spelling
 pub mod TokenExamples
 pub mod Topological
 pub mod Inside
+pub mod ConstantOrder
