@@ -1,0 +1,13 @@
+pub mod Bits
+pub mod Divide
+pub mod Logic
+pub mod NameCases
+pub mod Names
+pub mod Once
+pub mod Reach
+pub mod Select
+pub mod Spelling
+pub mod TokenExamples
+pub mod Topological
+pub mod Inside
+pub mod ConstantOrder
