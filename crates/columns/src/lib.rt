@@ -1,9 +1,79 @@
-// Lent columns: a number stored as far as it fits, and zeros from an index on.
+// Lent columns: a number stored as far as it fits, zeros from an index on, and the cast of an index.
 ghost use mathlib.Core.Path.{_≡_};
+ghost use Prim.Native.Nat.{min};
+ghost use lib.IntN.{pos};
+ghost use lib.ListN.{set};
+ghost use Rattle.columns.specs.Column.{cleared};
 
 // A 32-bit number as an index.
 pub fn index(x: u32) -> usize
     ensures { λ r. ⌜ r ≡ x ⌝ }
 {
     x as usize
+}
+
+// The smaller of two lengths: a table lent as columns is as long as its shortest column.
+pub fn shorter(a: usize, b: usize) -> usize
+    ensures { λ r. ⌜ r ≡ min a b ⌝ }
+{
+    if a < b {
+        return a;
+    }
+    b
+}
+
+// Stores a number at an index; past the column's end nothing changes.
+pub fn put8(column: &mut [u8], at: usize, byte: u8)
+    ensures { λ _. ⌜ now (column .exit) ≡ set (now (column .entry)) at byte ⌝ }
+{
+    if at < column.len() {
+        column[at] = byte;
+    }
+}
+
+pub fn put32(column: &mut [u32], at: usize, value: u32)
+    ensures { λ _. ⌜ now (column .exit) ≡ set (now (column .entry)) at value ⌝ }
+{
+    if at < column.len() {
+        column[at] = value;
+    }
+}
+
+pub fn put64(column: &mut [i64], at: usize, value: i64)
+    ensures { λ _. ⌜ now (column .exit) ≡ set (now (column .entry)) at value ⌝ }
+{
+    if at < column.len() {
+        column[at] = value;
+    }
+}
+
+// Zeros from an index on.
+pub fn clear8(column: &mut [u8], from: usize)
+    ensures { λ _. ⌜ now (column .exit) ≡ cleared 0 from (now (column .entry)) ⌝ }
+{
+    let mut i = from;
+    while i < column.len() {
+        column[i] = 0;
+        i += 1;
+    }
+}
+
+pub fn clear32(column: &mut [u32], from: usize)
+    ensures { λ _. ⌜ now (column .exit) ≡ cleared 0 from (now (column .entry)) ⌝ }
+{
+    let mut i = from;
+    while i < column.len() {
+        column[i] = 0;
+        i += 1;
+    }
+}
+
+pub fn clear64(column: &mut [i64], from: usize)
+    ensures { λ _. ⌜ now (column .exit) ≡ cleared (pos 0) from (now (column .entry)) ⌝ }
+{
+    let mut at = from;
+    while at < column.len() {
+        column[at] = 0;
+        at += 1;
+    }
 }

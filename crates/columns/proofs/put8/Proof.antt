@@ -1,0 +1,21 @@
+-- `columns::put8` meets its contract: where the index is past the end, a store changes nothing. Assumes nothing.
+use mathlib.Core.Path.{sym}
+use lib.Seq.{set-out}
+use borrow.Author.Needs.{needs}
+use Rattle.columns.proofs.put8.Statement.{statement}
+use Rattle.columns.proofs.put8.Tie as tie
+
+slice-write-column : tie.Need-slice-write-column
+slice-write-column c = search needs
+
+same-length : tie.Need-same-length
+same-length c = search needs
+
+returns : tie.Need-returns
+returns c = search needs
+
+returns-2 : tie.Need-returns-2
+returns-2 c = sym (set-out _ _ _ (c .if1 .left))
+
+pub put8-spec : {M : Type 1} → statement M
+put8-spec = tie.close (tie.spec slice-write-column same-length returns returns-2)
