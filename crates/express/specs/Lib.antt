@@ -1,2 +1,9 @@
 pub mod Answer
+pub mod Bits
+pub mod Bytes
+pub mod Formed
+pub mod Integer
+pub mod Logic
+pub mod Relation
+pub mod Terminal
 pub mod Tree
