@@ -2,3 +2,4 @@ pub mod Bits
 pub mod Divide
 pub mod Logic
 pub mod TokenExamples
+pub mod Syntax

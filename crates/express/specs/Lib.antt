@@ -2,8 +2,11 @@ pub mod Answer
 pub mod Bits
 pub mod Bytes
 pub mod Formed
+pub mod Grammar
 pub mod Integer
 pub mod Logic
+pub mod Lookahead
 pub mod Relation
+pub mod Syntax
 pub mod Terminal
 pub mod Tree
