@@ -3,3 +3,4 @@ pub mod Divide
 pub mod Logic
 pub mod TokenExamples
 pub mod Syntax
+pub mod SyntaxExamples
