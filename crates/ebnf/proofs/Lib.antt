@@ -10,5 +10,6 @@ pub mod Limit
 pub mod Equations
 pub mod Descent
 pub mod Trees
+pub mod Sorts
 pub mod Parts
 pub mod PostOrder

@@ -4,38 +4,30 @@ use mathlib.Core.List.{List, [], _∷_, _++_}
 use mathlib.Core.Logic.{⊎-elim}
 use mathlib.Core.Option.{Option, some, none as nowhere}
 use mathlib.Core.Path.{_≡_, refl, subst}
-use Prim.Native.Nat.{ℕ, zero, suc, _+_, _*_}
+use Prim.Native.Nat.{ℕ, zero, suc, _+_}
 use native.Mathlib.Omega.{arith}
-use lib.Dec.{eqb}
-use lib.ListN.{getD}
-use borrow.Author.Tests.{eq-eqb}
+use lib.ListN.{length, getD}
 use Rattle.ebnf.specs.Set.{mem, subset}
 use Rattle.ebnf.specs.Grammar.{Mark, silent, here, node, leaf, Ebnf, none, mark, step, seq, alt, star, fork, nt, Derives, nothing, marked, token, both, left, right, stop, more, label, other, rule}
 use Rattle.ebnf.specs.Trees.{Forest, empty, add, beside, Grove, in-trees}
 use Rattle.ebnf.specs.Parse.{Tables}
-use Rattle.ebnf.proofs.Sets.{and-split, or-split, or-left, in-more}
+use Rattle.ebnf.proofs.Sets.{and-split, or-split, in-more, mem-itself}
 use Rattle.ebnf.proofs.Predictive.{Predictive}
 use Rattle.ebnf.proofs.Lookahead.{eats}
+use Rattle.ebnf.proofs.Sorts.{Sort, sort, among, sorts-within, among-itself, every-among}
+use Prim.Native.String.{_∷_ as _then_}
 
--- a kind and a role as one number
-abbrev pub code : ℕ → ℕ → ℕ
-code k o = k * 8 + o
-
-itself : (n : ℕ) → mem n (n ∷ []) ≡ true
-unfolding mem
-itself n = or-left (eqb n n) false (eq-eqb n n refl)
-
--- A part of a row of trees: one tree of these kinds and roles, or any number of them.
+-- A part of a row of trees: one tree of these sorts, or any number of them.
 pub data Part : Type 0 where
-  one : List ℕ → Part
-  many : List ℕ → Part
+  one : List Sort → Part
+  many : List Sort → Part
 
 -- The trees are of these parts.
 pub data Match : List Part → Forest → Type 0 where
   m-end : Match [] empty
-  m-one : {S : List ℕ} {ps : List Part} {k o i : ℕ} {c f : Forest} → mem (code k o) S ≡ true → Match ps f → Match (one S ∷ ps) (add k o i c f)
-  m-skip : {S : List ℕ} {ps : List Part} {f : Forest} → Match ps f → Match (many S ∷ ps) f
-  m-more : {S : List ℕ} {ps : List Part} {k o i : ℕ} {c f : Forest} → mem (code k o) S ≡ true → Match (many S ∷ ps) f → Match (many S ∷ ps) (add k o i c f)
+  m-one : {S : List Sort} {ps : List Part} {k o i : ℕ} {c f : Forest} → among k o S ≡ true → Match ps f → Match (one S ∷ ps) (add k o i c f)
+  m-skip : {S : List Sort} {ps : List Part} {f : Forest} → Match ps f → Match (many S ∷ ps) f
+  m-more : {S : List Sort} {ps : List Part} {k o i : ℕ} {c f : Forest} → among k o S ≡ true → Match (many S ∷ ps) f → Match (many S ∷ ps) (add k o i c f)
 
 match-beside : {ps qs : List Part} {f g : Forest} → Match ps f → Match qs g → Match (ps ++ qs) (beside f g)
 match-beside m-end q = q
@@ -45,50 +37,57 @@ match-beside (m-more h p) q = m-more h (match-beside p q)
 
 -- ---- what is of some parts is of others
 
-unfoldable pub within : ℕ → List Part → List Part → Bool
+unfoldable pub within : ℕ → List Part → List Part → Bool  -- the first number is fuel
 within zero ps qs = false
 within (suc n) [] [] = true
 within (suc n) [] (one T ∷ qs) = false
 within (suc n) [] (many T ∷ qs) = within n [] qs
 within (suc n) (one S ∷ ps) [] = false
-within (suc n) (one S ∷ ps) (one T ∷ qs) = subset S T && within n ps qs
-within (suc n) (one S ∷ ps) (many T ∷ qs) = (subset S T && within n ps (many T ∷ qs)) || within n (one S ∷ ps) qs
+within (suc n) (one S ∷ ps) (one T ∷ qs) = sorts-within S T && within n ps qs
+within (suc n) (one S ∷ ps) (many T ∷ qs) = (sorts-within S T && within n ps (many T ∷ qs)) || within n (one S ∷ ps) qs
 within (suc n) (many S ∷ ps) [] = false
 within (suc n) (many S ∷ ps) (one T ∷ qs) = false
-within (suc n) (many S ∷ ps) (many T ∷ qs) = (subset S T && within n ps (many T ∷ qs)) || within n (many S ∷ ps) qs
+within (suc n) (many S ∷ ps) (many T ∷ qs) = (sorts-within S T && within n ps (many T ∷ qs)) || within n (many S ∷ ps) qs
 
-climb : {S T : List ℕ} {ps qs : List Part} {f : Forest} → subset S T ≡ true → ((g : Forest) → Match ps g → Match (many T ∷ qs) g) → Match (many S ∷ ps) f →
+climb : {S T : List Sort} {ps qs : List Part} {f : Forest} → sorts-within S T ≡ true → ((g : Forest) → Match ps g → Match (many T ∷ qs) g) → Match (many S ∷ ps) f →
     Match (many T ∷ qs) f
 climb s h (m-skip m) = h _ m
-climb {S} {T} s h (m-more k m) = m-more (in-more _ S T s k) (climb s h m)
+climb {S} {T} s h (m-more k m) = m-more (every-among _ S _ _ s k) (climb s h m)
 
-first-one : {S T : List ℕ} {ps qs : List Part} {f : Forest} → subset S T ≡ true → ((g : Forest) → Match ps g → Match qs g) → Match (one S ∷ ps) f → Match (one T ∷ qs) f
-first-one {S} {T} s h (m-one k m) = m-one (in-more _ S T s k) (h _ m)
+first-one : {S T : List Sort} {ps qs : List Part} {f : Forest} → sorts-within S T ≡ true → ((g : Forest) → Match ps g → Match qs g) → Match (one S ∷ ps) f → Match (one T ∷ qs) f
+first-one {S} {T} s h (m-one k m) = m-one (every-among _ S _ _ s k) (h _ m)
 
-first-more : {S T : List ℕ} {ps qs : List Part} {f : Forest} → subset S T ≡ true → ((g : Forest) → Match ps g → Match (many T ∷ qs) g) → Match (one S ∷ ps) f →
+first-more : {S T : List Sort} {ps qs : List Part} {f : Forest} → sorts-within S T ≡ true → ((g : Forest) → Match ps g → Match (many T ∷ qs) g) → Match (one S ∷ ps) f →
     Match (many T ∷ qs) f
-first-more {S} {T} s h (m-one k m) = m-more (in-more _ S T s k) (h _ m)
+first-more {S} {T} s h (m-one k m) = m-more (every-among _ S _ _ s k) (h _ m)
 
-pub is-within : (n : ℕ) (ps qs : List Part) → within n ps qs ≡ true → (f : Forest) → Match ps f → Match qs f
+is-within : (n : ℕ) (ps qs : List Part) → within n ps qs ≡ true → (f : Forest) → Match ps f → Match qs f
 unfolding within
 is-within zero ps qs e f m = absurd (false≢true e)
 is-within (suc n) [] [] e f m = m
 is-within (suc n) [] (one T ∷ qs) e f m = absurd (false≢true e)
 is-within (suc n) [] (many T ∷ qs) e f m = m-skip (is-within n [] qs e f m)
 is-within (suc n) (one S ∷ ps) [] e f m = absurd (false≢true e)
-is-within (suc n) (one S ∷ ps) (one T ∷ qs) e f m = let p = and-split (subset S T) _ e in first-one (p .0) (is-within n ps qs (p .1)) m
+is-within (suc n) (one S ∷ ps) (one T ∷ qs) e f m = let p = and-split (sorts-within S T) _ e in first-one (p .0) (is-within n ps qs (p .1)) m
 is-within (suc n) (one S ∷ ps) (many T ∷ qs) e f m =
     ⊎-elim
-    (λ (h : (subset S T && within n ps (many T ∷ qs)) ≡ true). let p = and-split (subset S T) _ h in first-more (p .0) (is-within n ps (many T ∷ qs) (p .1)) m)
+    (λ (h : (sorts-within S T && within n ps (many T ∷ qs)) ≡ true). let p = and-split (sorts-within S T) _ h in first-more (p .0) (is-within n ps (many T ∷ qs) (p .1)) m)
     (λ (h : within n (one S ∷ ps) qs ≡ true). m-skip (is-within n (one S ∷ ps) qs h f m))
     (or-split _ _ e)
 is-within (suc n) (many S ∷ ps) [] e f m = absurd (false≢true e)
 is-within (suc n) (many S ∷ ps) (one T ∷ qs) e f m = absurd (false≢true e)
 is-within (suc n) (many S ∷ ps) (many T ∷ qs) e f m =
     ⊎-elim
-    (λ (h : (subset S T && within n ps (many T ∷ qs)) ≡ true). let p = and-split (subset S T) _ h in climb (p .0) (is-within n ps (many T ∷ qs) (p .1)) m)
+    (λ (h : (sorts-within S T && within n ps (many T ∷ qs)) ≡ true). let p = and-split (sorts-within S T) _ h in climb (p .0) (is-within n ps (many T ∷ qs) (p .1)) m)
     (λ (h : within n (many S ∷ ps) qs ≡ true). m-skip (is-within n (many S ∷ ps) qs h f m))
     (or-split _ _ e)
+
+unfoldable pub fits : List Part → List Part → Bool
+fits ps qs = within (suc (length ps + length qs)) ps qs
+
+is-fit : (ps qs : List Part) → fits ps qs ≡ true → (f : Forest) → Match ps f → Match qs f
+unfolding fits
+is-fit ps qs e f m = is-within _ ps qs e f m
 
 -- parts that two lists of parts are within, as a guess: it is tested wherever it is used
 abbrev loose : Part → Part
@@ -135,16 +134,16 @@ pub record Known : Type 0 where
 abbrev read : List ℕ → Known → Known
 read cs t = record { names = t .names; parts = t .parts; last = cs ∷ t .last }
 
-abbrev then : Option Known → (Known → Option Known) → Option Known
-then (some t) k = k t
-then nowhere k = nowhere
+abbrev and-then : Option Known → (Known → Option Known) → Option Known
+and-then (some t) k = k t
+and-then nowhere k = nowhere
 
 abbrev guard : Bool → Known → Option Known
 guard true t = some t
 guard false t = nowhere
 
 abbrev less-known : Known → Known → Bool
-less-known p q = subset (p .names) (q .names) && (within 30 (p .parts) (q .parts) && covers (p .last) (q .last))
+less-known p q = subset (p .names) (q .names) && (fits (p .parts) (q .parts) && covers (p .last) (q .last))
 
 abbrev mix : Known → Known → Known
 mix p q = record { names = p .names ++ q .names; parts = widen (p .parts) (q .parts); last = [] }
@@ -169,28 +168,28 @@ module _ {N : Type 0} (K : Kinds N) where
   put silent cs l t = some t
   put here cs l t = some (record { names = cs; parts = t .parts; last = t .last })
   put (node k o) cs l t =
-      guard (subset cs (K .named-by k o) && (covers l (K .behind k) && within 30 (t .parts) (K .children k)))
-      (record { names = t .names; parts = one (code k o ∷ []) ∷ []; last = t .last })
+      guard (subset cs (K .named-by k o) && (covers l (K .behind k) && fits (t .parts) (K .children k)))
+      (record { names = t .names; parts = one (sort k o ∷ []) ∷ []; last = t .last })
   put (leaf k o) cs l t =
-      guard (subset cs (K .named-by k o) && (covers l (K .behind k) && within 30 [] (K .children k)))
-      (record { names = t .names; parts = t .parts ++ (one (code k o ∷ []) ∷ []); last = t .last })
+      guard (subset cs (K .named-by k o) && (covers l (K .behind k) && fits [] (K .children k)))
+      (record { names = t .names; parts = t .parts ++ (one (sort k o ∷ []) ∷ []); last = t .last })
 
   -- what is known after e
   unfoldable pub known : Ebnf N → Known → Option Known
   known none t = some t
   known (mark m) t = put m (t .names) [] t
-  known (step m cs a) t = then (known a (read cs t)) (λ u. put m cs (t .last) u)
-  known (seq a b) t = then (known a t) (λ u. known b u)
-  known (alt a b) t = then (known a t) (λ p. then (known b t) (λ q. mixed p q))
-  known (star a) t = then (known a t) (λ p. let w = mix t p in then (known a w) (λ v. steady t w v))
-  known (fork m cs ds a b) t = then (put m cs (t .last) (read ds (read cs t))) (λ u. then (known a u) (λ p. then (known b t) (λ q. mixed p q)))
+  known (step m cs a) t = and-then (known a (read cs t)) (λ u. put m cs (t .last) u)
+  known (seq a b) t = and-then (known a t) (λ u. known b u)
+  known (alt a b) t = and-then (known a t) (λ p. and-then (known b t) (λ q. mixed p q))
+  known (star a) t = and-then (known a t) (λ p. let w = mix t p in and-then (known a w) (λ v. steady t w v))
+  known (fork m cs ds a b) t = and-then (put m cs (t .last) (read ds (read cs t))) (λ u. and-then (known a u) (λ p. and-then (known b t) (λ q. mixed p q)))
   known (nt x) t = some (record { names = t .names; parts = t .parts ++ K .leaves x; last = [] })
 
   abbrev at-start : Tables N → N → Known
   at-start T x = record { names = T .begins x; parts = []; last = [] }
 
   abbrev left-within : List Part → Option Known → Bool
-  left-within ps (some t) = within 30 (t .parts) ps
+  left-within ps (some t) = fits (t .parts) ps
   left-within ps nowhere = false
 
   unfoldable pub keeps : (N → Ebnf N) → Tables N → N → Bool
@@ -213,8 +212,8 @@ module _ {N : Type 0} (K : Kinds N) where
   holds-less : (ts : List ℕ) (p q : Known) (j : ℕ) (r : Grove) → less-known p q ≡ true → Holds ts p j r → Holds ts q j r
   holds-less ts p q j r e h =
       let a = and-split (subset (p .names) (q .names)) _ e in
-      let b = and-split (within 30 (p .parts) (q .parts)) _ (a .1) in
-      (in-more _ (p .names) (q .names) (a .0) (h .0), is-within 30 _ _ (b .0) _ (h .1), h .2, behind-more ts j (p .last) (q .last) (b .1) (h .3))
+      let b = and-split (fits (p .parts) (q .parts)) _ (a .1) in
+      (in-more _ (p .names) (q .names) (a .0) (h .0), is-fit _ _ (b .0) _ (h .1), h .2, behind-more ts j (p .last) (q .last) (b .1) (h .3))
 
   some-is : {A : Type 0} (a b : A) → _≡_ {A = Option A} (some a) (some b) → a ≡ b
   some-is a b e = cc
@@ -223,7 +222,7 @@ module _ {N : Type 0} (K : Kinds N) where
   guarded true t u e = (refl, some-is t u e)
   guarded false t u e = let z : _≡_ {A = ℕ} 0 1 = cc in absurd (omega arith)
 
-  thened : (o : Option Known) (k : Known → Option Known) (u : Known) → then o k ≡ some u → (t : Known) × (o ≡ some t) × (k t ≡ some u)
+  thened : (o : Option Known) (k : Known → Option Known) (u : Known) → and-then o k ≡ some u → (t : Known) × (o ≡ some t) × (k t ≡ some u)
   thened (some t) k u e = (t, refl, e)
   thened nowhere k u e = let z : _≡_ {A = ℕ} 0 1 = cc in absurd (omega arith)
 
@@ -238,8 +237,8 @@ module _ {N : Type 0} (K : Kinds N) where
       let a = and-split (covers l (K .behind k)) _ (q .1) in
       subst (λ (v : Known). Holds ts v j (in-trees .stamp (node k o) i r)) (p .1) (
         h .0,
-        m-one (itself (code k o)) m-end,
-        (in-more _ cs _ (q .0) c, is-within 30 _ _ (a .1) _ (h .1), h .2, tt, behind-more ts i l (K .behind k) (a .0) b),
+        m-one (among-itself k o) m-end,
+        (in-more _ cs _ (q .0) c, is-fit _ _ (a .1) _ (h .1), h .2, tt, behind-more ts i l (K .behind k) (a .0) b),
         h .3,
       )
   put-holds ts (leaf k o) cs l t u i j r e c b h =
@@ -248,8 +247,8 @@ module _ {N : Type 0} (K : Kinds N) where
       let a = and-split (covers l (K .behind k)) _ (q .1) in
       subst (λ (v : Known). Holds ts v j (in-trees .stamp (leaf k o) i r)) (p .1) (
         h .0,
-        match-beside (h .1) (m-one (itself (code k o)) m-end),
-        all-beside ts (r .trees) _ (h .2) (in-more _ cs _ (q .0) c, is-within 30 _ _ (a .1) _ m-end, tt, tt, behind-more ts i l (K .behind k) (a .0) b),
+        match-beside (h .1) (m-one (among-itself k o) m-end),
+        all-beside ts (r .trees) _ (h .2) (in-more _ cs _ (q .0) c, is-fit _ _ (a .1) _ m-end, tt, tt, behind-more ts i l (K .behind k) (a .0) b),
         h .3,
       )
 
@@ -303,12 +302,12 @@ module _ {N : Type 0} (K : Kinds N) where
   step-of ts (nt x) i r j s d = d
 
   kept : (rules : N → Ebnf N) (T : Tables N) (x : N) → keeps rules T x ≡ true →
-      (u : Known) × (known (rules x) (at-start T x) ≡ some u) × (within 30 (u .parts) (K .leaves x) ≡ true)
+      (u : Known) × (known (rules x) (at-start T x) ≡ some u) × (fits (u .parts) (K .leaves x) ≡ true)
   unfolding keeps
   kept rules T x h = go (known (rules x) (at-start T x)) refl h
     where
       go : (o : Option Known) → known (rules x) (at-start T x) ≡ o → left-within (K .leaves x) o ≡ true →
-          (u : Known) × (known (rules x) (at-start T x) ≡ some u) × (within 30 (u .parts) (K .leaves x) ≡ true)
+          (u : Known) × (known (rules x) (at-start T x) ≡ some u) × (fits (u .parts) (K .leaves x) ≡ true)
       go (some u) e h = (u, e, h)
       go nowhere e h = absurd (false≢true h)
 
@@ -352,11 +351,11 @@ module _ {N : Type 0} (K : Kinds N) where
         let c = in-more _ _ _ (G .begins-all x) ((eats G d (G .full x)) .0) in
         let q = step-of ts (rules x) i _ j s (does d) (at-start T x) (k .0) (k .1) (c, m-end, tt, tt) in
         subst (λ (v : Known). Holds ts v j (in-trees .join r s)) (some-is _ u e)
-        (h .0, match-beside (h .1) (is-within 30 _ _ (k .2) _ (q .1)), all-beside ts (r .trees) (s .trees) (h .2) (q .2), tt)
+        (h .0, match-beside (h .1) (is-fit _ _ (k .2) _ (q .1)), all-beside ts (r .trees) (s .trees) (h .2) (q .2), tt)
 
-    pub whole : (x : N) (i j : ℕ) (s : Grove) → Derives in-trees rules ts (nt x) i (in-trees .start i) j s → Match (K .leaves x) (s .trees) × All ts (s .trees)
+    pub formed : (x : N) (i j : ℕ) (s : Grove) → Derives in-trees rules ts (nt x) i (in-trees .start i) j s → Match (K .leaves x) (s .trees) × All ts (s .trees)
     unfolding known
-    whole x i j s d =
+    formed x i j s d =
         let h =
-        step-of ts (nt x) i _ j s (does d) (record { names = getD ts i 0 ∷ []; parts = []; last = [] }) _ refl (itself (getD ts i 0), m-end, tt, tt) in
+        step-of ts (nt x) i _ j s (does d) (record { names = getD ts i 0 ∷ []; parts = []; last = [] }) _ refl (mem-itself (getD ts i 0), m-end, tt, tt) in
         (h .1, h .2)

@@ -5,7 +5,7 @@ use mathlib.Core.Logic.{_⊎_, inl, inr, ⊎-elim}
 use mathlib.Core.Path.{_≡_, refl, sym, _∙_}
 use Prim.Native.Nat.{ℕ, _≤_, _<_}
 use lib.Dec.{eqb, ltb}
-use borrow.Author.Tests.{eqb-true, not-true, ltb-true, ltb-false}
+use borrow.Author.Tests.{eqb-true, eq-eqb, not-true, ltb-true, ltb-false}
 use Rattle.ebnf.specs.Set.{mem, disjoint, subset}
 use Rattle.ebnf.specs.Parse.{at}
 
@@ -106,3 +106,7 @@ in-cond x false l h = absurd (false≢true h)
 pub in-nothing : (x : ℕ) → mem x [] ≡ true → ⊥
 unfolding mem
 in-nothing x h = false≢true h
+
+pub mem-itself : (n : ℕ) → mem n (n ∷ []) ≡ true
+unfolding mem
+mem-itself n = or-left (eqb n n) false (eq-eqb n n refl)
