@@ -1,6 +1,12 @@
 pub mod Bits
 pub mod Divide
 pub mod Logic
-pub mod TokenExamples
+pub mod NameCases
+pub mod Names
+pub mod Once
+pub mod Reach
+pub mod Select
+pub mod Spelling
 pub mod Syntax
 pub mod SyntaxExamples
+pub mod TokenExamples

@@ -1,0 +1,241 @@
+-- The tokens of a text. Its bytes are a list; a place is an index into it, and past its end the bytes count as 0.
+use Prim.Native.Nat.{ℕ, zero, suc, _+_, _-_, _*_}
+use mathlib.Core.Bool.{Bool, true, false, cond, not, _&&_, _||_}
+use mathlib.Core.List.{List, [], _∷_, map}
+use lib.Dec.{leb, ltb, eqb}
+use lib.ListN.{length, take, drop, getD}
+use Rattle.express.specs.Bytes.{within, digit, letter, wordByte, space, printable}
+
+-- "Each reading step gives a new place or a located refusal": its number and its place.
+pub data Reading : Type 0 where
+  at : ℕ → Reading
+  refused : ℕ → ℕ → Reading
+
+-- the bytes from one place up to another
+abbrev pub part : List ℕ → ℕ → ℕ → List ℕ
+part s p e = take (e - p) (drop p s)
+
+-- where the bytes of a class end that stand in a row from p on; the list is what is left from there
+unfoldable pub runEnd : (ℕ → Bool) → ℕ → List ℕ → ℕ
+runEnd f p [] = p
+runEnd f p (b ∷ s) = let more = runEnd f (p + 1) s in cond (f b) more p
+
+abbrev pub run : (ℕ → Bool) → List ℕ → ℕ → ℕ
+run f s p = runEnd f p (drop p s)
+
+-- ---- spaces and remarks
+
+abbrev pub pair : ℕ → ℕ → ℕ → ℕ → Bool
+pair x y b c = eqb b x && eqb c y
+
+-- `(*`, `*)` and `--`
+abbrev pub opens : ℕ → ℕ → Bool
+opens b c = pair 40 42 b c
+
+abbrev pub closes : ℕ → ℕ → Bool
+closes b c = pair 42 41 b c
+
+abbrev pub dashes : ℕ → ℕ → Bool
+dashes b c = pair 45 45 b c
+
+abbrev pub inLine : ℕ → Bool
+inLine b = not (eqb b 10)
+
+-- "Remarks `(* *)` nest: inside one, `(*` opens, `*)` closes, any other byte passes": d are open at p, the outermost from o on.
+unfoldable pub remarkEnd : ℕ → ℕ → ℕ → List ℕ → Reading
+remarkEnd o d p [] = refused 2 o
+remarkEnd o d p (b ∷ []) = refused 2 o
+remarkEnd o d p (b ∷ c ∷ s) =
+    let deeper = remarkEnd o (d + 1) (p + 2) s in
+    let out = remarkEnd o (d - 1) (p + 2) s in
+    let on = remarkEnd o d (p + 1) (c ∷ s) in
+    cond (opens b c) deeper (cond (closes b c) (cond (eqb d 1) (at (p + 2)) out) on)
+
+abbrev pub andThen : Reading → (ℕ → Reading) → Reading
+andThen (at q) more = more q
+andThen (refused n o) more = refused n o
+
+-- past the spaces and remarks at p, in at most so many turns; "`--` runs to a line feed or the end of input"
+unfoldable pub skipIn : ℕ → List ℕ → ℕ → Reading
+skipIn zero s p = refused 0 p
+skipIn (suc f) s p =
+    let b = getD s p 0 in
+    let c = getD s (p + 1) 0 in
+    let next = skipIn f s (p + 1) in
+    let line = skipIn f s (run inLine s (p + 2)) in
+    let remark = andThen (remarkEnd p 1 (p + 2) (drop (p + 2) s)) (λ q. skipIn f s q) in
+    cond (space b) next (cond (dashes b c) line (cond (opens b c) remark (at p)))
+
+-- each turn passes a byte, so one turn more than there are bytes is enough
+unfoldable pub skipped : List ℕ → ℕ → Reading
+skipped s p = skipIn (length s + 1) s p
+
+-- ---- numbers
+
+-- the number that digits stand for in a base, after digits that stand for v
+unfoldable pub numeral : ℕ → ℕ → List ℕ → ℕ
+numeral base v [] = v
+numeral base v (b ∷ s) = numeral base (v * base + (b - 48)) s
+
+-- "Integer literals reach 9223372036854775807." "An integer's leading zeros count for nothing."
+abbrev pub greatest : ℕ
+greatest = 9223372036854775807
+
+unfoldable pub integerEnd : List ℕ → ℕ → Reading
+integerEnd s p =
+    let e = run digit s p in
+    cond (leb (numeral 10 0 (part s p e)) greatest) (at e) (refused 3 p)
+
+-- `e` or `E`; `+` or `-`
+abbrev pub exponentMark : ℕ → Bool
+exponentMark b = eqb b 101 || eqb b 69
+
+abbrev pub sign : ℕ → Bool
+sign b = eqb b 43 || eqb b 45
+
+-- where the digits of an exponent begin, whose `e` is at p
+abbrev pub exponentDigits : List ℕ → ℕ → ℕ
+exponentDigits s p = cond (sign (getD s (p + 1) 0)) (p + 2) (p + 1)
+
+-- the end of the exponent at p, which is p if there is none: "an exponent without digits is no part of the real"
+unfoldable pub exponentEnd : List ℕ → ℕ → ℕ
+exponentEnd s p =
+    let g = exponentDigits s p in
+    cond (exponentMark (getD s p 0) && digit (getD s g 0)) (run digit s g) p
+
+-- "A real is digits, a point, optional digits, then optionally `e`, a sign if any and digits."
+unfoldable pub realEnd : List ℕ → ℕ → ℕ
+realEnd s p = exponentEnd s (run digit s (run digit s p + 1))
+
+-- ---- strings and binaries
+
+-- in the string that starts at o; just after a quote, or not. "A string holds bytes 32 to 126, with `''` for a quote; met by another byte
+-- it is unfinished."
+unfoldable pub stringEnd : ℕ → Bool → ℕ → List ℕ → Reading
+stringEnd o true p [] = at p
+stringEnd o false p [] = refused 2 o
+stringEnd o true p (b ∷ s) = let on = stringEnd o false (p + 1) s in cond (eqb b 39) on (at p)
+stringEnd o false p (b ∷ s) =
+    let quote = stringEnd o true (p + 1) s in
+    let on = stringEnd o false (p + 1) s in
+    cond (eqb b 39) quote (cond (printable b) on (refused 2 o))
+
+abbrev pub bit : ℕ → Bool
+bit b = within 48 49 b
+
+-- "Binary literals have 1 to 63 bits": a `%` without a bit is unfinished
+unfoldable pub binaryEnd : List ℕ → ℕ → Reading
+binaryEnd s p =
+    let e = run bit s (p + 1) in
+    cond (eqb e (p + 1)) (refused 2 p) (cond (leb e (p + 64)) (at e) (refused 3 p))
+
+-- ---- symbols
+
+-- `?`, `( )`, `+ , - . /`, `;`, `=`, `[ \ ]`, `{` and `}`, which begin no longer symbol
+unfoldable pub lone : ℕ → Bool
+lone b =
+    eqb b 63 || (within 40 41 b || (within 43 47 b || (eqb b 59 || (eqb b 61 || (within 91 93 b || (eqb b 123 || eqb b 125))))))
+
+-- how many of four bytes are a symbol, "the longest token wins"; 0: none is
+unfoldable pub symbolSize : ℕ → ℕ → ℕ → ℕ → ℕ
+symbolSize b c d e =
+    cond (lone b) 1
+    (cond (eqb b 58) (cond (eqb c 61) (cond (eqb d 58) 3 2) (cond (pair 60 62 c d && eqb e 58) 4 1))
+    (cond (eqb b 60) (cond (eqb c 61 || (eqb c 62 || eqb c 42)) 2 1)
+    (cond (eqb b 62) (cond (eqb c 61) 2 1)
+    (cond (eqb b 42) (cond (eqb c 42) 2 1)
+    (cond (eqb b 124) (cond (eqb c 124) 2 1) 0)))))
+
+unfoldable pub symbolEnd : List ℕ → ℕ → Reading
+symbolEnd s p =
+    let n = symbolSize (getD s p 0) (getD s (p + 1) 0) (getD s (p + 2) 0) (getD s (p + 3) 0) in
+    cond (eqb n 0) (refused 2 p) (at (p + n))
+
+-- ---- tokens
+
+-- "Kinds: 1 word, 2 integer, 3 real, 4 string, 5 binary, 6 symbol": what the byte at p begins, a number being real if a point ends its digits
+unfoldable pub kindAt : List ℕ → ℕ → ℕ
+kindAt s p =
+    let b = getD s p 0 in
+    let number : ℕ = cond (eqb (getD s (run digit s p) 0) 46) 3 2 in
+    cond (letter b) 1 (cond (digit b) number (cond (eqb b 39) 4 (cond (eqb b 37) 5 6)))
+
+-- the end of the token of a kind at p
+unfoldable pub tokenEnd : List ℕ → ℕ → ℕ → Reading
+tokenEnd s p k =
+    cond (eqb k 1) (at (run wordByte s p))
+    (cond (eqb k 2) (integerEnd s p)
+    (cond (eqb k 3) (at (realEnd s p))
+    (cond (eqb k 4) (stringEnd p false (p + 1) (drop (p + 1) s))
+    (cond (eqb k 5) (binaryEnd s p)
+    (symbolEnd s p)))))
+
+-- "Token table: kind, start, length, in text order."
+pub record Row : Type 0 where
+  pub kind : ℕ
+  pub start : ℕ
+  pub size : ℕ
+
+-- the rows read so far, and how the reading stopped: at the end of the text, or refused
+pub record Lexed : Type 0 where
+  pub rows : List Row
+  pub stop : Reading
+
+abbrev pub stopped : Reading → Lexed
+stopped e = record { rows = []; stop = e }
+
+abbrev pub cons : Row → Lexed → Lexed
+cons r l = record { rows = r ∷ l .rows; stop = l .stop }
+
+abbrev pub afterToken : ℕ → ℕ → Reading → (ℕ → Lexed) → Lexed
+afterToken k q (at e) more = cons (record { kind = k; start = q; size = e - q }) (more e)
+afterToken k q (refused n o) more = stopped (refused n o)
+
+abbrev pub afterSkip : List ℕ → Reading → (ℕ → Lexed) → Lexed
+afterSkip s (at q) more =
+    let k = kindAt s q in
+    let row = afterToken k q (tokenEnd s q k) more in
+    cond (ltb q (length s)) row (stopped (at q))
+afterSkip s (refused n o) more = stopped (refused n o)
+
+-- the tokens from p on, in at most so many turns
+unfoldable pub lexIn : ℕ → List ℕ → ℕ → Lexed
+lexIn zero s p = stopped (refused 0 p)
+lexIn (suc f) s p = afterSkip s (skipped s p) (λ q. lexIn f s q)
+
+-- "over 65,536 bytes" is refused by 1; each turn passes a byte
+unfoldable pub lexed : List ℕ → Lexed
+lexed s =
+    let all = lexIn (length s + 1) s 0 in
+    cond (leb (length s) 65536) all (stopped (refused 1 65536))
+
+-- ---- what a table of tokens is
+
+abbrev pub kinds : Lexed → List ℕ
+kinds l = map (λ r. r .kind) (l .rows)
+
+abbrev pub starts : Lexed → List ℕ
+starts l = map (λ r. r .start) (l .rows)
+
+abbrev pub sizes : Lexed → List ℕ
+sizes l = map (λ r. r .size) (l .rows)
+
+-- the number of tokens, or the first refusal: 6 where the table is too short, with the "entries needed"
+abbrev pub counted : Reading → ℕ → ℕ → Reading
+counted (at q) n room = cond (leb n room) (at n) (refused 6 n)
+counted (refused k o) n room = refused k o
+
+unfoldable pub tokens : Lexed → ℕ → Reading
+tokens l room = counted (l .stop) (length (l .rows)) room
+
+-- ---- the values of literals, by the bytes of their tokens
+
+unfoldable pub integerValue : List ℕ → ℕ
+integerValue t = numeral 10 0 t
+
+-- the bits of a binary, the leftmost first, `true` for 1; and the number that they stand for
+unfoldable pub binaryBits : List ℕ → List Bool
+binaryBits t = map (λ b. eqb b 49) (drop 1 t)
+
+unfoldable pub binaryValue : List ℕ → ℕ
+binaryValue t = numeral 2 0 (drop 1 t)
