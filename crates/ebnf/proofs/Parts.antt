@@ -14,7 +14,7 @@ use Rattle.ebnf.specs.Parse.{Tables}
 use Rattle.ebnf.proofs.Sets.{and-split, or-split, in-more, mem-itself}
 use Rattle.ebnf.proofs.Predictive.{Predictive}
 use Rattle.ebnf.proofs.Lookahead.{eats}
-use Rattle.ebnf.proofs.Sorts.{Sort, sort, among, sorts-within, among-itself, every-among}
+use Rattle.ebnf.proofs.Sorts.{Sort, sort, of-sorts, sorts-within, of-itself, every-of}
 use Prim.Native.String.{_∷_ as _then_}
 
 -- A part of a row of trees: one tree of these sorts, or any number of them.
@@ -25,9 +25,9 @@ pub data Part : Type 0 where
 -- The trees are of these parts.
 pub data Match : List Part → Forest → Type 0 where
   m-end : Match [] empty
-  m-one : {S : List Sort} {ps : List Part} {k o i : ℕ} {c f : Forest} → among k o S ≡ true → Match ps f → Match (one S ∷ ps) (add k o i c f)
+  m-one : {S : List Sort} {ps : List Part} {k o i : ℕ} {c f : Forest} → of-sorts k o S ≡ true → Match ps f → Match (one S ∷ ps) (add k o i c f)
   m-skip : {S : List Sort} {ps : List Part} {f : Forest} → Match ps f → Match (many S ∷ ps) f
-  m-more : {S : List Sort} {ps : List Part} {k o i : ℕ} {c f : Forest} → among k o S ≡ true → Match (many S ∷ ps) f → Match (many S ∷ ps) (add k o i c f)
+  m-more : {S : List Sort} {ps : List Part} {k o i : ℕ} {c f : Forest} → of-sorts k o S ≡ true → Match (many S ∷ ps) f → Match (many S ∷ ps) (add k o i c f)
 
 match-beside : {ps qs : List Part} {f g : Forest} → Match ps f → Match qs g → Match (ps ++ qs) (beside f g)
 match-beside m-end q = q
@@ -52,14 +52,14 @@ within (suc n) (many S ∷ ps) (many T ∷ qs) = (sorts-within S T && within n p
 climb : {S T : List Sort} {ps qs : List Part} {f : Forest} → sorts-within S T ≡ true → ((g : Forest) → Match ps g → Match (many T ∷ qs) g) → Match (many S ∷ ps) f →
     Match (many T ∷ qs) f
 climb s h (m-skip m) = h _ m
-climb {S} {T} s h (m-more k m) = m-more (every-among _ S _ _ s k) (climb s h m)
+climb {S} {T} s h (m-more k m) = m-more (every-of _ S _ _ s k) (climb s h m)
 
 first-one : {S T : List Sort} {ps qs : List Part} {f : Forest} → sorts-within S T ≡ true → ((g : Forest) → Match ps g → Match qs g) → Match (one S ∷ ps) f → Match (one T ∷ qs) f
-first-one {S} {T} s h (m-one k m) = m-one (every-among _ S _ _ s k) (h _ m)
+first-one {S} {T} s h (m-one k m) = m-one (every-of _ S _ _ s k) (h _ m)
 
 first-more : {S T : List Sort} {ps qs : List Part} {f : Forest} → sorts-within S T ≡ true → ((g : Forest) → Match ps g → Match (many T ∷ qs) g) → Match (one S ∷ ps) f →
     Match (many T ∷ qs) f
-first-more {S} {T} s h (m-one k m) = m-more (every-among _ S _ _ s k) (h _ m)
+first-more {S} {T} s h (m-one k m) = m-more (every-of _ S _ _ s k) (h _ m)
 
 is-within : (n : ℕ) (ps qs : List Part) → within n ps qs ≡ true → (f : Forest) → Match ps f → Match qs f
 unfolding within
@@ -237,7 +237,7 @@ module _ {N : Type 0} (K : Kinds N) where
       let a = and-split (covers l (K .behind k)) _ (q .1) in
       subst (λ (v : Known). Holds ts v j (in-trees .stamp (node k o) i r)) (p .1) (
         h .0,
-        m-one (among-itself k o) m-end,
+        m-one (of-itself k o) m-end,
         (in-more _ cs _ (q .0) c, is-fit _ _ (a .1) _ (h .1), h .2, tt, behind-more ts i l (K .behind k) (a .0) b),
         h .3,
       )
@@ -247,7 +247,7 @@ module _ {N : Type 0} (K : Kinds N) where
       let a = and-split (covers l (K .behind k)) _ (q .1) in
       subst (λ (v : Known). Holds ts v j (in-trees .stamp (leaf k o) i r)) (p .1) (
         h .0,
-        match-beside (h .1) (m-one (among-itself k o) m-end),
+        match-beside (h .1) (m-one (of-itself k o) m-end),
         all-beside ts (r .trees) _ (h .2) (in-more _ cs _ (q .0) c, is-fit _ _ (a .1) _ m-end, tt, tt, behind-more ts i l (K .behind k) (a .0) b),
         h .3,
       )

@@ -15,7 +15,7 @@ use Rattle.ebnf.specs.Parse.{Tables}
 use Rattle.ebnf.proofs.Sets.{and-split, lt-or-le}
 use Rattle.ebnf.proofs.Predictive.{Predictive}
 use Rattle.ebnf.proofs.Trees.{flat-beside, tree-of-rows}
-use Rattle.ebnf.proofs.Sorts.{Sort, among, every, every-among}
+use Rattle.ebnf.proofs.Sorts.{Sort, of-sorts, every, every-of}
 use Rattle.ebnf.proofs.Parts.{Part, one, many, Match, m-end, m-one, m-skip, m-more, Behind, Kinds, keeps, All, formed}
 
 abbrev pub no-row : Row
@@ -29,7 +29,7 @@ size-at rs n = (row-at rs n) .size
 
 -- Row n is of one of these sorts.
 abbrev pub Root : List Row → ℕ → List Sort → Type 0
-Root rs n S = among ((row-at rs n) .kind) ((row-at rs n) .role) S ≡ true
+Root rs n S = of-sorts ((row-at rs n) .kind) ((row-at rs n) .role) S ≡ true
 
 -- ---- where the rows of trees lie
 
@@ -66,7 +66,7 @@ lies-beside rs a (add k o i c f) g l =
     let e = length-append (flat c) (row-of k o i c ∷ flat f) in
     ((l .0, l .1, p .0), subst (λ (z : ℕ). Lies rs z g) (omega (arith, e)) (p .1))
 
-root-at : (rs : List Row) (p k o i : ℕ) (c : Forest) (S : List Sort) → row-at rs p ≡ row-of k o i c → among k o S ≡ true → Root rs p S × (size-at rs p ≡ suc (length (flat c)))
+root-at : (rs : List Row) (p k o i : ℕ) (c : Forest) (S : List Sort) → row-at rs p ≡ row-of k o i c → of-sorts k o S ≡ true → Root rs p S × (size-at rs p ≡ suc (length (flat c)))
 root-at rs p k o i c S e h = (rw e h, ap (λ (r : Row). r .size) e)
 
 -- ---- each row is a node's
@@ -172,7 +172,7 @@ record Last (S : List Sort) (ps : List Part) (f : Forest) : Type 0 where
   token : ℕ
   children : Forest
   is : f ≡ beside before (add kind role token children empty)
-  of : among kind role S ≡ true
+  of : of-sorts kind role S ≡ true
   rest : Match ps before
 
 last-behind : (S : List Sort) (ps qs : List Part) (k o i : ℕ) (c f : Forest) → ((g : Forest) → Match ps g → Match qs (add k o i c g)) → Last S ps f → Last S qs (add k o i c f)
@@ -340,10 +340,10 @@ Roots p (add k o i c f) = (p k o ≡ true) × Roots p f
 match-roots : (p : ℕ → ℕ → Bool) {ps : List Part} {f : Forest} → every-part p ps ≡ true → Match ps f → Roots p f
 match-roots p e m-end = tt
 match-roots p e (m-one {S = S} {k = k} {o = o} h m) =
-    let q = and-split (every p S) _ e in (every-among p S k o (q .0) h, match-roots p (q .1) m)
+    let q = and-split (every p S) _ e in (every-of p S k o (q .0) h, match-roots p (q .1) m)
 match-roots p e (m-skip {S = S} m) = let q = and-split (every p S) _ e in match-roots p (q .1) m
 match-roots p e (m-more {S = S} {k = k} {o = o} h m) =
-    let q = and-split (every p S) _ e in (every-among p S k o (q .0) h, match-roots p e m)
+    let q = and-split (every p S) _ e in (every-of p S k o (q .0) h, match-roots p e m)
 
 -- Row n passes the test.
 abbrev pub Passes : (ℕ → ℕ → Bool) → List Row → ℕ → Type 0

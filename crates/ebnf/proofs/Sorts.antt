@@ -16,9 +16,9 @@ abbrev pub sort : ℕ → ℕ → Sort
 sort k o = record { kind = k; role = o }
 
 -- a node of kind k and role o is of one of the sorts
-unfoldable pub among : ℕ → ℕ → List Sort → Bool
-among k o [] = false
-among k o (s ∷ ss) = (eqb k (s .kind) && eqb o (s .role)) || among k o ss
+unfoldable pub of-sorts : ℕ → ℕ → List Sort → Bool
+of-sorts k o [] = false
+of-sorts k o (s ∷ ss) = (eqb k (s .kind) && eqb o (s .role)) || of-sorts k o ss
 
 -- each sort passes the test
 unfoldable pub every : (ℕ → ℕ → Bool) → List Sort → Bool
@@ -27,21 +27,21 @@ every p (s ∷ ss) = p (s .kind) (s .role) && every p ss
 
 -- each sort of the first is in the second
 abbrev pub sorts-within : List Sort → List Sort → Bool
-sorts-within ss ts = every (λ k o. among k o ts) ss
+sorts-within ss ts = every (λ k o. of-sorts k o ts) ss
 
-pub among-itself : (k o : ℕ) → among k o (sort k o ∷ []) ≡ true
-unfolding among
-among-itself k o = rw (eq-eqb k k refl, eq-eqb o o refl)
+pub of-itself : (k o : ℕ) → of-sorts k o (sort k o ∷ []) ≡ true
+unfolding of-sorts
+of-itself k o = rw (eq-eqb k k refl, eq-eqb o o refl)
 
--- what passes for every sort passes for each that is among them
-pub every-among : (p : ℕ → ℕ → Bool) (ss : List Sort) (k o : ℕ) → every p ss ≡ true → among k o ss ≡ true → p k o ≡ true
-unfolding among every
-every-among p [] k o e h = absurd (false≢true h)
-every-among p (s ∷ ss) k o e h =
+-- what passes for every sort passes for each that is of-sorts them
+pub every-of : (p : ℕ → ℕ → Bool) (ss : List Sort) (k o : ℕ) → every p ss ≡ true → of-sorts k o ss ≡ true → p k o ≡ true
+unfolding of-sorts every
+every-of p [] k o e h = absurd (false≢true h)
+every-of p (s ∷ ss) k o e h =
     let q = and-split (p (s .kind) (s .role)) _ e in
     ⊎-elim
     (λ (g : (eqb k (s .kind) && eqb o (s .role)) ≡ true).
     let a = and-split (eqb k (s .kind)) _ g in
     rw (eqb-true k _ (a .0), eqb-true o _ (a .1)) (q .0))
-    (λ g. every-among p ss k o (q .1) g)
+    (λ g. every-of p ss k o (q .1) g)
     (or-split _ _ h)

@@ -3,6 +3,7 @@ pub mod Divide
 pub mod Logic
 pub mod NameCases
 pub mod Names
+pub mod Nodes
 pub mod Once
 pub mod Reach
 pub mod Select

@@ -1,8 +1,9 @@
 -- The grammar: the rules of annex A as the scope narrows them, each with its number there and with the node that it leaves.
 use mathlib.Core.List.{List, _++_}
 use Prim.Native.Nat.{ℕ}
-use Rattle.ebnf.specs.Grammar.{silent, here, node, leaf, Ebnf, none, mark, step, seq, alt, star, fork, nt}
+use Rattle.ebnf.specs.Grammar.{silent, here, node, leaf, Ebnf, none, mark, step, seq, alt, star, fork, nt, rule}
 use Rattle.express.specs.Terminal.{identifier, integer, real, string, binary, question, dot, comma, semicolon, colon, times, plus, minus, equal, slash, less, greater, lbrace, rbrace, lparen, rparen, less-equal, unequal, greater-equal, becomes, power, instance-equal, instance-unequal, AND, BINARY, BOOLEAN, CONSTANT, CONST-E, DERIVE, DIV, END-CONSTANT, END-ENTITY, END-SCHEMA, END-TYPE, ENTITY, ENUMERATION, FALSE, INTEGER, LOGICAL, MOD, NOT, NUMBER, OF, OPTIONAL, OR, PI, REAL, SCHEMA, SELECT, SELF, STRING, SUBTYPE, TRUE, TYPE, UNKNOWN, WHERE, XOR}
+use Rattle.express.specs.NodeKind as kind
 
 pub data Nonterminal : Type 0 where
   file schema constants constant base type-declaration underlying where-clause domain-rule entity attributes derived : Nonterminal
@@ -44,13 +45,13 @@ row k = mark (node k 0)
 abbrev pub ahead : List ℕ → List ℕ → Ebnf Nonterminal → Ebnf Nonterminal → Ebnf Nonterminal
 ahead c d a b = fork here c d a b
 
--- a name (kind 6) by its role: in an expression 1, of a type 2, of a renamed type 3, in a select list 4, of a supertype 5
+-- a name, with the role that its rule gives it
 abbrev pub name : ℕ → Ebnf Nonterminal
-name role = step (leaf 6 role) identifier none
+name role = step (leaf kind.name role) identifier none
 
--- a rule of a WHERE (kind 23): its role is 1 with a label, 2 without
+-- a rule of a WHERE, labelled or not
 abbrev pub rule-row : ℕ → Ebnf Nonterminal
-rule-row role = mark (node 23 role)
+rule-row role = mark (node kind.rule role)
 
 -- ( id { , id } )
 abbrev pub ids : Ebnf Nonterminal → Ebnf Nonterminal
@@ -94,62 +95,62 @@ others = real ++ string ++ PI ++ CONST-E
 
 abbrev pub rules : Nonterminal → Ebnf Nonterminal
 -- 302 syntax
-rules file = nt schema · star (nt schema) · row 26
+rules file = nt schema · star (nt schema) · row kind.file
 -- 281 schema_decl, 280 schema_body
 rules schema =
     tok SCHEMA · named identifier · tok semicolon · opt (nt constants) · star (nt type-declaration ∣ nt entity) · tok END-SCHEMA · tok semicolon
-    · row 25
+    · row kind.schema
 -- 185 constant_decl
 rules constants = tok CONSTANT · nt constant · star (nt constant) · tok END-CONSTANT · tok semicolon
 -- 184 constant_body
-rules constant = named identifier · tok colon · nt base · tok becomes · nt expression · tok semicolon · row 17
+rules constant = named identifier · tok colon · nt base · tok becomes · nt expression · tok semicolon · row kind.constant
 -- 171 base_type: a simple type or a named one
-rules base = leaves simple-types 13 ∣ name 2
+rules base = leaves simple-types kind.simple-type ∣ name kind.type-name
 -- 304 type_decl
 rules type-declaration =
-    tok TYPE · named identifier · tok equal · nt underlying · tok semicolon · opt (nt where-clause) · tok END-TYPE · tok semicolon · row 18
+    tok TYPE · named identifier · tok equal · nt underlying · tok semicolon · opt (nt where-clause) · tok END-TYPE · tok semicolon · row kind.type
 -- 309 underlying_type, 201 enumeration_type, 284 select_type
 rules underlying =
-    leaves simple-types 13
-    ∣ name 3
-    ∣ named ENUMERATION · tok OF · ids (leaves identifier 14) · row 15
-    ∣ named SELECT · ids (name 4) · row 16
+    leaves simple-types kind.simple-type
+    ∣ name kind.renamed-type
+    ∣ named ENUMERATION · tok OF · ids (leaves identifier kind.enumeration-item) · row kind.enumeration
+    ∣ named SELECT · ids (name kind.select-name) · row kind.select
 -- 315 where_clause
 rules where-clause = tok WHERE · nt domain-rule · star (nt domain-rule)
 -- 192 domain_rule: labelled exactly when the second token is `:`
 rules domain-rule =
-    ahead identifier colon (nt expression · tok semicolon · rule-row 1) (nt expression · tok semicolon · rule-row 2)
+    ahead identifier colon (nt expression · tok semicolon · rule-row kind.labelled) (nt expression · tok semicolon · rule-row kind.unlabelled)
 -- 196 entity_decl, 197 entity_head, 194 entity_body, 296 subtype_declaration, 191 derive_clause
 rules entity =
-    tok ENTITY · named identifier · opt (tok SUBTYPE · tok OF · ids (name 5)) · tok semicolon · star (nt attributes)
-    · opt (tok DERIVE · nt derived · star (nt derived)) · opt (nt where-clause) · tok END-ENTITY · tok semicolon · row 24
+    tok ENTITY · named identifier · opt (tok SUBTYPE · tok OF · ids (name kind.supertype-name)) · tok semicolon · star (nt attributes)
+    · opt (tok DERIVE · nt derived · star (nt derived)) · opt (nt where-clause) · tok END-ENTITY · tok semicolon · row kind.entity
 -- 203 explicit_attr
 rules attributes =
-    leaves identifier 19 · star (tok comma · leaves identifier 19) · tok colon
-    · (tok OPTIONAL · nt base · tok semicolon · row 21 ∣ nt base · tok semicolon · row 20)
+    leaves identifier kind.attribute-name · star (tok comma · leaves identifier kind.attribute-name) · tok colon
+    · (tok OPTIONAL · nt base · tok semicolon · row kind.optional-group ∣ nt base · tok semicolon · row kind.attribute-group)
 -- 190 derived_attr
-rules derived = named identifier · tok colon · nt base · tok becomes · nt expression · tok semicolon · row 22
+rules derived = named identifier · tok colon · nt base · tok becomes · nt expression · tok semicolon · row kind.derived-attribute
 -- 204 expression
-rules expression = nt sum · opt (named relations · nt sum · row 10)
+rules expression = nt sum · opt (named relations · nt sum · row kind.two-operand)
 -- 287 simple_expression: operators of one level group to the left
-rules sum = nt term · star (named additions · nt term · row 10)
+rules sum = nt term · star (named additions · nt term · row kind.two-operand)
 -- 303 term
-rules term = nt factor · star (named multiplications · nt factor · row 10)
+rules term = nt factor · star (named multiplications · nt factor · row kind.two-operand)
 -- 206 factor (205 in annex A)
-rules factor = nt operand · opt (named power · nt operand · row 10)
+rules factor = nt operand · opt (named power · nt operand · row kind.two-operand)
 -- 288 simple_factor, 200 enumeration_reference: "No sign or NOT stands before a `type.item` or an interval."
 rules operand =
-    ahead identifier dot (leaves identifier 7) (nt interval ∣ named signs · nt atom · row 9 ∣ nt atom)
+    ahead identifier dot (leaves identifier kind.qualified-item) (nt interval ∣ named signs · nt atom · row kind.unary ∣ nt atom)
 -- 288 simple_factor and 256 primary: "Parentheses leave no node."
 rules atom =
     tok lparen · nt expression · tok rparen
-    ∣ leaves integer 1
-    ∣ leaves binary 2
-    ∣ leaves logicals 3
-    ∣ leaves question 4
-    ∣ leaves others 5
-    ∣ name 1
-    ∣ leaves SELF 8
+    ∣ leaves integer kind.integer-literal
+    ∣ leaves binary kind.binary-literal
+    ∣ leaves logicals kind.logical-literal
+    ∣ leaves question kind.question
+    ∣ leaves others kind.other-literal
+    ∣ name kind.in-expression
+    ∣ leaves SELF kind.self
 -- 229 interval: "three simple expressions, `<` or `<=` between"
 rules interval =
-    named lbrace · nt sum · leaves comparisons 12 · nt sum · leaves comparisons 12 · nt sum · tok rbrace · row 11
+    named lbrace · nt sum · leaves comparisons kind.interval-operator · nt sum · leaves comparisons kind.interval-operator · nt sum · tok rbrace · row kind.interval
