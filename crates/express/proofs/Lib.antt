@@ -1,5 +1,6 @@
 pub mod Bits
 pub mod Divide
+pub mod FormedRows
 pub mod Logic
 pub mod NameCases
 pub mod Names

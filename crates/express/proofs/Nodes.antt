@@ -1,21 +1,25 @@
 -- The sorts of nodes: for each kind the tokens that name it and its children; and that the grammar leaves such nodes alone.
-use mathlib.Core.Bool.{true, _&&_, cond}
+use mathlib.Core.Bool.{Bool, true, false, _&&_, cond, false≢true, not, _||_}
 use mathlib.Core.List.{List, [], _∷_, _++_}
-use mathlib.Core.Path.{_≡_, refl}
-use Prim.Native.Nat.{ℕ, _<_}
+use mathlib.Core.Logic.{⊎-elim}
+use mathlib.Core.Path.{_≡_, refl, ap}
+use Prim.Native.Nat.{ℕ, zero, suc, _≤_, _<_}
+use native.Mathlib.Omega.{arith}
 use lib.Dec.{eqb}
-use lib.ListN.{length, getD}
+use lib.ListN.{length, getD, List·getD-eq-default}
 use Rattle.ebnf.specs.Set.{mem, subset}
 use Rattle.ebnf.specs.Grammar.{rule}
 use Rattle.ebnf.specs.Rows.{Row}
+use Rattle.ebnf.specs.Parse.{at}
+use Rattle.ebnf.proofs.Sets.{and-split, lt-or-le}
 use Rattle.ebnf.proofs.Sorts.{Sort, sort, of-sorts, every}
 use Rattle.ebnf.proofs.Parts.{Part, one, many, within, fits, Kinds, known, keeps}
-use Rattle.ebnf.proofs.PostOrder.{Ends, Node, post-order, text-ends}
+use Rattle.ebnf.proofs.PostOrder.{Ends, Node, post-order, text-ends, every-part, Closed}
 use Rattle.express.specs.Terminal.{identifier, integer, binary, question, dot, lbrace, power, ENUMERATION, SCHEMA, SELECT, SELF}
+use Rattle.express.specs.Tree.{kind, role}
 use Rattle.express.specs.Grammar.{Nonterminal, file, schema, constants, constant, base, type-declaration, underlying, where-clause, domain-rule, entity, attributes, derived, expression, sum, term, factor, operand, atom, interval, leaves, name, simple-types, relations, additions, multiplications, signs, comparisons, logicals, others, rules}
 use Rattle.express.specs.Lookahead.{operand-begins, tables}
 use Rattle.express.specs.Syntax.{whole, Parses}
-use Rattle.express.specs.Tree.{kind, role}
 use Rattle.express.proofs.Syntax.{express}
 use Rattle.express.specs.NodeKind as kind
 
@@ -155,3 +159,47 @@ each-row x ts s d n l = post-order kinds ts express kept x (whole s) d n l
 -- ALL ROWS of a text are those of what its start symbol leaves.
 pub all-rows : (x : Nonterminal) (ts : List ℕ) (s : List Row) → Parses x ts s → Ends s 0 (length s) (kinds .leaves x)
 all-rows x ts s d = text-ends kinds ts express kept x (whole s) d
+
+-- ---- tests of all kinds
+
+unfoldable pub all-below : ℕ → (ℕ → Bool) → Bool
+all-below zero q = true
+all-below (suc n) q = q n && all-below n q
+
+each-below : (n : ℕ) (q : ℕ → Bool) → all-below n q ≡ true → (k : ℕ) → k < n → q k ≡ true
+unfolding all-below
+each-below zero q e k l = absurd (omega arith)
+each-below (suc n) q e k l =
+    let p = and-split (q n) _ e in
+    ⊎-elim (λ (h : k < n). each-below n q (p .1) k h) (λ (h : n ≤ k). let z : k ≡ n = omega arith in rw z (p .0)) (lt-or-le k n)
+
+-- a kind past the table has no children
+no-kind : (k : ℕ) → 27 ≤ k → kinds .children k ≡ []
+no-kind k l = ap (λ (e : Entry). e .parts) (List·getD-eq-default table (entry [] []) l)
+
+abbrev pub no-parts : List Part → Bool
+no-parts [] = true
+no-parts (p ∷ ps) = false
+
+no-parts-is : (ps : List Part) → no-parts ps ≡ true → ps ≡ []
+no-parts-is [] h = refl
+no-parts-is (p ∷ ps) h = absurd (false≢true h)
+
+-- kinds that pass a test have no children, where this holds of the kinds of the table
+pub childless-kind : (p : ℕ → Bool) → all-below 27 (λ k. not (p k) || no-parts (kinds .children k)) ≡ true → (k : ℕ) → p k ≡ true → kinds .children k ≡ []
+childless-kind p e k h =
+    ⊎-elim
+    (λ (l : k < 27).
+    let q = each-below 27 (λ j. not (p j) || no-parts (kinds .children j)) e k l in
+    no-parts-is (kinds .children k) (rw h at q))
+    (λ (l : 27 ≤ k). no-kind k l)
+    (lt-or-le k 27)
+
+-- a test of kinds that the children of what passes it pass, where this holds of the kinds of the table
+pub closed-kinds : (ts : List ℕ) (p : ℕ → Bool) → all-below 27 (λ k. not (p k) || every-part (λ j o. p j) (kinds .children k)) ≡ true →
+    Closed kinds ts (λ k o. p k)
+closed-kinds ts p e k o h =
+    ⊎-elim
+    (λ (l : k < 27). let q = each-below 27 (λ j. not (p j) || every-part (λ i o. p i) (kinds .children j)) e k l in rw h at q)
+    (λ (l : 27 ≤ k). rw (no-kind k l) refl)
+    (lt-or-le k 27)

@@ -1,11 +1,13 @@
 -- What the grammar says of a list of terminals: the rows of its nodes, the first token that cannot stand, or the 65th bracket open at once.
 -- The start symbol is `file` for a whole file, and `expression` for one expression by itself.
-use mathlib.Core.List.{List, _++_}
+use mathlib.Core.List.{List, _++_, map}
+use mathlib.Core.Path.{_≡_}
 use Prim.Native.Nat.{ℕ}
 use Rattle.ebnf.specs.Grammar.{Text}
 use Rattle.ebnf.specs.Rows.{Row, Rows, in-rows}
 use Rattle.ebnf.specs.Depth.{Outcome, outcome, Says}
 use Rattle.express.specs.Terminal.{lbrace, rbrace, lparen, rparen}
+use Rattle.express.specs.Tree.{Table}
 use Rattle.express.specs.Grammar.{Nonterminal, name, rules}
 use Rattle.express.specs.Lookahead.{tables}
 
@@ -36,3 +38,12 @@ Holds x ts o = Says in-rows rules x opening closing nesting ts o
 -- the outcome, computed: it holds, and no other does (proofs/Syntax.antt)
 unfoldable pub parsed : Nonterminal → List ℕ → Outcome Rows
 parsed x ts = outcome in-rows rules tables x opening closing nesting ts
+
+-- The node columns of a table are the rows of its terminals as a text of x.
+pub record Read (x : Nonterminal) (t : Table) : Type 0 where
+  pub rows : List Row
+  pub parses : Parses x (t .terminals) rows
+  pub kinds : t .kinds ≡ map (λ (r : Row). r .kind) rows
+  pub tokens : t .tokens ≡ map (λ (r : Row). r .token) rows
+  pub sizes : t .sizes ≡ map (λ (r : Row). r .size) rows
+  pub roles : t .roles ≡ map (λ (r : Row). r .role) rows
