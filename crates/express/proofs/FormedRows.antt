@@ -51,22 +51,22 @@ base-leaf k h =
     ⊎-elim (λ (e : eqb k 6 ≡ true). rw (eqb-true k 6 e) refl) (λ (e : eqb k 13 ≡ true). rw (eqb-true k 13 e) refl) (or-split (eqb k 6) _ h)
 
 module _ {x : Nonterminal} {t : Table} (d : Read x t) where
-  kind-is : (n : ℕ) → kind t n ≡ (row-at (d .rows) n) .kind
+  pub kind-is : (n : ℕ) → kind t n ≡ (row-at (d .rows) n) .kind
   kind-is n = ap (λ (c : List ℕ). getD c n 0) (d .kinds) ∙ List·getD-map (λ (r : Row). r .kind) (d .rows) n no-row
 
-  role-is : (n : ℕ) → role t n ≡ (row-at (d .rows) n) .role
+  pub role-is : (n : ℕ) → role t n ≡ (row-at (d .rows) n) .role
   role-is n = ap (λ (c : List ℕ). getD c n 0) (d .roles) ∙ List·getD-map (λ (r : Row). r .role) (d .rows) n no-row
 
-  size-is : (n : ℕ) → size t n ≡ (row-at (d .rows) n) .size
+  pub size-is : (n : ℕ) → size t n ≡ (row-at (d .rows) n) .size
   size-is n = ap (λ (c : List ℕ). getD c n 0) (d .sizes) ∙ List·getD-map (λ (r : Row). r .size) (d .rows) n no-row
 
-  token-is : (n : ℕ) → token t n ≡ (row-at (d .rows) n) .token
+  pub token-is : (n : ℕ) → token t n ≡ (row-at (d .rows) n) .token
   token-is n = ap (λ (c : List ℕ). getD c n 0) (d .tokens) ∙ List·getD-map (λ (r : Row). r .token) (d .rows) n no-row
 
-  count-is : count t ≡ length (d .rows)
+  pub count-is : count t ≡ length (d .rows)
   count-is = ap length (d .kinds) ∙ length-map (d .rows) _
 
-  node-at : (n : ℕ) → n < count t → Node kinds (t .terminals) (d .rows) n
+  pub node-at : (n : ℕ) → n < count t → Node kinds (t .terminals) (d .rows) n
   node-at n l = each-row x (t .terminals) (d .rows) (d .parses) n (rw count-is at l)
 
   in-table : (a p : ℕ) (S : List Sort) (Ss : List (List Sort)) → Chain (d .rows) a p S Ss → Children t a p S Ss

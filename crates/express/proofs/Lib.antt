@@ -12,3 +12,4 @@ pub mod Spelling
 pub mod Syntax
 pub mod SyntaxExamples
 pub mod TokenExamples
+pub mod Within

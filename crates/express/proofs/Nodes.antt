@@ -14,7 +14,7 @@ use Rattle.ebnf.specs.Parse.{at}
 use Rattle.ebnf.proofs.Sets.{and-split, lt-or-le}
 use Rattle.ebnf.proofs.Sorts.{Sort, sort, of-sorts, every}
 use Rattle.ebnf.proofs.Parts.{Part, one, many, within, fits, Kinds, known, keeps}
-use Rattle.ebnf.proofs.PostOrder.{Ends, Node, post-order, text-ends, every-part, Closed}
+use Rattle.ebnf.proofs.PostOrder.{Ends, Node, post-order, text-ends, every-part}
 use Rattle.express.specs.Terminal.{identifier, integer, binary, question, dot, lbrace, power, ENUMERATION, SCHEMA, SELECT, SELF}
 use Rattle.express.specs.Tree.{kind, role}
 use Rattle.express.specs.Grammar.{Nonterminal, file, schema, constants, constant, base, type-declaration, underlying, where-clause, domain-rule, entity, attributes, derived, expression, sum, term, factor, operand, atom, interval, leaves, name, simple-types, relations, additions, multiplications, signs, comparisons, logicals, others, rules}
@@ -195,11 +195,11 @@ childless-kind p e k h =
     (λ (l : 27 ≤ k). no-kind k l)
     (lt-or-le k 27)
 
--- a test of kinds that the children of what passes it pass, where this holds of the kinds of the table
-pub closed-kinds : (ts : List ℕ) (p : ℕ → Bool) → all-below 27 (λ k. not (p k) || every-part (λ j o. p j) (kinds .children k)) ≡ true →
-    Closed kinds ts (λ k o. p k)
-closed-kinds ts p e k o h =
+-- the children of the kinds that pass one test pass another, where this holds of the kinds of the table
+pub children-pass : (q p : ℕ → Bool) → all-below 27 (λ k. not (q k) || every-part (λ j o. p j) (kinds .children k)) ≡ true →
+    (k : ℕ) → q k ≡ true → every-part (λ j o. p j) (kinds .children k) ≡ true
+children-pass q p e k h =
     ⊎-elim
-    (λ (l : k < 27). let q = each-below 27 (λ j. not (p j) || every-part (λ i o. p i) (kinds .children j)) e k l in rw h at q)
+    (λ (l : k < 27). let r = each-below 27 (λ j. not (q j) || every-part (λ i o. p i) (kinds .children j)) e k l in rw h at r)
     (λ (l : 27 ≤ k). rw (no-kind k l) refl)
     (lt-or-le k 27)
