@@ -2,18 +2,19 @@
 use mathlib.Core.Bool.{true}
 use mathlib.Core.List.{List}
 use mathlib.Core.Logic.{_↔_}
-use mathlib.Core.Path.{_≡_, refl, ap}
+use mathlib.Core.Path.{_≡_, refl, ap, subst}
 use Prim.Native.Nat.{ℕ}
 use Rattle.ebnf.specs.Set.{mem, disjoint, subset}
-use Rattle.ebnf.specs.Grammar.{Stuck}
+use Rattle.ebnf.specs.Grammar.{rule, Text, Stuck}
 use Rattle.ebnf.specs.Rows.{Row, Rows, in-rows}
 use Rattle.ebnf.specs.Parse.{accepted, refused-at, parse}
 use Rattle.ebnf.specs.Check.{productive, passes}
-use Rattle.ebnf.specs.Depth.{Outcome}
+use Rattle.ebnf.specs.Depth.{Outcome, good}
 use Rattle.ebnf.proofs.Predictive.{Predictive, predictive}
+use Rattle.express.specs.Tree.{Table}
 use Rattle.express.specs.Grammar.{Nonterminal, file, schema, constants, constant, base, type-declaration, underlying, where-clause, domain-rule, entity, attributes, derived, expression, sum, term, factor, operand, atom, interval, rules}
 use Rattle.express.specs.Lookahead.{tables}
-use Rattle.express.specs.Syntax.{whole, Parses, opening, closing, nesting, Holds, parsed}
+use Rattle.express.specs.Syntax.{whole, Parses, opening, closing, nesting, Holds, parsed, Read, with-rows}
 use Rattle.ebnf.proofs.Exact as exact
 use Rattle.ebnf.proofs.Limit as limit
 
@@ -59,3 +60,20 @@ module _ (x : Nonterminal) where
   pub parsed-iff : (ts : List ℕ) (o : Outcome Rows) → (parsed x ts ≡ o) ↔ Holds x ts o
   unfolding parsed mem
   parsed-iff ts o = limit.outcome-iff express in-rows x opening closing nesting refl ts o
+
+  -- the value of a text is its rows: nothing is named beyond them
+  whole-value : (ts : List ℕ) (r : Rows) → Text in-rows rules x ts r → r ≡ whole (r .rows)
+  whole-value ts r (rule d) = refl
+
+  -- A TABLE WITH THE ROWS that the parse gives holds the rows of its terminals
+  pub read-good : (t : Table) (r : Rows) → parsed x (t .terminals) ≡ good r → Read x (with-rows t (r .rows))
+  read-good t r e =
+      let d = (parsed-iff (t .terminals) (good r)) .0 e .0 in
+      record {
+        rows = r .rows;
+        parses = subst (λ (s : Rows). Text in-rows rules x (t .terminals) s) (whole-value _ r d) d;
+        kinds = refl;
+        tokens = refl;
+        sizes = refl;
+        roles = refl;
+      }

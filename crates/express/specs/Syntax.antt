@@ -6,7 +6,7 @@ use Prim.Native.Nat.{ℕ}
 use Rattle.ebnf.specs.Grammar.{Text}
 use Rattle.ebnf.specs.Rows.{Row, Rows, in-rows}
 use Rattle.ebnf.specs.Depth.{Outcome, outcome, Says}
-use Rattle.express.specs.Terminal.{lbrace, rbrace, lparen, rparen}
+use Rattle.express.specs.Terminal.{lbrace, rbrace, lparen, rparen, bytes, symbols}
 use Rattle.express.specs.Tree.{Table}
 use Rattle.express.specs.Grammar.{Nonterminal, name, rules}
 use Rattle.express.specs.Lookahead.{tables}
@@ -47,3 +47,18 @@ pub record Read (x : Nonterminal) (t : Table) : Type 0 where
   pub tokens : t .tokens ≡ map (λ (r : Row). r .token) rows
   pub sizes : t .sizes ≡ map (λ (r : Row). r .size) rows
   pub roles : t .roles ≡ map (λ (r : Row). r .role) rows
+
+-- a table with the rows of nodes
+abbrev pub with-rows : Table → List Row → Table
+with-rows t rs =
+    record {
+      bytes = t .bytes;
+      starts = t .starts;
+      lengths = t .lengths;
+      terminals = t .terminals;
+      symbols = t .symbols;
+      kinds = map (λ (r : Row). r .kind) rs;
+      tokens = map (λ (r : Row). r .token) rs;
+      sizes = map (λ (r : Row). r .size) rs;
+      roles = map (λ (r : Row). r .role) rs;
+    }
