@@ -1,3 +1,4 @@
 pub mod Bits
 pub mod Divide
 pub mod Logic
+pub mod Order
