@@ -16,3 +16,4 @@ pub mod Topological
 pub mod Inside
 pub mod ConstantOrder
 pub mod Within
+pub mod Order
