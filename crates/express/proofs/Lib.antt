@@ -4,6 +4,7 @@ pub mod Logic
 pub mod NameCases
 pub mod Names
 pub mod Once
+pub mod Operations
 pub mod Reach
 pub mod Select
 pub mod Spelling
