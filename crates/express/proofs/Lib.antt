@@ -7,5 +7,7 @@ pub mod Once
 pub mod Operations
 pub mod Reach
 pub mod Select
+pub mod Shapes
+pub mod Spans
 pub mod Spelling
 pub mod TokenExamples
