@@ -6,8 +6,11 @@ pub mod NameCases
 pub mod Names
 pub mod Nodes
 pub mod Once
+pub mod Operations
 pub mod Reach
 pub mod Select
+pub mod Shapes
+pub mod Spans
 pub mod Spelling
 pub mod Syntax
 pub mod SyntaxExamples
