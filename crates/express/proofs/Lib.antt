@@ -14,6 +14,7 @@ pub mod Spans
 pub mod Spelling
 pub mod Syntax
 pub mod SyntaxExamples
+pub mod Places
 pub mod TokenExamples
 pub mod Topological
 pub mod Inside
