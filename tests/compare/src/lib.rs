@@ -1,1 +1,2 @@
 //! The case corpus and seeded random files, run on a checker.
+pub mod random;

@@ -1,0 +1,94 @@
+//! What every part of a file draws from: numbers, a pool of names, and slips, the mistakes of loosely built files.
+
+use super::rng::Rng;
+use std::collections::BTreeSet;
+
+/// A mistake that a loosely built file may make, each leading to other refusals.
+#[derive(Clone, Copy)]
+pub enum Slip {
+    Duplicate,
+    TypeName,
+    TypeCycle,
+    SuperCycle,
+    Name,
+    Clash,
+    ConstantCycle,
+    Unevaluated,
+    Misfit,
+}
+
+const SLIPS: usize = 9;
+/// None of these, with any of the endings, is reserved.
+const STEMS: [&str; 20] = [
+    "a", "b", "c", "d", "e", "f", "x", "y", "z", "alpha", "step", "mask", "item_", "end_", "types", "pi_", "true_", "selfish",
+    "schema_", "a_rather_long_name_with_many_parts",
+];
+const ENDINGS: [&str; 6] = ["", "", "1", "_2", "00", "_"];
+
+pub struct Source {
+    pub rng: Rng,
+    /// A slip of each sort happens once in so many places; 0 is never.
+    slips: [usize; SLIPS],
+    pool: Vec<String>,
+    fresh: usize,
+}
+
+impl Source {
+    /// A source without slips, for a file of about `size` bytes.
+    pub fn new(seed: u64, size: usize) -> Self {
+        let mut rng = Rng::new(seed);
+        let names = rng.between(6, 12 + size / 60);
+        let pool = (0..names).map(|_| format!("{}{}", rng.pick(&STEMS), rng.pick(&ENDINGS))).collect();
+        Source { rng, slips: [0; SLIPS], pool, fresh: 0 }
+    }
+
+    /// The same with slips: mostly of one or two sorts, so that the later stages are reached too.
+    pub fn loose(seed: u64, size: usize) -> Self {
+        let mut source = Source::new(seed, size);
+        let rng = &mut source.rng;
+        let often = *rng.pick(&[2, 4, 8, 20, 60]);
+        if rng.one_in(4) {
+            source.slips = [often * 2; SLIPS];
+        } else {
+            for _ in 0..rng.between(1, 2) {
+                source.slips[rng.below(SLIPS)] = often;
+            }
+        }
+        source
+    }
+
+    pub fn slip(&mut self, slip: Slip) -> bool {
+        let often = self.slips[slip as usize];
+        often > 0 && self.rng.one_in(often)
+    }
+
+    /// Any name of the pool, whatever it means.
+    pub fn any_name(&mut self) -> String {
+        self.rng.pick(&self.pool).clone()
+    }
+
+    /// A name that is not yet in `taken`, which it then is.
+    pub fn fresh(&mut self, taken: &mut BTreeSet<String>) -> String {
+        for _ in 0..6 {
+            let name = self.any_name();
+            if taken.insert(name.clone()) {
+                return name;
+            }
+        }
+        loop {
+            self.fresh += 1;
+            let name = format!("n{}", self.fresh);
+            if taken.insert(name.clone()) {
+                return name;
+            }
+        }
+    }
+
+    /// As `fresh`, but a slip declares one of `own` again.
+    pub fn declare(&mut self, taken: &mut BTreeSet<String>, own: &[String]) -> String {
+        if !own.is_empty() && self.slip(Slip::Duplicate) {
+            return self.rng.pick(own).clone();
+        }
+        self.fresh(taken)
+    }
+}
