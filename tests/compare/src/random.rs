@@ -48,16 +48,22 @@ pub fn file(seed: u64) -> Vec<u8> {
 
 /// A file that has answers for all its constants.
 pub fn well_typed(seed: u64, size: usize) -> Vec<u8> {
-    let mut source = Source::new(seed, size);
-    let tokens = declarations::file(&mut source, size);
-    laid_out(&mut source.rng, &tokens)
+    undamaged(Source::new, seed, size)
 }
 
 /// A file of the grammar whose names and kinds are often wrong.
 pub fn loose(seed: u64, size: usize) -> Vec<u8> {
-    let mut source = Source::loose(seed, size);
-    let tokens = declarations::file(&mut source, size);
-    laid_out(&mut source.rng, &tokens)
+    undamaged(Source::loose, seed, size)
+}
+
+fn undamaged(source: fn(u64, usize) -> Source, seed: u64, size: usize) -> Vec<u8> {
+    let mut drawn = source(seed, size);
+    let tokens = declarations::file(&mut drawn, size);
+    let file = laid_out(&mut drawn.rng, &tokens);
+    if file.len() > LARGEST {
+        return undamaged(source, seed, size * 3 / 4);
+    }
+    file
 }
 
 /// A file of the other sorts with some damage.
@@ -77,7 +83,7 @@ pub fn damaged(seed: u64, size: usize) -> Vec<u8> {
     file
 }
 
-/// A layout of the tokens within the largest size, if there is one.
+/// A layout of the tokens, within the largest size if any is.
 fn laid_out(rng: &mut Rng, tokens: &[String]) -> Vec<u8> {
     let file = layout::lay_out(rng, tokens);
     if file.len() > LARGEST {

@@ -142,7 +142,7 @@ impl<'a> Writer<'a> {
     fn operand(&mut self, scope: &Scope, kind: Kind, fuel: usize) {
         let kind = self.bend(scope, kind);
         let signed = self.signed(scope, kind);
-        if fuel < 2 || self.open >= DEEPEST {
+        if fuel < 2 || self.open >= DEEPEST || self.source.rng.one_in(4) {
             return self.leaf(scope, kind, signed);
         }
         if !signed && kind == Kind::Logical && fuel > 2 && self.source.rng.one_in(3) {

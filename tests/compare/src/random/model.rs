@@ -72,12 +72,14 @@ struct Names {
 }
 
 const SIMPLE: [&str; 7] = ["INTEGER", "BOOLEAN", "LOGICAL", "BINARY", "NUMBER", "REAL", "STRING"];
+/// About how many bytes a constant, a type and an entity take.
+const BYTES: [usize; 3] = [60, 80, 180];
 /// How many constants, types and entities there are, in parts.
 const SHARES: [[usize; 3]; 7] = [[4, 1, 1], [2, 2, 1], [1, 0, 0], [1, 1, 0], [2, 1, 0], [0, 1, 1], [1, 1, 3]];
 
 /// A schema for about `size` bytes of text.
 pub fn schema(source: &mut Source, size: usize) -> Schema {
-    let names = names(source, size / 60);
+    let names = names(source, size);
     let mut schema = Schema::default();
     for i in 0..names.types.len() {
         let declared = a_type(source, &names, &schema.types, i);
@@ -91,15 +93,16 @@ pub fn schema(source: &mut Source, size: usize) -> Schema {
     schema
 }
 
-fn names(source: &mut Source, count: usize) -> Names {
-    let count = if source.rng.one_in(20) { 0 } else { count.max(1) };
+fn names(source: &mut Source, size: usize) -> Names {
     let shares = *source.rng.pick(&SHARES);
     let whole: usize = shares.iter().sum();
+    let mut left = if source.rng.one_in(20) { 0 } else { size.max(1) };
     let (mut taken, mut all, mut lists) = (BTreeSet::new(), Vec::new(), [(); 3].map(|_| Vec::new()));
-    for _ in 0..count {
+    while left > 0 {
         let name = source.declare(&mut taken, &all);
         let at = source.rng.below(whole);
         let sort = if at < shares[0] { 0 } else { 1 + usize::from(at >= shares[0] + shares[1]) };
+        left = left.saturating_sub(BYTES[sort]);
         lists[sort].push(name.clone());
         all.push(name);
     }
