@@ -1,6 +1,6 @@
 //! Schemas and their declarations as tokens, in any order, with the scopes of their expressions.
 
-use super::expressions::{enumerations, Scope, Writer};
+use super::expressions::{Scope, Writer};
 use super::model::{self, Constant, Entity, Kind, Schema, Type, Under};
 use super::source::Source;
 use std::collections::{BTreeMap, BTreeSet};
@@ -47,8 +47,8 @@ fn write_schema(writer: &mut Writer, name: &str, schema: &Schema) {
 /// The items whose bare name means them in a schema: of one enumeration only, and hidden by no declaration.
 fn bare_items(schema: &Schema) -> Vec<Named<'_>> {
     let mut found: BTreeMap<&str, Vec<usize>> = BTreeMap::new();
-    for (i, items) in enumerations(schema) {
-        items.iter().for_each(|item| found.entry(item).or_default().push(i));
+    for &of in &schema.enumerations {
+        schema.items(of).iter().for_each(|item| found.entry(item).or_default().push(of));
     }
     schema.constants.iter().for_each(|of| drop(found.remove(of.name.as_str())));
     schema.types.iter().for_each(|of| drop(found.remove(of.name.as_str())));
@@ -71,7 +71,7 @@ fn mix(writer: &mut Writer, mut parts: Vec<Vec<String>>) {
 
 /// Each constant uses only those before it, but the text mixes them.
 fn constants(writer: &mut Writer, schema: &Schema, items: &[Named]) {
-    let mut scope = Scope { schema, names: items.to_vec(), typed: true };
+    let mut scope = Scope { schema, names: items.to_vec(), blocked: Vec::new(), typed: true };
     let mut parts = Vec::new();
     for of in &schema.constants {
         let Constant { name, base, kind } = of;
@@ -101,8 +101,8 @@ fn write_type(writer: &mut Writer, schema: &Schema, outer: &[Named], of: &Type) 
         }
     }
     writer.put(";");
-    let hidden = of.rules.iter().flatten().map(String::as_str).collect();
-    rules(writer, &inner(schema, outer, Vec::new(), &hidden), &of.rules);
+    let labels = of.rules.iter().flatten().map(String::as_str).collect();
+    rules(writer, &inner(schema, outer, Vec::new(), labels), &of.rules);
     writer.puts(&["END_TYPE", ";"]);
 }
 
@@ -113,10 +113,11 @@ fn list(writer: &mut Writer, names: &[String]) {
     writer.put(")");
 }
 
-/// A scope of the names given and of the schema's that are not hidden.
-fn inner<'a>(schema: &'a Schema, outer: &[Named<'a>], mut names: Vec<Named<'a>>, hidden: &BTreeSet<&str>) -> Scope<'a> {
+/// A scope of the names given, and of the schema's that neither these nor the blocked ones hide.
+fn inner<'a>(schema: &'a Schema, outer: &[Named<'a>], mut names: Vec<Named<'a>>, blocked: Vec<&'a str>) -> Scope<'a> {
+    let hidden: BTreeSet<&str> = names.iter().map(|(_, name)| *name).chain(blocked.iter().copied()).collect();
     names.extend(outer.iter().filter(|(_, name)| !hidden.contains(name)));
-    Scope { schema, names, typed: false }
+    Scope { schema, names, blocked, typed: false }
 }
 
 fn rules(writer: &mut Writer, scope: &Scope, labels: &[Option<String>]) {
@@ -158,12 +159,13 @@ fn write_entity(writer: &mut Writer, schema: &Schema, outer: &[Named], of: &Enti
     writer.puts(&["END_ENTITY", ";"]);
 }
 
-/// Own attributes and inherited ones of one meaning, then the schema's names that neither these nor labels hide.
+/// The entity's attributes, own and inherited, that have one meaning; then the schema's names.
 fn entity_scope<'a>(schema: &'a Schema, outer: &[Named<'a>], of: &'a Entity) -> Scope<'a> {
     let mut meanings: BTreeMap<&str, usize> = BTreeMap::new();
     of.inherited.iter().for_each(|(_, name)| *meanings.entry(name).or_default() += 1);
     of.attributes().for_each(|name| *meanings.entry(name).or_default() += 1);
-    let usable = meanings.iter().filter(|(_, count)| **count == 1).map(|(name, _)| (None, *name)).collect();
-    let hidden = meanings.keys().copied().chain(of.rules.iter().flatten().map(String::as_str)).collect();
-    inner(schema, outer, usable, &hidden)
+    let (usable, several): (Vec<_>, Vec<_>) = meanings.into_iter().partition(|(_, count)| *count == 1);
+    let mut blocked: Vec<&str> = several.into_iter().map(|(name, _)| name).collect();
+    blocked.extend(of.rules.iter().flatten().map(String::as_str));
+    inner(schema, outer, usable.into_iter().map(|(name, _)| (None, name)).collect(), blocked)
 }

@@ -1,6 +1,6 @@
 //! Expressions, written rule by rule of the grammar with the kind that each must have.
 
-use super::model::{Kind, Schema, Under};
+use super::model::{Kind, Schema};
 use super::source::{Slip, Source};
 
 /// The most parentheses and intervals that may be open at once.
@@ -19,6 +19,8 @@ const SIGNS: [&str; 3] = ["+", "-", "NOT"];
 pub struct Scope<'a> {
     pub schema: &'a Schema,
     pub names: Vec<(Option<Kind>, &'a str)>,
+    /// Names that mean a label or several attributes here, used only by a slip.
+    pub blocked: Vec<&'a str>,
     pub typed: bool,
 }
 
@@ -215,7 +217,10 @@ impl<'a> Writer<'a> {
         if scope.names.is_empty() || rng.one_in(3) {
             return None;
         }
-        (0..4).map(|_| *rng.pick(&scope.names)).find(|(of, _)| !scope.typed || *of == Some(kind)).map(|(_, name)| name)
+        let fits = |(of, _): &(Option<Kind>, &str)| !scope.typed || *of == Some(kind);
+        let recent = self.source.near && rng.one_in(2);
+        let latest = recent.then(|| scope.names.iter().rev().take(8).copied().find(fits)).flatten();
+        latest.or_else(|| (0..4).map(|_| *rng.pick(&scope.names)).find(fits)).map(|(_, name)| name)
     }
 
     /// A name or SELF that need not be right here.
@@ -233,18 +238,23 @@ impl<'a> Writer<'a> {
                 let name = &self.source.rng.pick(types).name;
                 self.put(name);
             }
-            5 | 6 => self.an_item(scope, &name),
+            5 => self.an_item(scope, &name),
+            6 | 7 if !scope.blocked.is_empty() => {
+                let name = *self.source.rng.pick(&scope.blocked);
+                self.put(name);
+            }
             _ => self.put(&name),
         }
     }
 
     /// The bare name of an item of any enumeration, hidden or with two meanings as may be.
     fn an_item(&mut self, scope: &Scope, otherwise: &str) {
-        match enumerations(scope.schema).as_slice() {
+        let rng = &mut self.source.rng;
+        match scope.schema.enumerations.as_slice() {
             [] => self.put(otherwise),
             all => {
-                let (_, items) = *self.source.rng.pick(all);
-                let item = self.source.rng.pick(items);
+                let of = *rng.pick(all);
+                let item = rng.pick(scope.schema.items(of));
                 self.put(item);
             }
         }
@@ -260,8 +270,7 @@ impl<'a> Writer<'a> {
             Kind::Binary => self.binary(),
             Kind::Item(_) if signed => self.put("?"),
             Kind::Item(of) => {
-                let Under::Enumeration(items) = &scope.schema.types[of].under else { unreachable!("an item's kind is an enumeration") };
-                let item = self.source.rng.pick(items);
+                let item = self.source.rng.pick(scope.schema.items(of));
                 self.puts(&[&scope.schema.types[of].name, ".", item]);
             }
         }
@@ -298,21 +307,8 @@ impl<'a> Writer<'a> {
             0..=2 => Kind::Integer,
             3 | 4 => Kind::Logical,
             5 => Kind::Binary,
-            _ => match enumerations(scope.schema).as_slice() {
-                [] => Kind::Integer,
-                all => Kind::Item(self.source.rng.pick(all).0),
-            },
+            _ if scope.schema.enumerations.is_empty() => Kind::Integer,
+            _ => Kind::Item(*self.source.rng.pick(&scope.schema.enumerations)),
         }
     }
-}
-
-/// The places of a schema's enumerations among its types, with their items.
-pub fn enumerations(schema: &Schema) -> Vec<(usize, &Vec<String>)> {
-    let mut all = Vec::new();
-    for (i, of) in schema.types.iter().enumerate() {
-        if let Under::Enumeration(items) = &of.under {
-            all.push((i, items));
-        }
-    }
-    all
 }

@@ -62,6 +62,18 @@ pub struct Schema {
     pub constants: Vec<Constant>,
     pub types: Vec<Type>,
     pub entities: Vec<Entity>,
+    /// The places of the enumerations among the types.
+    pub enumerations: Vec<usize>,
+}
+
+impl Schema {
+    /// The items of the enumeration in this place.
+    pub fn items(&self, of: usize) -> &[String] {
+        match &self.types[of].under {
+            Under::Enumeration(items) => items,
+            _ => unreachable!("an item's kind is the place of an enumeration"),
+        }
+    }
 }
 
 /// The names of a schema's constants, types and entities, chosen before anything refers to them.
@@ -83,6 +95,9 @@ pub fn schema(source: &mut Source, size: usize) -> Schema {
     let mut schema = Schema::default();
     for i in 0..names.types.len() {
         let declared = a_type(source, &names, &schema.types, i);
+        if matches!(declared.under, Under::Enumeration(_)) {
+            schema.enumerations.push(i);
+        }
         schema.types.push(declared);
     }
     for i in 0..names.entities.len() {
@@ -142,7 +157,7 @@ fn renaming(source: &mut Source, names: &Names, types: &[Type]) -> (Under, Optio
     if types.is_empty() {
         return simple(source);
     }
-    let renamed = source.rng.pick(types);
+    let renamed = source.earlier(types);
     (Under::Base(renamed.name.clone()), renamed.kind)
 }
 
@@ -164,9 +179,12 @@ fn wrong_name(source: &mut Source, names: &Names) -> Option<String> {
 
 /// Earlier types and entities, of which there are some; one may stand there twice.
 fn select(source: &mut Source, names: &Names, i: usize) -> Vec<String> {
-    let known: Vec<&String> = names.types[..i].iter().chain(&names.entities).collect();
     (0..source.rng.between(1, 4))
-        .map(|_| wrong_type(source, names).unwrap_or_else(|| source.rng.pick(&known).to_string()))
+        .map(|_| match wrong_type(source, names) {
+            Some(name) => name,
+            None if i == 0 || !names.entities.is_empty() && source.rng.one_in(3) => source.rng.pick(&names.entities).clone(),
+            None => source.earlier(&names.types[..i]).clone(),
+        })
         .collect()
 }
 
@@ -260,7 +278,7 @@ fn members(source: &mut Source, names: &Names, entity: &mut Entity, inherited: &
     }
 }
 
-/// Some of the entities before this one, so that diamonds are common.
+/// Some of the entities before this one; diamonds are common.
 fn supertypes(source: &mut Source, names: &Names, i: usize) -> Vec<String> {
     let (mut taken, mut list) = (BTreeSet::new(), Vec::new());
     for _ in 0..source.rng.below(4) {
@@ -269,8 +287,7 @@ fn supertypes(source: &mut Source, names: &Names, i: usize) -> Vec<String> {
         } else if let Some(name) = wrong_name(source, names) {
             name
         } else if i > 0 {
-            let near = i.saturating_sub(6);
-            names.entities[source.rng.between(near, i - 1)].clone()
+            source.earlier(&names.entities[..i]).clone()
         } else {
             continue;
         };

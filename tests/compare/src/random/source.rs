@@ -31,6 +31,8 @@ pub struct Source {
     slips: [usize; SLIPS],
     pool: Vec<String>,
     fresh: usize,
+    /// Whether references go to what was declared just before, which makes long chains with many paths.
+    pub near: bool,
 }
 
 impl Source {
@@ -39,7 +41,8 @@ impl Source {
         let mut rng = Rng::new(seed);
         let names = rng.between(6, 12 + size / 60);
         let pool = (0..names).map(|_| format!("{}{}", rng.pick(&STEMS), rng.pick(&ENDINGS))).collect();
-        Source { rng, slips: [0; SLIPS], pool, fresh: 0 }
+        let near = rng.one_in(4);
+        Source { rng, slips: [0; SLIPS], pool, fresh: 0, near }
     }
 
     /// The same with slips: mostly of one or two sorts, so that the later stages are reached too.
@@ -60,6 +63,12 @@ impl Source {
     pub fn slip(&mut self, slip: Slip) -> bool {
         let often = self.slips[slip as usize];
         often > 0 && self.rng.one_in(often)
+    }
+
+    /// One of those declared so far, of which there are some.
+    pub fn earlier<'a, T>(&mut self, declared: &'a [T]) -> &'a T {
+        let from = if self.near { declared.len().saturating_sub(3) } else { 0 };
+        self.rng.pick(&declared[from..])
     }
 
     /// Any name of the pool, whatever it means.
