@@ -2,15 +2,19 @@
 
 mod damage;
 mod declarations;
+mod demand;
 mod driver;
 mod expressions;
 mod layout;
 mod model;
 mod rng;
 mod source;
+mod tally;
 
 pub use damage::LARGEST;
-pub use driver::{compare, demand_one, needed, Difference, Outcome, Tally};
+pub use demand::demand_one;
+pub use driver::{compare, needed, Difference, Outcome};
+pub use tally::Tally;
 
 use rng::Rng;
 use source::Source;

@@ -8,10 +8,15 @@ pub const LARGEST: usize = 65_536;
 
 /// Tokens, and near-tokens, that stand where they should not.
 const ODD: [&str; 48] = [
-    "(", ")", "{", "}", "[", "]", ";", ":", ":=", ":=:", ":<>:", ":<>", ":<", "<*", "||", "|", "\\", ".", ",", "**", "*", "-", "--", "+", "?",
-    "%", "%2", "'", "\"00\"", "(*", "*)", "5.e", "1.e+", "12ab", "_a", "SELF", "NOT", "IN", "LIKE", "ANDOR", "END_SCHEMA", "WHERE",
-    "OPTIONAL", "LIST", "PI", "3.25", "'text'", "\u{e9}",
+    "(", ")", "{", "}", "[", "]", ";", ":", ":=", ":=:", ":<>:", ":<>", ":<", "<*", "||", "|", "\\", ".", ",", "**", "*", "-", "--",
+    "+", "?", "%", "%2", "'", "\"00\"", "(*", "*)", "5.e", "1.e+", "12ab", "_a", "SELF", "NOT", "IN", "LIKE", "ANDOR", "END_SCHEMA",
+    "WHERE", "OPTIONAL", "LIST", "PI", "3.25", "'text'", "\u{e9}",
 ];
+/// Integers at and beyond the largest.
+const LARGE: [&str; 5] =
+    ["9223372036854775807", "9223372036854775808", "18446744073709551616", "000000000000000000000001", "99999999999999999999"];
+/// Remarks, strings and other tokens that lack a part, or have one too many.
+const BROKEN: [&[u8]; 9] = [b"(*(*)*)", b"*)", b"--", b"'\t'", b"'\x7f'", b"'a\n", b"%", b"0.", b"\0"];
 
 /// One to three damages to the tokens.
 pub fn tokens(rng: &mut Rng, tokens: &mut Vec<String>) {
@@ -43,8 +48,7 @@ fn enlarge(rng: &mut Rng, tokens: &mut [String]) {
     *literals[at] = if literals[at].starts_with('%') {
         format!("%{}", "01".repeat(40).split_at(bits).0)
     } else {
-        rng.pick(&["9223372036854775807", "9223372036854775808", "18446744073709551616", "000000000000000000000001", "99999999999999999999"])
-            .to_string()
+        rng.pick(&LARGE).to_string()
     };
 }
 
@@ -85,7 +89,10 @@ pub fn bytes(rng: &mut Rng, file: &mut Vec<u8>) {
         6 => file.truncate(i),
         7 => insert(file, i, b"(*"),
         8 => insert(file, i, b"'"),
-        9 => insert(file, i, *rng.pick(&[b"(*(*)*)" as &[u8], b"*)", b"--", b"'\t'", b"'\x7f'", b"'a\n", b"%", b"0.", b"\0"])),
+        9 => {
+            let broken = *rng.pick(&BROKEN);
+            insert(file, i, broken);
+        }
         10 => *file = noise(rng),
         _ => fill(rng, file),
     }

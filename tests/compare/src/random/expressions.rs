@@ -24,6 +24,9 @@ pub struct Scope<'a> {
     pub typed: bool,
 }
 
+/// A rule of the grammar, as the parts of a chain need it.
+type Part<'a> = fn(&mut Writer<'a>, &Scope, Kind, usize);
+
 pub struct Writer<'a> {
     pub source: &'a mut Source,
     pub out: Vec<String>,
@@ -105,9 +108,9 @@ impl<'a> Writer<'a> {
     }
 
     /// One or more parts with operators between them; untyped and by a slip, any operators.
-    fn chain(&mut self, scope: &Scope, kind: Kind, fuel: usize, ops: (&[&str], &[&str]), part: fn(&mut Self, &Scope, Kind, usize)) {
+    fn chain(&mut self, scope: &Scope, kind: Kind, fuel: usize, (fitting, all): (&[&str], &[&str]), part: Part<'a>) {
         let any = !scope.typed && self.source.rng.one_in(4) || self.source.slip(Slip::Misfit);
-        let ops = if any { ops.1 } else { ops.0 };
+        let ops = if any { all } else { fitting };
         let parts = if ops.is_empty() { 1 } else { self.source.rng.between(1, fuel.clamp(1, 3)) };
         part(self, scope, kind, fuel / parts);
         for _ in 1..parts {
