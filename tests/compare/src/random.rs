@@ -32,6 +32,7 @@ pub fn plan(seed: u64) -> (Sort, usize) {
     let mut rng = Rng::new(seed ^ 0x706c_616e);
     let sort = *rng.pick(&[Sort::WellTyped, Sort::Loose, Sort::Damaged]);
     let size = match rng.below(1000) {
+        0..=799 if sort == Sort::Loose => rng.between(100, 700),
         0..=799 => rng.between(40, 400),
         800..=969 => rng.between(400, 4_000),
         970..=996 => rng.between(4_000, 16_000),

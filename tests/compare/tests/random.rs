@@ -85,13 +85,16 @@ fn a_difference_is_found_and_made_small() {
     let difference = compare(1_000, 0, check, faulty).expect_err("some file has a cycle");
     let reply = difference.left.as_ref().map(|checked| checked.report.reply);
     assert_eq!(reply, Ok(13), "{difference}");
-    assert!(difference.file.len() < 120, "{difference}");
+    assert!(difference.file.len() < 80, "{difference}");
 }
 
 #[test]
 fn a_panic_is_reported_with_its_seed() {
     let faulty = |bytes: &[u8], lengths: [usize; 3]| {
-        assert!(bytes.len() % 7 != 3, "seven");
+        if bytes.len() % 7 == 3 {
+            // A panic that prints nothing.
+            std::panic::resume_unwind(Box::new("seven"));
+        }
         check(bytes, lengths)
     };
     let difference = compare(100, 0, check, faulty).expect_err("some file has such a length");

@@ -80,30 +80,37 @@ pub fn needed(file: &[u8], check: &impl Fn(&[u8], [usize; 3]) -> Checked) -> [us
     needed
 }
 
-/// Drops ever smaller pieces of the file while both replies stay.
+/// Drops statements, then bytes, while both replies stay.
 fn shrink<L, R>(mut difference: Box<Difference>, left: &L, right: &R) -> Box<Difference>
 where
     L: Fn(&[u8], [usize; 3]) -> Checked,
     R: Fn(&[u8], [usize; 3]) -> Checked,
 {
     let reply = |outcome: &Outcome| outcome.as_ref().ok().map(|checked| checked.report.reply);
-    let (mut piece, mut tries) = (difference.file.len() / 2, 5_000);
-    while piece > 0 {
-        let mut at = 0;
-        while at < difference.file.len() && tries > 0 {
-            tries -= 1;
-            let mut file = difference.file.clone();
-            file.drain(at..(at + piece).min(file.len()));
-            let now = (run(left, &file, difference.lengths), run(right, &file, difference.lengths));
-            let same = (reply(&now.0), reply(&now.1)) == (reply(&difference.left), reply(&difference.right));
-            if same && (now.0 != now.1 || now.0.is_err()) {
-                (difference.left, difference.right) = now;
-                difference.file = file;
-            } else {
-                at += piece;
+    let replies = [reply(&difference.left), reply(&difference.right)];
+    // Each panic is printed too, so only a few are tried.
+    let mut tries = if replies.contains(&None) { 200 } else { 20_000 };
+    let mut differs = |file: &[u8]| {
+        tries -= i32::from(tries > 0);
+        let now = (run(left, file, difference.lengths), run(right, file, difference.lengths));
+        let same = tries > 0 && [reply(&now.0), reply(&now.1)] == replies && (now.0 != now.1 || now.0.is_err());
+        same.then_some(now)
+    };
+    for ends_unit in [|byte: &u8| *byte == b';', |_: &u8| true] {
+        let mut units: Vec<Vec<u8>> = difference.file.split_inclusive(ends_unit).map(<[u8]>::to_vec).collect();
+        for run in [64, 32, 16, 8, 7, 6, 5, 4, 3, 2, 1] {
+            let mut at = 0;
+            while at + run <= units.len() {
+                let file = [units[..at].concat(), units[at + run..].concat()].concat();
+                if let Some(now) = differs(&file) {
+                    units.drain(at..at + run);
+                    (difference.left, difference.right) = now;
+                    difference.file = file;
+                } else {
+                    at += 1;
+                }
             }
         }
-        piece /= 2;
     }
     difference
 }

@@ -49,7 +49,7 @@ impl Source {
     pub fn loose(seed: u64, size: usize) -> Self {
         let mut source = Source::new(seed, size);
         let rng = &mut source.rng;
-        let often = *rng.pick(&[2, 4, 8, 20, 60]);
+        let often = *rng.pick(&[2, 3, 5, 10, 30]);
         if rng.one_in(4) {
             source.slips = [often * 2; SLIPS];
         } else {
