@@ -12,6 +12,9 @@ const ODD: [&str; 48] = [
     "+", "?", "%", "%2", "'", "\"00\"", "(*", "*)", "5.e", "1.e+", "12ab", "_a", "SELF", "NOT", "IN", "LIKE", "ANDOR", "END_SCHEMA",
     "WHERE", "OPTIONAL", "LIST", "PI", "3.25", "'text'", "\u{e9}",
 ];
+const OPERATORS: [&str; 18] = [
+    "<", ">", "<=", ">=", "<>", "=", ":<>:", ":=:", "+", "-", "OR", "XOR", "*", "/", "DIV", "MOD", "AND", "**",
+];
 /// Integers at and beyond the largest.
 const LARGE: [&str; 5] =
     ["9223372036854775807", "9223372036854775808", "18446744073709551616", "000000000000000000000001", "99999999999999999999"];
@@ -22,7 +25,7 @@ const BROKEN: [&[u8]; 9] = [b"(*(*)*)", b"*)", b"--", b"'\t'", b"'\x7f'", b"'a\n
 pub fn tokens(rng: &mut Rng, tokens: &mut Vec<String>) {
     for _ in 0..rng.between(1, 3) {
         let (i, j) = (rng.below(tokens.len()), rng.below(tokens.len()));
-        match rng.below(9) {
+        match rng.below(11) {
             _ if tokens.is_empty() => return,
             0 => drop(tokens.remove(i)),
             1 => tokens.insert(i, tokens[i].clone()),
@@ -31,7 +34,9 @@ pub fn tokens(rng: &mut Rng, tokens: &mut Vec<String>) {
             4 => tokens[i] = rng.pick(&ODD).to_string(),
             5 => tokens.insert(i, rng.pick(&ODD).to_string()),
             6 | 7 => enlarge(rng, tokens),
-            _ => nest(rng, tokens),
+            8 => nest(rng, tokens),
+            9 => sign(rng, tokens),
+            _ => operator(rng, tokens),
         }
     }
 }
@@ -73,6 +78,25 @@ fn nest(rng: &mut Rng, tokens: &mut Vec<String>) {
     after.reverse();
     tokens.splice(at + 1..at + 1, after.into_iter().map(String::from));
     tokens.splice(at..at, before.into_iter().map(String::from));
+}
+
+/// Puts a sign or NOT before an interval, a `type.item` or an operator.
+fn sign(rng: &mut Rng, tokens: &mut Vec<String>) {
+    let taken = |i: usize| tokens[i] == "{" || tokens[i + 1] == "." || OPERATORS.contains(&tokens[i].as_str());
+    let places: Vec<usize> = (0..tokens.len().saturating_sub(1)).filter(|&i| taken(i)).collect();
+    if !places.is_empty() {
+        let at = *rng.pick(&places);
+        tokens.insert(at, rng.pick(&["+", "-", "NOT"]).to_string());
+    }
+}
+
+/// Exchanges an operator for another.
+fn operator(rng: &mut Rng, tokens: &mut [String]) {
+    let mut operators: Vec<&mut String> = tokens.iter_mut().filter(|token| OPERATORS.contains(&token.as_str())).collect();
+    if !operators.is_empty() {
+        let at = rng.below(operators.len());
+        *operators[at] = rng.pick(&OPERATORS).to_string();
+    }
 }
 
 /// One damage to the bytes.

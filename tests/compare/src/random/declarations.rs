@@ -25,27 +25,28 @@ pub fn file(source: &mut Source, size: usize) -> Vec<String> {
 
 fn write_schema(writer: &mut Writer, name: &str, schema: &Schema) {
     writer.puts(&["SCHEMA", name, ";"]);
-    let items = bare_items(schema);
+    let (items, ambiguous) = bare_items(schema);
     if !schema.constants.is_empty() {
         writer.put("CONSTANT");
-        constants(writer, schema, &items);
+        constants(writer, schema, &items, &ambiguous);
         writer.puts(&["END_CONSTANT", ";"]);
     }
     let mut outer: Vec<Named> = schema.constants.iter().map(|of| (Some(of.kind), of.name.as_str())).collect();
     outer.extend(&items);
+    let outer = Scope { schema, names: outer, labels: Vec::new(), ambiguous, typed: false };
     let mut parts = Vec::new();
     for of in &schema.types {
-        parts.push(apart(writer, |writer| write_type(writer, schema, &outer, of)));
+        parts.push(apart(writer, |writer| write_type(writer, &outer, of)));
     }
     for of in &schema.entities {
-        parts.push(apart(writer, |writer| write_entity(writer, schema, &outer, of)));
+        parts.push(apart(writer, |writer| write_entity(writer, &outer, of)));
     }
     mix(writer, parts);
     writer.puts(&["END_SCHEMA", ";"]);
 }
 
-/// The items whose bare name means them in a schema: of one enumeration only, and hidden by no declaration.
-fn bare_items(schema: &Schema) -> Vec<Named<'_>> {
+/// The item names that no declaration of the schema hides: those of one enumeration, and those of several.
+fn bare_items(schema: &Schema) -> (Vec<Named<'_>>, Vec<&str>) {
     let mut found: BTreeMap<&str, Vec<usize>> = BTreeMap::new();
     for &of in &schema.enumerations {
         schema.items(of).iter().for_each(|item| found.entry(item).or_default().push(of));
@@ -53,7 +54,9 @@ fn bare_items(schema: &Schema) -> Vec<Named<'_>> {
     schema.constants.iter().for_each(|of| drop(found.remove(of.name.as_str())));
     schema.types.iter().for_each(|of| drop(found.remove(of.name.as_str())));
     schema.entities.iter().for_each(|of| drop(found.remove(of.name.as_str())));
-    found.into_iter().filter(|(_, of)| of.len() == 1).map(|(name, of)| (Some(Kind::Item(of[0])), name)).collect()
+    let (one, several): (Vec<_>, Vec<_>) = found.into_iter().partition(|(_, of)| of.len() == 1);
+    let named = one.into_iter().map(|(name, of)| (Some(Kind::Item(of[0])), name)).collect();
+    (named, several.into_iter().map(|(name, _)| name).collect())
 }
 
 /// The tokens that `write` puts, taken out of the text again.
@@ -70,8 +73,8 @@ fn mix(writer: &mut Writer, mut parts: Vec<Vec<String>>) {
 }
 
 /// Each constant uses only those before it, but the text mixes them.
-fn constants(writer: &mut Writer, schema: &Schema, items: &[Named]) {
-    let mut scope = Scope { schema, names: items.to_vec(), blocked: Vec::new(), typed: true };
+fn constants(writer: &mut Writer, schema: &Schema, items: &[Named], ambiguous: &[&str]) {
+    let mut scope = Scope { schema, names: items.to_vec(), labels: Vec::new(), ambiguous: ambiguous.to_vec(), typed: true };
     let mut parts = Vec::new();
     for of in &schema.constants {
         let Constant { name, base, kind } = of;
@@ -87,7 +90,7 @@ fn defined(writer: &mut Writer, scope: &Scope, (name, base): (&str, &str), kind:
     writer.put(";");
 }
 
-fn write_type(writer: &mut Writer, schema: &Schema, outer: &[Named], of: &Type) {
+fn write_type(writer: &mut Writer, outer: &Scope, of: &Type) {
     writer.puts(&["TYPE", &of.name, "="]);
     match &of.under {
         Under::Base(base) => writer.put(base),
@@ -102,7 +105,7 @@ fn write_type(writer: &mut Writer, schema: &Schema, outer: &[Named], of: &Type) 
     }
     writer.put(";");
     let labels = of.rules.iter().flatten().map(String::as_str).collect();
-    rules(writer, &inner(schema, outer, Vec::new(), labels), &of.rules);
+    rules(writer, &inner(outer, Vec::new(), labels, Vec::new()), &of.rules);
     writer.puts(&["END_TYPE", ";"]);
 }
 
@@ -113,11 +116,13 @@ fn list(writer: &mut Writer, names: &[String]) {
     writer.put(")");
 }
 
-/// A scope of the names given, and of the schema's that neither these nor the blocked ones hide.
-fn inner<'a>(schema: &'a Schema, outer: &[Named<'a>], mut names: Vec<Named<'a>>, blocked: Vec<&'a str>) -> Scope<'a> {
-    let hidden: BTreeSet<&str> = names.iter().map(|(_, name)| *name).chain(blocked.iter().copied()).collect();
-    names.extend(outer.iter().filter(|(_, name)| !hidden.contains(name)));
-    Scope { schema, names, blocked, typed: false }
+/// A scope of the names given, and of the outer ones that they do not hide.
+fn inner<'a>(outer: &Scope<'a>, mut names: Vec<Named<'a>>, labels: Vec<&'a str>, mut ambiguous: Vec<&'a str>) -> Scope<'a> {
+    let own = names.iter().map(|(_, name)| name);
+    let hidden: BTreeSet<&str> = own.chain(&labels).chain(&ambiguous).copied().collect();
+    names.extend(outer.names.iter().filter(|(_, name)| !hidden.contains(name)));
+    ambiguous.extend(&outer.ambiguous);
+    Scope { schema: outer.schema, names, labels, ambiguous, typed: false }
 }
 
 fn rules(writer: &mut Writer, scope: &Scope, labels: &[Option<String>]) {
@@ -133,7 +138,7 @@ fn rules(writer: &mut Writer, scope: &Scope, labels: &[Option<String>]) {
     }
 }
 
-fn write_entity(writer: &mut Writer, schema: &Schema, outer: &[Named], of: &Entity) {
+fn write_entity(writer: &mut Writer, outer: &Scope, of: &Entity) {
     writer.puts(&["ENTITY", &of.name]);
     if !of.supertypes.is_empty() {
         writer.puts(&["SUBTYPE", "OF"]);
@@ -148,7 +153,7 @@ fn write_entity(writer: &mut Writer, schema: &Schema, outer: &[Named], of: &Enti
         writer.puts(if group.optional { &[":", "OPTIONAL"] } else { &[":"] });
         writer.puts(&[&group.base, ";"]);
     }
-    let scope = entity_scope(schema, outer, of);
+    let scope = entity_scope(outer, of);
     if !of.derived.is_empty() {
         writer.put("DERIVE");
     }
@@ -160,12 +165,12 @@ fn write_entity(writer: &mut Writer, schema: &Schema, outer: &[Named], of: &Enti
 }
 
 /// The entity's attributes, own and inherited, that have one meaning; then the schema's names.
-fn entity_scope<'a>(schema: &'a Schema, outer: &[Named<'a>], of: &'a Entity) -> Scope<'a> {
+fn entity_scope<'a>(outer: &Scope<'a>, of: &'a Entity) -> Scope<'a> {
     let mut meanings: BTreeMap<&str, usize> = BTreeMap::new();
     of.inherited.iter().for_each(|(_, name)| *meanings.entry(name).or_default() += 1);
     of.attributes().for_each(|name| *meanings.entry(name).or_default() += 1);
     let (usable, several): (Vec<_>, Vec<_>) = meanings.into_iter().partition(|(_, count)| *count == 1);
-    let mut blocked: Vec<&str> = several.into_iter().map(|(name, _)| name).collect();
-    blocked.extend(of.rules.iter().flatten().map(String::as_str));
-    inner(schema, outer, usable.into_iter().map(|(name, _)| (None, name)).collect(), blocked)
+    let labels = of.rules.iter().flatten().map(String::as_str).collect();
+    let usable = usable.into_iter().map(|(name, _)| (None, name)).collect();
+    inner(outer, usable, labels, several.into_iter().map(|(name, _)| name).collect())
 }

@@ -19,8 +19,9 @@ const SIGNS: [&str; 3] = ["+", "-", "NOT"];
 pub struct Scope<'a> {
     pub schema: &'a Schema,
     pub names: Vec<(Option<Kind>, &'a str)>,
-    /// Names that mean a label or several attributes here, used only by a slip.
-    pub blocked: Vec<&'a str>,
+    /// Names that mean a label here, used only by a slip; and those that mean several attributes or items.
+    pub labels: Vec<&'a str>,
+    pub ambiguous: Vec<&'a str>,
     pub typed: bool,
 }
 
@@ -34,13 +35,15 @@ pub struct Writer<'a> {
     pub written: usize,
     pub size: usize,
     open: usize,
-    /// Whether operands near the ends of the range, and `?`, are common.
+    /// Whether operands near the ends of the range are common.
     edgy: bool,
+    /// A leaf is `?` once in so many.
+    unknown: usize,
 }
 
 impl<'a> Writer<'a> {
     pub fn new(source: &'a mut Source, size: usize) -> Self {
-        Writer { source, out: Vec::new(), written: 0, size, open: 0, edgy: false }
+        Writer { source, out: Vec::new(), written: 0, size, open: 0, edgy: false, unknown: 0 }
     }
 
     pub fn put(&mut self, token: &str) {
@@ -56,11 +59,14 @@ impl<'a> Writer<'a> {
     pub fn whole(&mut self, scope: &Scope, kind: Kind) {
         let rng = &mut self.source.rng;
         self.edgy = rng.one_in(3);
+        self.unknown = *rng.pick(&[2, 10, 40, 40, 40]);
         let most = if rng.one_in(16) { 60 } else { 7 };
         let fuel = rng.between(1, most.min(1 + self.size.saturating_sub(self.written) / 8));
         if fuel > 1 && self.source.rng.one_in(24) {
             let count = *self.source.rng.pick(&[5, DEEPEST - 2, DEEPEST]);
             self.nest(scope, kind, count);
+        } else if kind == Kind::Logical && fuel > 2 && self.source.rng.one_in(8) {
+            self.interval(scope, fuel);
         } else {
             self.expression(scope, kind, fuel);
         }
@@ -137,7 +143,7 @@ impl<'a> Writer<'a> {
         let rng = &mut self.source.rng;
         let base = *rng.pick(&["0", "1", "2", "2", "2", "3", "10", "3037000499", "3037000500"]);
         let by = *rng.pick(&["0", "1", "2", "3", "18", "19", "39", "40", "62", "63", "64", "9223372036854775807"]);
-        let signs = [rng.one_in(2), rng.one_in(8)].map(|signed| if signed { &["-"] as &[_] } else { &[] });
+        let signs = [rng.one_in(2), rng.one_in(5)].map(|signed| if signed { &["-"] as &[_] } else { &[] });
         self.puts(signs[0]);
         self.puts(&[base, "**"]);
         self.puts(signs[1]);
@@ -177,12 +183,22 @@ impl<'a> Writer<'a> {
         signed
     }
 
+    /// The kind of the item joins the others; where it is `?`, they need not agree.
     fn interval(&mut self, scope: &Scope, fuel: usize) {
         let kind = self.any_kind(scope);
+        let open = self.source.rng.one_in(8);
         self.open += 1;
         self.put("{");
-        for after in ["<", "<", "}"] {
-            self.sum(scope, kind, fuel / 3);
+        for (i, after) in ["<", "<", "}"].into_iter().enumerate() {
+            let bent = self.bend(scope, kind);
+            match i {
+                1 if open => self.put("?"),
+                2 if open => {
+                    let other = self.any_kind(scope);
+                    self.sum(scope, other, fuel / 3);
+                }
+                _ => self.sum(scope, bent, fuel / 3),
+            }
             let wide = after == "<" && self.source.rng.one_in(2);
             self.put(if wide { "<=" } else { after });
         }
@@ -190,11 +206,10 @@ impl<'a> Writer<'a> {
     }
 
     fn leaf(&mut self, scope: &Scope, kind: Kind, signed: bool) {
-        let (edgy, rng) = (self.edgy, &mut self.source.rng);
-        if rng.one_in(if edgy { 12 } else { 40 }) {
+        if self.source.rng.one_in(self.unknown) {
             return self.put("?");
         }
-        if !scope.typed && rng.one_in(8) || self.source.slip(Slip::Unevaluated) {
+        if !scope.typed && self.source.rng.one_in(8) || self.source.slip(Slip::Unevaluated) {
             let other = *self.source.rng.pick(&OTHERS);
             return self.put(other);
         }
@@ -203,6 +218,10 @@ impl<'a> Writer<'a> {
         }
         if self.source.slip(Slip::Name) {
             return self.wrong(scope, signed);
+        }
+        if !scope.ambiguous.is_empty() && self.source.slip(Slip::Clash) {
+            let name = *self.source.rng.pick(&scope.ambiguous);
+            return self.put(name);
         }
         if self.source.slip(Slip::ConstantCycle) && !scope.schema.constants.is_empty() {
             let constant = self.source.rng.pick(&scope.schema.constants);
@@ -242,8 +261,8 @@ impl<'a> Writer<'a> {
                 self.put(name);
             }
             5 => self.an_item(scope, &name),
-            6 | 7 if !scope.blocked.is_empty() => {
-                let name = *self.source.rng.pick(&scope.blocked);
+            6 | 7 if !scope.labels.is_empty() => {
+                let name = *self.source.rng.pick(&scope.labels);
                 self.put(name);
             }
             _ => self.put(&name),

@@ -4,7 +4,7 @@ use super::rng::Rng;
 
 const SPACES: [&str; 8] = [" ", " ", "\n", "\t", "\r\n", "  ", "\x0b", "\x0c"];
 /// No piece ends in `(` or `*`, which with the byte after it could open or close a remark.
-const PIECES: [&str; 12] = [" ", "x", "--", "'", "( ", ") ", "* ", "\u{e9}", "\0", "\n", "END_SCHEMA;", "%?\""];
+const PIECES: [&str; 13] = [" ", "x", "--", "'", "( ", ") ", "* ", "\u{e9}", "\0", "\n", "\r;", "END_SCHEMA;", "%?\""];
 
 #[derive(Clone, Copy)]
 enum Case {

@@ -110,7 +110,8 @@ pub fn schema(source: &mut Source, size: usize) -> Schema {
 
 fn names(source: &mut Source, size: usize) -> Names {
     // A clash needs entities.
-    let shares = if source.slip(Slip::Clash) { [0, 1, 6] } else { *source.rng.pick(&SHARES) };
+    let entities = source.prone(Slip::Clash) && source.rng.one_in(2);
+    let shares = if entities { [0, 1, 6] } else { *source.rng.pick(&SHARES) };
     let whole: usize = shares.iter().sum();
     let mut left = if source.rng.one_in(20) { 0 } else { size.max(1) };
     let (mut taken, mut all, mut lists) = (BTreeSet::new(), Vec::new(), [(); 3].map(|_| Vec::new()));

@@ -60,9 +60,14 @@ impl Source {
         source
     }
 
+    /// Whether slips of this sort happen at all.
+    pub fn prone(&self, slip: Slip) -> bool {
+        self.slips[slip as usize] > 0
+    }
+
     pub fn slip(&mut self, slip: Slip) -> bool {
         let often = self.slips[slip as usize];
-        often > 0 && self.rng.one_in(often)
+        self.prone(slip) && self.rng.one_in(often)
     }
 
     /// One of those declared so far, of which there are some.
@@ -95,7 +100,8 @@ impl Source {
 
     /// As `fresh`, but a slip declares one of `own` again.
     pub fn declare(&mut self, taken: &mut BTreeSet<String>, own: &[String]) -> String {
-        if !own.is_empty() && self.slip(Slip::Duplicate) {
+        // One of three, for such a file is refused before anything else in it counts.
+        if !own.is_empty() && self.slip(Slip::Duplicate) && self.rng.one_in(3) {
             return self.rng.pick(own).clone();
         }
         self.fresh(taken)
