@@ -122,8 +122,7 @@ impl<'a> Inheritance<'a> {
                 .map(|entry| entry.value));
         }
         let Some(declaring) = self.declaring.get(&symbol) else { return Inherited::None };
-        one(common(ancestors, declaring)
-            .filter_map(|column| self.names.find(symbol, self.entities[column as usize])))
+        one(common(ancestors, declaring).filter_map(|column| self.names.find(symbol, self.entities[column as usize])))
     }
 }
 

@@ -15,6 +15,7 @@ pub mod parser;
 pub mod symbols;
 pub mod terminals;
 pub mod tokens;
+mod words;
 
 pub use listing::listing;
 pub use parser::SyntaxRow;
@@ -158,26 +159,22 @@ fn parsed(
 ) -> Result<Vec<SyntaxRow>, Refusal> {
     let nodes = parser::read(terminals).map_err(|stop| {
         // A text that stops early is refused at its length.
-        let number = tokens.get(stop.token).map_or(bytes.len() as u64, |token| u64::from(token.start));
+        let number = tokens.get(stop.token as usize).map_or(bytes.len() as u64, |token| u64::from(token.start));
         Refusal { reply: stop.reply, number }
     })?;
     fits(&nodes, node_rows, 7)?;
     Ok(nodes)
 }
 
-fn accept(
-    bytes: &[u8],
-    token_rows: usize,
-    node_rows: usize,
-    answer_rows: usize,
-) -> Result<Accepted, Refusal> {
+fn accept(bytes: &[u8], token_rows: usize, node_rows: usize, answer_rows: usize) -> Result<Accepted, Refusal> {
     let tokens = scanned(bytes, token_rows)?;
     let terminals = terminals::classify(bytes, &tokens);
     let nodes = parsed(bytes, &tokens, &terminals, node_rows)?;
     let outline = Outline::new(&nodes);
     fits(&outline.constants, answer_rows, 8)?;
     let symbols = symbols::intern(bytes, &tokens, &terminals);
-    let file = File { bytes, tokens: &tokens, terminals: &terminals, nodes: &nodes, symbols: &symbols, outline: &outline };
+    let file =
+        File { bytes, tokens: &tokens, terminals: &terminals, nodes: &nodes, symbols: &symbols, outline: &outline };
     let names = names::bind(&file).map_err(|fault| fault.located(&tokens))?;
     let declared = kinds::check(&file, &names).map_err(|fault| fault.located(&tokens))?;
     let answers = evaluation::answers(&file, &names, &declared);

@@ -53,11 +53,13 @@ impl<'a> Scopes<'a> {
         let declared = index(file, numbered().map(|(number, it)| (it.node, Entry { scope: it.schema, value: number })));
         let names = index(
             file,
-            numbered().flat_map(|(scope, it)| outline.names(it).iter().map(move |&value| (value, Entry { scope, value }))),
+            numbered()
+                .flat_map(|(scope, it)| outline.names(it).iter().map(move |&value| (value, Entry { scope, value }))),
         );
         let items = index(
             file,
-            numbered().flat_map(|(scope, it)| outline.items(it).iter().map(move |&value| (value, Entry { scope, value }))),
+            numbered()
+                .flat_map(|(scope, it)| outline.items(it).iter().map(move |&value| (value, Entry { scope, value }))),
         );
         Scopes { file, declared, names, items }
     }
@@ -217,9 +219,8 @@ fn fits(role: u8, sort: Sort) -> bool {
 /// Renamings and select lists together with supertypes: no supertype leads back to a type, so the cycles stay apart.
 fn type_order(file: &File, bindings: &[u32]) -> Result<Vec<u32>, Fault> {
     let outline = file.outline;
-    let depends = |node: u32| {
-        matches!(file.nodes[node as usize].role, role::RENAMED_TYPE | role::SELECT_NAME | role::SUPERTYPE)
-    };
+    let depends =
+        |node: u32| matches!(file.nodes[node as usize].role, role::RENAMED_TYPE | role::SELECT_NAME | role::SUPERTYPE);
     order(file, |declaration| {
         let names = outline.type_names(declaration).iter().filter(move |&&node| depends(node));
         names.map(|&node| outline.owner[bindings[node as usize] as usize - 1])

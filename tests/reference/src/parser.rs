@@ -63,7 +63,7 @@ pub struct SyntaxRow {
 #[derive(Clone, Copy, Debug, PartialEq, Eq)]
 pub struct Stop {
     pub reply: u32,
-    pub token: usize,
+    pub token: u32,
 }
 
 type Step<Value = ()> = Result<Value, Stop>;
@@ -115,7 +115,7 @@ impl Parser<'_> {
     }
 
     fn stop<Value>(&self, reply: u32) -> Step<Value> {
-        Err(Stop { reply, token: self.at })
+        Err(Stop { reply, token: self.at as u32 })
     }
 
     fn leaf(&mut self, kind: u8, token: u32, role: u8) {

@@ -3,7 +3,7 @@
 use std::ops::Range;
 
 use crate::terminals::Terminal;
-use crate::{tokens, TokenRow};
+use crate::{tokens, words, TokenRow};
 
 /// The symbol of each token that is an identifier (0 at other tokens, where it means nothing).
 #[derive(Debug)]
@@ -22,10 +22,10 @@ impl Symbols {
     }
 }
 
-/// A spelling at its first place, with its hash.
+/// A spelling at its first place: a short one is told by its packed word, a longer one by its hash and text.
 struct Spelling<'a> {
-    hash: u64,
-    text: &'a [u8],
+    key: u128,
+    long: &'a [u8],
 }
 
 pub fn intern(bytes: &[u8], tokens: &[TokenRow], terminals: &[Terminal]) -> Symbols {
@@ -35,11 +35,23 @@ pub fn intern(bytes: &[u8], tokens: &[TokenRow], terminals: &[Terminal]) -> Symb
         .iter()
         .zip(terminals)
         .map(|(token, &terminal)| match terminal {
-            Terminal::Identifier => interner.symbol(tokens::text(bytes, token)),
+            Terminal::Identifier => interner.symbol(Spelling::new(bytes, token)),
             _ => 0,
         })
         .collect();
     Symbols { of_token, count: interner.spellings.len() }
+}
+
+impl<'a> Spelling<'a> {
+    fn new(bytes: &'a [u8], token: &TokenRow) -> Self {
+        match words::packed_token(bytes, token) {
+            Some(key) => Spelling { key, long: &[] },
+            None => {
+                let long = tokens::text(bytes, token);
+                Spelling { key: u128::from(hash(long)), long }
+            }
+        }
+    }
 }
 
 /// Open addressing with linear probing; a slot holds a symbol plus one, or 0.
@@ -55,33 +67,24 @@ impl<'a> Interner<'a> {
         Interner { slots: vec![0; size], shift: 64 - size.trailing_zeros(), spellings: Vec::new() }
     }
 
-    fn symbol(&mut self, text: &'a [u8]) -> u32 {
-        let hash = hash(text);
-        let mut slot = (hash >> self.shift) as usize;
-        loop {
-            let Some(symbol) = self.slots[slot].checked_sub(1) else { break };
+    fn symbol(&mut self, spelling: Spelling<'a>) -> u32 {
+        let mut slot = (words::mixed(spelling.key) >> self.shift) as usize;
+        while let Some(symbol) = self.slots[slot].checked_sub(1) {
             let known = &self.spellings[symbol as usize];
-            if known.hash == hash && known.text.eq_ignore_ascii_case(text) {
+            if known.key == spelling.key && known.long.eq_ignore_ascii_case(spelling.long) {
                 return symbol;
             }
             slot = (slot + 1) & (self.slots.len() - 1);
         }
-        self.spellings.push(Spelling { hash, text });
+        self.spellings.push(spelling);
         self.slots[slot] = self.spellings.len() as u32;
         self.spellings.len() as u32 - 1
     }
 }
 
-/// A hash of a word without case: bit 5 tells no two bytes of words apart but the two cases of a letter.
+/// A hash of a long word without case.
 fn hash(text: &[u8]) -> u64 {
-    const FOLD: u64 = 0x2020_2020_2020_2020;
-    let mut hash = text.len() as u64;
-    for chunk in text.chunks(8) {
-        let word = chunk.iter().fold(0, |word, &byte| word << 8 | u64::from(byte));
-        hash = (hash.rotate_left(23) ^ (word | FOLD)).wrapping_mul(0x9E37_79B9_7F4A_7C15);
-    }
-    hash ^= hash >> 32;
-    hash.wrapping_mul(0x9E37_79B9_7F4A_7C15)
+    text.chunks(8).fold(text.len() as u64, |hash, chunk| words::mixed(u128::from(hash) << 64 | words::packed(chunk)))
 }
 
 /// Something that a symbol names, in the scope where it does.

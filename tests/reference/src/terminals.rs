@@ -1,6 +1,6 @@
 //! Tokens to the terminals of the grammar: reserved words and symbols are told apart here, once.
 
-use crate::{tokens, TokenRow};
+use crate::{tokens, words, TokenRow};
 
 /// A terminal as the grammar tells them apart.
 #[derive(Clone, Copy, Debug, PartialEq, Eq)]
@@ -114,19 +114,17 @@ const USED: [(&str, Terminal); 34] = [
 ];
 
 /// The other reserved words of clause 7.2.
+#[rustfmt::skip]
 const UNUSED: [&str; 85] = [
     "abs", "abstract", "acos", "aggregate", "alias", "andor", "array", "as", "asin", "atan", "bag", "begin",
-    "blength", "by", "case", "context", "cos", "else", "end", "end_alias", "end_case", "end_context",
-    "end_function", "end_if", "end_local", "end_model", "end_procedure", "end_repeat", "end_rule", "escape",
-    "exists", "exp", "fixed", "for", "format", "from", "function", "generic", "hibound", "hiindex", "if", "in",
-    "insert", "inverse", "length", "like", "list", "lobound", "local", "log", "log10", "log2", "loindex", "model",
-    "nvl", "odd", "oneof", "otherwise", "procedure", "query", "reference", "remove", "repeat", "return", "rolesof",
-    "rule", "set", "sin", "sizeof", "skip", "sqrt", "supertype", "tan", "then", "to", "typeof", "unique", "until",
-    "use", "usedin", "value", "value_in", "value_unique", "var", "while",
+    "blength", "by", "case", "context", "cos", "else", "end", "end_alias", "end_case", "end_context", "end_function",
+    "end_if", "end_local", "end_model", "end_procedure", "end_repeat", "end_rule", "escape", "exists", "exp", "fixed",
+    "for", "format", "from", "function", "generic", "hibound", "hiindex", "if", "in", "insert", "inverse", "length",
+    "like", "list", "lobound", "local", "log", "log10", "log2", "loindex", "model", "nvl", "odd", "oneof",
+    "otherwise", "procedure", "query", "reference", "remove", "repeat", "return", "rolesof", "rule", "set", "sin",
+    "sizeof", "skip", "sqrt", "supertype", "tan", "then", "to", "typeof", "unique", "until", "use", "usedin", "value",
+    "value_in", "value_unique", "var", "while",
 ];
-
-/// The longest reserved word is END_PROCEDURE.
-const LONGEST: usize = 13;
 
 const SLOTS: usize = 512;
 
@@ -149,7 +147,7 @@ const fn reserved() -> [(u128, Terminal); SLOTS] {
 }
 
 const fn insert(table: &mut [(u128, Terminal); SLOTS], word: &str, terminal: Terminal) {
-    let key = packed(word.as_bytes());
+    let key = words::packed(word.as_bytes());
     let mut slot = slot(key);
     while table[slot].0 != 0 {
         slot = (slot + 1) % SLOTS;
@@ -157,44 +155,29 @@ const fn insert(table: &mut [(u128, Terminal); SLOTS], word: &str, terminal: Ter
     table[slot] = (key, terminal);
 }
 
-/// A word of at most 16 bytes as one number, letters without case: bit 5 tells no two bytes of words apart but the
-/// two cases of a letter.
-const fn packed(word: &[u8]) -> u128 {
-    let mut key = 0;
-    let mut i = 0;
-    while i < word.len() {
-        key = key << 8 | (word[i] | 0x20) as u128;
-        i += 1;
-    }
-    key
-}
-
 const fn slot(key: u128) -> usize {
-    let folded = key as u64 ^ ((key >> 64) as u64).rotate_left(29);
-    (folded.wrapping_mul(0x9E37_79B9_7F4A_7C15) >> 55) as usize
+    (words::mixed(key) >> 55) as usize
 }
 
 /// The terminal of each token.
 pub fn classify(bytes: &[u8], tokens: &[TokenRow]) -> Vec<Terminal> {
-    tokens.iter().map(|token| terminal(token.kind, tokens::text(bytes, token))).collect()
+    tokens.iter().map(|token| terminal(bytes, token)).collect()
 }
 
-fn terminal(kind: u8, text: &[u8]) -> Terminal {
-    match kind {
-        tokens::WORD => word(text),
+fn terminal(bytes: &[u8], token: &TokenRow) -> Terminal {
+    match token.kind {
+        tokens::WORD => word(bytes, token),
         tokens::INTEGER => IntegerLiteral,
         tokens::REAL => RealLiteral,
         tokens::STRING => StringLiteral,
         tokens::BINARY => BinaryLiteral,
-        _ => symbol(text),
+        _ => symbol(tokens::text(bytes, token)),
     }
 }
 
-fn word(text: &[u8]) -> Terminal {
-    if text.len() > LONGEST {
-        return Identifier;
-    }
-    let key = packed(text);
+/// No reserved word is too long to be packed.
+fn word(bytes: &[u8], token: &TokenRow) -> Terminal {
+    let Some(key) = words::packed_token(bytes, token) else { return Identifier };
     let mut at = slot(key);
     loop {
         match RESERVED[at] {
@@ -207,26 +190,11 @@ fn word(text: &[u8]) -> Terminal {
 
 fn symbol(text: &[u8]) -> Terminal {
     match text {
-        b"?" => Question,
-        b"." => Dot,
-        b"," => Comma,
-        b";" => Semicolon,
-        b":" => Colon,
+        &[byte] => SYMBOLS[byte as usize],
         b":=" => Becomes,
-        b"(" => OpenParenthesis,
-        b")" => CloseParenthesis,
-        b"{" => OpenBrace,
-        b"}" => CloseBrace,
-        b"+" => Plus,
-        b"-" => Minus,
-        b"*" => Times,
-        b"/" => Divide,
         b"**" => Power,
-        b"<" => Less,
         b"<=" => LessOrEqual,
-        b">" => Greater,
         b">=" => GreaterOrEqual,
-        b"=" => Equal,
         b"<>" => NotEqual,
         b":=:" => InstanceEqual,
         b":<>:" => InstanceNotEqual,
@@ -234,26 +202,60 @@ fn symbol(text: &[u8]) -> Terminal {
     }
 }
 
+/// The terminals of symbols of one byte.
+static SYMBOLS: [Terminal; 256] = symbols();
+
+const fn symbols() -> [Terminal; 256] {
+    let mut table = [Unused; 256];
+    table[b'?' as usize] = Question;
+    table[b'.' as usize] = Dot;
+    table[b',' as usize] = Comma;
+    table[b';' as usize] = Semicolon;
+    table[b':' as usize] = Colon;
+    table[b'(' as usize] = OpenParenthesis;
+    table[b')' as usize] = CloseParenthesis;
+    table[b'{' as usize] = OpenBrace;
+    table[b'}' as usize] = CloseBrace;
+    table[b'+' as usize] = Plus;
+    table[b'-' as usize] = Minus;
+    table[b'*' as usize] = Times;
+    table[b'/' as usize] = Divide;
+    table[b'<' as usize] = Less;
+    table[b'>' as usize] = Greater;
+    table[b'=' as usize] = Equal;
+    table
+}
+
 #[cfg(test)]
 mod tests {
     use super::*;
 
+    /// The terminal of a word, with more bytes after it and with none.
+    fn of(spelling: &str) -> Terminal {
+        let token = TokenRow { kind: tokens::WORD, start: 1, length: spelling.len() as u32 };
+        let short = format!(" {spelling}");
+        let long = format!(" {spelling};END_SCHEMA;END_SCHEMA;");
+        let found = word(short.as_bytes(), &token);
+        assert_eq!(found, word(long.as_bytes(), &token), "{spelling}");
+        found
+    }
+
     #[test]
     fn reserved_words_are_found_without_case() {
         for (spelling, terminal) in USED {
-            assert_eq!(word(spelling.as_bytes()), terminal);
-            assert_eq!(word(spelling.to_uppercase().as_bytes()), terminal);
+            assert_eq!(of(spelling), terminal);
+            assert_eq!(of(&spelling.to_uppercase()), terminal);
         }
         for spelling in UNUSED {
-            assert_eq!(word(spelling.as_bytes()), Unused, "{spelling}");
+            assert_eq!(of(spelling), Unused, "{spelling}");
         }
         assert_eq!(USED.len() + UNUSED.len(), 119);
     }
 
     #[test]
     fn other_words_are_identifiers() {
-        for spelling in ["press", "a", "end_procedures", "in_", "log1", "truth", "nots"] {
-            assert_eq!(word(spelling.as_bytes()), Identifier, "{spelling}");
+        for spelling in ["press", "a", "end_procedures", "in_", "log1", "truth", "nots", "a_word_longer_than_sixteen"] {
+            assert_eq!(of(spelling), Identifier, "{spelling}");
         }
     }
 }

@@ -24,7 +24,12 @@ enum Class {
     Digit,
     Quote,
     Percent,
+    /// A symbol that begins no longer one.
     Symbol,
+    /// A symbol that may begin a longer one.
+    LongSymbol,
+    /// A symbol, unless it opens a remark.
+    Remark,
 }
 
 const CLASSES: [Class; 256] = classes();
@@ -39,8 +44,9 @@ const fn classes() -> [Class; 256] {
             b'0'..=b'9' => Class::Digit,
             b'\'' => Class::Quote,
             b'%' => Class::Percent,
-            b'?' | b'.' | b',' | b';' | b':' | b'*' | b'+' | b'-' | b'=' | b'\\' | b'/' | b'<' | b'>' | b'['
-            | b']' | b'{' | b'}' | b'|' | b'(' | b')' => Class::Symbol,
+            b'?' | b'.' | b',' | b';' | b'+' | b'=' | b'\\' | b'/' | b'[' | b']' | b'{' | b'}' | b')' => Class::Symbol,
+            b':' | b'*' | b'<' | b'>' | b'|' => Class::LongSymbol,
+            b'-' | b'(' => Class::Remark,
             _ => Class::Nothing,
         };
         byte += 1;
@@ -84,12 +90,14 @@ pub fn read(bytes: &[u8]) -> Result<Vec<TokenRow>, Refusal> {
             Class::Digit => number(bytes, at)?,
             Class::Quote => (STRING, string_end(bytes, at)?),
             Class::Percent => (BINARY, binary_end(bytes, at)?),
-            Class::Symbol => match remark_end(bytes, at)? {
+            Class::Symbol => (SYMBOL, at + 1),
+            Class::LongSymbol => (SYMBOL, at + symbol_length(&bytes[at..])),
+            Class::Remark => match remark_end(bytes, at)? {
                 Some(end) => {
                     at = end;
                     continue;
                 }
-                None => (SYMBOL, at + symbol_length(&bytes[at..])),
+                None => (SYMBOL, at + 1),
             },
             Class::Nothing => return Err(refusal(UNFINISHED, at)),
         };
