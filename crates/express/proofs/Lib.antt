@@ -1,5 +1,6 @@
 pub mod Bits
 pub mod Divide
+pub mod Exactness
 pub mod Logic
 pub mod NameCases
 pub mod Names
@@ -11,3 +12,4 @@ pub mod Shapes
 pub mod Spans
 pub mod Spelling
 pub mod TokenExamples
+pub mod Typed
