@@ -11,3 +11,4 @@ pub mod TokenExamples
 pub mod Topological
 pub mod Inside
 pub mod ConstantOrder
+pub mod Untied
