@@ -12,3 +12,5 @@ pub mod Topological
 pub mod Inside
 pub mod ConstantOrder
 pub mod Untied
+pub mod Backward
+pub mod Meaning

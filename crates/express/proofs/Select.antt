@@ -67,6 +67,12 @@ span-mem i (suc d) k m =
     ⊎-elim (λ (e : k ≡ i). (omega arith, omega arith))
     (λ m′. let r = span-mem (suc i) d k m′ in (omega arith, omega arith)) (List·Memᴰ·cases-cons m)
 
+pub mem-upto : (n k : ℕ) → k < n → List·Memᴰ k (span 0 n)
+mem-upto n k h = mem-span 0 n k (omega arith) (omega arith)
+
+pub upto-mem : (n k : ℕ) → List·Memᴰ k (span 0 n) → k < n
+upto-mem n k m = let r = span-mem 0 n k m in omega arith
+
 -- the first that passes
 pub first-step : (p : ℕ → Bool) (n i : ℕ) → i < n → firstFrom p i (n - i) ≡ cond (p i) i (firstFrom p (i + 1) (n - (i + 1)))
 unfolding firstFrom
