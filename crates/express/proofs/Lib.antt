@@ -1,12 +1,16 @@
 pub mod Bits
 pub mod Divide
+pub mod FormedRows
 pub mod Logic
 pub mod NameCases
 pub mod Names
+pub mod Nodes
 pub mod Once
 pub mod Reach
 pub mod Select
 pub mod Spelling
+pub mod Syntax
+pub mod SyntaxExamples
 pub mod TokenExamples
 pub mod Topological
 pub mod Inside
@@ -14,3 +18,4 @@ pub mod ConstantOrder
 pub mod Untied
 pub mod Backward
 pub mod Meaning
+pub mod Within
