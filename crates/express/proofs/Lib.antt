@@ -1,9 +1,11 @@
 pub mod Bits
 pub mod Divide
 pub mod Exactness
+pub mod FormedRows
 pub mod Logic
 pub mod NameCases
 pub mod Names
+pub mod Nodes
 pub mod Once
 pub mod Operations
 pub mod Reach
@@ -11,5 +13,14 @@ pub mod Select
 pub mod Shapes
 pub mod Spans
 pub mod Spelling
+pub mod Syntax
+pub mod SyntaxExamples
 pub mod TokenExamples
 pub mod Typed
+pub mod Topological
+pub mod Inside
+pub mod ConstantOrder
+pub mod Untied
+pub mod Backward
+pub mod Meaning
+pub mod Within

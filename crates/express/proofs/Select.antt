@@ -2,11 +2,11 @@
 use mathlib.Core.Path.{_≡_, refl, sym, ap, _∙_}
 use mathlib.Core.Logic.{_⊎_, inl, inr, ⊎-elim}
 use mathlib.Core.Bool.{Bool, true, false, cond, _&&_, _||_, false≢true, and-eq-true-iff}
-use mathlib.Core.List.{List, [], _∷_, List·Memᴰ, List·Memᴰ·head, List·Memᴰ·tail, List·Memᴰ·cases-cons, List·Memᴰ·not-nil}
+use mathlib.Core.List.{List, [], _∷_, _++_, map, flatMap, List·Memᴰ, List·Memᴰ·head, List·Memᴰ·tail, List·Memᴰ·cases-cons, List·Memᴰ·not-nil, List·Memᴰ·append-cases, Memᴰ·append-left, Memᴰ·append-right, Memᴰ·cast}
 use Prim.Native.Nat.{ℕ, zero, suc, _+_, _-_, _≤_, _<_}
 use native.Mathlib.Numerals.{add-one}
 use native.Mathlib.Omega.{arith}
-use lib.ListN.{length}
+use lib.ListN.{length, getD}
 use Rattle.express.specs.Select.{span, firstFrom, keep, any}
 
 -- tests
@@ -35,6 +35,13 @@ pub untrue : (b : Bool) → (b ≡ true → ⊥) → b ≡ false
 untrue true h = absurd (h refl)
 untrue false h = refl
 
+pub le-or : (a b : ℕ) → (a ≤ b) ⊎ (b < a)
+le-or a b = by (a - b) refl
+  where
+    by : (d : ℕ) → a - b ≡ d → (a ≤ b) ⊎ (b < a)
+    by zero e = inl (omega arith)
+    by (suc d) e = inr (omega arith)
+
 -- rows of numbers, in one step: as a loop that runs backward has them
 pub span-step : (n i : ℕ) → i < n → span i (n - i) ≡ i ∷ span (i + 1) (n - (i + 1))
 unfolding span
@@ -59,6 +66,12 @@ span-mem i zero k m = absurd (List·Memᴰ·not-nil m)
 span-mem i (suc d) k m =
     ⊎-elim (λ (e : k ≡ i). (omega arith, omega arith))
     (λ m′. let r = span-mem (suc i) d k m′ in (omega arith, omega arith)) (List·Memᴰ·cases-cons m)
+
+pub mem-upto : (n k : ℕ) → k < n → List·Memᴰ k (span 0 n)
+mem-upto n k h = mem-span 0 n k (omega arith) (omega arith)
+
+pub upto-mem : (n k : ℕ) → List·Memᴰ k (span 0 n) → k < n
+upto-mem n k m = let r = span-mem 0 n k m in omega arith
 
 -- the first that passes
 pub first-step : (p : ℕ → Bool) (n i : ℕ) → i < n → firstFrom p i (n - i) ≡ cond (p i) i (firstFrom p (i + 1) (n - (i + 1)))
@@ -92,14 +105,27 @@ first-is p i (suc d) = by (p i) refl (first-is p (suc i) d)
         below : (j : ℕ) → i ≤ j → j < firstFrom p (suc i) d → p j ≡ false
         below j a b = at j (j - i) a b refl
 
--- one place only
-pub first-only : (p : ℕ → Bool) (j k : ℕ) → ((i : ℕ) → i < j → p i ≡ false) → p j ≡ true → ((i : ℕ) → i < k → p i ≡ false) → p k ≡ true → j ≡ k
-first-only p j k none hit none′ hit′ = by (j - k) (k - j) refl refl
+-- so a number is the first if it passes and none before it does
+pub first-of : (p : ℕ → Bool) (n i k : ℕ) → i ≤ k → k < n → p k ≡ true → ((j : ℕ) → i ≤ j → j < k → p j ≡ false) → firstFrom p i (n - i) ≡ k
+first-of p n i k lo hi hit none = by (first-is p i (n - i))
   where
-    by : (a b : ℕ) → j - k ≡ a → k - j ≡ b → j ≡ k
-    by zero zero e f = omega arith
-    by (suc a) b e f = absurd (false≢true (sym (none k (omega arith)) ∙ hit′))
-    by zero (suc b) e f = absurd (false≢true (sym (none′ j (omega arith)) ∙ hit))
+    by : First p i (n - i) (firstFrom p i (n - i)) → firstFrom p i (n - i) ≡ k
+    by F =
+        let f = firstFrom p i (n - i) in
+        let l = F .from in
+        ⊎-elim
+        (λ (a : f ≤ k). ⊎-elim (λ (b : k ≤ f). omega arith) (λ (b : f < k). absurd (false≢true (sym (none f l b) ∙ F .passes (omega arith)))) (le-or k f))
+        (λ (a : k < f). absurd (false≢true (sym (F .none k lo a) ∙ hit))) (le-or f k)
+
+-- a column made of them, at one place
+column-from : (f : ℕ → ℕ) (i d k : ℕ) → k < d → getD (map f (span i d)) k 0 ≡ f (i + k)
+unfolding span
+column-from f i zero k h = absurd (omega arith)
+column-from f i (suc d) zero h = let q : i ≡ i + 0 = omega arith in ap f q
+column-from f i (suc d) (suc k) h = let q : suc i + k ≡ i + suc k = omega arith in column-from f (suc i) d k (omega arith) ∙ ap f q
+
+pub column-at : (f : ℕ → ℕ) (n k : ℕ) → k < n → getD (map f (span 0 n)) k 0 ≡ f k
+column-at f n k h = let q : 0 + k ≡ k = omega arith in column-from f 0 n k h ∙ ap f q
 
 module _ {A : Type 0} where
   pub keep-cons : (p : A → Bool) (x : A) (xs : List A) → keep p (x ∷ xs) ≡ cond (p x) (x ∷ keep p xs) (keep p xs)
@@ -176,3 +202,17 @@ module _ {A : Type 0} where
       by : (b : Bool) → length (keep p xs) ≤ length xs → length (cond b (x ∷ keep p xs) (keep p xs)) ≤ suc (length xs)
       by true l = omega arith
       by false l = omega arith
+
+-- what is in one of the lists
+module _ {A B : Type 0} (f : A → List B) where
+  pub flat-mem : (xs : List A) {y : B} → List·Memᴰ y (flatMap f xs) → (x : A) × List·Memᴰ x xs × List·Memᴰ y (f x)
+  unfolding flatMap
+  flat-mem [] m = absurd (List·Memᴰ·not-nil m)
+  flat-mem (x ∷ xs) m =
+      ⊎-elim (λ l. (x, List·Memᴰ·head refl, l)) (λ l. let r = flat-mem xs l in (r .0, List·Memᴰ·tail (r .1), r .2)) (List·Memᴰ·append-cases (f x) m)
+
+  pub mem-flat : (xs : List A) {x : A} {y : B} → List·Memᴰ x xs → List·Memᴰ y (f x) → List·Memᴰ y (flatMap f xs)
+  unfolding flatMap
+  mem-flat [] m l = absurd (List·Memᴰ·not-nil m)
+  mem-flat (z ∷ zs) {x} {y} m l =
+      ⊎-elim (λ q. let l′ : List·Memᴰ y (f z) = rw q at l in Memᴰ·append-left (flatMap f zs) l′) (λ m′. Memᴰ·append-right (f z) (mem-flat zs m′ l)) (List·Memᴰ·cases-cons m)

@@ -6,10 +6,12 @@ pub mod Declared
 pub mod Evaluate
 pub mod Fault
 pub mod Formed
+pub mod Grammar
 pub mod Integer
 pub mod Kind
 pub mod Lexis
 pub mod Logic
+pub mod Lookahead
 pub mod Names
 pub mod NodeKind
 pub mod Operate
@@ -21,5 +23,6 @@ pub mod Scope
 pub mod Select
 pub mod Shape
 pub mod Spelling
+pub mod Syntax
 pub mod Terminal
 pub mod Tree
