@@ -15,6 +15,7 @@ pub mod Spans
 pub mod Spelling
 pub mod Syntax
 pub mod SyntaxExamples
+pub mod Places
 pub mod TokenExamples
 pub mod Typed
 pub mod Topological
@@ -24,3 +25,4 @@ pub mod Untied
 pub mod Backward
 pub mod Meaning
 pub mod Within
+pub mod Order
