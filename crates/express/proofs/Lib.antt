@@ -5,6 +5,7 @@ pub mod Divide
 pub mod Exactness
 pub mod FormedRows
 pub mod Inside
+pub mod KindCases
 pub mod Logic
 pub mod Meaning
 pub mod NameCases
