@@ -1,7 +1,11 @@
 -- The tables of a file: its bytes, a row for each token and a row for each node, as columns; nodes in post-order.
+use mathlib.Core.Bool.{Bool, _&&_, _||_}
 use mathlib.Core.List.{List}
 use Prim.Native.Nat.{ℕ, _+_, _-_}
+use lib.Dec.{eqb}
 use lib.ListN.{length, getD}
+use Rattle.express.specs.NodeKind.{name, constant, type, attribute-name, derived-attribute, rule, entity, schema, labelled}
+use Rattle.express.specs.Select.{span, firstFrom}
 
 pub record Table : Type 0 where
   pub bytes : List ℕ
@@ -32,15 +36,22 @@ size t n = getD (t .sizes) n 0
 abbrev pub role : Table → ℕ → ℕ
 role t n = getD (t .roles) n 0
 
+-- of a token: its symbol, its place in the text
+abbrev pub symbolAt : Table → ℕ → ℕ
+symbolAt t i = getD (t .symbols) i 0
+
+abbrev pub placeAt : Table → ℕ → ℕ
+placeAt t i = getD (t .starts) i 0
+
 -- of a node's naming token: its terminal, its symbol, its place in the text
 abbrev pub terminal : Table → ℕ → ℕ
 terminal t n = getD (t .terminals) (token t n) 0
 
 abbrev pub symbol : Table → ℕ → ℕ
-symbol t n = getD (t .symbols) (token t n) 0
+symbol t n = symbolAt t (token t n)
 
 abbrev pub place : Table → ℕ → ℕ
-place t n = getD (t .starts) (token t n) 0
+place t n = placeAt t (token t n)
 
 -- "Children before parents, left to right": the last child of a node stands just before it
 abbrev pub last : ℕ → ℕ
@@ -53,3 +64,32 @@ before t n = n - size t n
 -- the first node of a subtree
 abbrev pub first : Table → ℕ → ℕ
 first t n = n + 1 - size t n
+
+abbrev pub nodes : Table → List ℕ
+nodes t = span 0 (count t)
+
+abbrev pub is : Table → ℕ → ℕ → Bool
+is t k n = eqb (kind t n) k
+
+-- a name in a role
+abbrev pub isName : Table → ℕ → ℕ → Bool
+isName t r n = is t name n && eqb (role t n) r
+
+-- what a schema declares, beside the items of its enumerations
+abbrev pub isDeclaration : Table → ℕ → Bool
+isDeclaration t n = is t constant n || is t type n || is t entity n
+
+abbrev pub isAttribute : Table → ℕ → Bool
+isAttribute t n = is t attribute-name n || is t derived-attribute n
+
+-- what an entity, or a type's WHERE, declares: attributes, and the labels of rules
+abbrev pub isMember : Table → ℕ → Bool
+isMember t n = isAttribute t n || is t rule n && eqb (role t n) labelled
+
+-- the constant, type or entity that a node is or lies in, and its schema: each stands after all that lies in it, and none lies in another of
+-- its sort, so it is the first at or after the node; there is none at or after the number of nodes
+unfoldable pub owner : Table → ℕ → ℕ
+owner t n = firstFrom (isDeclaration t) n (count t - n)
+
+unfoldable pub schemaOf : Table → ℕ → ℕ
+schemaOf t n = firstFrom (is t schema) n (count t - n)

@@ -1,0 +1,15 @@
+pub mod Sets
+pub mod Derivations
+pub mod Predictive
+pub mod Lookahead
+pub mod Sound
+pub mod Follow
+pub mod Fuel
+pub mod Exact
+pub mod Limit
+pub mod Equations
+pub mod Descent
+pub mod Trees
+pub mod Sorts
+pub mod Parts
+pub mod PostOrder

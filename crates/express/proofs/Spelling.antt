@@ -1,0 +1,66 @@
+-- Symbols are equal exactly when spellings are.
+use mathlib.Core.Path.{_≡_, refl, sym, ap, ap₂, subst, _∙_}
+use mathlib.Core.Logic.{_↔_}
+use mathlib.Core.Bool.{true, false, false≢true}
+use mathlib.Core.List.{List, [], _∷_}
+use Prim.Native.Nat.{ℕ, zero, suc, _-_, _≤_, _<_}
+use native.Mathlib.Omega.{arith}
+use borrow.Author.Tests.{eqb-true, eq-eqb}
+use lib.Dec.{eqb}
+use lib.ListN.{length, getD}
+use Rattle.express.specs.Spelling.{spelling, same, symbolOf, symbolsOf}
+use Rattle.express.proofs.Select.{and-fst, and-snd, and-both, column-at, First, first-is}
+
+same-true : (xs ys : List ℕ) → same xs ys ≡ true → xs ≡ ys
+unfolding same
+same-true [] [] e = refl
+same-true [] (y ∷ ys) e = absurd (false≢true e)
+same-true (x ∷ xs) [] e = absurd (false≢true e)
+same-true (x ∷ xs) (y ∷ ys) e =
+    ap₂ {C = List ℕ} (λ z zs. z ∷ zs) (eqb-true x y (and-fst (eqb x y) (same xs ys) e)) (same-true xs ys (and-snd (eqb x y) (same xs ys) e))
+
+same-refl : (xs : List ℕ) → same xs xs ≡ true
+unfolding same
+same-refl [] = refl
+same-refl (x ∷ xs) = and-both (eqb x x) (same xs xs) (eq-eqb x x refl) (same-refl xs)
+
+module _ (bytes starts lengths : List ℕ) where
+  abbrev spelt : ℕ → List ℕ
+  spelt i = spelling bytes starts lengths i
+
+  abbrev symbol : ℕ → ℕ
+  symbol i = symbolOf bytes starts lengths i
+
+  found : (i : ℕ) → First (λ j. same (spelt j) (spelt i)) 0 i (symbol i)
+  unfolding symbolOf
+  found i = first-is (λ j. same (spelt j) (spelt i)) 0 i
+
+  -- it is spelled like token i, and is the least token that is
+  pub symbol-le : (i : ℕ) → symbol i ≤ i
+  symbol-le i = omega (arith, found i .upto)
+
+  pub symbol-spelled : (i : ℕ) → spelt (symbol i) ≡ spelt i
+  symbol-spelled i = by (i - symbol i) refl
+    where
+      by : (d : ℕ) → i - symbol i ≡ d → spelt (symbol i) ≡ spelt i
+      by zero e = let q : symbol i ≡ i = omega (arith, symbol-le i) in ap (λ k. spelt k) q
+      by (suc d) e = same-true _ _ (found i .passes (omega arith))
+
+  pub symbol-least : (i j : ℕ) → spelt j ≡ spelt i → symbol i ≤ j
+  symbol-least i j e = by (symbol i - j) refl
+    where
+      by : (d : ℕ) → symbol i - j ≡ d → symbol i ≤ j
+      by zero z = omega arith
+      by (suc d) z =
+          absurd (false≢true (sym (found i .none j (omega arith) (omega arith)) ∙ subst (λ (x : List ℕ). same (spelt j) x ≡ true) e (same-refl (spelt j))))
+
+  -- symbols equal, spellings equal
+  pub symbol-iff : (i j : ℕ) → (symbol i ≡ symbol j) ↔ (spelt i ≡ spelt j)
+  symbol-iff i j = (
+    λ e. sym (symbol-spelled i) ∙ ap (λ k. spelt k) e ∙ symbol-spelled j,
+    λ e. let a = symbol-least i (symbol j) (symbol-spelled j ∙ sym e) in let b = symbol-least j (symbol i) (symbol-spelled i ∙ e) in omega arith)
+
+  -- the column of them
+  pub symbols-at : (i : ℕ) → i < length starts → getD (symbolsOf bytes starts lengths) i 0 ≡ symbol i
+  unfolding symbolsOf
+  symbols-at i h = column-at symbol (length starts) i h

@@ -1,0 +1,33 @@
+-- "Answer row: kind, number, length."
+use mathlib.Core.List.{List, map}
+use Prim.Native.Nat.{ℕ}
+use lib.ListN.{length}
+use lib.IntN.{ℤ, pos}
+use Rattle.express.specs.Answer.{Answer, indeterminate, integer, logical, binary, item, end}
+use Rattle.express.specs.Logic.{rank}
+use Rattle.express.specs.Bits.{number}
+use Rattle.express.specs.Tree.{Table}
+use Rattle.express.specs.Kind.{constants}
+use Rattle.express.specs.Evaluate.{answers, answer-at}
+
+pub record AnswerRow : Type 0 where
+  pub kind : ℕ
+  pub number : ℤ
+  pub length : ℕ
+
+abbrev pub row : ℕ → ℤ → ℕ → AnswerRow
+row k z l = record { kind = k; number = z; length = l }
+
+-- "0 `?`; 1 integer; 2 logical (0, 1, 2 in the order above); 3 binary (bits as a number, length in bits); 4 item (node number)"; an end by its
+-- own number; "Unnamed columns are 0."
+abbrev pub row-of : Answer → AnswerRow
+row-of indeterminate = row 0 (pos 0) 0
+row-of (integer z) = row 1 z 0
+row-of (logical l) = row 2 (pos (rank l)) 0
+row-of (binary s) = row 3 (pos (number s)) (length s)
+row-of (item m) = row 4 (pos m) 0
+row-of (end e) = row e (pos 0) 0
+
+-- "Rows follow the text": those of the constants, evaluated in the order ds
+unfoldable pub rows : Table → List ℕ → List ℕ → List AnswerRow
+rows t b ds = map (λ c. row-of (answer-at (answers t b ds) c)) (constants t)

@@ -1,0 +1,112 @@
+-- Typing: a kind for each node of a constant, in node order, or the first fault, 14 or 15.
+use mathlib.Core.Bool.{Bool, true, false, cond, _&&_}
+use mathlib.Core.List.{List, [], _∷_, flatMap}
+use Prim.Native.Nat.{ℕ, _+_}
+use lib.Dec.{eqb}
+use lib.ListN.{getD, set, replicate}
+use Rattle.express.specs.NodeKind as node
+use Rattle.express.specs.Select.{span, keep}
+use Rattle.express.specs.Tree.{Table, count, size, first, last, nodes, is, owner}
+use Rattle.express.specs.Formed.{left, middle, low}
+use Rattle.express.specs.Declared.{Declared, INTEGER, BOOLEAN, LOGICAL, BINARY, enumeration, other, declared}
+use Rattle.express.specs.Shape.{Operator, plus, arithmetic, relation, connective, Sign, positive, negative, not, Shape, integer-literal, logical-literal, binary-literal, question, item, name, unary, operator, interval, interval-operator, type, constant, unevaluated, shape}
+use Rattle.express.specs.Operate.{Kind, integers, logicals, binaries, items, undetermined, untyped, takes, takes-one, comparable}
+
+-- Kinds by number
+abbrev pub number : Kind → ℕ
+number untyped = 0
+number undetermined = 1
+number integers = 2
+number logicals = 3
+number binaries = 4
+number (items y) = y + 5
+
+abbrev pub same : Kind → Kind → Bool
+same j k = eqb (number j) (number k)
+
+-- The kind of two operands together: "two enumerations are different kinds; `?` fits every kind"
+abbrev pub common : Kind → Kind → Kind
+common j k = cond (same j undetermined) k (cond (same k undetermined) j (cond (same j k) j untyped))
+
+-- "BOOLEAN and LOGICAL are one kind to the typing"
+abbrev pub kind-of-type : Declared → Kind
+kind-of-type INTEGER = integers
+kind-of-type BOOLEAN = logicals
+kind-of-type LOGICAL = logicals
+kind-of-type BINARY = binaries
+kind-of-type (enumeration y) = items y
+kind-of-type other = untyped
+
+-- The kind that an operator gives: "Two `?` under `+` have the kind of `?`."
+abbrev pub result : Operator → Kind → Kind
+result plus k = k
+result (arithmetic o) k = integers
+result (relation o) k = logicals
+result (connective o) k = logicals
+
+abbrev pub result-of-one : Sign → Kind
+result-of-one positive = integers
+result-of-one negative = integers
+result-of-one not = logicals
+
+-- What is found at a node: its kind, or a fault
+pub data Finding : Type 0 where
+  kind : Kind → Finding
+  fault : ℕ → Finding
+
+-- "15: operand or declared type does not fit"
+abbrev pub if-fits : Bool → Kind → Finding
+if-fits true k = kind k
+if-fits false k = fault 15
+
+-- "14: not evaluated: other declared type (at its own node), the name of a constant so declared"
+abbrev pub if-evaluated : Declared → Kind → Finding
+if-evaluated d k = cond (comparable (kind-of-type d)) (kind k) (fault 14)
+
+-- At a node of a given shape, from the kinds of its children
+abbrev pub finding : Table → List ℕ → (ℕ → Kind) → ℕ → Shape → Finding
+finding t b k n (integer-literal v) = kind integers
+finding t b k n (logical-literal l) = kind logicals
+finding t b k n (binary-literal s) = kind binaries
+finding t b k n question = kind undetermined
+finding t b k n (item m) = kind (items (owner t m))
+finding t b k n (name c) = if-evaluated (declared t b (left t c)) (kind-of-type (declared t b (left t c)))
+finding t b k n (unary o) = if-fits (takes-one o (k (last n))) (result-of-one o)
+finding t b k n (operator o) = let j = common (k (left t n)) (k (last n)) in if-fits (takes o j) (result o j)
+finding t b k n (interval o p) =
+    if-fits (takes (relation o) (common (k (low t n)) (k (middle t n))) && takes (relation p) (common (k (middle t n)) (k (last n)))) logicals
+finding t b k n interval-operator = kind untyped
+finding t b k n (type d) = if-evaluated d untyped
+finding t b k n (constant d) = if-fits (comparable (common (kind-of-type d) (k (last n)))) (kind-of-type d)
+finding t b k n unevaluated = fault 14
+
+abbrev pub kind-at : List Kind → ℕ → Kind
+kind-at ks n = getD ks n untyped
+
+-- What the typing of some nodes comes to: a kind for each, or the first fault and its node
+pub data Typing : Type 0 where
+  typed : List Kind → Typing
+  refused : ℕ → ℕ → Typing
+
+abbrev pub then : Finding → ℕ → (Kind → Typing) → Typing
+then (kind k) n more = more k
+then (fault f) n more = refused f n
+
+unfoldable pub type-nodes : Table → List ℕ → List ℕ → List Kind → Typing
+type-nodes t b [] ks = typed ks
+type-nodes t b (n ∷ ns) ks = then (finding t b (kind-at ks) n (shape t b n)) n (λ k. type-nodes t b ns (set ks n k))
+
+-- the nodes of a node, and those of some nodes
+abbrev pub within : Table → ℕ → List ℕ
+within t n = span (first t n) (size t n)
+
+abbrev pub all-within : Table → List ℕ → List ℕ
+all-within t ns = flatMap (within t) ns
+
+-- the constants, in the order of the text
+abbrev pub constants : Table → List ℕ
+constants t = keep (is t node.constant) (nodes t)
+
+-- "Only constants are typed and evaluated"; "14 and 15 by node order, 14 first at one node"
+unfoldable pub typing : Table → List ℕ → Typing
+typing t b = type-nodes t b (all-within t (constants t)) (replicate (count t) untyped)
