@@ -23,12 +23,10 @@ pub data Pair : Type 0 where
   _like_ : ℕ → ℕ → Pair
 
 abbrev pub alike : List Pair → List ℕ
-unfolding span
 alike [] = span 0 48
 alike ((i like j) ∷ ps) = set (alike ps) i j
 
 abbrev pub table : List Row → List Pair → Table
-unfolding span
 table rs ps =
     record {
       bytes = []; starts = span 0 48; lengths = []; terminals = []; symbols = alike ps;
