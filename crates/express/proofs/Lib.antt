@@ -13,9 +13,10 @@ pub mod Syntax
 pub mod SyntaxExamples
 pub mod TokenExamples
 pub mod Topological
-pub mod Inside
 pub mod ConstantOrder
 pub mod Untied
 pub mod Backward
 pub mod Meaning
 pub mod Within
+pub mod Owned
+pub mod TypeCycle
