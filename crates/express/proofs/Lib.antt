@@ -1,4 +1,5 @@
 pub mod Bits
+pub mod Descent
 pub mod Divide
 pub mod FormedRows
 pub mod Logic
