@@ -9,7 +9,7 @@ use borrow.Author.Tests.{eqb-true, eqb-false, leb-true, leb-false}
 use lib.Dec.{eqb, leb}
 use Rattle.express.specs.Tree.{Table, nodes}
 use Rattle.express.specs.Fault.{Fault, fault, fine, orElse}
-use Rattle.express.specs.Names.{Stage, stages, sooner, least, firstFault, names, Passes, Least, Refused, here, later}
+use Rattle.express.specs.Names.{Stage, stages, sooner, least, firstFault, names, Passes, WellNamed, Least, Refused, here, later}
 
 zero-or : (n : ℕ) → (n ≡ 0) ⊎ (n ≢ 0)
 zero-or zero = inl refl
@@ -68,25 +68,17 @@ module _ (s : Stage) where
     where
       weaker : {f : Fault} → Least ns s f → (s k .number ≢ 0 → f .place ≤ s k .place) → Least (k ∷ ns) s f
       weaker L low = record {
-        node = L .node;
-        among = List·Memᴰ·tail (L .among);
-        is = L .is;
-        fault = L .fault;
-        least = λ n m g. ⊎-elim (λ p. let q : s n ≡ s k = ap s p in
+          node = L .node; among = List·Memᴰ·tail (L .among); is = L .is; fault = L .fault;
+          least = λ n m g. ⊎-elim (λ p. let q : s n ≡ s k = ap s p in
             let r : s k .number ≢ 0 = λ (e : s k .number ≡ 0). g (ap (λ (x : Fault). x .number) q ∙ e) in
-            omega (arith, low r, ap (λ (x : Fault). x .place) q)) (λ m′. L .least n m′ g) (List·Memᴰ·cases-cons m);
-      }
+            omega (arith, low r, ap (λ (x : Fault). x .place) q)) (λ m′. L .least n m′ g) (List·Memᴰ·cases-cons m) }
 
       by : Sooner (s k) (least s ns) → (least s ns .number ≢ 0 → Least ns s (least s ns)) → Least (k ∷ ns) s (sooner (s k) (least s ns))
       by (the-first g l q) more = rw q (record {
-        node = k;
-        among = List·Memᴰ·head refl;
-        is = refl;
-        fault = g;
-        least = λ n m f. ⊎-elim (λ p. let e : s n .place ≡ s k .place = ap (λ x. s x .place) p in omega arith)
+          node = k; among = List·Memᴰ·head refl; is = refl; fault = g;
+          least = λ n m f. ⊎-elim (λ p. let e : s n .place ≡ s k .place = ap (λ x. s x .place) p in omega arith)
             (λ m′. ⊎-elim (λ z. absurd (f (least-passes ns z n m′))) (λ z. let a = l z in let b = more z .least n m′ f in omega arith) (zero-or (least s ns .number)))
-            (List·Memᴰ·cases-cons m);
-      })
+            (List·Memᴰ·cases-cons m) })
       by (the-second g q) more =
           rw q (weaker (more (λ (e : least s ns .number ≡ 0). h (ap (λ (x : Fault). x .number) q ∙ e))) (λ z. g z .1))
 
@@ -110,7 +102,13 @@ module _ (s : Stage) where
 abbrev pub All : List ℕ → List Stage → Type 0
 All ns ss = (s : Stage) → List·Memᴰ s ss → Passes ns s
 
-or-else : (f g : Fault) → ((f .number ≡ 0) × (orElse f g ≡ g)) ⊎ ((f .number ≢ 0) × (orElse f g ≡ f))
+all-cons : {ns : List ℕ} {s : Stage} {ss : List Stage} → Passes ns s → All ns ss → All ns (s ∷ ss)
+all-cons p ps x m = ⊎-elim (λ q. rw q p) (λ m′. ps x m′) (List·Memᴰ·cases-cons m)
+
+abbrev Chosen : Fault → Fault → Type 0
+Chosen f g = ((f .number ≡ 0) × (orElse f g ≡ g)) ⊎ ((f .number ≢ 0) × (orElse f g ≡ f))
+
+or-else : (f g : Fault) → Chosen f g
 or-else f g = ⊎-elim (λ e. inl (e, by (eqb (f .number) 0) refl e)) (λ h. inr (h, no-fault (eqb (f .number) 0) refl h)) (zero-or (f .number))
   where
     by : (b : Bool) → eqb (f .number) 0 ≡ b → f .number ≡ 0 → orElse f g ≡ g
@@ -127,8 +125,7 @@ module _ (ns : List ℕ) where
   fine-all [] e s m = absurd (List·Memᴰ·not-nil m)
   fine-all (x ∷ ss) e s m = by (or-else (least x ns) (firstFault ss ns)) (λ z m′. fine-all ss z s m′)
     where
-      by : ((least x ns .number ≡ 0) × (orElse (least x ns) (firstFault ss ns) ≡ firstFault ss ns)) ⊎ ((least x ns .number ≢ 0) × (orElse (least x ns) (firstFault ss ns) ≡ least x ns))
-          → (firstFault ss ns .number ≡ 0 → List·Memᴰ s ss → Passes ns s) → Passes ns s
+      by : Chosen (least x ns) (firstFault ss ns) → (firstFault ss ns .number ≡ 0 → List·Memᴰ s ss → Passes ns s) → Passes ns s
       by (inl q) more =
           ⊎-elim (λ p. rw p (passes-iff x ns .0 (q .0))) (λ m′. more (ap (λ (f : Fault). f .number) (sym (q .1)) ∙ e) m′) (List·Memᴰ·cases-cons m)
       by (inr q) more = absurd (q .0 (ap (λ (f : Fault). f .number) (sym (q .1)) ∙ e))
@@ -138,8 +135,7 @@ module _ (ns : List ℕ) where
   all-fine [] h = refl
   all-fine (s ∷ ss) h = by (or-else (least s ns) (firstFault ss ns)) (all-fine ss (λ x m. h x (List·Memᴰ·tail m)))
     where
-      by : ((least s ns .number ≡ 0) × (orElse (least s ns) (firstFault ss ns) ≡ firstFault ss ns)) ⊎ ((least s ns .number ≢ 0) × (orElse (least s ns) (firstFault ss ns) ≡ least s ns))
-          → firstFault ss ns .number ≡ 0 → orElse (least s ns) (firstFault ss ns) .number ≡ 0
+      by : Chosen (least s ns) (firstFault ss ns) → firstFault ss ns .number ≡ 0 → orElse (least s ns) (firstFault ss ns) .number ≡ 0
       by (inl q) z = ap (λ (f : Fault). f .number) (q .1) ∙ z
       by (inr q) z = absurd (q .0 (passes-iff s ns .1 (h s (List·Memᴰ·head refl))))
 
@@ -148,8 +144,7 @@ module _ (ns : List ℕ) where
   fault-refused [] h = absurd (h refl)
   fault-refused (s ∷ ss) h = by (or-else (least s ns) (firstFault ss ns)) (λ z. fault-refused ss z)
     where
-      by : ((least s ns .number ≡ 0) × (orElse (least s ns) (firstFault ss ns) ≡ firstFault ss ns)) ⊎ ((least s ns .number ≢ 0) × (orElse (least s ns) (firstFault ss ns) ≡ least s ns))
-          → (firstFault ss ns .number ≢ 0 → Refused ns (firstFault ss ns) ss) → Refused ns (orElse (least s ns) (firstFault ss ns)) (s ∷ ss)
+      by : Chosen (least s ns) (firstFault ss ns) → (firstFault ss ns .number ≢ 0 → Refused ns (firstFault ss ns) ss) → Refused ns (orElse (least s ns) (firstFault ss ns)) (s ∷ ss)
       by (inl q) more =
           rw (q .1) (later (passes-iff s ns .0 (q .0)) (more (λ (e : firstFault ss ns .number ≡ 0). h (ap (λ (f : Fault). f .number) (q .1) ∙ e))))
       by (inr q) more = rw (q .1) (here (least-is s ns (q .0)))
@@ -164,9 +159,17 @@ module _ (ns : List ℕ) where
       (or-else (least s ns) (firstFault ss ns))
 
 -- The names of a file are fine exactly when each node is, in every stage.
-pub names-passes : (t : Table) → (names t .number ≡ 0) ↔ All (nodes t) (stages t)
-unfolding names
-names-passes t = (fine-all (nodes t) (stages t), all-fine (nodes t) (stages t))
+pub names-passes : (t : Table) → (names t .number ≡ 0) ↔ WellNamed t
+unfolding names stages
+names-passes t = (
+  λ e. let h = fine-all (nodes t) (stages t) e in
+    record {
+      once = h _ (List·Memᴰ·head refl);
+      types = h _ (List·Memᴰ·tail (List·Memᴰ·head refl));
+      type-cycles = h _ (List·Memᴰ·tail (List·Memᴰ·tail (List·Memᴰ·head refl)));
+      expressions = h _ (List·Memᴰ·tail (List·Memᴰ·tail (List·Memᴰ·tail (List·Memᴰ·head refl))));
+      constant-cycles = h _ (List·Memᴰ·tail (List·Memᴰ·tail (List·Memᴰ·tail (List·Memᴰ·tail (List·Memᴰ·head refl))))) },
+  λ W. all-fine (nodes t) (stages t) (all-cons (W .once) (all-cons (W .types) (all-cons (W .type-cycles) (all-cons (W .expressions) (all-cons (W .constant-cycles) (λ s m. absurd (List·Memᴰ·not-nil m))))))))
 
 -- Else `names` is the least fault of the first stage that has one, and, without ties, nothing else is.
 pub names-refused : (t : Table) → names t .number ≢ 0 → Refused (nodes t) (names t) (stages t)

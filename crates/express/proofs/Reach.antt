@@ -2,13 +2,13 @@
 use mathlib.Core.Path.{_≡_, refl, sym, ap, ap₂, subst, _∙_}
 use mathlib.Core.Logic.{_↔_, _⊎_, inl, inr, ⊎-elim}
 use mathlib.Core.Bool.{Bool, true, false, cond, _&&_}
-use mathlib.Core.List.{List, [], _∷_, _++_, map, flatMap, List·Memᴰ, List·Memᴰ·head, List·Memᴰ·tail, List·Memᴰ·cases-cons, List·Memᴰ·not-nil, List·Memᴰ·append-cases, Memᴰ·append-left, Memᴰ·append-right, Memᴰ·map, Memᴰ·of-map, Memᴰ·cast}
+use mathlib.Core.List.{List, [], _∷_, map, flatMap, List·Memᴰ, List·Memᴰ·head, List·Memᴰ·tail, List·Memᴰ·cases-cons, List·Memᴰ·not-nil, Memᴰ·map, Memᴰ·of-map, Memᴰ·cast}
 use Prim.Native.Nat.{ℕ}
 use borrow.Author.Tests.{eqb-true, eq-eqb}
 use lib.Dec.{eqb}
 use Rattle.express.specs.Select.{keep, any}
 use Rattle.express.specs.Reach.{Reaches, direct, onward, Edge, edge, Joins, has, added, sources, targets, closure, reaches}
-use Rattle.express.proofs.Select.{and-fst, and-snd, and-both, keep-mem, mem-keep, any-mem, mem-any}
+use Rattle.express.proofs.Select.{and-fst, and-snd, and-both, keep-mem, mem-keep, any-mem, mem-any, flat-mem, mem-flat}
 
 -- one after the other; and over a wider relation
 pub reaches-trans : {E : ℕ → ℕ → Type 0} {a b c : ℕ} → Reaches E a b → Reaches E b c → Reaches E a c
@@ -64,35 +64,25 @@ mem-added es (f ∷ new) e h = by (has (added es new) f) refl h (λ h′. mem-ad
     by b t (inl m) more = keepIt b (more (inl m))
     by b t (inr m) more = ⊎-elim (λ q. headIt b t q) (λ m′. keepIt b (more (inr m′))) (List·Memᴰ·cases-cons m)
 
--- all pairs
+-- edges from each of some vertices to its list
 pub pairs-mem : (f : ℕ → List ℕ) (xs : List ℕ) (e : Edge) → List·Memᴰ e (flatMap (λ a. map (edge a) (f a)) xs) → List·Memᴰ (e .from) xs × List·Memᴰ (e .to) (f (e .from))
-unfolding flatMap
-pairs-mem f [] e m = absurd (List·Memᴰ·not-nil m)
-pairs-mem f (x ∷ xs) e m =
-    ⊎-elim
-    (λ l.
-    let r = Memᴰ·of-map (edge x) (f x) l in
-    let q : e .from ≡ x = sym (ap (λ (z : Edge). z .from) (r .2)) in
-    (List·Memᴰ·head q, subst (λ (z : ℕ). List·Memᴰ (e .to) (f z)) (sym q) (Memᴰ·cast (sym (ap (λ (z : Edge). z .to) (r .2))) (r .1))))
-    (λ l. let r = pairs-mem f xs e l in (List·Memᴰ·tail (r .0), r .1))
-    (List·Memᴰ·append-cases (map (edge x) (f x)) m)
+pairs-mem f xs e m =
+    let r = flat-mem (λ a. map (edge a) (f a)) xs m in
+    let l = Memᴰ·of-map (edge (r .0)) (f (r .0)) (r .2) in
+    let q : e .from ≡ r .0 = sym (ap (λ (z : Edge). z .from) (l .2)) in
+    (Memᴰ·cast q (r .1), subst (λ (z : ℕ). List·Memᴰ (e .to) (f z)) (sym q) (Memᴰ·cast (sym (ap (λ (z : Edge). z .to) (l .2))) (l .1)))
 
 pub mem-pairs : (f : ℕ → List ℕ) (xs : List ℕ) (a b : ℕ) → List·Memᴰ a xs → List·Memᴰ b (f a) → List·Memᴰ (edge a b) (flatMap (λ a. map (edge a) (f a)) xs)
-unfolding flatMap
-mem-pairs f [] a b m l = absurd (List·Memᴰ·not-nil m)
-mem-pairs f (x ∷ xs) a b m l =
-    ⊎-elim
-    (λ q. Memᴰ·append-left _ (subst (λ (z : ℕ). List·Memᴰ (edge a b) (map (edge z) (f z))) q (Memᴰ·map (edge a) l)))
-    (λ m′. Memᴰ·append-right (map (edge x) (f x)) (mem-pairs f xs a b m′ l)) (List·Memᴰ·cases-cons m)
+mem-pairs f xs a b m l = mem-flat (λ a. map (edge a) (f a)) xs m (Memᴰ·map (edge a) l)
 
 -- a vertex and those that reach it, those that it reaches
 source-mem : (c : List Edge) (a s : ℕ) → List·Memᴰ a (sources c s) → (a ≡ s) ⊎ Joins c a s
 source-mem c a s m =
     ⊎-elim (λ q. inl q)
     (λ l.
-    let r = Memᴰ·of-map (λ (e : Edge). e .from) (keep (λ e. eqb (e .to) s) c) l in
-    let k = keep-mem (λ (e : Edge). eqb (e .to) s) c (r .1) in
-    inr (Memᴰ·cast (ap₂ edge (sym (r .2)) (sym (eqb-true (r .0 .to) s (k .1)))) (k .0)))
+      let r = Memᴰ·of-map (λ (e : Edge). e .from) (keep (λ e. eqb (e .to) s) c) l in
+      let k = keep-mem (λ (e : Edge). eqb (e .to) s) c (r .1) in
+      inr (Memᴰ·cast (ap₂ edge (sym (r .2)) (sym (eqb-true (r .0 .to) s (k .1)))) (k .0)))
     (List·Memᴰ·cases-cons m)
 
 mem-source : (c : List Edge) (a s : ℕ) → (a ≡ s) ⊎ Joins c a s → List·Memᴰ a (sources c s)
@@ -103,9 +93,9 @@ target-mem : (c : List Edge) (b t : ℕ) → List·Memᴰ b (targets c t) → (b
 target-mem c b t m =
     ⊎-elim (λ q. inl q)
     (λ l.
-    let r = Memᴰ·of-map (λ (e : Edge). e .to) (keep (λ e. eqb (e .from) t) c) l in
-    let k = keep-mem (λ (e : Edge). eqb (e .from) t) c (r .1) in
-    inr (Memᴰ·cast (ap₂ edge (sym (eqb-true (r .0 .from) t (k .1))) (sym (r .2))) (k .0)))
+      let r = Memᴰ·of-map (λ (e : Edge). e .to) (keep (λ e. eqb (e .from) t) c) l in
+      let k = keep-mem (λ (e : Edge). eqb (e .from) t) c (r .1) in
+      inr (Memᴰ·cast (ap₂ edge (sym (eqb-true (r .0 .from) t (k .1))) (sym (r .2))) (k .0)))
     (List·Memᴰ·cases-cons m)
 
 mem-target : (c : List Edge) (b t : ℕ) → (b ≡ t) ⊎ Joins c t b → List·Memᴰ b (targets c t)
@@ -121,8 +111,8 @@ unfolding closure
 closure-cases e es a b m =
     ⊎-elim (λ l. inl l)
     (λ l.
-    let r = pairs-mem (λ x. targets (closure es) (e .to)) (sources (closure es) (e .from)) (edge a b) l in
-    inr (source-mem (closure es) a (e .from) (r .0), target-mem (closure es) b (e .to) (r .1)))
+      let r = pairs-mem (λ x. targets (closure es) (e .to)) (sources (closure es) (e .from)) (edge a b) l in
+      inr (source-mem (closure es) a (e .from) (r .0), target-mem (closure es) b (e .to) (r .1)))
     (added-mem (closure es) _ (edge a b) m)
 
 closure-add : (e : Edge) (es : List Edge) (a b : ℕ) → Joins (closure es) a b ⊎ Added (closure es) e a b → Joins (closure (e ∷ es)) a b

@@ -2,11 +2,11 @@
 use mathlib.Core.Path.{_≡_, refl, sym, ap, _∙_}
 use mathlib.Core.Logic.{_⊎_, inl, inr, ⊎-elim}
 use mathlib.Core.Bool.{Bool, true, false, cond, _&&_, _||_, false≢true, and-eq-true-iff}
-use mathlib.Core.List.{List, [], _∷_, List·Memᴰ, List·Memᴰ·head, List·Memᴰ·tail, List·Memᴰ·cases-cons, List·Memᴰ·not-nil}
+use mathlib.Core.List.{List, [], _∷_, _++_, map, flatMap, List·Memᴰ, List·Memᴰ·head, List·Memᴰ·tail, List·Memᴰ·cases-cons, List·Memᴰ·not-nil, List·Memᴰ·append-cases, Memᴰ·append-left, Memᴰ·append-right, Memᴰ·cast}
 use Prim.Native.Nat.{ℕ, zero, suc, _+_, _-_, _≤_, _<_}
 use native.Mathlib.Numerals.{add-one}
 use native.Mathlib.Omega.{arith}
-use lib.ListN.{length}
+use lib.ListN.{length, getD}
 use Rattle.express.specs.Select.{span, firstFrom, keep, any}
 
 -- tests
@@ -34,6 +34,13 @@ or-right false b e = e
 pub untrue : (b : Bool) → (b ≡ true → ⊥) → b ≡ false
 untrue true h = absurd (h refl)
 untrue false h = refl
+
+pub le-or : (a b : ℕ) → (a ≤ b) ⊎ (b < a)
+le-or a b = by (a - b) refl
+  where
+    by : (d : ℕ) → a - b ≡ d → (a ≤ b) ⊎ (b < a)
+    by zero e = inl (omega arith)
+    by (suc d) e = inr (omega arith)
 
 -- rows of numbers, in one step: as a loop that runs backward has them
 pub span-step : (n i : ℕ) → i < n → span i (n - i) ≡ i ∷ span (i + 1) (n - (i + 1))
@@ -91,6 +98,16 @@ first-is p i (suc d) = by (p i) refl (first-is p (suc i) d)
 
         below : (j : ℕ) → i ≤ j → j < firstFrom p (suc i) d → p j ≡ false
         below j a b = at j (j - i) a b refl
+
+-- a column made of them, at one place
+column-from : (f : ℕ → ℕ) (i d k : ℕ) → k < d → getD (map f (span i d)) k 0 ≡ f (i + k)
+unfolding span
+column-from f i zero k h = absurd (omega arith)
+column-from f i (suc d) zero h = let q : i ≡ i + 0 = omega arith in ap f q
+column-from f i (suc d) (suc k) h = let q : suc i + k ≡ i + suc k = omega arith in column-from f (suc i) d k (omega arith) ∙ ap f q
+
+pub column-at : (f : ℕ → ℕ) (n k : ℕ) → k < n → getD (map f (span 0 n)) k 0 ≡ f k
+column-at f n k h = let q : 0 + k ≡ k = omega arith in column-from f 0 n k h ∙ ap f q
 
 -- one place only
 pub first-only : (p : ℕ → Bool) (j k : ℕ) → ((i : ℕ) → i < j → p i ≡ false) → p j ≡ true → ((i : ℕ) → i < k → p i ≡ false) → p k ≡ true → j ≡ k
@@ -176,3 +193,17 @@ module _ {A : Type 0} where
       by : (b : Bool) → length (keep p xs) ≤ length xs → length (cond b (x ∷ keep p xs) (keep p xs)) ≤ suc (length xs)
       by true l = omega arith
       by false l = omega arith
+
+-- what is in one of the lists
+module _ {A B : Type 0} (f : A → List B) where
+  pub flat-mem : (xs : List A) {y : B} → List·Memᴰ y (flatMap f xs) → (x : A) × List·Memᴰ x xs × List·Memᴰ y (f x)
+  unfolding flatMap
+  flat-mem [] m = absurd (List·Memᴰ·not-nil m)
+  flat-mem (x ∷ xs) m =
+      ⊎-elim (λ l. (x, List·Memᴰ·head refl, l)) (λ l. let r = flat-mem xs l in (r .0, List·Memᴰ·tail (r .1), r .2)) (List·Memᴰ·append-cases (f x) m)
+
+  pub mem-flat : (xs : List A) {x : A} {y : B} → List·Memᴰ x xs → List·Memᴰ y (f x) → List·Memᴰ y (flatMap f xs)
+  unfolding flatMap
+  mem-flat [] m l = absurd (List·Memᴰ·not-nil m)
+  mem-flat (z ∷ zs) {x} {y} m l =
+      ⊎-elim (λ q. let l′ : List·Memᴰ y (f z) = rw q at l in Memᴰ·append-left (flatMap f zs) l′) (λ m′. Memᴰ·append-right (f z) (mem-flat zs m′ l)) (List·Memᴰ·cases-cons m)

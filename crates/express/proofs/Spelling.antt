@@ -1,16 +1,15 @@
 -- Symbols are equal exactly when spellings are.
 use mathlib.Core.Path.{_≡_, refl, sym, ap, ap₂, subst, _∙_}
-use mathlib.Core.Logic.{_↔_, _⊎_, inl, inr, ⊎-elim}
-use mathlib.Core.Bool.{Bool, true, false, _&&_, false≢true}
-use mathlib.Core.List.{List, [], _∷_, map}
-use Prim.Native.Nat.{ℕ, zero, suc, _+_, _-_, _≤_, _<_}
+use mathlib.Core.Logic.{_↔_}
+use mathlib.Core.Bool.{true, false, false≢true}
+use mathlib.Core.List.{List, [], _∷_}
+use Prim.Native.Nat.{ℕ, zero, suc, _-_, _≤_, _<_}
 use native.Mathlib.Omega.{arith}
 use borrow.Author.Tests.{eqb-true, eq-eqb}
 use lib.Dec.{eqb}
 use lib.ListN.{length, getD}
-use Rattle.express.specs.Select.{span, firstFrom}
 use Rattle.express.specs.Spelling.{spelling, same, symbolOf, symbolsOf}
-use Rattle.express.proofs.Select.{and-fst, and-snd, and-both, First, first-is, first-only}
+use Rattle.express.proofs.Select.{and-fst, and-snd, and-both, column-at, First, first-is}
 
 same-true : (xs ys : List ℕ) → same xs ys ≡ true → xs ≡ ys
 unfolding same
@@ -59,16 +58,9 @@ module _ (bytes starts lengths : List ℕ) where
   pub symbol-iff : (i j : ℕ) → (symbol i ≡ symbol j) ↔ (spelt i ≡ spelt j)
   symbol-iff i j = (
     λ e. sym (symbol-spelled i) ∙ ap (λ k. spelt k) e ∙ symbol-spelled j,
-    λ e. let a = symbol-least i (symbol j) (symbol-spelled j ∙ sym e) in let b = symbol-least j (symbol i) (symbol-spelled i ∙ e) in omega arith,
-  )
+    λ e. let a = symbol-least i (symbol j) (symbol-spelled j ∙ sym e) in let b = symbol-least j (symbol i) (symbol-spelled i ∙ e) in omega arith)
 
   -- the column of them
-  mapped : (f : ℕ → ℕ) (i d k : ℕ) → k < d → getD (map f (span i d)) k 0 ≡ f (i + k)
-  unfolding span
-  mapped f i zero k h = absurd (omega arith)
-  mapped f i (suc d) zero h = let q : i ≡ i + 0 = omega arith in ap f q
-  mapped f i (suc d) (suc k) h = let q : suc i + k ≡ i + suc k = omega arith in mapped f (suc i) d k (omega arith) ∙ ap f q
-
   pub symbols-at : (i : ℕ) → i < length starts → getD (symbolsOf bytes starts lengths) i 0 ≡ symbol i
   unfolding symbolsOf
-  symbols-at i h = let q : 0 + i ≡ i = omega arith in mapped symbol 0 (length starts) i h ∙ ap symbol q
+  symbols-at i h = column-at symbol (length starts) i h

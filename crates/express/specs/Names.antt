@@ -38,6 +38,13 @@ names t = firstFault (stages t) (nodes t)
 abbrev pub Passes : List ℕ → Stage → Type 0
 Passes ns s = (n : ℕ) → List·Memᴰ n ns → s n .number ≡ 0
 
+pub record WellNamed (t : Table) : Type 0 where
+  pub once : Passes (nodes t) (repeated t)
+  pub types : Passes (nodes t) (typeName t)
+  pub type-cycles : Passes (nodes t) (cyclic t (typeEdges t))
+  pub expressions : Passes (nodes t) (expression t)
+  pub constant-cycles : Passes (nodes t) (cyclic t (constantEdges t))
+
 -- f is a fault of the stage, and no fault of it has a smaller place
 pub record Least (ns : List ℕ) (s : Stage) (f : Fault) : Type 0 where
   pub node : ℕ
