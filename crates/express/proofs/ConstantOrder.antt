@@ -21,7 +21,7 @@ use Rattle.express.specs.Formed.{Formed, lower, upper}
 use Rattle.express.specs.Declared.{declaration, bound, declared}
 use Rattle.express.specs.Shape.{Shape, Operator, name, shape, named, operator-of, evaluated}
 use Rattle.express.specs.Order.{Ordered, done, next, Order}
-use Rattle.express.proofs.Select.{and-fst, and-snd, and-both, or-cases, or-left, untrue, le-or, mem-span, span-mem, keep-mem, mem-keep, flat-mem, mem-flat, column-at}
+use Rattle.express.proofs.Select.{and-fst, and-snd, and-both, or-cases, or-left, untrue, le-or, mem-upto, keep-mem, mem-keep, flat-mem, mem-flat, column-at}
 use Rattle.express.proofs.Reach.{reaches-iff}
 use Rattle.express.proofs.Topological as topological
 use Rattle.express.proofs.Inside.{constant-owns}
@@ -136,7 +136,7 @@ module _ (t : Table) where
     unfolding typeName
     type-no n c l h r e k =
         let f : typeName t n .number ≡ 11 = rw (h, r, e, suits-no (role t n) c k) in
-        let g = W .types n (mem-span 0 (count t) n (omega arith) (omega arith)) in omega arith
+        let g = W .types n (mem-upto (count t) n l) in omega arith
 
     -- a name of a constant, in a constant, is an edge between the two
     pub named-edge : (n c : ℕ) → n < count t → inConstant t n ≡ true → shape t (bindings t) n ≡ name c → Joins (constantEdges t) (owner t n) c
@@ -145,7 +145,7 @@ module _ (t : Table) where
         let N = shape-named t (bindings t) n c e in
         let m = bound-means n c l (N .bound-to) (N .constant) in
         mem-flat (λ k. map (edge (owner t k)) (constantsMeant t (means t k))) (keep (λ k. isName t node.in-expression k && inConstant t k) (nodes t))
-          (mem-keep (λ k. isName t node.in-expression k && inConstant t k) (nodes t) (mem-span 0 (count t) n (omega arith) (omega arith))
+          (mem-keep (λ k. isName t node.in-expression k && inConstant t k) (nodes t) (mem-upto (count t) n l)
             (and-both (isName t node.in-expression n) (inConstant t n) (by (isName t node.in-expression n) (is t node.name n) (is t node.qualified-item n) refl refl refl (N .is-name) (m .0) (m .1)) own))
           (Memᴰ·map (edge (owner t n)) (meant (m .0) (m .1)))
       where
@@ -184,7 +184,7 @@ module _ (t : Table) where
     constants = keep (is t node.constant) (nodes t)
 
     constant-mem : (c : ℕ) → is t node.constant c ≡ true → List·Memᴰ c constants
-    constant-mem c h = mem-keep (is t node.constant) (nodes t) (mem-span 0 (count t) c (omega arith) (omega (arith, constant-below c h))) h
+    constant-mem c h = mem-keep (is t node.constant) (nodes t) (mem-upto (count t) c (constant-below c h)) h
 
     -- "13: cycle .. of constants" is refused: no constant reaches itself
     pub no-cycle : (c : ℕ) → is t node.constant c ≡ true → Reaches (Joins (constantEdges t)) c c → ⊥
@@ -192,7 +192,7 @@ module _ (t : Table) where
     no-cycle c h r =
         let d : isDeclaration t c ≡ true = or-left (is t node.constant c || is t node.type c) (is t node.entity c) (or-left (is t node.constant c) (is t node.type c) h) in
         let f : cyclic t (constantEdges t) c .number ≡ 13 = rw (d, reaches-iff (constantEdges t) c c .1 r) in
-        let g = W .constant-cycles c (mem-span 0 (count t) c (omega arith) (omega (arith, constant-below c h))) in omega arith
+        let g = W .constant-cycles c (mem-upto (count t) c (constant-below c h)) in omega arith
 
     -- the constants in an order
     pub arranged : topological.Arranged (Joins (constantEdges t)) constants

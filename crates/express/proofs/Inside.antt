@@ -7,10 +7,9 @@ use native.Mathlib.Omega.{arith}
 use borrow.Author.Tests.{eqb-true, eq-eqb, leb-true, le-leb}
 use lib.Dec.{eqb, leb}
 use Rattle.express.specs.NodeKind.{constant, type, entity}
-use Rattle.express.specs.Select.{firstFrom}
 use Rattle.express.specs.Tree.{Table, count, kind, size, last, before, first, is, isDeclaration, owner}
 use Rattle.express.specs.Formed.{left, upper, middle, lower, low, expression, childless, One, Two, Five, Pair, Formed}
-use Rattle.express.proofs.Select.{and-fst, and-snd, and-both, or-cases, or-left, or-right, untrue, le-or, First, first-is}
+use Rattle.express.proofs.Select.{and-fst, and-snd, and-both, or-cases, or-left, untrue, le-or, first-of}
 
 -- the cases of an expression
 data Case (k : ℕ) : Type 0 where
@@ -133,15 +132,7 @@ module _ (t : Table) (F : Formed t) where
   -- the nodes of a constant are its own
   pub constant-owns : (d : ℕ) → d < count t → kind t d ≡ constant → (n : ℕ) → first t d ≤ n → n < d → owner t n ≡ d
   unfolding owner
-  constant-owns d b q n lo hi = by (first-is (isDeclaration t) n (count t - n))
-    where
-      by : First (isDeclaration t) n (count t - n) (firstFrom (isDeclaration t) n (count t - n)) → firstFrom (isDeclaration t) n (count t - n) ≡ d
-      by O =
-          let k = firstFrom (isDeclaration t) n (count t - n) in
-          let l : n ≤ k = O .from in
-          let u : k ≤ n + (count t - n) = O .upto in
-          ⊎-elim
-          (λ (h : k ≤ d). ⊎-elim (λ (g : d ≤ k). omega arith)
-            (λ (g : k < d). absurd (false≢true (sym (plain k (within-constant d b q k (omega arith) g)) ∙ O .passes (omega arith)))) (le-or d k))
-          (λ (h : d < k). absurd (false≢true (sym (O .none d (omega arith) h) ∙ or-left (is t constant d || is t type d) (is t entity d) (or-left (is t constant d) (is t type d) (eq-eqb (kind t d) constant q)))))
-          (le-or k d)
+  constant-owns d b q n lo hi =
+      first-of (isDeclaration t) (count t) n d (omega arith) b
+      (or-left (is t constant d || is t type d) (is t entity d) (or-left (is t constant d) (is t type d) (eq-eqb (kind t d) constant q)))
+      (λ k a l. plain k (within-constant d b q k (omega arith) l))

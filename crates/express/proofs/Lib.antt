@@ -20,5 +20,8 @@ pub mod TokenExamples
 pub mod Topological
 pub mod Inside
 pub mod ConstantOrder
+pub mod Untied
+pub mod Backward
+pub mod Meaning
 pub mod Within
 pub mod Order

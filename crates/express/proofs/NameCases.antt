@@ -6,7 +6,7 @@ use lib.ListN.{set, getD}
 use Rattle.express.specs.Select.{span, firstFrom, keep, any}
 use Rattle.express.specs.Tree.{Table, owner, schemaOf}
 use Rattle.express.specs.Reach.{added, closure}
-use Rattle.express.specs.Scope.{declared, items, own, superEdges, typeEdges, inherited, candidates, typeMeant, itemsOf, itemMeant, means, binding}
+use Rattle.express.specs.Scope.{declared, items, own, superEdges, renamingEdges, typeEdges, inherited, candidates, typeMeant, itemsOf, itemMeant, means, binding}
 use Rattle.express.specs.Fault.{Fault, fault, fine, sort, scope, repeated, typeName, cyclic, qualified, expression, constantEdges}
 use Rattle.express.specs.Names.{stages, least, firstFault, names}
 
@@ -23,12 +23,10 @@ pub data Pair : Type 0 where
   _like_ : ℕ → ℕ → Pair
 
 abbrev pub alike : List Pair → List ℕ
-unfolding span
 alike [] = span 0 48
 alike ((i like j) ∷ ps) = set (alike ps) i j
 
 abbrev pub table : List Row → List Pair → Table
-unfolding span
 table rs ps =
     record {
       bytes = []; starts = span 0 48; lengths = []; terminals = []; symbols = alike ps;
@@ -98,7 +96,7 @@ chosen =
 pub said :
   map names (duplicate ∷ hidden ∷ renaming ∷ diamond ∷ clash ∷ circle ∷ lost ∷ itself ∷ mutual-constants ∷ chosen ∷ [])
   ≡ fault 9 10 ∷ fine ∷ fault 11 23 ∷ fine ∷ fault 12 21 ∷ fault 13 11 ∷ fault 10 8 ∷ fault 11 8 ∷ fault 13 4 ∷ fault 10 22 ∷ []
-unfolding span firstFrom keep any flatMap owner schemaOf added closure declared items own superEdges typeEdges inherited candidates typeMeant itemsOf itemMeant means sort scope repeated typeName cyclic qualified expression constantEdges stages least firstFault names
+unfolding span firstFrom keep any flatMap owner schemaOf added closure declared items own superEdges renamingEdges typeEdges inherited candidates typeMeant itemsOf itemMeant means sort scope repeated typeName cyclic qualified expression constantEdges stages least firstFault names
 said = refl
 
 -- the item of a hidden name is found as `type.item`, the constant by its name; x of the diamond is one declaration

@@ -196,10 +196,14 @@ childless-kind p e k h =
     (lt-or-le k 27)
 
 -- the children of the kinds that pass one test pass another, where this holds of the kinds of the table
-pub children-pass : (q p : ℕ → Bool) → all-below 27 (λ k. not (q k) || every-part (λ j o. p j) (kinds .children k)) ≡ true →
-    (k : ℕ) → q k ≡ true → every-part (λ j o. p j) (kinds .children k) ≡ true
-children-pass q p e k h =
+pub children-have : (q : ℕ → Bool) (p : ℕ → ℕ → Bool) → all-below 27 (λ k. not (q k) || every-part p (kinds .children k)) ≡ true →
+    (k : ℕ) → q k ≡ true → every-part p (kinds .children k) ≡ true
+children-have q p e k h =
     ⊎-elim
-    (λ (l : k < 27). let r = each-below 27 (λ j. not (q j) || every-part (λ i o. p i) (kinds .children j)) e k l in rw h at r)
+    (λ (l : k < 27). let r = each-below 27 (λ j. not (q j) || every-part p (kinds .children j)) e k l in rw h at r)
     (λ (l : 27 ≤ k). rw (no-kind k l) refl)
     (lt-or-le k 27)
+
+pub children-pass : (q p : ℕ → Bool) → all-below 27 (λ k. not (q k) || every-part (λ j o. p j) (kinds .children k)) ≡ true →
+    (k : ℕ) → q k ≡ true → every-part (λ j o. p j) (kinds .children k) ≡ true
+children-pass q p e k h = children-have q (λ j o. p j) e k h

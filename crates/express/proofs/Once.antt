@@ -13,7 +13,7 @@ use Rattle.express.specs.Tree.{Table, count, kind, role, symbol, place, 
 use Rattle.express.specs.Scope.{Meaning, none, one, several, meaning, spelled, declared, items, own, inherited, itemsOf, candidates, typeMeant, itemMeant, means}
 use Rattle.express.specs.Fault.{Fault, fault, fine, sort, scope, alike, repeated}
 use Rattle.express.specs.Names.{Passes}
-use Rattle.express.proofs.Select.{and-fst, and-snd, and-both, or-cases, mem-span, span-mem, keep-mem, mem-any}
+use Rattle.express.proofs.Select.{and-fst, and-snd, and-both, or-cases, span-mem, mem-upto, keep-mem, mem-any}
 
 one-several : (k : ℕ) → one k ≡ several → ⊥
 one-several k e = let z : _≡_ {A = ℕ} 0 1 = cc in omega arith
@@ -87,9 +87,9 @@ module _ (t : Table) (stage9 : Passes (nodes t) (repeated t)) where
   unfolding repeated
   once x y h b d e f g =
       let a : alike t y x ≡ true = and-both (eqb (symbol t x) (symbol t y) && eqb (sort t x) (sort t y)) (eqb (scope t x) (scope t y)) (and-both (eqb (symbol t x) (symbol t y)) (eqb (sort t x) (sort t y)) (eq-eqb _ _ g) (eq-eqb _ _ e)) (eq-eqb _ _ f) in
-      let c : any (alike t y) (span 0 y) ≡ true = mem-any (alike t y) (span 0 y) (mem-span 0 y x (omega arith) (omega arith)) a in
+      let c : any (alike t y) (span 0 y) ≡ true = mem-any (alike t y) (span 0 y) (mem-upto y x h) a in
       let z : repeated t y .number ≡ 9 = rw (ne-eqb (sort t y) 0 d, c) in
-      let w = stage9 y (mem-span 0 (count t) y (omega arith) (omega arith)) in
+      let w = stage9 y (mem-upto (count t) y b) in
       omega arith
 
   -- of the nodes with a symbol that pass a test, there are not several, if the test fixes their sort and scope

@@ -10,7 +10,7 @@ use lib.Dec.{eqb}
 use lib.ListN.{length}
 use Rattle.express.specs.Select.{span, keep}
 use Rattle.express.specs.Reach.{Reaches, direct, onward, Edge, Joins, reaches}
-use Rattle.express.proofs.Select.{untrue, mem-span, keep-mem, mem-keep, keep-lt, keep-short, flat-mem, mem-flat}
+use Rattle.express.proofs.Select.{untrue, mem-upto, keep-mem, mem-keep, keep-lt, keep-short, flat-mem, mem-flat}
 use Rattle.express.proofs.Reach.{reaches-iff}
 
 -- each of a list has edges only to those before it, in the list or already passed
@@ -63,7 +63,7 @@ module _ (E : ℕ → ℕ → Type 0) (vs : List ℕ) (rank : ℕ → ℕ) (fall
   arranged n bound = record {
       order = flatMap ranked (span 0 n);
       sorted = from-rank 0 n [] (λ v m l. absurd (omega arith));
-      complete = λ v m. mem-flat ranked (span 0 n) (mem-span 0 n (rank v) (omega arith) (omega (arith, bound v m))) (mem-keep (λ x. eqb (rank x) (rank v)) vs m (eq-eqb (rank v) (rank v) refl));
+      complete = λ v m. mem-flat ranked (span 0 n) (mem-upto n (rank v) (bound v m)) (mem-keep (λ x. eqb (rank x) (rank v)) vs m (eq-eqb (rank v) (rank v) refl));
       among = λ v m. let r = flat-mem ranked (span 0 n) m in keep-mem (λ x. eqb (rank x) (r .0)) vs (r .2) .0 }
 
 -- "a finite acyclic relation has a topological order"
