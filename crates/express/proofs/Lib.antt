@@ -1,6 +1,7 @@
 pub mod Backward
 pub mod Bits
 pub mod ConstantOrder
+pub mod Descent
 pub mod Divide
 pub mod Exactness
 pub mod FormedRows
