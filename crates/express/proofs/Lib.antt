@@ -26,7 +26,6 @@ pub mod SyntaxExamples
 pub mod TokenExamples
 pub mod Topological
 pub mod Typed
-pub mod ConstantOrder
 pub mod Untied
 pub mod Within
 pub mod Owned
