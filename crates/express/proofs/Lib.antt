@@ -5,7 +5,6 @@ pub mod Descent
 pub mod Divide
 pub mod Exactness
 pub mod FormedRows
-pub mod Inside
 pub mod KindCases
 pub mod Logic
 pub mod Meaning
