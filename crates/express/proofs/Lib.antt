@@ -6,6 +6,7 @@ pub mod Exactness
 pub mod FormedRows
 pub mod Inside
 pub mod KindCases
+pub mod Literals
 pub mod Logic
 pub mod Meaning
 pub mod NameCases
