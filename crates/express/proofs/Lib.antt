@@ -3,6 +3,7 @@ pub mod Bits
 pub mod ConstantOrder
 pub mod Divide
 pub mod Exactness
+pub mod File
 pub mod FormedRows
 pub mod Inside
 pub mod KindCases
@@ -15,6 +16,7 @@ pub mod Nodes
 pub mod Once
 pub mod Operations
 pub mod Order
+pub mod OrderTest
 pub mod Places
 pub mod Reach
 pub mod Select
