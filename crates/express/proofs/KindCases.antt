@@ -1,29 +1,49 @@
 -- Two small files, through the token reader, the parse, the names, the typing and the evaluation, by computation; they meet all that
 -- `exactness` asks, and so the rules give their constants these answers and no others.
-use mathlib.Core.Path.{_≡_, refl}
-use mathlib.Core.Bool.{true, false}
+use mathlib.Core.Path.{_≡_, refl, subst}
+use mathlib.Core.Bool.{true, false, not, _||_}
 use mathlib.Core.List.{List, [], _∷_, map, flatMap}
-use Prim.Native.Nat.{ℕ}
+use Prim.Native.Nat.{ℕ, _<_}
 use Prim.Native.String.{String}
+use native.Mathlib.Omega.{arith}
 use lib.IntN.{pos, negsuc, pow}
 use lib.ListN.{getD}
+use Rattle.ebnf.specs.Set.{mem}
 use Rattle.ebnf.specs.Rows.{Row}
+use Rattle.ebnf.specs.Parse.{descend, budget, parse}
+use Rattle.ebnf.specs.Depth.{first-deep, good}
 use Rattle.express.specs.Answer.{FALSE, UNKNOWN, TRUE, Answer, integer, logical, binary, item, end}
-use Rattle.express.specs.Terminal.{bytes}
-use Rattle.express.specs.Tree.{Table, owner, schemaOf}
+use Rattle.express.specs.Terminal.{bytes, among, same, terminalOf}
+use Rattle.express.specs.Tree.{Table, kind, nodes, is, owner, schemaOf}
 use Rattle.express.specs.Select.{span, firstFrom, keep, any}
-use Rattle.express.specs.Syntax.{with-rows}
+use Rattle.express.specs.Syntax.{whole, parsed, with-rows}
+use Rattle.express.specs.Grammar.{file}
+use Rattle.express.specs.NodeKind.{constant}
+use Rattle.express.specs.Bytes.{upper, wordByte, space}
 use Rattle.express.specs.Reach.{added, closure}
 use Rattle.express.specs.Scope.{declared, items, own, superEdges, typeEdges, inherited, candidates, typeMeant, itemsOf, itemMeant, means, binding, bindings}
-use Rattle.express.specs.Lexis.{numeral, integerValue, binaryBits}
+use Rattle.express.specs.Lexis.{runEnd, remarkEnd, skipIn, skipped, integerEnd, exponentEnd, realEnd, stringEnd, binaryEnd, lone, symbolSize, symbolEnd, kindAt, tokenEnd, lexIn, lexed, numeral, integerValue, binaryBits}
 use Rattle.express.specs.Integer.{exact, quotient, remainder, DIV, MOD, power}
 use Rattle.express.specs.Logic.{AND, OR, XOR}
 use Rattle.express.specs.Bits.{join, compareBits}
 use Rattle.express.specs.Declared.{simple, declared-in}
 use Rattle.express.specs.Shape.{operator-of, shape}
+use Rattle.express.specs.Fault.{sort, scope, repeated, typeName, cyclic, qualified, expression, constantEdges}
+use Rattle.express.specs.Names.{stages, least, firstFault, names}
+use Rattle.express.specs.Scanned.{Scanned}
+use Rattle.express.specs.Rule.{Exactly}
 use Rattle.express.specs.Operate.{Kind}
-use Rattle.express.specs.Kind.{Typing, typed, type-nodes, typing, constants}
+use Rattle.express.specs.Kind.{Typing, typed, refused, type-nodes, typing}
 use Rattle.express.specs.Evaluate.{run, answers, answer-at}
+use Rattle.express.proofs.Syntax.{read-good}
+use Rattle.express.proofs.Names.{names-passes}
+use Rattle.express.proofs.OrderTest.{every, in-order, order-passes}
+use Rattle.express.proofs.OrderTest as order
+use Rattle.express.proofs.File.{file-exact}
+
+abbrev kinds-in : Typing → List Kind
+kinds-in (typed ks) = ks
+kinds-in (refused k n) = []
 
 abbrev row : ℕ → ℕ → ℕ → ℕ → Row
 row k t n o = record { kind = k; token = t; size = n; role = o }
@@ -67,16 +87,45 @@ press-bound : bindings press ≡ press-bindings
 unfolding span firstFrom keep any owner schemaOf added closure declared items own superEdges typeEdges inherited candidates typeMeant itemsOf itemMeant means binding bindings flatMap
 press-bound = refl
 
-abbrev answered : Table → List ℕ → List ℕ → List Answer
-answered t b ds = map (answer-at (answers t b ds)) (constants t)
+-- an order of its constants
+abbrev press-plan : List ℕ
+press-plan = 10 ∷ 4 ∷ 20 ∷ 25 ∷ []
 
-press-answers :
-  answered press press-bindings (10 ∷ 4 ∷ 20 ∷ 25 ∷ []) ≡
-  integer (negsuc 11) ∷ integer (negsuc 3) ∷ logical UNKNOWN ∷ binary (true ∷ false ∷ false ∷ true ∷ true ∷ []) ∷ []
+press-scanned : Scanned press
+unfolding wordByte space upper runEnd remarkEnd skipIn skipped numeral integerEnd exponentEnd realEnd stringEnd binaryEnd lone symbolSize symbolEnd kindAt tokenEnd lexIn lexed terminalOf among same
+press-scanned = record { starts-are = refl; lengths-are = refl; terminals-are = refl }
+
+press-parsed : parsed file (press .terminals) ≡ good (whole press-rows)
+unfolding parsed first-deep parse descend mem budget
+press-parsed = refl
+
+press-named : names press .number ≡ 0
+unfolding span firstFrom keep any owner schemaOf added closure declared items own superEdges typeEdges inherited candidates typeMeant itemsOf itemMeant means binding bindings flatMap names stages least firstFault sort scope repeated typeName cyclic qualified expression constantEdges
+press-named = refl
+
+press-typed : typing press press-bindings ≡ typed (kinds-in (typing press press-bindings))
+unfolding typing type-nodes span keep flatMap numeral integerValue binaryBits exact quotient remainder DIV MOD power AND OR XOR join compareBits simple declared-in operator-of shape run answers owner firstFrom
+press-typed = refl
+
+press-order : (in-order press press-bindings [] press-plan ≡ true) × (every (λ c. not (is press constant c) || order.among press-plan c) (nodes press) ≡ true)
+unfolding in-order every any span keep flatMap numeral integerValue binaryBits exact quotient remainder DIV MOD power AND OR XOR join compareBits simple declared-in operator-of shape run answers owner firstFrom
+press-order = (refl, refl)
+
+press-file : (c : ℕ) → c < 28 → kind press c ≡ constant → Exactly press (bindings press) c (answer-at (answers press press-bindings press-plan) c)
+press-file c l e =
+    subst (λ (b : List ℕ). Exactly press (bindings press) c (answer-at (answers press b press-plan) c)) press-bound
+    (file-exact press press-scanned (read-good file press (whole press-rows) press-parsed) (names-passes press .0 press-named) (kinds-in (typing press press-bindings))
+    (rw press-bound press-typed) press-plan (rw press-bound (order-passes press press-bindings press-plan (press-order .0) (press-order .1))) c l e)
+
+pub press-exact :
+  Exactly press (bindings press) 4 (integer (negsuc 11)) ×
+  Exactly press (bindings press) 10 (integer (negsuc 3)) ×
+  Exactly press (bindings press) 20 (logical UNKNOWN) ×
+  Exactly press (bindings press) 25 (binary (true ∷ false ∷ false ∷ true ∷ true ∷ []))
 unfolding span keep flatMap numeral integerValue binaryBits exact quotient remainder DIV MOD power AND OR XOR join compareBits simple declared-in operator-of shape run answers owner firstFrom
-press-answers = refl
+press-exact = (press-file 4 (omega arith) refl, press-file 10 (omega arith) refl, press-file 20 (omega arith) refl, press-file 25 (omega arith) refl)
 
--- an enumeration, a renaming, an end and the ends after it
+-- an enumeration, a renaming of it, UNKNOWN for a BOOLEAN, and the first of two ends
 abbrev shade-text : String
 shade-text = "SCHEMA s; CONSTANT warm : BOOLEAN := NOT (hue >= colour.green); hue : shade := red; doubt : BOOLEAN := hue = ?; late : LOGICAL := doubt AND (1 DIV 0 = 2); END_CONSTANT; TYPE colour = ENUMERATION OF (red, green); END_TYPE; TYPE shade = colour; END_TYPE; END_SCHEMA;"
 
@@ -120,7 +169,40 @@ shade-bound : bindings shade ≡ shade-bindings
 unfolding span firstFrom keep any owner schemaOf added closure declared items own superEdges typeEdges inherited candidates typeMeant itemsOf itemMeant means binding bindings flatMap
 shade-bound = refl
 
-shade-answers :
-  answered shade shade-bindings (8 ∷ 13 ∷ 5 ∷ 22 ∷ []) ≡ logical TRUE ∷ item 23 ∷ end 19 ∷ end 19 ∷ []
+-- an order of its constants
+abbrev shade-plan : List ℕ
+shade-plan = 8 ∷ 13 ∷ 5 ∷ 22 ∷ []
+
+shade-scanned : Scanned shade
+unfolding wordByte space upper runEnd remarkEnd skipIn skipped numeral integerEnd exponentEnd realEnd stringEnd binaryEnd lone symbolSize symbolEnd kindAt tokenEnd lexIn lexed terminalOf among same
+shade-scanned = record { starts-are = refl; lengths-are = refl; terminals-are = refl }
+
+shade-parsed : parsed file (shade .terminals) ≡ good (whole shade-rows)
+unfolding parsed first-deep parse descend mem budget
+shade-parsed = refl
+
+shade-named : names shade .number ≡ 0
+unfolding span firstFrom keep any owner schemaOf added closure declared items own superEdges typeEdges inherited candidates typeMeant itemsOf itemMeant means binding bindings flatMap names stages least firstFault sort scope repeated typeName cyclic qualified expression constantEdges
+shade-named = refl
+
+shade-typed : typing shade shade-bindings ≡ typed (kinds-in (typing shade shade-bindings))
+unfolding typing type-nodes span keep flatMap numeral integerValue binaryBits exact quotient remainder DIV MOD power AND OR XOR join compareBits simple declared-in operator-of shape run answers owner firstFrom
+shade-typed = refl
+
+shade-order : (in-order shade shade-bindings [] shade-plan ≡ true) × (every (λ c. not (is shade constant c) || order.among shade-plan c) (nodes shade) ≡ true)
+unfolding in-order every any span keep flatMap numeral integerValue binaryBits exact quotient remainder DIV MOD power AND OR XOR join compareBits simple declared-in operator-of shape run answers owner firstFrom
+shade-order = (refl, refl)
+
+shade-file : (c : ℕ) → c < 31 → kind shade c ≡ constant → Exactly shade (bindings shade) c (answer-at (answers shade shade-bindings shade-plan) c)
+shade-file c l e =
+    subst (λ (b : List ℕ). Exactly shade (bindings shade) c (answer-at (answers shade b shade-plan) c)) shade-bound
+    (file-exact shade shade-scanned (read-good file shade (whole shade-rows) shade-parsed) (names-passes shade .0 shade-named) (kinds-in (typing shade shade-bindings))
+    (rw shade-bound shade-typed) shade-plan (rw shade-bound (order-passes shade shade-bindings shade-plan (shade-order .0) (shade-order .1))) c l e)
+
+pub shade-exact :
+  Exactly shade (bindings shade) 5 (logical TRUE) ×
+  Exactly shade (bindings shade) 8 (item 23) ×
+  Exactly shade (bindings shade) 13 (end 19) ×
+  Exactly shade (bindings shade) 22 (end 19)
 unfolding span keep flatMap numeral integerValue binaryBits exact quotient remainder DIV MOD power AND OR XOR join compareBits simple declared-in operator-of shape run answers owner firstFrom
-shade-answers = refl
+shade-exact = (shade-file 5 (omega arith) refl, shade-file 8 (omega arith) refl, shade-file 13 (omega arith) refl, shade-file 22 (omega arith) refl)

@@ -4,8 +4,10 @@ pub mod ConstantOrder
 pub mod Descent
 pub mod Divide
 pub mod Exactness
+pub mod File
 pub mod FormedRows
 pub mod KindCases
+pub mod Literals
 pub mod Logic
 pub mod Meaning
 pub mod NameCases
@@ -14,6 +16,7 @@ pub mod Nodes
 pub mod Once
 pub mod Operations
 pub mod Order
+pub mod OrderTest
 pub mod Places
 pub mod Reach
 pub mod Select

@@ -19,6 +19,7 @@ pub mod Order
 pub mod Reach
 pub mod Relation
 pub mod Rule
+pub mod Scanned
 pub mod Scope
 pub mod Select
 pub mod Shape
