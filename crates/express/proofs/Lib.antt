@@ -1,4 +1,5 @@
 pub mod Bits
+pub mod Descent
 pub mod Divide
 pub mod FormedRows
 pub mod Logic
@@ -6,11 +7,15 @@ pub mod NameCases
 pub mod Names
 pub mod Nodes
 pub mod Once
+pub mod Operations
 pub mod Reach
 pub mod Select
+pub mod Shapes
+pub mod Spans
 pub mod Spelling
 pub mod Syntax
 pub mod SyntaxExamples
+pub mod Places
 pub mod TokenExamples
 pub mod Topological
 pub mod ConstantOrder
@@ -20,3 +25,4 @@ pub mod Meaning
 pub mod Within
 pub mod Owned
 pub mod TypeCycle
+pub mod Order

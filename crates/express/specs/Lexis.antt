@@ -86,12 +86,15 @@ integerEnd s p =
     let e = run digit s p in
     cond (leb (numeral 10 0 (part s p e)) greatest) (at e) (refused 3 p)
 
+abbrev pub either : ℕ → ℕ → ℕ → Bool
+either x y b = eqb b x || eqb b y
+
 -- `e` or `E`; `+` or `-`
 abbrev pub exponentMark : ℕ → Bool
-exponentMark b = eqb b 101 || eqb b 69
+exponentMark b = either 101 69 b
 
 abbrev pub sign : ℕ → Bool
-sign b = eqb b 43 || eqb b 45
+sign b = either 43 45 b
 
 -- where the digits of an exponent begin, whose `e` is at p
 abbrev pub exponentDigits : List ℕ → ℕ → ℕ
@@ -127,7 +130,8 @@ bit b = within 48 49 b
 unfoldable pub binaryEnd : List ℕ → ℕ → Reading
 binaryEnd s p =
     let e = run bit s (p + 1) in
-    cond (eqb e (p + 1)) (refused 2 p) (cond (leb e (p + 64)) (at e) (refused 3 p))
+    let n = e - (p + 1) in
+    cond (eqb n 0) (refused 2 p) (cond (leb n 63) (at e) (refused 3 p))
 
 -- ---- symbols
 
@@ -141,7 +145,7 @@ unfoldable pub symbolSize : ℕ → ℕ → ℕ → ℕ → ℕ
 symbolSize b c d e =
     cond (lone b) 1
     (cond (eqb b 58) (cond (eqb c 61) (cond (eqb d 58) 3 2) (cond (pair 60 62 c d && eqb e 58) 4 1))
-    (cond (eqb b 60) (cond (eqb c 61 || (eqb c 62 || eqb c 42)) 2 1)
+    (cond (eqb b 60) (cond (eqb c 61 || either 62 42 c) 2 1)
     (cond (eqb b 62) (cond (eqb c 61) 2 1)
     (cond (eqb b 42) (cond (eqb c 42) 2 1)
     (cond (eqb b 124) (cond (eqb c 124) 2 1) 0)))))

@@ -1,5 +1,29 @@
 //! A plain Rust checker of the base rules of EXPRESS constants, the independent yardstick of the proved one.
+//!
+//! The stages follow the paper's order: [`tokens`] (replies 1, 2, 3), [`terminals`], [`parser`] (4, 5), [`outline`],
+//! [`symbols`], [`names`] (9 to 13), [`kinds`] (14, 15) and [`evaluation`]; [`check`] adds the table lengths (6, 7, 8).
 #![forbid(unsafe_code)]
+
+pub mod evaluation;
+mod graph;
+mod inheritance;
+pub mod kinds;
+mod listing;
+pub mod names;
+pub mod outline;
+pub mod parser;
+pub mod symbols;
+pub mod terminals;
+pub mod tokens;
+mod words;
+
+pub use listing::listing;
+pub use parser::SyntaxRow;
+
+use outline::Outline;
+
+/// The longest file that is read, in bytes.
+pub const MAX_BYTES: usize = 65_536;
 
 /// Reply, number beside it, and the three counts (0 after a refusal).
 #[derive(Clone, Copy, Debug, Default, PartialEq, Eq)]
@@ -42,12 +66,174 @@ pub struct Checked {
     pub answers: Vec<AnswerRow>,
 }
 
-/// Checks a file with tables of the given numbers of rows.
-pub fn check(_bytes: &[u8], _token_rows: usize, _node_rows: usize, _answer_rows: usize) -> Checked {
-    todo!()
+/// A refusal: its reply (1 to 15) and the number beside it, a place in bytes or a count of entries needed.
+#[derive(Clone, Copy, Debug, PartialEq, Eq)]
+pub struct Refusal {
+    pub reply: u32,
+    pub number: u64,
 }
 
-/// The listing of a check of `bytes`: `refused N at P`, or `accepted N` and a line for each constant.
-pub fn listing(_bytes: &[u8], _checked: &Checked) -> Vec<u8> {
-    todo!()
+/// A refusal of the stages after the parser, located by the token that names the fault.
+#[derive(Clone, Copy, Debug, PartialEq, Eq)]
+pub struct Fault {
+    pub reply: u32,
+    pub token: u32,
+}
+
+impl Fault {
+    fn located(self, tokens: &[TokenRow]) -> Refusal {
+        let start = tokens[self.token as usize].start;
+        Refusal { reply: self.reply, number: u64::from(start) }
+    }
+}
+
+/// One stage's table at its lent length, and the count of rows or the refusal. After a refusal the rows are zero.
+#[derive(Clone, Debug, PartialEq, Eq)]
+pub struct Stage<Row> {
+    pub rows: Vec<Row>,
+    pub outcome: Result<u32, Refusal>,
+}
+
+impl<Row: Clone + Default> Stage<Row> {
+    fn new(outcome: Result<Vec<Row>, Refusal>, lent: usize) -> Self {
+        match outcome {
+            Ok(rows) => Stage { outcome: Ok(count(&rows)), rows: padded(rows, lent) },
+            Err(refusal) => Stage { outcome: Err(refusal), rows: padded(Vec::new(), lent) },
+        }
+    }
+}
+
+/// Everything that the stages found out about an accepted file.
+struct Accepted {
+    tokens: Vec<TokenRow>,
+    nodes: Vec<NodeRow>,
+    answers: Vec<AnswerRow>,
+}
+
+/// Checks a file with tables of the given numbers of rows.
+pub fn check(bytes: &[u8], token_rows: usize, node_rows: usize, answer_rows: usize) -> Checked {
+    match accept(bytes, token_rows, node_rows, answer_rows) {
+        Ok(Accepted { tokens, nodes, answers }) => Checked {
+            report: Report {
+                reply: 0,
+                number: 0,
+                tokens: count(&tokens),
+                nodes: count(&nodes),
+                constants: count(&answers),
+            },
+            tokens: padded(tokens, token_rows),
+            nodes: padded(nodes, node_rows),
+            answers: padded(answers, answer_rows),
+        },
+        Err(Refusal { reply, number }) => Checked {
+            report: Report { reply, number, ..Report::default() },
+            tokens: padded(Vec::new(), token_rows),
+            nodes: padded(Vec::new(), node_rows),
+            answers: padded(Vec::new(), answer_rows),
+        },
+    }
+}
+
+/// The token reader alone, with a table of `token_rows` rows: replies 1, 2, 3 and 6.
+pub fn scan(bytes: &[u8], token_rows: usize) -> Stage<TokenRow> {
+    Stage::new(scanned(bytes, token_rows), token_rows)
+}
+
+/// The parser alone, on the tokens of `bytes`, with a table of `node_rows` rows: replies 4, 5 and 7.
+pub fn parse(bytes: &[u8], tokens: &[TokenRow], node_rows: usize) -> Stage<SyntaxRow> {
+    let terminals = terminals::classify(bytes, tokens);
+    Stage::new(parsed(bytes, tokens, &terminals, node_rows), node_rows)
+}
+
+fn scanned(bytes: &[u8], token_rows: usize) -> Result<Vec<TokenRow>, Refusal> {
+    let tokens = tokens::read(bytes)?;
+    fits(&tokens, token_rows, 6)?;
+    Ok(tokens)
+}
+
+fn parsed(
+    bytes: &[u8],
+    tokens: &[TokenRow],
+    terminals: &[terminals::Terminal],
+    node_rows: usize,
+) -> Result<Vec<SyntaxRow>, Refusal> {
+    let nodes = parser::read(terminals).map_err(|stop| {
+        // A text that stops early is refused at its length.
+        let number = tokens.get(stop.token as usize).map_or(bytes.len() as u64, |token| u64::from(token.start));
+        Refusal { reply: stop.reply, number }
+    })?;
+    fits(&nodes, node_rows, 7)?;
+    Ok(nodes)
+}
+
+fn accept(bytes: &[u8], token_rows: usize, node_rows: usize, answer_rows: usize) -> Result<Accepted, Refusal> {
+    let tokens = scanned(bytes, token_rows)?;
+    let terminals = terminals::classify(bytes, &tokens);
+    let nodes = parsed(bytes, &tokens, &terminals, node_rows)?;
+    let outline = Outline::new(&nodes);
+    fits(&outline.constants, answer_rows, 8)?;
+    let symbols = symbols::intern(bytes, &tokens, &terminals);
+    let file =
+        File { bytes, tokens: &tokens, terminals: &terminals, nodes: &nodes, symbols: &symbols, outline: &outline };
+    let names = names::bind(&file).map_err(|fault| fault.located(&tokens))?;
+    let declared = kinds::check(&file, &names).map_err(|fault| fault.located(&tokens))?;
+    let answers = evaluation::answers(&file, &names, &declared);
+    let nodes = nodes
+        .iter()
+        .zip(&names.bindings)
+        .map(|(node, &binding)| NodeRow { kind: node.kind, token: node.token, size: node.size, binding })
+        .collect();
+    Ok(Accepted { tokens, nodes, answers })
+}
+
+/// What the stages after the parser read.
+pub struct File<'a> {
+    pub bytes: &'a [u8],
+    pub tokens: &'a [TokenRow],
+    pub terminals: &'a [terminals::Terminal],
+    pub nodes: &'a [SyntaxRow],
+    pub symbols: &'a symbols::Symbols,
+    pub outline: &'a Outline,
+}
+
+impl File<'_> {
+    /// The bytes of a token.
+    fn text(&self, token: u32) -> &[u8] {
+        tokens::text(self.bytes, &self.tokens[token as usize])
+    }
+
+    /// The terminal that names a node.
+    fn terminal(&self, node: u32) -> terminals::Terminal {
+        self.terminals[self.nodes[node as usize].token as usize]
+    }
+
+    /// The symbol of the word that names a node.
+    fn symbol(&self, node: u32) -> u32 {
+        self.symbols.of_token(self.nodes[node as usize].token)
+    }
+
+    fn kind(&self, node: u32) -> u8 {
+        self.nodes[node as usize].kind
+    }
+
+    fn fault(&self, reply: u32, node: u32) -> Fault {
+        Fault { reply, token: self.nodes[node as usize].token }
+    }
+}
+
+fn fits<Row>(rows: &[Row], lent: usize, reply: u32) -> Result<(), Refusal> {
+    if rows.len() > lent {
+        return Err(Refusal { reply, number: rows.len() as u64 });
+    }
+    Ok(())
+}
+
+fn padded<Row: Clone + Default>(mut rows: Vec<Row>, lent: usize) -> Vec<Row> {
+    rows.resize(lent, Row::default());
+    rows
+}
+
+/// The number of rows; a file of 65,536 bytes has far fewer than 2^32.
+fn count<Row>(rows: &[Row]) -> u32 {
+    u32::try_from(rows.len()).unwrap_or(u32::MAX)
 }

@@ -1,0 +1,222 @@
+-- Laws of binaries as lists of bits, in the form that `search` takes: each premise is what a call promised or a test said.
+use mathlib.Core.Path.{_≡_, refl, sym, ap, _∙_}
+use mathlib.Core.Bool.{Bool, true, false}
+use mathlib.Core.List.{List, [], _∷_, _++_}
+use mathlib.Core.Logic.{_⊎_, inl, inr}
+use Prim.Native.Nat.{ℕ, zero, suc, _+_, _-_, _*_, _/_, _%_, _^_, _≤_, _<_, compare, Ordering, Ordering·lt, Ordering·eq, Ordering·gt, compare·suc-suc}
+use native.Mathlib.Nat.{lt-of-lt-of-le, le-of-lt, zero-add, suc-add, zero-mul, one-mul, mod-lt, mod-eq-of-lt, div-eq-of-lt}
+use native.Mathlib.Omega.{arith}
+use borrow.Author.Tests.{le-leb, lt-leb}
+use lib.Arith.{digits-lt}
+use lib.Dec.{leb}
+use lib.ListN.{length, take, drop, length-append, length-drop, drop-of-length-le}
+use lib.Seq.{take-at, length-take-le}
+use lib.Pow.{pow-pos, pow-mono, pow-lt, pow-add, high, low, shl-exact}
+use mir.Syntax.{w64}
+use mir.Val.{Fits}
+use Rattle.express.specs.Answer.{binary, end}
+use Rattle.express.specs.Bits.{bit, number, bits, join, compareBits}
+use Rattle.express.proofs.Bits.{length-bits, number-mod, number-lt, bits-mod, bits-append}
+use Rattle.express.proofs.Order.{compare-lt, compare-gt, compare-eq}
+use Rattle.values.specs.declared.End.the-variants.{OutOfRange}
+use Rattle.bits.specs.Meaning.{string, Joins, Shorter}
+use Rattle.bits.specs.declared.Binary.{Binary}
+use Rattle.bits.specs.declared.Joined.the-variants.{Whole, Ended}
+
+-- ---- shifts of every width
+under : (n k : ℕ) → Fits w64 n → 63 < k → n < 2 ^ k
+under n k f h = let g : n < 2 ^ 64 = f .fits in lt-of-lt-of-le g (pow-mono h)
+
+module _ (n k : ℕ) (f : Fits w64 n) (h : 63 < k) where
+  pub none-high : 0 ≡ n / 2 ^ k
+  none-high = sym (div-eq-of-lt (under n k f h))
+
+  pub all-low : n ≡ n % 2 ^ k
+  all-low = sym (mod-eq-of-lt (under n k f h))
+
+module _ (k : ℕ) (h : k ≤ 63) where
+  one-shifted : 1 * 2 ^ k % 2 ^ 64 ≡ 2 ^ k
+  one-shifted = rw (one-mul (2 ^ k)) (mod-eq-of-lt (pow-lt {i = k} {j = 64} (omega arith)))
+
+  pub mask-some : 0 < 1 * 2 ^ k % 2 ^ 64
+  mask-some = rw one-shifted (pow-pos k)
+
+  pub mask-is : (n : ℕ) → n % (1 * 2 ^ k % 2 ^ 64) ≡ n % 2 ^ k
+  mask-is n = rw one-shifted
+
+-- ---- joining
+length-both : (a b : Binary) → length (string a ++ string b) ≡ a .length + b .length
+length-both a b =
+    length-append (string a) (string b) ∙ rw (length-bits (a .length) (a .number), length-bits (b .length) (b .number))
+
+too-long : (a b : Binary) → 63 < a .length + b .length → Joins (string a) (string b) (Ended OutOfRange)
+unfolding join
+too-long a b h = record { is = rw (length-both a b, lt-leb (a .length + b .length) 63 h); tidy = tt }
+
+pub too-long-alone : (a b : Binary) → 63 < a .length → Joins (string a) (string b) (Ended OutOfRange)
+too-long-alone a b h = too-long a b (omega arith)
+
+pub too-long-both : (a b : Binary) → 63 - a .length < b .length → Joins (string a) (string b) (Ended OutOfRange)
+too-long-both a b h = too-long a b (omega arith)
+
+module _ (a b : Binary) {m n : ℕ} (e : m ≡ a .number % 2 ^ a .length) (f : n ≡ b .number % 2 ^ b .length) (i : a .length ≤ 63) (j : b .length ≤ 63 - a .length) where
+  h : a .length + b .length ≤ 63
+  h = omega arith
+
+  m-lt : m < 2 ^ a .length
+  m-lt = rw e (mod-lt (a .number) (pow-pos (a .length)))
+
+  n-lt : n < 2 ^ b .length
+  n-lt = rw f (mod-lt (b .number) (pow-pos (b .length)))
+
+  shifted : m * 2 ^ b .length % 2 ^ 64 ≡ m * 2 ^ b .length
+  shifted = shl-exact (a .length) (b .length) 64 m-lt (omega arith)
+
+  sum-lt : m * 2 ^ b .length + n < 2 ^ (a .length + b .length)
+  sum-lt = rw (pow-add 2 (a .length) (b .length)) (digits-lt m-lt n-lt)
+
+  pub sum-fits : Fits w64 (m * 2 ^ b .length % 2 ^ 64 + n)
+  sum-fits =
+      let g : 2 ^ (a .length + b .length) ≤ 2 ^ 63 = pow-mono h in
+      rw shifted (record { fits = omega (arith, sum-lt) })
+
+  both : bits (a .length + b .length) (m * 2 ^ b .length + n) ≡ string a ++ string b
+  both =
+      let k = m * 2 ^ b .length + n in
+      let x : bits (a .length) (k / 2 ^ b .length) ≡ string a =
+      ap (bits (a .length)) (high m (b .length) n-lt ∙ e) ∙ bits-mod (a .length) (a .length) (a .number) (omega arith) in
+      let y : bits (b .length) k ≡ string b =
+      sym (bits-mod (b .length) (b .length) k (omega arith)) ∙ ap (bits (b .length)) (low m (b .length) n-lt ∙ f) ∙ bits-mod (b .length) (b .length) (b .number) (omega arith) in
+      bits-append (a .length) (b .length) k ∙ rw (x, y)
+
+  pub joined : Joins (string a) (string b) (Whole (record { number = m * 2 ^ b .length % 2 ^ 64 + n; length = a .length + b .length }))
+  unfolding join
+  joined = rw shifted (record { is = rw (length-both a b, le-leb (a .length + b .length) 63 h, both); tidy = sum-lt })
+
+pub ruleset joins = (too-long-alone, too-long-both, sum-fits, joined)
+
+-- ---- the first bits
+pub first-is : (a : Binary) (l : ℕ) → l ≤ a .length → a .number / 2 ^ (a .length - l) % 2 ^ l ≡ number (take l (string a))
+first-is a l h =
+    let k = a .length - l in
+    let e : l + (a .length - l) ≡ a .length = omega arith in
+    let s : string a ≡ bits l (a .number / 2 ^ (a .length - l)) ++ bits (a .length - l) (a .number) =
+    ap (λ (j : ℕ). bits j (a .number)) (sym e) ∙ bits-append l (a .length - l) (a .number) in
+    sym (ap (λ (xs : List Bool). number (take l xs)) s ∙ ap number (take-at _ _ l (length-bits l (a .number / 2 ^ (a .length - l)))) ∙ number-mod l (a .number / 2 ^ (a .length - l)))
+
+pub first-number : (a : Binary) (l : ℕ) {x y : ℕ} → l ≤ a .length → y ≡ a .number / 2 ^ (a .length - l) → x ≡ y % 2 ^ l → x ≡ number (take l (string a))
+first-number a l h e f = f ∙ rw e (first-is a l h)
+
+-- ---- the smaller length
+pub shorter-left : {l k : ℕ} → l < k → Shorter l k l
+shorter-left h = record { first = omega arith; second = omega arith; one = inl refl }
+
+pub shorter-right : {l k : ℕ} → k ≤ l → Shorter l k k
+shorter-right h = record { first = omega arith; second = omega arith; one = inr refl }
+
+one-is : (l k r : ℕ) → (r ≡ l) ⊎ (r ≡ k) → r ≤ l → r ≤ k → (l ≤ k → r ≡ l) × (k ≤ l → r ≡ k)
+one-is l k r (inl e) g h = ((λ i. e), λ i. omega arith)
+one-is l k r (inr e) g h = ((λ i. omega arith), λ i. e)
+
+is-shorter : {l k r : ℕ} → Shorter l k r → (l ≤ k → r ≡ l) × (k ≤ l → r ≡ k)
+is-shorter {l} {k} {r} S = one-is l k r (S .one) (S .first) (S .second)
+
+-- ---- comparing: by the numbers of the first l bits, and then by what follows them
+abbrev then : Ordering → Ordering → Ordering
+then Ordering·lt o = Ordering·lt
+then Ordering·eq o = o
+then Ordering·gt o = Ordering·gt
+
+compare-add : (k m n : ℕ) → compare (k + m) (k + n) ≡ compare m n
+compare-add zero m n = rw (zero-add m, zero-add n)
+compare-add (suc k) m n = rw (suc-add k m, suc-add k n) (compare·suc-suc (k + m) (k + n) ∙ compare-add k m n)
+
+first-lt : (l : ℕ) (xs : List Bool) → l ≤ length xs → number (take l xs) < 2 ^ l
+first-lt l xs h = rw (length-take-le l xs h) at (number-lt (take l xs))
+
+first-power : (l : ℕ) (xs : List Bool) → l ≤ length xs → 2 ^ length (take l xs) ≡ 2 ^ l
+first-power l xs h = ap (λ (n : ℕ). 2 ^ n) (length-take-le l xs h)
+
+same-head : (b : Bool) (l : ℕ) (xs ys : List Bool) → l ≤ length xs → l ≤ length ys → compare (number (b ∷ take l xs)) (number (b ∷ take l ys)) ≡ compare (number (take l xs)) (number (take l ys))
+unfolding number
+same-head b l xs ys g h = rw (first-power l xs g, first-power l ys h) (compare-add (bit b * 2 ^ l) _ _)
+
+head-less : (l : ℕ) (xs ys : List Bool) → l ≤ length xs → l ≤ length ys → compare (number (false ∷ take l xs)) (number (true ∷ take l ys)) ≡ Ordering·lt
+unfolding number
+head-less l xs ys g h =
+    let p = first-power l ys h in let q = first-lt l xs g in
+    let r : 0 * 2 ^ length (take l xs) + number (take l xs) < 1 * 2 ^ length (take l ys) + number (take l ys) = omega arith in
+    compare-lt _ _ r
+
+head-more : (l : ℕ) (xs ys : List Bool) → l ≤ length xs → l ≤ length ys → compare (number (true ∷ take l xs)) (number (false ∷ take l ys)) ≡ Ordering·gt
+unfolding number
+head-more l xs ys g h =
+    let p = first-power l xs g in let q = first-lt l ys h in
+    let r : 0 * 2 ^ length (take l ys) + number (take l ys) < 1 * 2 ^ length (take l xs) + number (take l xs) = omega arith in
+    compare-gt _ _ r
+
+compare-first : (l : ℕ) (xs ys : List Bool) → l ≤ length xs → l ≤ length ys → compareBits xs ys ≡ then (compare (number (take l xs)) (number (take l ys))) (compareBits (drop l xs) (drop l ys))
+unfolding compareBits
+compare-first zero xs ys g h = rw (compare-eq (number []) (number []) refl)
+compare-first (suc l) [] ys g h = absurd (omega arith)
+compare-first (suc l) (x ∷ xs) [] g h = absurd (omega arith)
+compare-first (suc l) (false ∷ xs) (true ∷ ys) g h = rw (head-less l xs ys (omega arith) (omega arith))
+compare-first (suc l) (true ∷ xs) (false ∷ ys) g h = rw (head-more l xs ys (omega arith) (omega arith))
+compare-first (suc l) (false ∷ xs) (false ∷ ys) g h = rw (same-head false l xs ys (omega arith) (omega arith)) (compare-first l xs ys (omega arith) (omega arith))
+compare-first (suc l) (true ∷ xs) (true ∷ ys) g h = rw (same-head true l xs ys (omega arith) (omega arith)) (compare-first l xs ys (omega arith) (omega arith))
+
+nil-less : (ys : List Bool) → 0 < length ys → compareBits [] ys ≡ Ordering·lt
+unfolding compareBits
+nil-less [] h = absurd (omega arith)
+nil-less (y ∷ ys) h = refl
+
+more-nil : (xs : List Bool) → 0 < length xs → compareBits xs [] ≡ Ordering·gt
+unfolding compareBits
+more-nil [] h = absurd (omega arith)
+more-nil (x ∷ xs) h = refl
+
+-- two lists that have their first l bits in common, and one of which has no more
+module _ (l : ℕ) (xs ys : List Bool) where
+  rest-less : length xs ≤ l → l < length ys → compareBits (drop l xs) (drop l ys) ≡ Ordering·lt
+  rest-less g h = rw (drop-of-length-le xs g) (nil-less (drop l ys) (rw length-drop (omega arith)))
+
+  rest-more : l < length xs → length ys ≤ l → compareBits (drop l xs) (drop l ys) ≡ Ordering·gt
+  rest-more g h = rw (drop-of-length-le ys h) (more-nil (drop l xs) (rw length-drop (omega arith)))
+
+  rest-same : length xs ≤ l → length ys ≤ l → compareBits (drop l xs) (drop l ys) ≡ Ordering·eq
+  unfolding compareBits
+  rest-same g h = rw (drop-of-length-le xs g, drop-of-length-le ys h)
+
+module _ (a b : Binary) {l m n : ℕ} (S : Shorter (a .length) (b .length) l) (e : m ≡ number (take l (string a))) (f : n ≡ number (take l (string b))) where
+  by-numbers : {o : Ordering} → compare m n ≡ o → compareBits (string a) (string b) ≡ then o (compareBits (drop l (string a)) (drop l (string b)))
+  by-numbers {o} h =
+      let k : compare (number (take l (string a))) (number (take l (string b))) ≡ o = rw (← e, ← f) h in
+      compare-first l (string a) (string b) (rw (length-bits (a .length) (a .number)) (S .first)) (rw (length-bits (b .length) (b .number)) (S .second))
+      ∙ ap (λ (o : Ordering). then o (compareBits (drop l (string a)) (drop l (string b)))) k
+
+  pub less : m < n → Ordering·lt ≡ compareBits (string a) (string b)
+  less h = sym (by-numbers (compare-lt m n h))
+
+  pub more : n < m → Ordering·gt ≡ compareBits (string a) (string b)
+  more h = sym (by-numbers (compare-gt m n h))
+
+  module _ (g : n ≤ m) (h : m ≤ n) where
+    equal : compareBits (string a) (string b) ≡ compareBits (drop l (string a)) (drop l (string b))
+    equal = by-numbers (compare-eq m n (omega arith))
+
+    pub shorter-less : a .length < b .length → Ordering·lt ≡ compareBits (string a) (string b)
+    shorter-less k =
+        let p : l ≡ a .length = is-shorter S .0 (omega arith) in
+        sym (equal ∙ rest-less l (string a) (string b) (rw length-bits (omega arith)) (rw length-bits (omega arith)))
+
+    pub longer-more : b .length < a .length → Ordering·gt ≡ compareBits (string a) (string b)
+    longer-more k =
+        let p : l ≡ b .length = is-shorter S .1 (omega arith) in
+        sym (equal ∙ rest-more l (string a) (string b) (rw length-bits (omega arith)) (rw length-bits (omega arith)))
+
+    pub both-same : b .length ≤ a .length → a .length ≤ b .length → Ordering·eq ≡ compareBits (string a) (string b)
+    both-same j k =
+        let p : l ≡ a .length = is-shorter S .0 (omega arith) in
+        sym (equal ∙ rest-same l (string a) (string b) (rw length-bits (omega arith)) (rw length-bits (omega arith)))
+
+pub ruleset orders = (less, more, shorter-less, longer-more, both-same)

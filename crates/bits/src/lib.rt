@@ -1,0 +1,97 @@
+// Binaries: joining and comparing.
+ghost use mathlib.Core.Path.{_≡_};
+ghost use Prim.Native.Nat.{_≤_, _/_, _%_, _^_};
+ghost use lib.ListN.{take};
+ghost use Rattle.express.specs.Bits.{number, compareBits};
+ghost use Rattle.values.specs.Meaning.{orderingOf};
+ghost use Rattle.bits.specs.Meaning.{string, Joins, Shorter};
+use values::End;
+use values::order::Order;
+
+// The last `length` bits of `number`, the leftmost of them weighing most. Every pair stands for a list of bits: what
+// `number` has left of them plays no part.
+pub struct Binary {
+    pub number: u64,
+    pub length: u8,
+}
+
+// What joining gives: a binary, or the end that it comes to.
+pub enum Joined {
+    Whole(Binary),
+    Ended(End),
+}
+
+// n without its last k bits.
+fn high(n: u64, k: u8) -> u64
+    ensures { λ r. ⌜ r ≡ n / 2 ^ k ⌝ }
+{
+    if 63 < k {
+        return 0;
+    }
+    n >> (k as u64)
+}
+
+// The last k bits of n.
+fn low(n: u64, k: u8) -> u64
+    ensures { λ r. ⌜ r ≡ n % 2 ^ k ⌝ }
+{
+    if 63 < k {
+        return n;
+    }
+    n % (1 << (k as u64))
+}
+
+// The bits of a, then those of b: 63 at most.
+pub fn join(a: Binary, b: Binary) -> Joined
+    ensures { λ r. ⌜ Joins (string a) (string b) r ⌝ }
+{
+    if 63 < a.length {
+        return Joined::Ended(End::OutOfRange);
+    }
+    if 63 - a.length < b.length {
+        return Joined::Ended(End::OutOfRange);
+    }
+    let m = low(a.number, a.length);
+    let n = low(b.number, b.length);
+    Joined::Whole(Binary {
+        number: (m << (b.length as u64)) + n,
+        length: a.length + b.length,
+    })
+}
+
+// The number of the first l bits.
+fn first(a: Binary, l: u8) -> u64
+    requires { ⌜ l ≤ a .length ⌝ }
+    ensures { λ r. ⌜ r ≡ number (take l (string a)) ⌝ }
+{
+    low(high(a.number, a.length - l), l)
+}
+
+// The smaller of two lengths.
+fn shorter(l: u8, k: u8) -> u8
+    ensures { λ r. ⌜ Shorter l k r ⌝ }
+{
+    if l < k { l } else { k }
+}
+
+// From the left as far as both go; then the shorter is less.
+pub fn compare(a: Binary, b: Binary) -> Order
+    ensures { λ r. ⌜ orderingOf r ≡ compareBits (string a) (string b) ⌝ }
+{
+    let l = shorter(a.length, b.length);
+    let m = first(a, l);
+    let n = first(b, l);
+    if m < n {
+        return Order::Less;
+    }
+    if n < m {
+        return Order::More;
+    }
+    if a.length < b.length {
+        return Order::Less;
+    }
+    if b.length < a.length {
+        return Order::More;
+    }
+    Order::Same
+}

@@ -1,0 +1,95 @@
+-- Laws of logicals and orders, in the form that `search` takes.
+use mathlib.Core.Path.{_≡_, refl, sym, ap, _∙_}
+use mathlib.Core.Bool.{true, false}
+use Prim.Native.Nat.{ℕ, _<_, _≤_, compare, Ordering, Ordering·lt, Ordering·eq, Ordering·gt}
+use native.Mathlib.Omega.{arith}
+use borrow.Author.Tests.{le-leb, lt-leb}
+use lib.IntN.{ℤ}
+use lib.Signed.{ltZ}
+use mir.Syntax.{w64}
+use mir.Val.{SFits, toZ, ofZ}
+use mir.Facts.{toZ-ofZ}
+use Rattle.express.specs.Answer as answer
+use Rattle.express.specs.Answer.{FALSE, UNKNOWN, TRUE}
+use Rattle.express.specs.Logic.{rank, AND, OR, NOT, XOR}
+use Rattle.express.specs.Integer.{compareℤ}
+use Rattle.express.specs.Relation.{related}
+use Rattle.express.proofs.Order.{compare-lt, compare-gt, compare-eq, less-integer, more-integer, same-integer}
+use Rattle.values.specs.Meaning.{logicalOf, relationOf}
+use Rattle.values.specs.declared.logical.Logical.{Logical}
+use Rattle.values.specs.declared.logical.Logical.the-variants.{False, Unknown, True}
+use Rattle.values.specs.declared.order.Relation.{Relation}
+
+-- ---- the smaller and the larger, by numbers that are the ranks
+module _ (a b : answer.Logical) {m n : ℕ} (e : m ≡ rank a) (f : n ≡ rank b) where
+  pub and-first : m ≤ n → a ≡ AND a b
+  unfolding AND
+  and-first h = let g : rank a ≤ rank b = omega arith in rw (le-leb (rank a) (rank b) g)
+
+  pub and-second : n < m → b ≡ AND a b
+  unfolding AND
+  and-second h = let g : rank b < rank a = omega arith in rw (lt-leb (rank a) (rank b) g)
+
+  pub or-second : m ≤ n → b ≡ OR a b
+  unfolding OR
+  or-second h = let g : rank a ≤ rank b = omega arith in rw (le-leb (rank a) (rank b) g)
+
+  pub or-first : n < m → a ≡ OR a b
+  unfolding OR
+  or-first h = let g : rank b < rank a = omega arith in rw (lt-leb (rank a) (rank b) g)
+
+-- ---- the order of two numbers that stand for others
+module _ {m n j k : ℕ} (e : m ≡ j) (f : n ≡ k) where
+  pub less : m < n → Ordering·lt ≡ compare j k
+  less h = sym (compare-lt j k (omega arith))
+
+  pub more : n < m → Ordering·gt ≡ compare j k
+  more h = sym (compare-gt j k (omega arith))
+
+  pub same : n ≤ m → m ≤ n → Ordering·eq ≡ compare j k
+  same g h = sym (compare-eq j k (omega arith))
+
+pub ruleset logicals = (and-first, and-second, or-first, or-second, less, more, same)
+
+-- ---- the order of two integers that are read back from their bits
+module _ {a b : ℤ} (f : SFits w64 a) (g : SFits w64 b) where
+  pub less-own : ltZ (toZ w64 (ofZ w64 a)) (toZ w64 (ofZ w64 b)) ≡ true → Ordering·lt ≡ compareℤ a b
+  less-own e = sym (less-integer a b (rw (toZ-ofZ f, toZ-ofZ g) at e))
+
+  pub more-own : ltZ (toZ w64 (ofZ w64 b)) (toZ w64 (ofZ w64 a)) ≡ true → Ordering·gt ≡ compareℤ a b
+  more-own e = sym (more-integer a b (rw (toZ-ofZ f, toZ-ofZ g) at e))
+
+  pub same-own : ltZ (toZ w64 (ofZ w64 a)) (toZ w64 (ofZ w64 b)) ≡ false → ltZ (toZ w64 (ofZ w64 b)) (toZ w64 (ofZ w64 a)) ≡ false → Ordering·eq ≡ compareℤ a b
+  same-own e h = sym (same-integer a b (rw (toZ-ofZ f, toZ-ofZ g) at e) (rw (toZ-ofZ f, toZ-ofZ g) at h))
+
+pub ruleset orders = (less-own, more-own, same-own)
+
+-- ---- XOR by its first operand
+xor-false-is : (b : answer.Logical) → XOR FALSE b ≡ b
+unfolding XOR
+xor-false-is FALSE = refl
+xor-false-is UNKNOWN = refl
+xor-false-is TRUE = refl
+
+xor-true-is : (b : answer.Logical) → XOR TRUE b ≡ NOT b
+unfolding XOR
+xor-true-is FALSE = refl
+xor-true-is UNKNOWN = refl
+xor-true-is TRUE = refl
+
+module _ {a : Logical} (b : answer.Logical) where
+  pub xor-false : a ≡ False → b ≡ XOR (logicalOf a) b
+  xor-false e = rw e (sym (xor-false-is b))
+
+  pub xor-unknown : a ≡ Unknown → UNKNOWN ≡ XOR (logicalOf a) b
+  unfolding XOR
+  xor-unknown e = rw e
+
+  pub xor-true : {x : answer.Logical} → a ≡ True → x ≡ NOT b → x ≡ XOR (logicalOf a) b
+  xor-true e f = f ∙ rw e (sym (xor-true-is b))
+
+pub ruleset xors = (xor-false, xor-unknown, xor-true)
+
+-- ---- a relation that a match has told
+pub told : {x : answer.Logical} {r k : Relation} (o : Ordering) → r ≡ k → x ≡ related (relationOf k) o → x ≡ related (relationOf r) o
+told o e f = rw e f

@@ -1,0 +1,4 @@
+pub mod Arithmetic
+pub mod Connectives
+pub mod Machine
+pub mod Powers

@@ -1,0 +1,30 @@
+// The values of constants, and the operations on them: integers of 64 bits, logicals, and the orders that relations go by.
+pub mod integer;
+pub mod logical;
+pub mod order;
+
+ghost use mathlib.Core.Path.{_≡_};
+ghost use Rattle.values.specs.Meaning.{endNumber};
+
+// Why an evaluation ends without a value.
+pub enum End {
+    // outside 64 signed bits, or over 63 joined bits
+    OutOfRange,
+    ZeroDivisor,
+    NegativePower,
+    UnknownBoolean,
+}
+
+impl End {
+    // Its number in an answer row.
+    pub fn number(self) -> u8
+        ensures { λ r. ⌜ r ≡ endNumber self ⌝ }
+    {
+        match self {
+            End::OutOfRange => 16,
+            End::ZeroDivisor => 17,
+            End::NegativePower => 18,
+            End::UnknownBoolean => 19,
+        }
+    }
+}

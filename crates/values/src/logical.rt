@@ -1,0 +1,84 @@
+ghost use mathlib.Core.Path.{_≡_};
+ghost use Rattle.express.specs.Logic.{rank, compareLogical, AND, OR, NOT, XOR};
+ghost use Rattle.values.specs.Meaning.{logicalOf, orderingOf};
+use crate::order::Order;
+
+// The three logical values, in their order.
+pub enum Logical {
+    False,
+    Unknown,
+    True,
+}
+
+impl Logical {
+    pub const FALSE: Logical = Logical::False;
+
+    pub const UNKNOWN: Logical = Logical::Unknown;
+
+    pub const TRUE: Logical = Logical::True;
+
+    // Its number in an answer row: its place in the order.
+    pub fn rank(self) -> u8
+        ensures { λ r. ⌜ r ≡ rank (logicalOf self) ⌝ }
+    {
+        match self {
+            Logical::False => 0,
+            Logical::Unknown => 1,
+            Logical::True => 2,
+        }
+    }
+
+    pub fn compare(self, other: Logical) -> Order
+        ensures { λ r. ⌜ orderingOf r ≡ compareLogical (logicalOf self) (logicalOf other) ⌝ }
+    {
+        let m = self.rank();
+        let n = other.rank();
+        if m < n {
+            return Order::Less;
+        }
+        if n < m {
+            return Order::More;
+        }
+        Order::Same
+    }
+
+    // The smaller.
+    pub fn and(self, other: Logical) -> Logical
+        ensures { λ r. ⌜ logicalOf r ≡ AND (logicalOf self) (logicalOf other) ⌝ }
+    {
+        if self.rank() <= other.rank() {
+            return self;
+        }
+        other
+    }
+
+    // The larger.
+    pub fn or(self, other: Logical) -> Logical
+        ensures { λ r. ⌜ logicalOf r ≡ OR (logicalOf self) (logicalOf other) ⌝ }
+    {
+        if self.rank() <= other.rank() {
+            return other;
+        }
+        self
+    }
+
+    pub fn not(self) -> Logical
+        ensures { λ r. ⌜ logicalOf r ≡ NOT (logicalOf self) ⌝ }
+    {
+        match self {
+            Logical::False => Logical::TRUE,
+            Logical::Unknown => Logical::UNKNOWN,
+            Logical::True => Logical::FALSE,
+        }
+    }
+
+    pub fn xor(self, other: Logical) -> Logical
+        ensures { λ r. ⌜ logicalOf r ≡ XOR (logicalOf self) (logicalOf other) ⌝ }
+    {
+        match self {
+            Logical::False => other,
+            Logical::Unknown => Logical::UNKNOWN,
+            Logical::True => other.not(),
+        }
+    }
+}

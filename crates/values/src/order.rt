@@ -1,0 +1,52 @@
+ghost use mathlib.Core.Path.{_≡_};
+ghost use Rattle.express.specs.Relation.{by, related};
+ghost use Rattle.values.specs.Meaning.{logicalOf, orderingOf, relationOf};
+use crate::logical::Logical;
+
+// How a first operand stands to a second.
+pub enum Order {
+    Less,
+    Same,
+    More,
+}
+
+// `<`, `>`, `<=`, `>=`, `<>`, `=`, `:<>:`, `:=:`
+pub enum Relation {
+    LessThan,
+    GreaterThan,
+    AtMost,
+    AtLeast,
+    Unequal,
+    Equal,
+    InstanceUnequal,
+    InstanceEqual,
+}
+
+impl Order {
+    // One of three logicals.
+    fn choose(self, less: Logical, same: Logical, more: Logical) -> Logical
+        ensures { λ r. ⌜ logicalOf r ≡ by (orderingOf self) (logicalOf less) (logicalOf same) (logicalOf more) ⌝ }
+    {
+        match self {
+            Order::Less => less,
+            Order::Same => same,
+            Order::More => more,
+        }
+    }
+
+    // Whether a relation holds of two operands in this order.
+    pub fn relate(self, relation: Relation) -> Logical
+        ensures { λ r. ⌜ logicalOf r ≡ related (relationOf relation) (orderingOf self) ⌝ }
+    {
+        match relation {
+            Relation::LessThan => self.choose(Logical::TRUE, Logical::FALSE, Logical::FALSE),
+            Relation::GreaterThan => self.choose(Logical::FALSE, Logical::FALSE, Logical::TRUE),
+            Relation::AtMost => self.choose(Logical::TRUE, Logical::TRUE, Logical::FALSE),
+            Relation::AtLeast => self.choose(Logical::FALSE, Logical::TRUE, Logical::TRUE),
+            Relation::Unequal => self.choose(Logical::TRUE, Logical::FALSE, Logical::TRUE),
+            Relation::Equal => self.choose(Logical::FALSE, Logical::TRUE, Logical::FALSE),
+            Relation::InstanceUnequal => self.choose(Logical::TRUE, Logical::FALSE, Logical::TRUE),
+            Relation::InstanceEqual => self.choose(Logical::FALSE, Logical::TRUE, Logical::FALSE),
+        }
+    }
+}
