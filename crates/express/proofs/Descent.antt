@@ -5,14 +5,13 @@ use mathlib.Core.Path.{_≡_, refl}
 use Prim.Native.Nat.{ℕ, suc, _≤_}
 use lib.ListN.{length, getD}
 use Rattle.ebnf.specs.Set.{mem, disjoint}
-use Rattle.ebnf.specs.Grammar.{leaf, Ebnf, none, step, star, nt, rule}
+use Rattle.ebnf.specs.Grammar.{leaf, Ebnf, none, step, star, nt}
 use Rattle.ebnf.specs.Rows.{Row, Rows, in-rows}
 use Rattle.ebnf.specs.Parse.{Result, at, refused, bind, verdict, parse}
 use Rattle.ebnf.specs.Check.{ok}
 use Rattle.ebnf.proofs.Predictive.{Ok, ok-of}
 use Rattle.express.specs.Terminal.{identifier, integer, binary, question, dot, comma, semicolon, colon, equal, lbrace, rbrace, lparen, rparen, becomes, power, CONSTANT, DERIVE, END-CONSTANT, END-ENTITY, END-SCHEMA, END-TYPE, ENTITY, ENUMERATION, OF, OPTIONAL, SCHEMA, SELECT, SELF, SUBTYPE, TYPE, WHERE}
-use Rattle.express.specs.Tree.{kind, token, size, role}
-use Rattle.express.specs.Grammar.{Nonterminal, file, schema, constants, constant, base, type-declaration, underlying, where-clause, domain-rule, entity, attributes, derived, expression, sum, term, factor, operand, atom, interval, _·_, _∣_, tok, named, row, name, simple-types, relations, additions, multiplications, signs, comparisons, logicals, others, rules}
+use Rattle.express.specs.Grammar.{Nonterminal, file, schema, constants, constant, base, type-declaration, underlying, where-clause, domain-rule, entity, attributes, derived, expression, sum, term, factor, operand, atom, interval, _·_, _∣_, tok, named, row, simple-types, relations, additions, multiplications, signs, comparisons, logicals, others, rules}
 use Rattle.express.specs.Lookahead.{tables}
 use Rattle.express.proofs.Syntax.{express}
 use Rattle.express.specs.NodeKind as kind

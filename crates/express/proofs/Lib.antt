@@ -32,3 +32,4 @@ pub mod Untied
 pub mod Within
 pub mod Owned
 pub mod TypeCycle
+pub mod Order

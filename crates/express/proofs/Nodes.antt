@@ -8,16 +8,15 @@ use native.Mathlib.Omega.{arith}
 use lib.Dec.{eqb}
 use lib.ListN.{length, getD, List·getD-eq-default}
 use Rattle.ebnf.specs.Set.{mem, subset}
-use Rattle.ebnf.specs.Grammar.{rule}
 use Rattle.ebnf.specs.Rows.{Row}
-use Rattle.ebnf.specs.Parse.{at}
 use Rattle.ebnf.proofs.Sets.{and-split, lt-or-le}
 use Rattle.ebnf.proofs.Sorts.{Sort, sort, of-sorts, every}
 use Rattle.ebnf.proofs.Parts.{Part, one, many, within, fits, Kinds, known, keeps}
-use Rattle.ebnf.proofs.PostOrder.{Ends, Node, post-order, text-ends, every-part}
+use Rattle.ebnf.proofs.PostOrder.{Ends, Node, post-order, text-ends}
+use Rattle.ebnf.proofs.Below.{every-part}
 use Rattle.express.specs.Terminal.{identifier, integer, binary, question, dot, lbrace, power, ENUMERATION, SCHEMA, SELECT, SELF}
-use Rattle.express.specs.Tree.{kind, role}
-use Rattle.express.specs.Grammar.{Nonterminal, file, schema, constants, constant, base, type-declaration, underlying, where-clause, domain-rule, entity, attributes, derived, expression, sum, term, factor, operand, atom, interval, leaves, name, simple-types, relations, additions, multiplications, signs, comparisons, logicals, others, rules}
+use Rattle.express.specs.Tree.{role}
+use Rattle.express.specs.Grammar.{Nonterminal, file, schema, constants, constant, base, type-declaration, underlying, where-clause, domain-rule, entity, attributes, derived, expression, sum, term, factor, operand, atom, interval, simple-types, relations, additions, multiplications, signs, comparisons, logicals, others, rules}
 use Rattle.express.specs.Lookahead.{operand-begins, tables}
 use Rattle.express.specs.Syntax.{whole, Parses}
 use Rattle.express.proofs.Syntax.{express}

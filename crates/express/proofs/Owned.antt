@@ -8,7 +8,7 @@ use native.Mathlib.Omega.{arith}
 use borrow.Author.Tests.{eqb-true, eq-eqb, leb-true, not-true}
 use lib.Dec.{eqb, leb}
 use Rattle.ebnf.proofs.Sorts.{every}
-use Rattle.ebnf.proofs.PostOrder.{every-part}
+use Rattle.ebnf.proofs.Below.{every-part}
 use Rattle.express.specs.NodeKind as node
 use Rattle.express.specs.Tree.{Table, count, kind, role, first, nodes, is, isName, isDeclaration, isAttribute, isMember, owner, schemaOf}
 use Rattle.express.specs.Grammar.{Nonterminal, file}

@@ -1,6 +1,6 @@
 -- What lies within a node of a table that holds the rows of a derived text: nodes of an expression, the declaration and the schema that a
 -- node lies in, and the file.
-use mathlib.Core.Bool.{Bool, true, false, _&&_, false≢true, not, _||_}
+use mathlib.Core.Bool.{Bool, true, _&&_, not, _||_}
 use mathlib.Core.List.{[], _∷_}
 use mathlib.Core.Logic.{⊎-elim}
 use mathlib.Core.Path.{_≡_, refl, sym, _∙_, subst}
@@ -10,15 +10,15 @@ use lib.Dec.{leb, eqb}
 use lib.ListN.{length}
 use borrow.Author.Tests.{leb-true, eqb-true, not-true, le-leb}
 use Rattle.ebnf.specs.Set.{mem}
-use Rattle.ebnf.specs.Grammar.{node}
-use Rattle.ebnf.specs.Parse.{at}
 use Rattle.ebnf.proofs.Sets.{and-split, lt-or-le}
 use Rattle.ebnf.proofs.Sorts.{sort, every, every-of}
-use Rattle.ebnf.proofs.Parts.{Behind}
-use Rattle.ebnf.proofs.PostOrder.{row-at, size-at, token-named, tokens-behind, last-one, no-more, every-part, below, child-of}
+use Rattle.ebnf.proofs.Parts.{Behind, known}
+use Rattle.ebnf.proofs.PostOrder.{row-at, size-at, token-named, tokens-behind}
+use Rattle.ebnf.proofs.Children.{last-one, no-more}
+use Rattle.ebnf.proofs.Below.{every-part, below, child-of}
 use Rattle.express.specs.Terminal.{identifier, dot}
 use Rattle.express.specs.Tree.{Table, count, kind, token, size, role, terminal, first, isDeclaration, owner, schemaOf}
-use Rattle.express.specs.Grammar.{Nonterminal, file, schema, constant, entity, expression}
+use Rattle.express.specs.Grammar.{Nonterminal, file}
 use Rattle.express.specs.Syntax.{Read}
 use Rattle.express.specs.Select.{firstFrom}
 use Rattle.express.proofs.Nodes.{kinds, all-rows, all-below, children-have, children-pass}
