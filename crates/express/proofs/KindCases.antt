@@ -13,7 +13,8 @@ use Rattle.ebnf.specs.Rows.{Row}
 use Rattle.ebnf.specs.Parse.{descend, budget, parse}
 use Rattle.ebnf.specs.Depth.{first-deep, good}
 use Rattle.express.specs.Answer.{FALSE, UNKNOWN, TRUE, Answer, integer, logical, binary, item, end}
-use Rattle.express.specs.Terminal.{bytes, among, same, terminalOf}
+use Rattle.express.specs.Terminal.{bytes, among, terminalOf}
+use Rattle.express.specs.Spelling.{same}
 use Rattle.express.specs.Tree.{Table, kind, nodes, is, owner, schemaOf}
 use Rattle.express.specs.Select.{span, firstFrom, keep, any}
 use Rattle.express.specs.Syntax.{whole, parsed, with-rows}

@@ -32,4 +32,3 @@ pub mod Untied
 pub mod Within
 pub mod Owned
 pub mod TypeCycle
-pub mod Order
