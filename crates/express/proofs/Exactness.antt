@@ -22,7 +22,7 @@ use Rattle.express.specs.Shape as shapes
 use Rattle.express.specs.Operate.{Kind, integers, logicals, binaries, items, undetermined, untyped, comparable, takes, takes-one, combined, signed, between}
 use Rattle.express.specs.Rule.{Holds, an-end, Fit, Gives, an-integer-literal, a-logical-literal, a-binary-literal, a-question, a-name, a-sign, an-operator, an-interval, a-constant, an-unknown-boolean, Exactly}
 use Rattle.express.specs.Rule as rule
-use Rattle.express.specs.Kind.{common, kind-of-type, result, result-of-one, Finding, fault, if-fits, if-evaluated, finding, kind-at, typed, within, all-within, typing}
+use Rattle.express.specs.Kind.{common, kind-of-type, result, result-of-one, Finding, fault, if-fits, if-evaluated, finding, kind-at, typed, within, all-within, typing, Constant, Fits}
 use Rattle.express.specs.Kind as found
 use Rattle.express.specs.Evaluate.{held, answer-of, answer-at, run, answers}
 use Rattle.express.specs.Order.{Ordered, done, next, Order}
@@ -256,7 +256,7 @@ needs-passed t b f P d m l w h = by (shape t b m) refl (told t b m)
 -- ---- all constants
 
 module _ (t : Table) (b : List ℕ) (f : Formed t) (v : Literals t) (k : ℕ → Kind)
-    (fits : (c m : ℕ) → c < count t → kind t c ≡ node.constant → first t c ≤ m → m ≤ c → finding t b k m (shape t b m) ≡ found.kind (k m)) where
+    (fits : (n : ℕ) → Constant t n → Fits t b k n) where
   abbrev Among : List ℕ → ℕ → Type 0
   Among ds c = List·Memᴰ c ds
 
@@ -287,7 +287,7 @@ module _ (t : Table) (b : List ℕ) (f : Formed t) (v : Literals t) (k : ℕ →
       sound : Sound t b v k (run t b (within t d) xs) (Passed (Among passed) (first t d) (suc d))
       sound =
           run-sound t b v k (Among passed) (first t d) (suc d) (first t d) (size t d) xs (omega (arith, z)) (omega arith)
-          (λ m lo hi. fits d m l e lo (omega arith))
+          (λ m lo hi. fits m (record { node-of = d; among = l; is-one = e; from = lo; upto = omega arith }))
           (λ m lo hi. needs-passed t b f (Among passed) d m (omega arith) (whole m lo (ℕ-discrete m d) (omega arith)) (named m lo (ℕ-discrete m d) (omega arith)))
           (λ m h. old m (none-yet m h))
 
