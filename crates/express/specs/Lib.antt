@@ -27,3 +27,4 @@ pub mod Spelling
 pub mod Syntax
 pub mod Terminal
 pub mod Tree
+pub mod Reply
