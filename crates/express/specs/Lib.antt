@@ -28,3 +28,4 @@ pub mod Syntax
 pub mod Terminal
 pub mod Tree
 pub mod Reply
+pub mod Acceptance
