@@ -13,3 +13,5 @@ pub mod Trees
 pub mod Sorts
 pub mod Parts
 pub mod PostOrder
+pub mod Children
+pub mod Below

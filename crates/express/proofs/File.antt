@@ -28,4 +28,4 @@ module _ (t : Table) (scanned : Scanned t) (read : Read file t) (named : WellNam
   file-exact ds o = exactness t (bindings t) (formed-rows read) (literals read scanned) ks accepted ds o
 
   pub file-order : (ds : List ℕ) × Order t (bindings t) ds
-  file-order = constants-ordered t named (formed-rows read)
+  file-order = constants-ordered t named read

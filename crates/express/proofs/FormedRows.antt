@@ -2,22 +2,19 @@
 use mathlib.Core.Bool.{true, _||_}
 use mathlib.Core.List.{List, [], _∷_}
 use mathlib.Core.Logic.{⊎-elim}
-use mathlib.Core.Option.{some}
 use mathlib.Core.Path.{_≡_, refl, sym, ap, _∙_, subst}
 use Prim.Native.Nat.{ℕ, suc, _+_, _-_, _≤_, _<_}
 use native.Mathlib.Omega.{arith}
 use lib.Dec.{eqb}
 use lib.ListN.{length, getD, List·getD-map, length-map}
 use borrow.Author.Tests.{eqb-true}
-use Rattle.ebnf.specs.Grammar.{left}
 use Rattle.ebnf.specs.Rows.{Row}
-use Rattle.ebnf.specs.Parse.{at}
 use Rattle.ebnf.proofs.Sets.{or-split}
-use Rattle.ebnf.proofs.Lookahead.{inside}
 use Rattle.ebnf.proofs.Sorts.{Sort, of-sorts, every, every-of}
-use Rattle.ebnf.proofs.PostOrder.{no-row, row-at, size-at, Node, size-fits, ones, Chain, children-chain, childless}
+use Rattle.ebnf.proofs.PostOrder.{no-row, row-at, size-at, Node, size-fits}
+use Rattle.ebnf.proofs.Children.{ones, Chain, children-chain, childless}
 use Rattle.express.specs.Tree.{Table, count, kind, token, size, role, last, before, first}
-use Rattle.express.specs.Grammar.{Nonterminal, constant, base, expression, operand, interval}
+use Rattle.express.specs.Grammar.{Nonterminal}
 use Rattle.express.specs.Syntax.{Read}
 use Rattle.express.proofs.Nodes.{expressions, operators, bases, kinds, each-row, all-below, childless-kind}
 use Rattle.express.specs.Formed as form

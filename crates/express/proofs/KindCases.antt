@@ -13,7 +13,8 @@ use Rattle.ebnf.specs.Rows.{Row}
 use Rattle.ebnf.specs.Parse.{descend, budget, parse}
 use Rattle.ebnf.specs.Depth.{first-deep, good}
 use Rattle.express.specs.Answer.{FALSE, UNKNOWN, TRUE, Answer, integer, logical, binary, item, end}
-use Rattle.express.specs.Terminal.{bytes, among, same, terminalOf}
+use Rattle.express.specs.Terminal.{bytes, among, terminalOf}
+use Rattle.express.specs.Spelling.{same}
 use Rattle.express.specs.Tree.{Table, kind, nodes, is, owner, schemaOf}
 use Rattle.express.specs.Select.{span, firstFrom, keep, any}
 use Rattle.express.specs.Syntax.{whole, parsed, with-rows}
@@ -21,7 +22,7 @@ use Rattle.express.specs.Grammar.{file}
 use Rattle.express.specs.NodeKind.{constant}
 use Rattle.express.specs.Bytes.{upper, wordByte, space}
 use Rattle.express.specs.Reach.{added, closure}
-use Rattle.express.specs.Scope.{declared, items, own, superEdges, typeEdges, inherited, candidates, typeMeant, itemsOf, itemMeant, means, binding, bindings}
+use Rattle.express.specs.Scope.{declared, items, own, superEdges, renamingEdges, typeEdges, inherited, candidates, typeMeant, itemsOf, itemMeant, means, binding, bindings}
 use Rattle.express.specs.Lexis.{runEnd, remarkEnd, skipIn, skipped, integerEnd, exponentEnd, realEnd, stringEnd, binaryEnd, lone, symbolSize, symbolEnd, kindAt, tokenEnd, lexIn, lexed, numeral, integerValue, binaryBits}
 use Rattle.express.specs.Integer.{exact, quotient, remainder, DIV, MOD, power}
 use Rattle.express.specs.Logic.{AND, OR, XOR}
@@ -84,7 +85,7 @@ abbrev press-bindings : List ℕ
 press-bindings = 0 ∷ 11 ∷ 0 ∷ 0 ∷ 0 ∷ 0 ∷ 0 ∷ 0 ∷ 0 ∷ 0 ∷ 0 ∷ 0 ∷ 0 ∷ 0 ∷ 11 ∷ 0 ∷ 0 ∷ 0 ∷ 0 ∷ 0 ∷ 0 ∷ 0 ∷ 0 ∷ 0 ∷ 0 ∷ 0 ∷ 0 ∷ 0 ∷ []
 
 press-bound : bindings press ≡ press-bindings
-unfolding span firstFrom keep any owner schemaOf added closure declared items own superEdges typeEdges inherited candidates typeMeant itemsOf itemMeant means binding bindings flatMap
+unfolding span firstFrom keep any owner schemaOf added closure declared items own superEdges renamingEdges typeEdges inherited candidates typeMeant itemsOf itemMeant means binding bindings flatMap
 press-bound = refl
 
 -- an order of its constants
@@ -100,7 +101,7 @@ unfolding parsed first-deep parse descend mem budget
 press-parsed = refl
 
 press-named : names press .number ≡ 0
-unfolding span firstFrom keep any owner schemaOf added closure declared items own superEdges typeEdges inherited candidates typeMeant itemsOf itemMeant means binding bindings flatMap names stages least firstFault sort scope repeated typeName cyclic qualified expression constantEdges
+unfolding span firstFrom keep any owner schemaOf added closure declared items own superEdges renamingEdges typeEdges inherited candidates typeMeant itemsOf itemMeant means binding bindings flatMap names stages least firstFault sort scope repeated typeName cyclic qualified expression constantEdges
 press-named = refl
 
 press-typed : typing press press-bindings ≡ typed (kinds-in (typing press press-bindings))
@@ -166,7 +167,7 @@ abbrev shade-bindings : List ℕ
 shade-bindings = 0 ∷ 9 ∷ 25 ∷ 0 ∷ 0 ∷ 0 ∷ 29 ∷ 24 ∷ 0 ∷ 0 ∷ 9 ∷ 0 ∷ 0 ∷ 0 ∷ 0 ∷ 14 ∷ 0 ∷ 0 ∷ 0 ∷ 0 ∷ 0 ∷ 0 ∷ 0 ∷ 0 ∷ 0 ∷ 0 ∷ 0 ∷ 27 ∷ 0 ∷ 0 ∷ 0 ∷ []
 
 shade-bound : bindings shade ≡ shade-bindings
-unfolding span firstFrom keep any owner schemaOf added closure declared items own superEdges typeEdges inherited candidates typeMeant itemsOf itemMeant means binding bindings flatMap
+unfolding span firstFrom keep any owner schemaOf added closure declared items own superEdges renamingEdges typeEdges inherited candidates typeMeant itemsOf itemMeant means binding bindings flatMap
 shade-bound = refl
 
 -- an order of its constants
@@ -182,7 +183,7 @@ unfolding parsed first-deep parse descend mem budget
 shade-parsed = refl
 
 shade-named : names shade .number ≡ 0
-unfolding span firstFrom keep any owner schemaOf added closure declared items own superEdges typeEdges inherited candidates typeMeant itemsOf itemMeant means binding bindings flatMap names stages least firstFault sort scope repeated typeName cyclic qualified expression constantEdges
+unfolding span firstFrom keep any owner schemaOf added closure declared items own superEdges renamingEdges typeEdges inherited candidates typeMeant itemsOf itemMeant means binding bindings flatMap names stages least firstFault sort scope repeated typeName cyclic qualified expression constantEdges
 shade-named = refl
 
 shade-typed : typing shade shade-bindings ≡ typed (kinds-in (typing shade shade-bindings))

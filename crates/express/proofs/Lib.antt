@@ -2,11 +2,11 @@ pub mod Backward
 pub mod Bits
 pub mod Cases
 pub mod ConstantOrder
+pub mod Descent
 pub mod Divide
 pub mod Exactness
 pub mod File
 pub mod FormedRows
-pub mod Inside
 pub mod KindCases
 pub mod Literals
 pub mod Logic
@@ -31,3 +31,5 @@ pub mod Topological
 pub mod Typed
 pub mod Untied
 pub mod Within
+pub mod Owned
+pub mod TypeCycle

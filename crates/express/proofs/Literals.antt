@@ -13,7 +13,8 @@ use Rattle.ebnf.specs.Set.{mem}
 use Rattle.ebnf.proofs.PostOrder.{token-named}
 use Rattle.express.specs.Bytes.{within, upper, digit}
 use Rattle.express.specs.Lexis.{Row, Lexed, Reading, at, refused, part, run, bit, numeral, greatest, integerEnd, binaryEnd, tokenEnd, kindAt, stopped, cons, afterToken, afterSkip, skipped, lexIn, lexed, starts, sizes, integerValue, binaryBits}
-use Rattle.express.specs.Terminal.{Fixed, identifier, integer, binary, the, symbols, reserved, same, among, terminalOf}
+use Rattle.express.specs.Terminal.{Fixed, identifier, integer, binary, the, symbols, reserved, among, terminalOf}
+use Rattle.express.specs.Spelling.{same}
 use Rattle.express.specs.NodeKind as node
 use Rattle.express.specs.Select.{any}
 use Rattle.express.specs.Tree.{Table, count, kind, token, role, terminal}

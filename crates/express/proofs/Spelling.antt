@@ -58,7 +58,8 @@ module _ (bytes starts lengths : List ℕ) where
   pub symbol-iff : (i j : ℕ) → (symbol i ≡ symbol j) ↔ (spelt i ≡ spelt j)
   symbol-iff i j = (
     λ e. sym (symbol-spelled i) ∙ ap (λ k. spelt k) e ∙ symbol-spelled j,
-    λ e. let a = symbol-least i (symbol j) (symbol-spelled j ∙ sym e) in let b = symbol-least j (symbol i) (symbol-spelled i ∙ e) in omega arith)
+    λ e. let a = symbol-least i (symbol j) (symbol-spelled j ∙ sym e) in let b = symbol-least j (symbol i) (symbol-spelled i ∙ e) in omega arith,
+  )
 
   -- the column of them
   pub symbols-at : (i : ℕ) → i < length starts → getD (symbolsOf bytes starts lengths) i 0 ≡ symbol i

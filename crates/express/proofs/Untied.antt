@@ -147,6 +147,7 @@ no-item (suc (suc (suc (suc (suc n))))) h = false≢true h
 
 pub lost-apart : Apart lost
 lost-apart = record {
-    names = λ n k a b e. speaks-one n a ∙ sym (speaks-one k b);
-    types = λ n k a b e. absurd (no-item n a);
-    between = λ n k a b e. no-item n a }
+  names = λ n k a b e. speaks-one n a ∙ sym (speaks-one k b);
+  types = λ n k a b e. absurd (no-item n a);
+  between = λ n k a b e. no-item n a;
+}

@@ -1,5 +1,4 @@
-pub mod Turns
-pub mod Numerals
 pub mod Numbers
-pub mod Skipping
 pub mod Rows
+pub mod Skipping
+pub mod Turns

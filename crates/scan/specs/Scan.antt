@@ -23,10 +23,6 @@ member Digit = digit
 member Bit = bit
 member Line = inLine
 
--- a number that is read as far as 2 to the 63
-abbrev pub capped : ℕ → ℕ
-capped n = min n 9223372036854775808
-
 -- what `fill` answers and leaves: the number of rows or the refusal, and the rows over what the columns held, as far as they go
 abbrev pub ended : Reading → ℕ → Reading
 ended (at q) n = at n

@@ -1,11 +1,11 @@
 // The token reader: bytes to a table of tokens, lent as three columns.
 ghost use mathlib.Core.Path.{_≡_};
 ghost use mathlib.Core.Bool.{false};
-ghost use Prim.Native.Nat.{_+_, _-_, _≤_, _<_, min};
-ghost use lib.ListN.{length, take, drop, getD, set};
+ghost use Prim.Native.Nat.{_+_, _≤_, _<_};
+ghost use lib.ListN.{length, drop, getD, set};
 ghost use Rattle.express.specs.Bytes.{within, letter, wordByte, space};
-ghost use Rattle.express.specs.Lexis.{pair, either, run, remarkEnd, skipped, numeral, integerEnd, exponentDigits, exponentEnd, realEnd, stringEnd, binaryEnd, lone, symbolSize, symbolEnd, kindAt, tokenEnd, lexed};
-ghost use Rattle.scan.specs.Scan.{reading, member, capped, Filled, Scanned};
+ghost use Rattle.express.specs.Lexis.{pair, either, run, remarkEnd, skipped, integerEnd, exponentDigits, exponentEnd, realEnd, stringEnd, binaryEnd, lone, symbolSize, symbolEnd, kindAt, tokenEnd, lexed};
+ghost use Rattle.scan.specs.Scan.{reading, member, Filled, Scanned};
 
 // A reading step gives a new place, or a located refusal: its number and its place.
 pub enum Step {
@@ -165,43 +165,11 @@ fn skip(s: &[u8], at: usize) -> Step
     Step::At(i)
 }
 
-// The number that bytes stand for in a base, or 2 to the 63 where it is no less.
-fn numeral_of(s: &[u8], start: usize, length: usize, base: u64) -> u64
-    requires { ⌜ (0 < base) × (base ≤ 10) ⌝ }
-    ensures { λ r. ⌜ r ≡ capped (numeral base 0 (take length (drop start (now (s .entry))))) ⌝ }
-{
-    let mut i = start;
-    let mut left = length;
-    let mut v: u64 = 0;
-    while i < s.len() {
-        if left == 0 {
-            return v;
-        }
-        let d = digit_of(s[i]);
-        if v > (9223372036854775807 - d) / base {
-            return 9223372036854775808;
-        }
-        v = v * base + d;
-        i += 1;
-        left -= 1;
-    }
-    v
-}
-
-fn digit_of(b: u8) -> u64
-    ensures { λ r. ⌜ (r ≡ b - 48) × (r ≤ 255) ⌝ }
-{
-    if b < 48 {
-        return 0;
-    }
-    (b - 48) as u64
-}
-
 fn integer_end(s: &[u8], at: usize) -> Step
     ensures { λ r. ⌜ reading r ≡ integerEnd (now (s .entry)) at ⌝ }
 {
     let end = run_end(s, at, Class::Digit);
-    if numeral_of(s, at, end - at, 10) > 9223372036854775807 {
+    if literals::integer(s, at, end - at) > 9223372036854775807 {
         return Step::Refused(3, at);
     }
     Step::At(end)

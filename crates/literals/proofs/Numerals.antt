@@ -7,14 +7,17 @@ use native.Mathlib.Nat.{le-refl, le-trans, le-div-iff-mul-le, le-mul-of-pos-righ
 use native.Mathlib.Decide.{decLt}
 use lib.ListN.{length, take, drop, getD}
 use lib.Seq.{take-nil}
-use borrow.Author.Tests.{le-leb, lt-leb}
-use Rattle.express.specs.Bytes.{digit}
-use Rattle.express.specs.Lexis.{at, refused, run, numeral, integerEnd}
-use Rattle.scan.specs.Scan.{capped}
-use Rattle.scan.proofs.Turns.{at-cons, at-nil}
+use Rattle.express.specs.Lexis.{numeral, integerValue, binaryValue}
+use Rattle.literals.specs.Literal.{capped}
+use lib.Seq.{drop-cons}
+use lib.ListN.{drop-of-length-le}
+use native.Mathlib.Numerals.{add-one}
 
 abbrev pub most : ℕ
 most = 9223372036854775807
+
+at-cons : (s : List ℕ) (i : ℕ) → i < length s → drop i s ≡ getD s i 0 ∷ drop (i + 1) s
+at-cons s i h = rw (add-one, drop-cons s i 0)
 
 -- a part, one byte shorter
 pub part-more : (s : List ℕ) (i left : ℕ) → i < length s → (left ≡ 0 → ⊥) → take left (drop i s) ≡ getD s i 0 ∷ take (left - 1) (drop (i + 1) s)
@@ -23,7 +26,7 @@ part-more s i left h n =
     ap (λ (k : ℕ). take k (drop i s)) one ∙ ap (take (suc (left - 1))) (at-cons s i h)
 
 pub part-over : (s : List ℕ) (i left : ℕ) → length s ≤ i → take left (drop i s) ≡ []
-part-over s i left h = ap (take left) (at-nil s i h) ∙ take-nil left
+part-over s i left h = ap (take left) (drop-of-length-le s h) ∙ take-nil left
 
 module _ (base : ℕ) (pos : 0 < base) where
   -- the test for one digit more is exact
@@ -69,12 +72,20 @@ module _ (base : ℕ) (s : List ℕ) (i left v : ℕ) where
   unfolding numeral
   numeral-more d h n e = rw (part-more s i left h n, e)
 
--- an integer that ends at e
-module _ (s : List ℕ) (p e n : ℕ) (ends : e ≡ run digit s p) (is : n ≡ capped (numeral 10 0 (take (e - p) (drop p s)))) where
-  pub integer-fits : n ≤ most → at e ≡ integerEnd s p
-  unfolding integerEnd
-  integer-fits h = let l : numeral 10 0 (take (e - p) (drop p s)) ≤ most = omega (arith, is, h) in rw (← ends, le-leb _ _ l)
+-- a literal's token, its first byte passed over
+module _ (s : List ℕ) (i n : ℕ) where
+  pub integer-is : capped (coming 10 s i n 0) ≡ capped (integerValue (take n (drop i s)))
+  unfolding integerValue
+  integer-is = refl
 
-  pub integer-large : most < n → refused 3 p ≡ integerEnd s p
-  unfolding integerEnd
-  integer-large h = let l : most < numeral 10 0 (take (e - p) (drop p s)) = omega (arith, is, h) in rw (← ends, lt-leb _ _ l)
+  pub binary-over : length s ≤ i → 0 ≡ capped (binaryValue (take n (drop i s)))
+  unfolding binaryValue numeral
+  binary-over h = rw (part-over s i n h)
+
+  pub binary-none : n ≡ 0 → 0 ≡ capped (binaryValue (take n (drop i s)))
+  unfolding binaryValue numeral
+  binary-none h = rw h
+
+  pub binary-is : i < length s → (n ≡ 0 → ⊥) → capped (coming 2 s (i + 1) (n - 1) 0) ≡ capped (binaryValue (take n (drop i s)))
+  unfolding binaryValue
+  binary-is h k = rw (part-more s i n h k)
