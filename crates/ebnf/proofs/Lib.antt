@@ -15,3 +15,4 @@ pub mod Parts
 pub mod PostOrder
 pub mod Children
 pub mod Below
+pub mod Naming

@@ -1,5 +1,6 @@
 pub mod Backward
 pub mod Bits
+pub mod Cases
 pub mod ConstantOrder
 pub mod Descent
 pub mod Divide

@@ -2,6 +2,7 @@ pub mod Answer
 pub mod AnswerRow
 pub mod Bits
 pub mod Bytes
+pub mod Case
 pub mod Declared
 pub mod Evaluate
 pub mod Fault
