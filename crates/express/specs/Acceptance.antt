@@ -7,16 +7,15 @@ use Rattle.ebnf.specs.Rows.{Row}
 use Rattle.ebnf.specs.Depth.{Deep}
 use Rattle.express.specs.Answer.{Answer, indeterminate}
 use Rattle.express.specs.Lexis.{at, lexed}
-use Rattle.express.specs.Scanned.{terminals}
+use Rattle.express.specs.Scanned.{token-table}
 use Rattle.express.specs.Grammar.{file}
 use Rattle.express.specs.Syntax.{Parses, opening, closing, nesting, with-rows}
 use Rattle.express.specs.Tree.{Table, count}
 use Rattle.express.specs.Scope.{bindings}
 use Rattle.express.specs.Names.{WellNamed}
-use Rattle.express.specs.Operate.{Kind}
-use Rattle.express.specs.Kind.{typed, typing, constants}
+use Rattle.express.specs.Kind.{constants, WellTyped}
 use Rattle.express.specs.Rule.{Exactly}
-use Rattle.express.specs.Reply.{Accepted, token-table}
+use Rattle.express.specs.Reply.{Accepted}
 
 -- "Within the limits a file is accepted exactly when its tokens derive from the grammar and every name and type obeys the rules; the tree is that
 -- derivation, each name is bound as the scope rules say, each constant's answer is what the rules make of its expression."
@@ -28,16 +27,15 @@ pub record Acceptable (s : List ℕ) (token-rows node-rows answer-rows : ℕ) (a
   pub token-room : length (lexed s .rows) ≤ token-rows
   -- the tokens derive from the grammar, and the nodes are those of the derivation; nothing nests too deep
   pub rows : List Row
-  pub parses : Parses file (terminals s (lexed s)) rows
-  pub shallow : (i : ℕ) → ¬ (Deep opening closing nesting (terminals s (lexed s)) i)
-  pub table-is : a .table ≡ with-rows (token-table s (lexed s)) rows
+  pub parses : Parses file (token-table s .terminals) rows
+  pub shallow : (i : ℕ) → ¬ (Deep opening closing nesting (token-table s .terminals) i)
+  pub table-is : a .table ≡ with-rows (token-table s) rows
   pub node-room : count (a .table) ≤ node-rows
   pub answer-room : length (constants (a .table)) ≤ answer-rows
   -- every name and type obeys the rules
-  pub named : WellNamed (a .table)
+  pub well-named : WellNamed (a .table)
   pub bound : a .bindings ≡ bindings (a .table)
-  pub kinds : List Kind
-  pub fits : typing (a .table) (a .bindings) ≡ typed kinds
+  pub well-typed : WellTyped (a .table) (a .bindings)
   -- an answer for each constant, in the order of the text: the one that the rules give
   pub as-many : length (a .answers) ≡ length (constants (a .table))
   pub exact : (i : ℕ) → i < length (constants (a .table)) → Exactly (a .table) (a .bindings) (getD (constants (a .table)) i 0) (getD (a .answers) i indeterminate)

@@ -1,6 +1,6 @@
 -- THE WHOLE: what is answered for the bytes of a file and tables of three lengths, in the order of the stages, and what every column then holds.
 use mathlib.Core.Bool.{cond}
-use mathlib.Core.List.{List, [], map}
+use mathlib.Core.List.{List, map}
 use Prim.Native.Nat.{ℕ}
 use lib.Dec.{eqb, leb}
 use lib.IntN.{ℤ, pos}
@@ -9,10 +9,9 @@ use Rattle.columns.specs.Column.{padded}
 use Rattle.ebnf.specs.Rows.{Rows}
 use Rattle.ebnf.specs.Depth.{Outcome, good, unexpected, too-deep}
 use Rattle.express.specs.Answer.{Answer}
-use Rattle.express.specs.Lexis.{Row, Reading, at, Lexed, starts, sizes, tokens, lexed}
+use Rattle.express.specs.Lexis.{Row, Reading, at, starts, tokens, lexed}
 use Rattle.express.specs.Lexis as lexis
-use Rattle.express.specs.Spelling.{symbolsOf}
-use Rattle.express.specs.Scanned.{terminals}
+use Rattle.express.specs.Scanned.{token-table}
 use Rattle.express.specs.Grammar.{file}
 use Rattle.express.specs.Syntax.{parsed, with-rows}
 use Rattle.express.specs.Tree.{Table, count, place}
@@ -37,30 +36,15 @@ pub data Checked : Type 0 where
   accepted : Accepted → Checked
   refused : ℕ → ℕ → Checked
 
--- the table of the tokens of a text, with no nodes yet
-abbrev pub token-table : List ℕ → Lexed → Table
-token-table s l =
-    record {
-      bytes = s;
-      starts = starts l;
-      lengths = sizes l;
-      terminals = terminals s l;
-      symbols = symbolsOf s (starts l) (sizes l);
-      kinds = [];
-      tokens = [];
-      sizes = [];
-      roles = [];
-    }
-
 -- ---- the stages, the last first: "Order: 1; 2 and 3, first in text; 6; 4 and 5, first in text; 7; 8; 9; 10 and 11 for types and supertypes; 13
 -- for these; 10 to 12 for expressions and clashes; 13 for constants; 14 and 15 by node order. A later stage starts only when the earlier finds
 -- nothing." "A name or token given as number is its start byte."
 
-module _ (l : Lexed) (t : Table) where
+module _ (ls : List Row) (t : Table) where
   abbrev pub after-kinds : Typing → Checked
   after-kinds (typed ks) =
       accepted (record {
-        tokens = l .rows;
+        tokens = ls;
         table = t;
         bindings = bindings t;
         answers = map (answer-at (answers t (bindings t) (order t))) (constants t);
@@ -76,20 +60,20 @@ module _ (l : Lexed) (t : Table) where
       let on = after-names (names t) in
       cond (leb (count t) nodes) (cond (leb (length (constants t)) rows) on (refused 8 (length (constants t)))) (refused 7 (count t))
 
-module _ (s : List ℕ) (l : Lexed) (nodes rows : ℕ) where
+module _ (s : List ℕ) (nodes rows : ℕ) where
   -- "4: its start, or input length"; "5: its start"
   abbrev pub after-syntax : Outcome Rows → Checked
-  after-syntax (good r) = after-rows l (with-rows (token-table s l) (r .rows)) nodes rows
-  after-syntax (unexpected j) = refused 4 (getD (starts l) j (length s))
-  after-syntax (too-deep k) = refused 5 (getD (starts l) k (length s))
+  after-syntax (good r) = after-rows (lexed s .rows) (with-rows (token-table s) (r .rows)) nodes rows
+  after-syntax (unexpected j) = refused 4 (getD (starts (lexed s)) j (length s))
+  after-syntax (too-deep k) = refused 5 (getD (starts (lexed s)) k (length s))
 
   abbrev pub after-tokens : Reading → Checked
-  after-tokens (at n) = after-syntax (parsed file (terminals s l))
+  after-tokens (at n) = after-syntax (parsed file (token-table s .terminals))
   after-tokens (lexis.refused k p) = refused k p
 
 -- The outcome for the bytes of a file, and a token, a node and an answer table of so many entries
 unfoldable pub checked : List ℕ → ℕ → ℕ → ℕ → Checked
-checked s token-rows node-rows answer-rows = after-tokens s (lexed s) node-rows answer-rows (tokens (lexed s) token-rows)
+checked s token-rows node-rows answer-rows = after-tokens s node-rows answer-rows (tokens (lexed s) token-rows)
 
 -- ---- the report and the columns
 
