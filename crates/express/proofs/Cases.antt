@@ -10,14 +10,12 @@ use Rattle.express.specs.Answer.{Answer}
 use Rattle.express.specs.Bytes.{upper, lower, wordByte, space}
 use Rattle.express.specs.Lexis.{runEnd, remarkEnd, skipIn, skipped, numeral, integerEnd, exponentEnd, realEnd, stringEnd, binaryEnd, lone, symbolSize, symbolEnd, kindAt, tokenEnd, lexIn, lexed, integerValue, binaryBits}
 use Rattle.express.specs.Terminal.{among, terminalOf}
-use Rattle.express.specs.Terminal as word
-use Rattle.express.specs.Spelling.{symbolOf, symbolsOf}
-use Rattle.express.specs.Spelling as spelling
+use Rattle.express.specs.Spelling.{same, symbolOf, symbolsOf}
 use Rattle.express.specs.Syntax.{parsed}
 use Rattle.express.specs.Select.{span, firstFrom, keep, any}
 use Rattle.express.specs.Tree.{owner, schemaOf}
 use Rattle.express.specs.Reach.{added, closure}
-use Rattle.express.specs.Scope.{declared, items, own, superEdges, typeEdges, inherited, candidates, typeMeant, itemsOf, itemMeant, means, binding, bindings}
+use Rattle.express.specs.Scope.{declared, items, own, superEdges, renamingEdges, typeEdges, inherited, candidates, typeMeant, itemsOf, itemMeant, means, binding, bindings}
 use Rattle.express.specs.Fault.{sort, scope, repeated, typeName, cyclic, qualified, expression, constantEdges}
 use Rattle.express.specs.Names.{stages, least, firstFault, names}
 use Rattle.express.specs.Integer.{exact, quotient, remainder, DIV, MOD, power}
@@ -31,5 +29,5 @@ use Rattle.express.specs.Case.{Case, cases, file-of, answer-of-text}
 
 pub all-cases :
   map (λ (c : Case). answer-of-text (file-of (c .type) (c .expression))) cases ≡ map (λ (c : Case). some (c .answer)) cases
-unfolding wordByte space upper lower runEnd remarkEnd skipIn skipped numeral integerEnd exponentEnd realEnd stringEnd binaryEnd lone symbolSize symbolEnd kindAt tokenEnd lexIn lexed terminalOf among word.same spelling.same symbolOf symbolsOf parsed first-deep parse descend mem budget span firstFrom keep any owner schemaOf added closure declared items own superEdges typeEdges inherited candidates typeMeant itemsOf itemMeant means binding bindings flatMap names stages least firstFault sort scope repeated typeName cyclic qualified expression constantEdges integerValue binaryBits exact quotient remainder DIV MOD power pow one AND OR XOR join compareBits simple declared-in operator-of shape type-nodes typing run answers
+unfolding wordByte space upper lower runEnd remarkEnd skipIn skipped numeral integerEnd exponentEnd realEnd stringEnd binaryEnd lone symbolSize symbolEnd kindAt tokenEnd lexIn lexed terminalOf among same symbolOf symbolsOf parsed first-deep parse descend mem budget span firstFrom keep any owner schemaOf added closure declared items own superEdges renamingEdges typeEdges inherited candidates typeMeant itemsOf itemMeant means binding bindings flatMap names stages least firstFault sort scope repeated typeName cyclic qualified expression constantEdges integerValue binaryBits exact quotient remainder DIV MOD power pow one AND OR XOR join compareBits simple declared-in operator-of shape type-nodes typing run answers
 all-cases = refl
