@@ -28,6 +28,6 @@ use Rattle.express.specs.Evaluate.{run, answers}
 use Rattle.express.specs.Case.{Case, cases, file-of, answer-of-text}
 
 pub all-cases :
-  map (λ (c : Case). answer-of-text (file-of (c .type) (c .expression))) cases ≡ map (λ (c : Case). some (c .answer)) cases
+    map (λ (c : Case). answer-of-text (file-of (c .type) (c .expression))) cases ≡ map (λ (c : Case). some (c .answer)) cases
 unfolding wordByte space upper lower runEnd remarkEnd skipIn skipped numeral integerEnd exponentEnd realEnd stringEnd binaryEnd lone symbolSize symbolEnd kindAt tokenEnd lexIn lexed terminalOf among same symbolOf symbolsOf parsed first-deep parse descend mem budget span firstFrom keep any owner schemaOf added closure declared items own superEdges renamingEdges typeEdges inherited candidates typeMeant itemsOf itemMeant means binding bindings flatMap names stages least firstFault sort scope repeated typeName cyclic qualified expression constantEdges integerValue binaryBits exact quotient remainder DIV MOD power pow one AND OR XOR join compareBits simple declared-in operator-of shape type-nodes typing run answers
 all-cases = refl
