@@ -18,6 +18,7 @@ pub mod Once
 pub mod Operations
 pub mod Order
 pub mod OrderTest
+pub mod Owned
 pub mod Places
 pub mod Reach
 pub mod Select
@@ -28,8 +29,7 @@ pub mod Syntax
 pub mod SyntaxExamples
 pub mod TokenExamples
 pub mod Topological
+pub mod TypeCycle
 pub mod Typed
 pub mod Untied
 pub mod Within
-pub mod Owned
-pub mod TypeCycle

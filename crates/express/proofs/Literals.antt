@@ -9,8 +9,6 @@ use native.Mathlib.Omega.{arith}
 use borrow.Author.Tests.{ltb-true, leb-true, eqb-true, eqb-false, eq-eqb}
 use lib.Dec.{eqb, leb, ltb}
 use lib.ListN.{length, getD, take, drop, List·getD-map, List·getD-eq-default, length-map, length-take, length-drop}
-use Rattle.ebnf.specs.Set.{mem}
-use Rattle.ebnf.proofs.PostOrder.{token-named}
 use Rattle.express.specs.Bytes.{within, upper, digit}
 use Rattle.express.specs.Lexis.{Row, Lexed, Reading, at, refused, part, run, bit, numeral, greatest, integerEnd, binaryEnd, tokenEnd, kindAt, stopped, cons, afterToken, afterSkip, skipped, lexIn, lexed, starts, sizes, integerValue, binaryBits}
 use Rattle.express.specs.Terminal.{Fixed, identifier, integer, binary, the, symbols, reserved, among, terminalOf}
@@ -23,8 +21,7 @@ use Rattle.express.specs.Syntax.{Read}
 use Rattle.express.specs.Scanned.{spelled, terminals, Scanned}
 use Rattle.express.specs.Shape.{text, Literals}
 use Rattle.express.proofs.Places.{run-low, run-high}
-use Rattle.express.proofs.Nodes.{kinds}
-use Rattle.express.proofs.FormedRows.{kind-is, role-is, token-is, node-at}
+use Rattle.express.proofs.Within.{integer-named, binary-named}
 
 -- ---- tokens
 
@@ -168,14 +165,6 @@ literal-kind c k s w y i z e = by (eqb k 1) (eqb k 6) (within 2 5 k) e
 
 -- ---- nodes
 
-mem-one : (x c : ℕ) → mem x (c ∷ []) ≡ true → x ≡ c
-unfolding mem
-mem-one x c e = by (eqb x c) refl e
-  where
-    by : (b : Bool) → eqb x c ≡ b → b || false ≡ true → x ≡ c
-    by true i g = eqb-true x c i
-    by false i g = absurd (false≢true g)
-
 module _ {x : Nonterminal} {t : Table} (R : Read x t) (S : Scanned t) where
   -- the row of the token that names a node
   abbrev row : ℕ → Row
@@ -200,22 +189,17 @@ module _ {x : Nonterminal} {t : Table} (R : Read x t) (S : Scanned t) where
       by (yes l) = l
       by (no l) = absurd (h (sym e ∙ List·getD-eq-default (t .kinds) 0 (omega arith)))
 
-  named : (n k : ℕ) → kind t n ≡ k → k ≢ 0 → mem (terminal t n) (kinds .named-by k (role t n)) ≡ true
-  named n k e h =
-      rw (token-is R n)
-      (token-named kinds (t .terminals) (R .rows) n (node-at R n (inside n k e h)) k (role t n) (sym (kind-is R n) ∙ e) (sym (role-is R n)))
-
   integer-row : (n : ℕ) → kind t n ≡ node.integer-literal → row n .kind ≡ 2
   unfolding any
   integer-row n e =
       literal-kind 2 (row n .kind) (spelled (t .bytes) (row n)) refl refl (λ (i : _≡_ {A = ℕ} 1 2). omega arith) (λ (i : _≡_ {A = ℕ} 0 2). omega arith)
-      (sym (terminal-is n) ∙ mem-one (terminal t n) 2 (named n node.integer-literal e (λ (i : _≡_ {A = ℕ} 1 0). omega arith)))
+      (sym (terminal-is n) ∙ integer-named R n (inside n node.integer-literal e (λ (i : _≡_ {A = ℕ} 1 0). omega arith)) e)
 
   binary-row : (n : ℕ) → kind t n ≡ node.binary-literal → row n .kind ≡ 5
   unfolding any
   binary-row n e =
       literal-kind 5 (row n .kind) (spelled (t .bytes) (row n)) refl refl (λ (i : _≡_ {A = ℕ} 1 5). omega arith) (λ (i : _≡_ {A = ℕ} 0 5). omega arith)
-      (sym (terminal-is n) ∙ mem-one (terminal t n) 5 (named n node.binary-literal e (λ (i : _≡_ {A = ℕ} 2 0). omega arith)))
+      (sym (terminal-is n) ∙ binary-named R n (inside n node.binary-literal e (λ (i : _≡_ {A = ℕ} 2 0). omega arith)) e)
 
   -- THE LITERALS of a text are within their bounds.
   pub literals : Literals t
