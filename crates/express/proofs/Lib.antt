@@ -26,3 +26,4 @@ pub mod Within
 pub mod Owned
 pub mod TypeCycle
 pub mod Order
+pub mod Enumeration
