@@ -109,3 +109,7 @@ in-nothing x h = false≢true h
 pub mem-itself : (n : ℕ) → mem n (n ∷ []) ≡ true
 unfolding mem
 mem-itself n = or-left (eqb n n) false (eq-eqb n n refl)
+
+pub mem-one : (x c : ℕ) → mem x (c ∷ []) ≡ true → x ≡ c
+unfolding mem
+mem-one x c h = ⊎-elim (λ e. eqb-true x c e) (λ (e : false ≡ true). absurd (false≢true e)) (or-split (eqb x c) false h)

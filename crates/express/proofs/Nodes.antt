@@ -7,6 +7,7 @@ use Prim.Native.Nat.{ℕ, zero, suc, _≤_, _<_}
 use native.Mathlib.Omega.{arith}
 use lib.Dec.{eqb}
 use lib.ListN.{length, getD, List·getD-eq-default}
+use borrow.Author.Tests.{not-true}
 use Rattle.ebnf.specs.Set.{mem, subset}
 use Rattle.ebnf.specs.Rows.{Row}
 use Rattle.ebnf.proofs.Sets.{and-split, lt-or-le}
@@ -206,3 +207,18 @@ children-have q p e k h =
 pub children-pass : (q p : ℕ → Bool) → all-below 27 (λ k. not (q k) || every-part (λ j o. p j) (kinds .children k)) ≡ true →
     (k : ℕ) → q k ≡ true → every-part (λ j o. p j) (kinds .children k) ≡ true
 children-pass q p e k h = children-have q (λ j o. p j) e k h
+
+-- no kind is named by the token 0, which stands past the end of a text
+pub named-by-some : (k o : ℕ) → mem 0 (kinds .named-by k o) ≡ false
+unfolding mem all-below
+named-by-some k o = cond-false (eqb k kind.rule && eqb o kind.labelled) identifier _ refl (⊎-elim inside past (lt-or-le k 27))
+  where
+    inside : k < 27 → mem 0 ((getD table k (entry [] [])) .tokens) ≡ false
+    inside l = not-true _ (each-below 27 (λ j. not (mem 0 ((getD table j (entry [] [])) .tokens))) refl k l)
+
+    past : 27 ≤ k → mem 0 ((getD table k (entry [] [])) .tokens) ≡ false
+    past l = rw (List·getD-eq-default table (entry [] []) l) refl
+
+    cond-false : (b : Bool) (cs ds : List ℕ) → mem 0 cs ≡ false → mem 0 ds ≡ false → mem 0 (cond b cs ds) ≡ false
+    cond-false true cs ds u v = u
+    cond-false false cs ds u v = v

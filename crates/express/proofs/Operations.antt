@@ -140,6 +140,26 @@ end-held BINARY e = refl
 end-held (enumeration y) e = refl
 end-held other e = refl
 
+-- what fits a declared type is of its kind
+common-left : (j k : Kind) → same j undetermined ≡ false → comparable (common j k) ≡ true → common j k ≡ j
+common-left j k e c = by (same k undetermined) (same j k) refl refl
+  where
+    by : (p q : Bool) → same k undetermined ≡ p → same j k ≡ q → common j k ≡ j
+    by true q f g = rw (e, f)
+    by false true f g = rw (e, f, g)
+    by false false f g = absurd (false≢true (rw (e, f, g) at c))
+
+determined : (d : Declared) → same (kind-of-type d) undetermined ≡ false
+determined INTEGER = refl
+determined BOOLEAN = refl
+determined LOGICAL = refl
+determined BINARY = refl
+determined (enumeration y) = ne-eqb (y + 5) 1 (λ e. omega arith)
+determined other = refl
+
+pub common-typed : (d : Declared) (k : Kind) → comparable (common (kind-of-type d) k) ≡ true → comparable (kind-of-type d) ≡ true
+common-typed d k c = ap comparable (sym (common-left (kind-of-type d) k (determined d) c)) ∙ c
+
 module _ {t : Table} where
   pub good-of : {k : Kind} {a : Answer} → Good t k a → Of t k a
   good-of good-? = of-?
@@ -154,7 +174,7 @@ module _ {t : Table} where
   of-undetermined k good-? = good-?
   of-undetermined k (good-end h) = good-end h
 
-  recast : {j k : Kind} {a : Answer} → j ≡ k → Good t j a → Good t k a
+  pub recast : {j k : Kind} {a : Answer} → j ≡ k → Good t j a → Good t k a
   recast {a} e g = subst (λ (k : Kind). Good t k a) e g
 
   pub common-good :
@@ -275,21 +295,33 @@ module _ {t : Table} where
 
   pub held-good : (d : Declared) {a : Answer} → comparable (kind-of-type d) ≡ true → Good t (kind-of-type d) a → Result t d a (held d a)
   held-good INTEGER e good-? = kept good-? no-value
-  held-good INTEGER e (good-end h) = kept (good-end h) an-end
+  held-good INTEGER e (good-end h) = kept (good-end h) (an-end (h .least) (h .most))
   held-good INTEGER e (good-integer l) = kept (good-integer l) (a-member (an-integer l))
   held-good BOOLEAN e good-? = kept good-? no-value
-  held-good BOOLEAN e (good-end h) = kept (good-end h) an-end
+  held-good BOOLEAN e (good-end h) = kept (good-end h) (an-end (h .least) (h .most))
   held-good BOOLEAN e (good-logical {l}) = held-logical l
   held-good LOGICAL e good-? = kept good-? no-value
-  held-good LOGICAL e (good-end h) = kept (good-end h) an-end
+  held-good LOGICAL e (good-end h) = kept (good-end h) (an-end (h .least) (h .most))
   held-good LOGICAL e good-logical = kept good-logical (a-member a-logical)
   held-good BINARY e good-? = kept good-? no-value
-  held-good BINARY e (good-end h) = kept (good-end h) an-end
+  held-good BINARY e (good-end h) = kept (good-end h) (an-end (h .least) (h .most))
   held-good BINARY e (good-binary l m) = kept (good-binary l m) (a-member (a-binary l m))
   held-good (enumeration y) e good-? = kept good-? no-value
-  held-good (enumeration y) e (good-end h) = kept (good-end h) an-end
+  held-good (enumeration y) e (good-end h) = kept (good-end h) (an-end (h .least) (h .most))
   held-good (enumeration y) e (good-item i o) = kept (good-item i o) (a-member (an-item i o))
   held-good other e g = absurd (false≢true e)
+
+  pub result-holds : {d : Declared} {x a : Answer} → Kept t d x a → Holds t d a
+  result-holds (itself h) = h
+  result-holds (unknown e) = an-end (nineteen .least) (nineteen .most)
+
+  pub declared-good :
+    (d : Declared) (k : Kind) {a : Answer} → comparable (common (kind-of-type d) k) ≡ true → (comparable k ≡ true → Good t k a) →
+    Common t (kind-of-type d) k (kind-of-type d) a a
+  declared-good d k {a} c g =
+      let r : Common t (kind-of-type d) k (common (kind-of-type d) k) indeterminate a = common-good (kind-of-type d) k c (λ e. good-?) g in
+      let m = recast (common-left (kind-of-type d) k (determined d) c) (r .second) in
+      record { left = r .left; right = r .right; first = m; second = m }
 
   -- and it is the only answer that the rules for a constant can give
   member-held : {d : Declared} {a : Answer} → Member t d a → a ≡ held d a
@@ -302,5 +334,5 @@ module _ {t : Table} where
 
   pub holds-held : {d : Declared} {a : Answer} → Holds t d a → a ≡ held d a
   holds-held {d} no-value = no-value-held d
-  holds-held {d} (an-end {e}) = end-held d e
+  holds-held {d} (an-end {e} l m) = end-held d e
   holds-held (a-member m) = member-held m

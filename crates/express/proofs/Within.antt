@@ -10,18 +10,20 @@ use lib.Dec.{leb, eqb}
 use lib.ListN.{length}
 use borrow.Author.Tests.{leb-true, eqb-true, not-true, le-leb}
 use Rattle.ebnf.specs.Set.{mem}
-use Rattle.ebnf.proofs.Sets.{and-split, lt-or-le}
+use Rattle.ebnf.proofs.Sets.{and-split, lt-or-le, mem-one}
+use Rattle.ebnf.proofs.Lookahead.{inside}
 use Rattle.ebnf.proofs.Sorts.{sort, every, every-of}
 use Rattle.ebnf.proofs.Parts.{Behind, known}
 use Rattle.ebnf.proofs.PostOrder.{row-at, size-at, token-named, tokens-behind}
 use Rattle.ebnf.proofs.Children.{last-one, no-more}
 use Rattle.ebnf.proofs.Below.{every-part, below, child-of}
-use Rattle.express.specs.Terminal.{identifier, dot}
+use Rattle.express.specs.Terminal.{identifier, integer, binary, dot, the}
 use Rattle.express.specs.Tree.{Table, count, kind, token, size, role, terminal, first, isDeclaration, owner, schemaOf}
 use Rattle.express.specs.Grammar.{Nonterminal, file}
 use Rattle.express.specs.Syntax.{Read}
 use Rattle.express.specs.Select.{firstFrom}
-use Rattle.express.proofs.Nodes.{kinds, all-rows, all-below, children-have, children-pass}
+use Rattle.express.proofs.Syntax.{express}
+use Rattle.express.proofs.Nodes.{kinds, all-rows, all-below, children-have, children-pass, named-by-some}
 use Rattle.express.proofs.FormedRows.{kind-is, role-is, size-is, token-is, count-is, node-at}
 use Rattle.express.proofs.Select.{first-of}
 use Rattle.express.specs.NodeKind as node
@@ -31,6 +33,17 @@ module _ {x : Nonterminal} {t : Table} (d : Read x t) where
   -- THE NAMING TOKEN of a node is one of those that name its kind
   pub named-at : (n : ℕ) → n < count t → mem (terminal t n) (kinds .named-by (kind t n) (role t n)) ≡ true
   named-at n l = rw (kind-is d n, role-is d n, token-is d n) (token-named kinds (t .terminals) (d .rows) n (node-at d n l) _ _ refl refl)
+
+  -- so a literal of these kinds is named by a literal
+  pub integer-named : (n : ℕ) → n < count t → kind t n ≡ node.integer-literal → terminal t n ≡ the integer
+  integer-named n l e = mem-one (terminal t n) (the integer) (rw e at (named-at n l))
+
+  pub binary-named : (n : ℕ) → n < count t → kind t n ≡ node.binary-literal → terminal t n ≡ the binary
+  binary-named n l e = mem-one (terminal t n) (the binary) (rw e at (named-at n l))
+
+  -- it stands in the text
+  pub token-inside : (n : ℕ) → n < count t → token t n < length (t .terminals)
+  token-inside n l = inside express (t .terminals) _ (token t n) (named-by-some (kind t n) (role t n)) (named-at n l)
 
   -- and behind an item's stand a dot and the name of its type
   pub item-behind : (n : ℕ) → n < count t → kind t n ≡ node.qualified-item → Behind (t .terminals) (token t n) (dot ∷ identifier ∷ [])

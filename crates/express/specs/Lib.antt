@@ -2,6 +2,7 @@ pub mod Answer
 pub mod AnswerRow
 pub mod Bits
 pub mod Bytes
+pub mod Case
 pub mod Declared
 pub mod Evaluate
 pub mod Fault
@@ -19,6 +20,7 @@ pub mod Order
 pub mod Reach
 pub mod Relation
 pub mod Rule
+pub mod Scanned
 pub mod Scope
 pub mod Select
 pub mod Shape
@@ -26,3 +28,5 @@ pub mod Spelling
 pub mod Syntax
 pub mod Terminal
 pub mod Tree
+pub mod Reply
+pub mod Acceptance

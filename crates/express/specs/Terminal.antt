@@ -3,10 +3,11 @@ use mathlib.Core.List.{List, [], _∷_, map}
 use Prim.Native.Nat.{ℕ}
 use Prim.Native.Char.{code}
 use Prim.Native.String.{String, [] as none, _∷_ as _then_}
-use mathlib.Core.Bool.{Bool, true, false, cond, _&&_}
+use mathlib.Core.Bool.{cond}
 use lib.Dec.{eqb}
 use lib.ListN.{getD}
 use Rattle.express.specs.Bytes.{upper, within}
+use Rattle.express.specs.Spelling.{same}
 
 -- a word that is not reserved, and the literals: codes 2 to 5 are the kinds of their tokens
 abbrev pub identifier : List ℕ
@@ -645,13 +646,6 @@ reserved =
     "WHILE" spells WHILE ∷
     "XOR" spells XOR ∷
     []
-
--- whether two spellings are the same bytes
-unfoldable pub same : List ℕ → List ℕ → Bool
-same [] [] = true
-same [] (c ∷ t) = false
-same (b ∷ s) [] = false
-same (b ∷ s) (c ∷ t) = let rest = same s t in eqb b c && rest
 
 -- the code of a spelling in a table, or else `other`
 unfoldable pub among : List Fixed → List ℕ → ℕ → ℕ
