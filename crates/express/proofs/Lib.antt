@@ -33,7 +33,4 @@ pub mod TypeCycle
 pub mod Typed
 pub mod Untied
 pub mod Within
-pub mod Owned
-pub mod TypeCycle
-pub mod Order
 pub mod Enumeration
