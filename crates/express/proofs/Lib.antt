@@ -34,3 +34,4 @@ pub mod Typed
 pub mod Untied
 pub mod Within
 pub mod Enumeration
+pub mod Acceptance
