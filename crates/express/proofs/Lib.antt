@@ -21,6 +21,7 @@ pub mod OrderTest
 pub mod Owned
 pub mod Places
 pub mod Reach
+pub mod Renaming
 pub mod Select
 pub mod Shapes
 pub mod Spans
