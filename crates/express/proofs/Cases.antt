@@ -1,12 +1,11 @@
 -- THE CASES of the scope that are to be proved: each text, read, named, typed and evaluated, has its answer.
 use mathlib.Core.Path.{_≡_, refl}
-use mathlib.Core.Option.{Option, some}
-use mathlib.Core.List.{List, map, flatMap}
+use mathlib.Core.Option.{some}
+use mathlib.Core.List.{map, flatMap}
 use lib.IntN.{pow, one}
 use Rattle.ebnf.specs.Set.{mem}
 use Rattle.ebnf.specs.Parse.{descend, budget, parse}
 use Rattle.ebnf.specs.Depth.{first-deep}
-use Rattle.express.specs.Answer.{Answer}
 use Rattle.express.specs.Bytes.{upper, lower, wordByte, space}
 use Rattle.express.specs.Lexis.{runEnd, remarkEnd, skipIn, skipped, numeral, integerEnd, exponentEnd, realEnd, stringEnd, binaryEnd, lone, symbolSize, symbolEnd, kindAt, tokenEnd, lexIn, lexed, integerValue, binaryBits}
 use Rattle.express.specs.Terminal.{among, terminalOf}

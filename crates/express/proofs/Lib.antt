@@ -33,4 +33,5 @@ pub mod Topological
 pub mod TypeCycle
 pub mod Typed
 pub mod Untied
+pub mod Walk
 pub mod Within

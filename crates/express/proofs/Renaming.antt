@@ -1,9 +1,9 @@
 -- In a well-named file the declared type of a constant is found in as many turns as there are nodes: renamings run in no cycle.
 use mathlib.Core.Path.{_≡_, refl, sym, ap, subst, _∙_}
 use mathlib.Core.Logic.{_≢_, _⊎_, inl, inr, ⊎-elim}
-use mathlib.Core.Bool.{Bool, true, false, cond, not, _&&_, _||_, false≢true}
-use mathlib.Core.List.{List, [], _∷_, _++_, map, flatMap, List·Memᴰ, List·Memᴰ·head, Memᴰ·map, Memᴰ·append-left}
-use Prim.Native.Nat.{ℕ, zero, suc, _+_, _-_, _≤_, _<_}
+use mathlib.Core.Bool.{Bool, true, false, cond, not, _&&_, _||_}
+use mathlib.Core.List.{List, [], _∷_, map, List·Memᴰ, List·Memᴰ·head, Memᴰ·map, Memᴰ·append-left}
+use Prim.Native.Nat.{ℕ, zero, suc, _+_, _≤_, _<_}
 use native.Mathlib.Omega.{arith}
 use borrow.Author.Tests.{eqb-true, eqb-false, ne-eqb, leb-true, not-true}
 use lib.Dec.{eqb, leb}
@@ -13,20 +13,34 @@ use Rattle.express.specs.NodeKind as node
 use Rattle.express.specs.Select.{span, keep}
 use Rattle.express.specs.Tree.{Table, count, kind, role, size, symbol, first, nodes, is, isName, isDeclaration, owner}
 use Rattle.express.specs.Tree as tree
-use Rattle.express.specs.Reach.{Reaches, direct, onward, Edge, edge, Joins, reaches}
-use Rattle.express.specs.Scope.{Meaning, several, one, meaning, itemsOf, itemMeant, declaredAs, candidates, typeMeant, means, bindingOf, binding, bindings, superEdges, renamingEdges, typeEdges}
+use Rattle.express.specs.Reach.{Reaches, direct, onward, edge, Joins, reaches}
+use Rattle.express.specs.Scope.{Meaning, several, one, meaning, itemsOf, itemMeant, declaredAs, typeMeant, means, bindingOf, binding, bindings, superEdges, renamingEdges, typeEdges}
 use Rattle.express.specs.Scope as scope
-use Rattle.express.specs.Fault.{judged, isValue, cyclic}
+use Rattle.express.specs.Fault.{isValue, cyclic}
 use Rattle.express.specs.Fault as stage
 use Rattle.express.specs.Names.{WellNamed}
 use Rattle.express.specs.Grammar.{file}
 use Rattle.express.specs.Syntax.{Read}
-use Rattle.express.specs.Declared.{Declared, enumeration, other, declaration, bound, simple, renames, declared-in, declared, Denotes, a-simple-type, an-enumeration, a-renaming, a-select, no-type}
-use Rattle.express.proofs.Select.{and-fst, and-snd, and-both, or-cases, or-left, or-right, untrue, le-or, mem-upto, keep-mem, mem-keep, keep-lt, mem-flat, column-at, first-of}
+use Rattle.express.specs.Declared.{Declared, enumeration, other, declaration, bound, simple, renames, declared-in, declared}
+use Rattle.express.proofs.Select.{and-fst, and-snd, or-cases, untrue, le-or, mem-upto, keep-mem, mem-keep, keep-lt, mem-flat, column-at, first-of}
 use Rattle.express.proofs.Reach.{reaches-iff}
 use Rattle.express.proofs.FormedRows.{formed-rows}
 use Rattle.express.proofs.Nodes.{all-below}
 use Rattle.express.proofs.Within.{all-pass-below}
+
+-- Node n is or names the type d: `declared`, by rules and without a number of turns
+pub data Denotes (t : Table) (b : List ℕ) : ℕ → Declared → Type 0 where
+  a-simple-type : {n : ℕ} → is t node.simple-type n ≡ true → Denotes t b n (simple (tree.terminal t n))
+  an-enumeration :
+      {n : ℕ} → is t node.simple-type n ≡ false → bound t b node.type n ≡ true → is t node.enumeration-item (first t (declaration b n)) ≡ true →
+      Denotes t b n (enumeration (declaration b n))
+  a-renaming :
+      {n : ℕ} {d : Declared} → is t node.simple-type n ≡ false → bound t b node.type n ≡ true → renames t (declaration b n) ≡ true →
+      is t node.enumeration-item (first t (declaration b n)) ≡ false → Denotes t b (first t (declaration b n)) d → Denotes t b n d
+  a-select :
+      {n : ℕ} → is t node.simple-type n ≡ false → bound t b node.type n ≡ true → renames t (declaration b n) ≡ false →
+      is t node.enumeration-item (first t (declaration b n)) ≡ false → Denotes t b n other
+  no-type : {n : ℕ} → is t node.simple-type n ≡ false → bound t b node.type n ≡ false → Denotes t b n other
 
 -- ---- enough turns, where each renaming lowers a number
 
@@ -43,9 +57,9 @@ module _ (t : Table) (b : List ℕ) (rank : ℕ → ℕ)
       u = first t (declaration b n)
 
       by :
-        (p q r s : Bool) → is t node.simple-type n ≡ p → bound t b node.type n ≡ q → is t node.enumeration-item u ≡ r → renames t (declaration b n) ≡ s →
-        (rank u < rank n → Denotes t b u (declared-in f t b u)) →
-        Denotes t b n (cond p (simple (tree.terminal t n)) (cond q (cond r (enumeration (declaration b n)) (cond s (declared-in f t b u) other)) other))
+          (p q r s : Bool) → is t node.simple-type n ≡ p → bound t b node.type n ≡ q → is t node.enumeration-item u ≡ r → renames t (declaration b n) ≡ s →
+          (rank u < rank n → Denotes t b u (declared-in f t b u)) →
+          Denotes t b n (cond p (simple (tree.terminal t n)) (cond q (cond r (enumeration (declaration b n)) (cond s (declared-in f t b u) other)) other))
       by true q r s e i j k more = a-simple-type e
       by false false r s e i j k more = no-type e i
       by false true true s e i j k more = an-enumeration e i j
@@ -143,8 +157,8 @@ module _ {t : Table} (R : Read file t) (W : WellNamed t) where
           omega arith
 
       by :
-        (p q r : Bool) → isName t node.in-expression n ≡ p → is t node.name n ≡ q → is t node.qualified-item n ≡ r →
-        means t n ≡ one (declaration b n) → Typed-name n
+          (p q r : Bool) → isName t node.in-expression n ≡ p → is t node.name n ≡ q → is t node.qualified-item n ≡ r →
+          means t n ≡ one (declaration b n) → Typed-name n
       by true q r e i j m = absurd (no-value n (declaration b n) l e m y)
       by false true r e i j m = record { is-name = i; role-is = e; among = one-mem (declaredAs t n) (declaration b n) (rw (e, i) at m) }
       by false false true e i j m = absurd (item-type (typeMeant t n) (rw (e, i, j) at m))
@@ -198,13 +212,13 @@ module _ {t : Table} (R : Read file t) (W : WellNamed t) where
           (λ g. g) (le-or d (first t d))
 
       by :
-        (m : ℕ) → is t node.name m ≡ true → isName t node.in-expression m ≡ false → role-in-type (kind t m) (role t m) ≡ true →
-        isName t node.renamed-type m || isName t node.select-name m ≡ true
+          (m : ℕ) → is t node.name m ≡ true → isName t node.in-expression m ≡ false → role-in-type (kind t m) (role t m) ≡ true →
+          isName t node.renamed-type m || isName t node.select-name m ≡ true
       by m x y z = rw x (other-role (role t m) (rw x at y) (and-snd (in-type (kind t m)) _ z))
         where
           other-role :
-            (o : ℕ) → eqb o node.in-expression ≡ false → not (eqb (kind t m) node.name) || (eqb o node.in-expression || (eqb o node.renamed-type || eqb o node.select-name)) ≡ true →
-            eqb o node.renamed-type || eqb o node.select-name ≡ true
+              (o : ℕ) → eqb o node.in-expression ≡ false → not (eqb (kind t m) node.name) || (eqb o node.in-expression || (eqb o node.renamed-type || eqb o node.select-name)) ≡ true →
+              eqb o node.renamed-type || eqb o node.select-name ≡ true
           other-role o e f = rw (x, e) at f
 
   -- ---- and so lowers the number of types that are reached
@@ -247,9 +261,9 @@ module _ {t : Table} (R : Read file t) (W : WellNamed t) where
           let e = renaming-edge d (bound-is n node.type i) j in
           let c = bound-is u node.type j in
           let l =
-                keep-lt (reaches (typeEdges t) (declaration b u)) (reaches (typeEdges t) d) types
-                (λ x m h. reaches-iff (typeEdges t) d x .1 (onward e (reaches-iff (typeEdges t) (declaration b u) x .0 h)))
-                (type-mem (declaration b u) c) (itself (declaration b u) c) (reaches-iff (typeEdges t) d (declaration b u) .1 (direct e))
+          keep-lt (reaches (typeEdges t) (declaration b u)) (reaches (typeEdges t) d) types
+          (λ x m h. reaches-iff (typeEdges t) d x .1 (onward e (reaches-iff (typeEdges t) (declaration b u) x .0 h)))
+          (type-mem (declaration b u) c) (itself (declaration b u) c) (reaches-iff (typeEdges t) d (declaration b u) .1 (direct e))
           in
           omega arith
 

@@ -1,6 +1,5 @@
 -- What a constant is declared with, seen through renamings.
-use mathlib.Core.Path.{_≡_}
-use mathlib.Core.Bool.{Bool, true, false, cond, not, _&&_}
+use mathlib.Core.Bool.{Bool, cond, not, _&&_}
 use mathlib.Core.List.{List}
 use Prim.Native.Nat.{ℕ, zero, suc, _+_, _-_}
 use lib.Dec.{eqb}
@@ -36,7 +35,7 @@ abbrev pub renames : Table → ℕ → Bool
 renames t d = eqb (token t (first t d)) (token t d + 2)
 
 -- The type that node n is or names. Each turn passes a type, and "cycle of renamings" is refused earlier, so as many turns as there are
--- nodes are enough: in a well-named file `declared` is as `Denotes` says (`declared-denotes` of proofs/Renaming).
+-- nodes are enough: `declared-denotes` of proofs/Renaming says the same by rules, without a number of turns.
 unfoldable pub declared-in : ℕ → Table → List ℕ → ℕ → Declared
 declared-in zero t b n = other
 declared-in (suc f) t b n =
@@ -47,17 +46,3 @@ declared-in (suc f) t b n =
 
 abbrev pub declared : Table → List ℕ → ℕ → Declared
 declared t b n = declared-in (count t) t b n
-
--- The same by rules, without a number of turns
-pub data Denotes (t : Table) (b : List ℕ) : ℕ → Declared → Type 0 where
-  a-simple-type : {n : ℕ} → is t simple-type n ≡ true → Denotes t b n (simple (terminal t n))
-  an-enumeration :
-    {n : ℕ} → is t simple-type n ≡ false → bound t b type n ≡ true → is t enumeration-item (first t (declaration b n)) ≡ true →
-    Denotes t b n (enumeration (declaration b n))
-  a-renaming :
-    {n : ℕ} {d : Declared} → is t simple-type n ≡ false → bound t b type n ≡ true → renames t (declaration b n) ≡ true →
-    is t enumeration-item (first t (declaration b n)) ≡ false → Denotes t b (first t (declaration b n)) d → Denotes t b n d
-  a-select :
-    {n : ℕ} → is t simple-type n ≡ false → bound t b type n ≡ true → renames t (declaration b n) ≡ false →
-    is t enumeration-item (first t (declaration b n)) ≡ false → Denotes t b n other
-  no-type : {n : ℕ} → is t simple-type n ≡ false → bound t b type n ≡ false → Denotes t b n other
