@@ -101,9 +101,9 @@ module _ (own back : ℕ → ℕ → Bool) where
   stands r s n h =
       ⊎-elim (λ (l : n < length r). inl (l, List·getD-append r s no-row n l))
       (λ (l : length r ≤ n).
-      let e = length-append r s in
-      let q : n ≡ length r + (n - length r) = omega arith in
-      inr (n - length r, omega arith, q, ap (λ (z : ℕ). row-at (r ++ s) z) q ∙ getD-append-add r s (n - length r) no-row))
+        let e = length-append r s in
+        let q : n ≡ length r + (n - length r) = omega arith in
+        inr (n - length r, omega arith, q, ap (λ (z : ℕ). row-at (r ++ s) z) q ∙ getD-append-add r s (n - length r) no-row))
       (lt-or-le n (length r))
 
   -- two lists one after the other
@@ -111,9 +111,8 @@ module _ (own back : ℕ → ℕ → Bool) where
       → ((n m x : ℕ) → n < length r → m < length s → Claims (row-at r n) x → Claims (row-at s m) x → ⊥) → Claimed b j (r ++ s)
   unfolding Stands
   joined {b} {i} {c} {j} r s R S bc ij disjoint = record {
-    inside = λ n x l h. in-one x (stands r s n l) h;
-    apart = λ n m x l l′ h h′. same n m x (stands r s n l) (stands r s m l′) h h′;
-  }
+      inside = λ n x l h. in-one x (stands r s n l) h;
+      apart = λ n m x l l′ h h′. same n m x (stands r s n l) (stands r s m l′) h h′ }
     where
       in-one : {n : ℕ} (x : ℕ) → Stands r s n → Claims (row-at (r ++ s) n) x → (b ≤ x) × (x < j)
       in-one x (inl p) h = let z = R .inside _ x (p .0) (rw (p .1) at h) in (z .0, omega arith)
@@ -156,11 +155,10 @@ module _ (own back : ℕ → ℕ → Bool) where
 
   further : {b f i j : ℕ} {r : Rows} → i ≤ j → Kept b f i r → Kept b (min f 1) j r
   further {b} {f} {i} {j} {r} h K = record {
-    low = omega (arith, K .low);
-    rows = record { inside = λ n x l c. let z = K .rows .inside n x l c in (z .0, omega arith); apart = K .rows .apart };
-    free = λ l. let z = K .free (omega arith) in (z .0, omega arith, z .2);
-    two = λ l. absurd (omega arith);
-  }
+      low = omega (arith, K .low);
+      rows = record { inside = λ n x l c. let z = K .rows .inside n x l c in (z .0, omega arith); apart = K .rows .apart };
+      free = λ l. let z = K .free (omega arith) in (z .0, omega arith, z .2);
+      two = λ l. absurd (omega arith) }
 
   abbrev row-of : ℕ → ℕ → ℕ → ℕ → Row
   row-of k o i z = record { kind = k; token = i; size = z; role = o }
@@ -169,11 +167,10 @@ module _ (own back : ℕ → ℕ → Bool) where
   grown : {b f i : ℕ} (k o z : ℕ) (r : Rows) → back k o ≡ false → Kept b f i r → Kept b (min f 1) (suc i) (record { name = r .name; rows = r .rows ++ (row-of k o i z ∷ []) })
   unfolding Stands
   grown {b} {f} {i} k o z r e K = record {
-    low = omega (arith, K .low);
-    rows = put (r .rows) (row-of k o i z) (K .rows) (omega arith) new;
-    free = λ l. let y = K .free (omega arith) in (y .0, omega arith, λ n h c. unclaimed y n (stands (r .rows) (row-of k o i z ∷ []) n h) c);
-    two = λ l. absurd (omega arith);
-  }
+      low = omega (arith, K .low);
+      rows = put (r .rows) (row-of k o i z) (K .rows) (omega arith) new;
+      free = λ l. let y = K .free (omega arith) in (y .0, omega arith, λ n h c. unclaimed y n (stands (r .rows) (row-of k o i z ∷ []) n h) c);
+      two = λ l. absurd (omega arith) }
     where
       at-i : (x : ℕ) → Claims (row-of k o i z) x → x ≡ i
       at-i x (named h p) = sym p
@@ -194,11 +191,10 @@ module _ (own back : ℕ → ℕ → Bool) where
   -- a row at the token i that claims the name two before it too
   taken : {b f i : ℕ} (k o z : ℕ) (r : Rows) → 2 ≤ f → Kept b f i r → Kept b 0 (suc i) (record { name = r .name; rows = r .rows ++ (row-of k o i z ∷ []) })
   taken {b} {f} {i} k o z r e K = record {
-    low = omega (arith, K .low);
-    rows = put (r .rows) (row-of k o i z) (K .rows) (omega arith) new;
-    free = λ l. absurd (omega arith);
-    two = λ l. absurd (omega arith);
-  }
+      low = omega (arith, K .low);
+      rows = put (r .rows) (row-of k o i z) (K .rows) (omega arith) new;
+      free = λ l. absurd (omega arith);
+      two = λ l. absurd (omega arith) }
     where
       new : (x : ℕ) → Claims (row-of k o i z) x → (b ≤ x) × (x < suc i) × ((n : ℕ) → n < length (r .rows) → Claims (row-at (r .rows) n) x → ⊥)
       new x (named h p) = let l = K .low in (omega arith, omega arith, λ n h g. let y = K .rows .inside n x h g in omega arith)
@@ -219,11 +215,10 @@ module _ (own back : ℕ → ℕ → Bool) where
   stamped : {b f i : ℕ} (m : Mark) (r : Rows) → stamp-ok m f ≡ true → Kept b f i r → Kept b (stamp-state m f) (suc i) (in-rows .stamp m i r)
   stamped {i = i} silent r e K = further {j = suc i} (omega arith) K
   stamped {b} {f} {i} here r e K = record {
-    low = omega (arith, K .low);
-    rows = further {j = suc i} (omega arith) K .rows;
-    free = λ l. (K .low, omega arith, λ n l c. let z = K .rows .inside n i l c in omega arith);
-    two = λ l. absurd (omega arith);
-  }
+      low = omega (arith, K .low);
+      rows = further {j = suc i} (omega arith) K .rows;
+      free = λ l. (K .low, omega arith, λ n l c. let z = K .rows .inside n i l c in omega arith);
+      two = λ l. absurd (omega arith) }
   stamped (node k o) r e K = grown k o (suc (length (r .rows))) r (not-true (back k o) e) K
   stamped {b} {f} {i} (leaf k o) r e K = by (back k o) refl e
     where
@@ -258,17 +253,12 @@ module _ (own back : ℕ → ℕ → Bool) where
 
       by : (x : Bool) → own k o ≡ x → Kept b (cond x 0 f) i (record { name = r .name; rows = r .rows ++ (row-of k o (r .name) z ∷ []) })
       by true h = record {
-        low = K .low;
-        rows = closed k o z r back-not (λ g. leb-true 1 f (rw h at (q .1))) K;
-        free = λ l. absurd (omega arith);
-        two = λ l. absurd (omega arith);
-      }
+          low = K .low; rows = closed k o z r back-not (λ g. leb-true 1 f (rw h at (q .1))) K; free = λ l. absurd (omega arith); two = λ l. absurd (omega arith) }
       by false h = record {
-        low = K .low;
-        rows = closed k o z r back-not (λ g. absurd (false≢true (sym h ∙ g))) K;
-        free = λ l. let y = K .free l in (y .0, y .1, λ n g c. unclaimed h (y .2) n (stands (r .rows) (row-of k o (r .name) z ∷ []) n g) c);
-        two = K .two;
-      }
+          low = K .low;
+          rows = closed k o z r back-not (λ g. absurd (false≢true (sym h ∙ g))) K;
+          free = λ l. let y = K .free l in (y .0, y .1, λ n g c. unclaimed h (y .2) n (stands (r .rows) (row-of k o (r .name) z ∷ []) n g) c);
+          two = K .two }
 
   marked-by : {b f i : ℕ} (m : Mark) (r : Rows) → close-ok m f ≡ true → Kept b f i r → Kept b (close-state m f) i (in-rows .close m r)
   marked-by silent r e K = K
@@ -293,21 +283,18 @@ module _ (own back : ℕ → ℕ → Bool) where
 
   started : (i : ℕ) → Kept i 0 i (in-rows .start i)
   started i = record {
-    low = le-refl i;
-    rows = record { inside = λ n x l c. absurd (omega arith); apart = λ n m x l l′ c c′. absurd (omega arith) };
-    free = λ l. absurd (omega arith);
-    two = λ l. absurd (omega arith);
-  }
+      low = le-refl i;
+      rows = record { inside = λ n x l c. absurd (omega arith); apart = λ n m x l l′ c c′. absurd (omega arith) };
+      free = λ l. absurd (omega arith); two = λ l. absurd (omega arith) }
 
   -- the rows of a rule behind those of the rule around it
   behind : {b f g i j : ℕ} (r s : Rows) → i ≤ j → Kept b f i r → Kept i g j s → Kept b (min f 1) j (in-rows .join r s)
   unfolding Stands
   behind {b} {f} {g} {i} {j} r s ij K L = record {
-    low = omega (arith, K .low);
-    rows = joined (r .rows) (s .rows) (K .rows) (L .rows) (K .low) ij (λ n m x l l′ c c′. let y = K .rows .inside n x l c in let z = L .rows .inside m x l′ c′ in omega arith);
-    free = λ l. let y = K .free (omega arith) in (y .0, omega arith, λ n h c. unclaimed (y .1) (y .2) n (stands (r .rows) (s .rows) n h) c);
-    two = λ l. absurd (omega arith);
-  }
+      low = omega (arith, K .low);
+      rows = joined (r .rows) (s .rows) (K .rows) (L .rows) (K .low) ij (λ n m x l l′ c c′. let y = K .rows .inside n x l c in let z = L .rows .inside m x l′ c′ in omega arith);
+      free = λ l. let y = K .free (omega arith) in (y .0, omega arith, λ n h c. unclaimed (y .1) (y .2) n (stands (r .rows) (s .rows) n h) c);
+      two = λ l. absurd (omega arith) }
     where
       unclaimed : r .name < i → ((n : ℕ) → n < length (r .rows) → Claims (row-at (r .rows) n) (r .name) → ⊥)
           → (n : ℕ) → Stands (r .rows) (s .rows) n → Claims (row-at (r .rows ++ s .rows) n) (r .name) → ⊥
@@ -318,11 +305,10 @@ module _ (own back : ℕ → ℕ → Bool) where
   forked : {b f i : ℕ} (m : Mark) (r : Rows) → is-here m ≡ true → Kept b f i r → Kept b 2 (suc (suc i)) (in-rows .stamp m i r)
   forked silent r h K = absurd (false≢true h)
   forked {b} {f} {i} here r h K = record {
-    low = omega (arith, K .low);
-    rows = further {j = suc (suc i)} (omega arith) K .rows;
-    free = λ l. (K .low, omega arith, λ n l c. let z = K .rows .inside n i l c in omega arith);
-    two = λ l. omega arith;
-  }
+      low = omega (arith, K .low);
+      rows = further {j = suc (suc i)} (omega arith) K .rows;
+      free = λ l. (K .low, omega arith, λ n l c. let z = K .rows .inside n i l c in omega arith);
+      two = λ l. omega arith }
   forked (node k o) r h K = absurd (false≢true h)
   forked (leaf k o) r h K = absurd (false≢true h)
 

@@ -21,6 +21,7 @@ pub mod OrderTest
 pub mod Owned
 pub mod Places
 pub mod Reach
+pub mod Renaming
 pub mod Select
 pub mod Shapes
 pub mod Spans
@@ -32,6 +33,7 @@ pub mod Topological
 pub mod TypeCycle
 pub mod Typed
 pub mod Untied
+pub mod Walk
 pub mod Within
 pub mod Enumeration
 pub mod Acceptance

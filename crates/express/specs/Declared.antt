@@ -35,7 +35,7 @@ abbrev pub renames : Table → ℕ → Bool
 renames t d = eqb (token t (first t d)) (token t d + 2)
 
 -- The type that node n is or names. Each turn passes a type, and "cycle of renamings" is refused earlier, so as many turns as there are
--- nodes are enough.
+-- nodes are enough: `declared-denotes` of proofs/Renaming says the same by rules, without a number of turns.
 unfoldable pub declared-in : ℕ → Table → List ℕ → ℕ → Declared
 declared-in zero t b n = other
 declared-in (suc f) t b n =
