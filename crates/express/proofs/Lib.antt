@@ -4,6 +4,7 @@ pub mod Cases
 pub mod ConstantOrder
 pub mod Descent
 pub mod Divide
+pub mod Enumeration
 pub mod Exactness
 pub mod File
 pub mod FormedRows
@@ -18,6 +19,7 @@ pub mod Once
 pub mod Operations
 pub mod Order
 pub mod OrderTest
+pub mod Owned
 pub mod Places
 pub mod Reach
 pub mod Select
@@ -28,10 +30,7 @@ pub mod Syntax
 pub mod SyntaxExamples
 pub mod TokenExamples
 pub mod Topological
+pub mod TypeCycle
 pub mod Typed
 pub mod Untied
 pub mod Within
-pub mod Owned
-pub mod TypeCycle
-pub mod Order
-pub mod Enumeration
