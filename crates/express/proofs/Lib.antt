@@ -29,6 +29,7 @@ pub mod Spelling
 pub mod Syntax
 pub mod SyntaxExamples
 pub mod TokenExamples
+pub mod TokenOrder
 pub mod Topological
 pub mod TypeCycle
 pub mod Typed
