@@ -9,6 +9,7 @@ pub mod Exactness
 pub mod File
 pub mod FormedRows
 pub mod KindCases
+pub mod Later
 pub mod Literals
 pub mod Logic
 pub mod Meaning
