@@ -1,3 +1,4 @@
+pub mod Acceptance
 pub mod Backward
 pub mod Bits
 pub mod Cases
@@ -36,5 +37,3 @@ pub mod TypeCycle
 pub mod Typed
 pub mod Untied
 pub mod Within
-pub mod Enumeration
-pub mod Acceptance
