@@ -1,13 +1,14 @@
--- THE CASES of the scope that are to be proved: each text, read, named, typed and evaluated, has its answer.
+-- By computation, from the bytes on: the cases of the scope that are to be proved have their answers, and files of tests/cases their listings.
 use mathlib.Core.Path.{_≡_, refl}
-use mathlib.Core.Option.{some}
-use mathlib.Core.List.{map, flatMap}
+use mathlib.Core.Option.{Option, some}
+use mathlib.Core.List.{List, [], _∷_, map, flatMap}
 use lib.IntN.{pow, one}
 use Rattle.ebnf.specs.Set.{mem}
 use Rattle.ebnf.specs.Parse.{descend, budget, parse}
 use Rattle.ebnf.specs.Depth.{first-deep}
+use Rattle.express.specs.Answer.{Answer}
 use Rattle.express.specs.Bytes.{upper, lower, wordByte, space}
-use Rattle.express.specs.Lexis.{runEnd, remarkEnd, skipIn, skipped, numeral, integerEnd, exponentEnd, realEnd, stringEnd, binaryEnd, lone, symbolSize, symbolEnd, kindAt, tokenEnd, lexIn, lexed, integerValue, binaryBits}
+use Rattle.express.specs.Lexis.{tokens, runEnd, remarkEnd, skipIn, skipped, numeral, integerEnd, exponentEnd, realEnd, stringEnd, binaryEnd, lone, symbolSize, symbolEnd, kindAt, tokenEnd, lexIn, lexed, integerValue, binaryBits}
 use Rattle.express.specs.Terminal.{among, terminalOf}
 use Rattle.express.specs.Spelling.{same, symbolOf, symbolsOf}
 use Rattle.express.specs.Syntax.{parsed}
@@ -24,9 +25,26 @@ use Rattle.express.specs.Declared.{simple, declared-in}
 use Rattle.express.specs.Shape.{operator-of, shape}
 use Rattle.express.specs.Kind.{type-nodes, typing}
 use Rattle.express.specs.Evaluate.{run, answers}
-use Rattle.express.specs.Case.{Case, cases, file-of, answer-of-text}
+use Rattle.express.specs.Order.{order}
+use Rattle.express.specs.Reply.{checked}
+use Rattle.express.specs.Listing.{digits, listing}
+use Rattle.express.specs.Case.{Case, cases, file-of, answers-of}
+use Rattle.express.specs.Files.{File, files}
 
-pub all-cases :
-    map (λ (c : Case). answer-of-text (file-of (c .type) (c .expression))) cases ≡ map (λ (c : Case). some (c .answer)) cases
-unfolding wordByte space upper lower runEnd remarkEnd skipIn skipped numeral integerEnd exponentEnd realEnd stringEnd binaryEnd lone symbolSize symbolEnd kindAt tokenEnd lexIn lexed terminalOf among same symbolOf symbolsOf parsed first-deep parse descend mem budget span firstFrom keep any owner schemaOf added closure declared items own superEdges renamingEdges typeEdges inherited candidates typeMeant itemsOf itemMeant means binding bindings flatMap names stages least firstFault sort scope repeated typeName cyclic qualified expression constantEdges integerValue binaryBits exact quotient remainder DIV MOD power pow one AND OR XOR join compareBits simple declared-in operator-of shape type-nodes typing run answers
-all-cases = refl
+-- each expression, as the only constant of a file, has its answer
+abbrev Cases : Type 0
+Cases = map (λ (c : Case). answers-of (checked (file-of (c .type) (c .expression)) 8192 8192 1024)) cases ≡ map (λ (c : Case). some (c .answer ∷ [])) cases
+
+-- each file has its listing
+abbrev Listings : Type 0
+Listings = map (λ (f : File). listing (checked (f .text) (f .tokens) (f .nodes) (f .answers))) files ≡ map (λ (f : File). f .listing) files
+
+computed : Cases × Listings
+unfolding wordByte space upper lower runEnd remarkEnd skipIn skipped numeral integerEnd exponentEnd realEnd stringEnd binaryEnd lone symbolSize symbolEnd kindAt tokenEnd lexIn lexed terminalOf among same symbolOf symbolsOf parsed first-deep parse descend mem budget span firstFrom keep any owner schemaOf added closure declared items own superEdges renamingEdges typeEdges inherited candidates typeMeant itemsOf itemMeant means binding bindings flatMap names stages least firstFault sort scope repeated typeName cyclic qualified expression constantEdges integerValue binaryBits exact quotient remainder DIV MOD power pow one AND OR XOR join compareBits simple declared-in operator-of shape type-nodes typing run answers tokens order checked digits listing
+computed = (refl, refl)
+
+pub all-cases : Cases
+all-cases = computed .0
+
+pub all-files : Listings
+all-files = computed .1

@@ -21,7 +21,7 @@ use Rattle.express.specs.Grammar.{Nonterminal}
 use Rattle.express.specs.Syntax.{Read}
 use Rattle.express.specs.Declared.{declaration, bound, declared}
 use Rattle.express.specs.Shape.{Shape, Operator, name, shape, named, operator-of, evaluated}
-use Rattle.express.specs.Order.{Ordered, done, next, Order}
+use Rattle.express.specs.Order.{Ordered, done, next, Order, order}
 use Rattle.express.proofs.Select.{and-fst, and-snd, and-both, or-cases, or-left, untrue, le-or, mem-upto, keep-mem, mem-keep, flat-mem, mem-flat, column-at}
 use Rattle.express.proofs.Reach.{reaches-iff}
 use Rattle.express.proofs.Meaning.{edge-start}
@@ -193,7 +193,8 @@ module _ (t : Table) where
         let g = W .constant-cycles c (mem-upto (count t) c (constant-below c h)) in omega arith
 
     -- the constants in an order
-    pub arranged : topological.Arranged (Joins (constantEdges t)) constants
+    pub arranged : topological.Arranged (Joins (constantEdges t)) constants (order t)
+    unfolding order
     arranged =
         topological.acyclic-arranged (constantEdges t) constants (λ a b e m. constant-mem b (edge-constants a b e .1))
         (λ v m r. no-cycle v (keep-mem (is t node.constant) (nodes t) m .1) r)
@@ -213,11 +214,9 @@ module _ (t : Table) where
           (ordered s (λ x m. h x (List·Memᴰ·tail m)))
 
       -- THE ORDER: of a well-named file's constants, each after those that it names
-      pub constants-ordered : (ds : List ℕ) × Order t (bindings t) ds
-      constants-ordered = (
-        arranged .order,
-        record {
-          ordered = ordered (arranged .sorted) (λ d m. keep-mem (is t node.constant) (nodes t) (arranged .among d m) .1);
-          complete = λ c l q. arranged .complete c (constant-mem c (eq-eqb (kind t c) node.constant q));
-        },
-      )
+      pub order-is : Order t (bindings t) (order t)
+      order-is =
+          record {
+            ordered = ordered (arranged .sorted) (λ d m. keep-mem (is t node.constant) (nodes t) (arranged .among d m) .1);
+            complete = λ c l q. arranged .complete c (constant-mem c (eq-eqb (kind t c) node.constant q));
+          }

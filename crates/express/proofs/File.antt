@@ -14,9 +14,9 @@ use Rattle.express.specs.Operate.{Kind}
 use Rattle.express.specs.Rule.{Exactly}
 use Rattle.express.specs.Kind.{typed, typing}
 use Rattle.express.specs.Evaluate.{answers, answer-at}
-use Rattle.express.specs.Order.{Order}
+use Rattle.express.specs.Order.{Order, order}
 use Rattle.express.proofs.FormedRows.{formed-rows}
-use Rattle.express.proofs.ConstantOrder.{constants-ordered}
+use Rattle.express.proofs.ConstantOrder.{order-is}
 use Rattle.express.proofs.Literals.{literals}
 use Rattle.express.proofs.Exactness.{exactness}
 
@@ -26,5 +26,5 @@ module _ (t : Table) (scanned : Scanned t) (read : Read file t) (named : WellNam
       Exactly t (bindings t) c (answer-at (answers t (bindings t) ds) c)
   file-exact ds o = exactness t (bindings t) (formed-rows read) (literals read scanned) ks accepted ds o
 
-  pub file-order : (ds : List ℕ) × Order t (bindings t) ds
-  file-order = constants-ordered t named read
+  pub file-order : Order t (bindings t) (order t)
+  file-order = order-is t named read

@@ -1,9 +1,11 @@
+pub mod Acceptance
 pub mod Backward
 pub mod Bits
 pub mod Cases
 pub mod ConstantOrder
 pub mod Descent
 pub mod Divide
+pub mod Enumeration
 pub mod Exactness
 pub mod File
 pub mod FormedRows

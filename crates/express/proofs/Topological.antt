@@ -19,8 +19,7 @@ pub data Sorted (E : ℕ → ℕ → Type 0) : List ℕ → List ℕ → Type 0 
   next : {passed ds : List ℕ} {d : ℕ} → ((c : ℕ) → E d c → List·Memᴰ c passed) → Sorted E (d ∷ passed) ds → Sorted E passed (d ∷ ds)
 
 -- a sorted list of some vertices
-pub record Arranged (E : ℕ → ℕ → Type 0) (vs : List ℕ) : Type 0 where
-  pub order : List ℕ
+pub record Arranged (E : ℕ → ℕ → Type 0) (vs order : List ℕ) : Type 0 where
   pub sorted : Sorted E [] order
   pub complete : (v : ℕ) → List·Memᴰ v vs → List·Memᴰ v order
   pub among : (v : ℕ) → List·Memᴰ v order → List·Memᴰ v vs
@@ -59,17 +58,17 @@ module _ (E : ℕ → ℕ → Type 0) (vs : List ℕ) (rank : ℕ → ℕ) (fall
       (λ x m. let r = keep-mem (λ v. eqb (rank v) i) vs m in (r .0, eqb-true (rank x) i (r .1))) low
       (λ v m q. inr (mem-keep (λ v. eqb (rank v) i) vs m (eq-eqb (rank v) i q))) (λ p b. from-rank (suc i) d p b)
 
-  pub arranged : (n : ℕ) → ((v : ℕ) → List·Memᴰ v vs → rank v < n) → Arranged E vs
+  pub arranged : (n : ℕ) → ((v : ℕ) → List·Memᴰ v vs → rank v < n) → Arranged E vs (flatMap ranked (span 0 n))
   arranged n bound = record {
-    order = flatMap ranked (span 0 n);
     sorted = from-rank 0 n [] (λ v m l. absurd (omega arith));
     complete = λ v m. mem-flat ranked (span 0 n) (mem-upto n (rank v) (bound v m)) (mem-keep (λ x. eqb (rank x) (rank v)) vs m (eq-eqb (rank v) (rank v) refl));
     among = λ v m. let r = flat-mem ranked (span 0 n) m in keep-mem (λ x. eqb (rank x) (r .0)) vs (r .2) .0;
   }
 
--- "a finite acyclic relation has a topological order"
+-- vertices on no cycle, by how many vertices each reaches
 pub acyclic-arranged :
-    (es : List Edge) (vs : List ℕ) → ((a b : ℕ) → Joins es a b → List·Memᴰ a vs → List·Memᴰ b vs) → ((v : ℕ) → List·Memᴰ v vs → Reaches (Joins es) v v → ⊥) → Arranged (Joins es) vs
+    (es : List Edge) (vs : List ℕ) → ((a b : ℕ) → Joins es a b → List·Memᴰ a vs → List·Memᴰ b vs) → ((v : ℕ) → List·Memᴰ v vs → Reaches (Joins es) v v → ⊥)
+    → Arranged (Joins es) vs (flatMap (λ i. keep (λ v. eqb (length (keep (reaches es v) vs)) i) vs) (span 0 (suc (length vs))))
 acyclic-arranged es vs closed acyclic =
     arranged (Joins es) vs rank falls (suc (length vs)) (λ v m. let l = keep-short (reaches es v) vs in omega arith)
   where
