@@ -17,6 +17,49 @@ use Rattle.ebnf.proofs.Sets.{and-split, or-split, lt-or-le}
 use Rattle.ebnf.proofs.Derivations.{mono}
 use Rattle.ebnf.proofs.PostOrder.{no-row, row-at}
 
+-- where a row of two lists stands
+unfoldable pub Stands : List Row → List Row → ℕ → Type 0
+Stands r s n = ((n < length r) × (row-at (r ++ s) n ≡ row-at r n)) ⊎ ((k : ℕ) × (k < length s) × (n ≡ length r + k) × (row-at (r ++ s) n ≡ row-at s k))
+
+pub stands : (r s : List Row) (n : ℕ) → n < length (r ++ s) → Stands r s n
+unfolding Stands
+stands r s n h =
+    ⊎-elim (λ (l : n < length r). inl (l, List·getD-append r s no-row n l))
+    (λ (l : length r ≤ n).
+    let e = length-append r s in
+    let q : n ≡ length r + (n - length r) = omega arith in
+    inr (n - length r, omega arith, q, ap (λ (z : ℕ). row-at (r ++ s) z) q ∙ getD-append-add r s (n - length r) no-row))
+    (lt-or-le n (length r))
+
+abbrev pub is-here : Mark → Bool
+is-here silent = false
+is-here here = true
+is-here (node k o) = false
+is-here (leaf k o) = false
+
+abbrev pub is-none : {N : Type 0} → Ebnf N → Bool
+is-none none = true
+is-none (mark m) = false
+is-none (step m cs a) = false
+is-none (seq a b) = false
+is-none (alt a b) = false
+is-none (star a) = false
+is-none (fork m cs ds a b) = false
+is-none (nt x) = false
+
+pub at-none : {N : Type 0} {rules : N → Ebnf N} {ts : List ℕ} {a : Ebnf N} {i j : ℕ} {r s : Rows} → Derives in-rows rules ts a i r j s → is-none a ≡ true → (i ≡ j) × (r ≡ s)
+at-none nothing h = (refl, refl)
+at-none marked h = absurd (false≢true h)
+at-none (token c d) h = absurd (false≢true h)
+at-none (both d e) h = absurd (false≢true h)
+at-none (left d) h = absurd (false≢true h)
+at-none (right d) h = absurd (false≢true h)
+at-none stop h = absurd (false≢true h)
+at-none (more d e) h = absurd (false≢true h)
+at-none (label c g d) h = absurd (false≢true h)
+at-none (other d) h = absurd (false≢true h)
+at-none (rule d) h = absurd (false≢true h)
+
 -- ---- the test of a rule. The state: 0, or 1 where the token that names the next node is claimed by none, or 2 where it also stands two before.
 
 module _ (own back : ℕ → ℕ → Bool) where
@@ -43,22 +86,6 @@ module _ (own back : ℕ → ℕ → Bool) where
   close-state here f = f
   close-state (node k o) f = cond (own k o) 0 f
   close-state (leaf k o) f = cond (own k o) 0 f
-
-  abbrev is-here : Mark → Bool
-  is-here silent = false
-  is-here here = true
-  is-here (node k o) = false
-  is-here (leaf k o) = false
-
-  abbrev is-none : {N : Type 0} → Ebnf N → Bool
-  is-none none = true
-  is-none (mark m) = false
-  is-none (step m cs a) = false
-  is-none (seq a b) = false
-  is-none (alt a b) = false
-  is-none (star a) = false
-  is-none (fork m cs ds a b) = false
-  is-none (nt x) = false
 
   abbrev pub after : {N : Type 0} → Ebnf N → ℕ → ℕ
   after none f = f
@@ -92,27 +119,14 @@ module _ (own back : ℕ → ℕ → Bool) where
     pub inside : (n x : ℕ) → n < length rs → Claims (row-at rs n) x → (b ≤ x) × (x < i)
     pub apart : (n m x : ℕ) → n < length rs → m < length rs → Claims (row-at rs n) x → Claims (row-at rs m) x → n ≡ m
 
-  -- where a row of two lists stands
-  Stands : List Row → List Row → ℕ → Type 0
-  Stands r s n = ((n < length r) × (row-at (r ++ s) n ≡ row-at r n)) ⊎ ((k : ℕ) × (k < length s) × (n ≡ length r + k) × (row-at (r ++ s) n ≡ row-at s k))
-
-  stands : (r s : List Row) (n : ℕ) → n < length (r ++ s) → Stands r s n
-  unfolding Stands
-  stands r s n h =
-      ⊎-elim (λ (l : n < length r). inl (l, List·getD-append r s no-row n l))
-      (λ (l : length r ≤ n).
-        let e = length-append r s in
-        let q : n ≡ length r + (n - length r) = omega arith in
-        inr (n - length r, omega arith, q, ap (λ (z : ℕ). row-at (r ++ s) z) q ∙ getD-append-add r s (n - length r) no-row))
-      (lt-or-le n (length r))
-
   -- two lists one after the other
   joined : {b i c j : ℕ} (r s : List Row) → Claimed b i r → Claimed c j s → b ≤ c → i ≤ j
       → ((n m x : ℕ) → n < length r → m < length s → Claims (row-at r n) x → Claims (row-at s m) x → ⊥) → Claimed b j (r ++ s)
   unfolding Stands
   joined {b} {i} {c} {j} r s R S bc ij disjoint = record {
-      inside = λ n x l h. in-one x (stands r s n l) h;
-      apart = λ n m x l l′ h h′. same n m x (stands r s n l) (stands r s m l′) h h′ }
+    inside = λ n x l h. in-one x (stands r s n l) h;
+    apart = λ n m x l l′ h h′. same n m x (stands r s n l) (stands r s m l′) h h′;
+  }
     where
       in-one : {n : ℕ} (x : ℕ) → Stands r s n → Claims (row-at (r ++ s) n) x → (b ≤ x) × (x < j)
       in-one x (inl p) h = let z = R .inside _ x (p .0) (rw (p .1) at h) in (z .0, omega arith)
@@ -155,10 +169,11 @@ module _ (own back : ℕ → ℕ → Bool) where
 
   further : {b f i j : ℕ} {r : Rows} → i ≤ j → Kept b f i r → Kept b (min f 1) j r
   further {b} {f} {i} {j} {r} h K = record {
-      low = omega (arith, K .low);
-      rows = record { inside = λ n x l c. let z = K .rows .inside n x l c in (z .0, omega arith); apart = K .rows .apart };
-      free = λ l. let z = K .free (omega arith) in (z .0, omega arith, z .2);
-      two = λ l. absurd (omega arith) }
+    low = omega (arith, K .low);
+    rows = record { inside = λ n x l c. let z = K .rows .inside n x l c in (z .0, omega arith); apart = K .rows .apart };
+    free = λ l. let z = K .free (omega arith) in (z .0, omega arith, z .2);
+    two = λ l. absurd (omega arith);
+  }
 
   abbrev row-of : ℕ → ℕ → ℕ → ℕ → Row
   row-of k o i z = record { kind = k; token = i; size = z; role = o }
@@ -167,10 +182,11 @@ module _ (own back : ℕ → ℕ → Bool) where
   grown : {b f i : ℕ} (k o z : ℕ) (r : Rows) → back k o ≡ false → Kept b f i r → Kept b (min f 1) (suc i) (record { name = r .name; rows = r .rows ++ (row-of k o i z ∷ []) })
   unfolding Stands
   grown {b} {f} {i} k o z r e K = record {
-      low = omega (arith, K .low);
-      rows = put (r .rows) (row-of k o i z) (K .rows) (omega arith) new;
-      free = λ l. let y = K .free (omega arith) in (y .0, omega arith, λ n h c. unclaimed y n (stands (r .rows) (row-of k o i z ∷ []) n h) c);
-      two = λ l. absurd (omega arith) }
+    low = omega (arith, K .low);
+    rows = put (r .rows) (row-of k o i z) (K .rows) (omega arith) new;
+    free = λ l. let y = K .free (omega arith) in (y .0, omega arith, λ n h c. unclaimed y n (stands (r .rows) (row-of k o i z ∷ []) n h) c);
+    two = λ l. absurd (omega arith);
+  }
     where
       at-i : (x : ℕ) → Claims (row-of k o i z) x → x ≡ i
       at-i x (named h p) = sym p
@@ -191,10 +207,11 @@ module _ (own back : ℕ → ℕ → Bool) where
   -- a row at the token i that claims the name two before it too
   taken : {b f i : ℕ} (k o z : ℕ) (r : Rows) → 2 ≤ f → Kept b f i r → Kept b 0 (suc i) (record { name = r .name; rows = r .rows ++ (row-of k o i z ∷ []) })
   taken {b} {f} {i} k o z r e K = record {
-      low = omega (arith, K .low);
-      rows = put (r .rows) (row-of k o i z) (K .rows) (omega arith) new;
-      free = λ l. absurd (omega arith);
-      two = λ l. absurd (omega arith) }
+    low = omega (arith, K .low);
+    rows = put (r .rows) (row-of k o i z) (K .rows) (omega arith) new;
+    free = λ l. absurd (omega arith);
+    two = λ l. absurd (omega arith);
+  }
     where
       new : (x : ℕ) → Claims (row-of k o i z) x → (b ≤ x) × (x < suc i) × ((n : ℕ) → n < length (r .rows) → Claims (row-at (r .rows) n) x → ⊥)
       new x (named h p) = let l = K .low in (omega arith, omega arith, λ n h g. let y = K .rows .inside n x h g in omega arith)
@@ -215,10 +232,11 @@ module _ (own back : ℕ → ℕ → Bool) where
   stamped : {b f i : ℕ} (m : Mark) (r : Rows) → stamp-ok m f ≡ true → Kept b f i r → Kept b (stamp-state m f) (suc i) (in-rows .stamp m i r)
   stamped {i = i} silent r e K = further {j = suc i} (omega arith) K
   stamped {b} {f} {i} here r e K = record {
-      low = omega (arith, K .low);
-      rows = further {j = suc i} (omega arith) K .rows;
-      free = λ l. (K .low, omega arith, λ n l c. let z = K .rows .inside n i l c in omega arith);
-      two = λ l. absurd (omega arith) }
+    low = omega (arith, K .low);
+    rows = further {j = suc i} (omega arith) K .rows;
+    free = λ l. (K .low, omega arith, λ n l c. let z = K .rows .inside n i l c in omega arith);
+    two = λ l. absurd (omega arith);
+  }
   stamped (node k o) r e K = grown k o (suc (length (r .rows))) r (not-true (back k o) e) K
   stamped {b} {f} {i} (leaf k o) r e K = by (back k o) refl e
     where
@@ -253,12 +271,17 @@ module _ (own back : ℕ → ℕ → Bool) where
 
       by : (x : Bool) → own k o ≡ x → Kept b (cond x 0 f) i (record { name = r .name; rows = r .rows ++ (row-of k o (r .name) z ∷ []) })
       by true h = record {
-          low = K .low; rows = closed k o z r back-not (λ g. leb-true 1 f (rw h at (q .1))) K; free = λ l. absurd (omega arith); two = λ l. absurd (omega arith) }
+        low = K .low;
+        rows = closed k o z r back-not (λ g. leb-true 1 f (rw h at (q .1))) K;
+        free = λ l. absurd (omega arith);
+        two = λ l. absurd (omega arith);
+      }
       by false h = record {
-          low = K .low;
-          rows = closed k o z r back-not (λ g. absurd (false≢true (sym h ∙ g))) K;
-          free = λ l. let y = K .free l in (y .0, y .1, λ n g c. unclaimed h (y .2) n (stands (r .rows) (row-of k o (r .name) z ∷ []) n g) c);
-          two = K .two }
+        low = K .low;
+        rows = closed k o z r back-not (λ g. absurd (false≢true (sym h ∙ g))) K;
+        free = λ l. let y = K .free l in (y .0, y .1, λ n g c. unclaimed h (y .2) n (stands (r .rows) (row-of k o (r .name) z ∷ []) n g) c);
+        two = K .two;
+      }
 
   marked-by : {b f i : ℕ} (m : Mark) (r : Rows) → close-ok m f ≡ true → Kept b f i r → Kept b (close-state m f) i (in-rows .close m r)
   marked-by silent r e K = K
@@ -268,33 +291,23 @@ module _ (own back : ℕ → ℕ → Bool) where
 
   -- ---- all derivations
 
-  at-none : {N : Type 0} {rules : N → Ebnf N} {ts : List ℕ} {a : Ebnf N} {i j : ℕ} {r s : Rows} → Derives in-rows rules ts a i r j s → is-none a ≡ true → (i ≡ j) × (r ≡ s)
-  at-none nothing h = (refl, refl)
-  at-none marked h = absurd (false≢true h)
-  at-none (token c d) h = absurd (false≢true h)
-  at-none (both d e) h = absurd (false≢true h)
-  at-none (left d) h = absurd (false≢true h)
-  at-none (right d) h = absurd (false≢true h)
-  at-none stop h = absurd (false≢true h)
-  at-none (more d e) h = absurd (false≢true h)
-  at-none (label c g d) h = absurd (false≢true h)
-  at-none (other d) h = absurd (false≢true h)
-  at-none (rule d) h = absurd (false≢true h)
-
   started : (i : ℕ) → Kept i 0 i (in-rows .start i)
   started i = record {
-      low = le-refl i;
-      rows = record { inside = λ n x l c. absurd (omega arith); apart = λ n m x l l′ c c′. absurd (omega arith) };
-      free = λ l. absurd (omega arith); two = λ l. absurd (omega arith) }
+    low = le-refl i;
+    rows = record { inside = λ n x l c. absurd (omega arith); apart = λ n m x l l′ c c′. absurd (omega arith) };
+    free = λ l. absurd (omega arith);
+    two = λ l. absurd (omega arith);
+  }
 
   -- the rows of a rule behind those of the rule around it
   behind : {b f g i j : ℕ} (r s : Rows) → i ≤ j → Kept b f i r → Kept i g j s → Kept b (min f 1) j (in-rows .join r s)
   unfolding Stands
   behind {b} {f} {g} {i} {j} r s ij K L = record {
-      low = omega (arith, K .low);
-      rows = joined (r .rows) (s .rows) (K .rows) (L .rows) (K .low) ij (λ n m x l l′ c c′. let y = K .rows .inside n x l c in let z = L .rows .inside m x l′ c′ in omega arith);
-      free = λ l. let y = K .free (omega arith) in (y .0, omega arith, λ n h c. unclaimed (y .1) (y .2) n (stands (r .rows) (s .rows) n h) c);
-      two = λ l. absurd (omega arith) }
+    low = omega (arith, K .low);
+    rows = joined (r .rows) (s .rows) (K .rows) (L .rows) (K .low) ij (λ n m x l l′ c c′. let y = K .rows .inside n x l c in let z = L .rows .inside m x l′ c′ in omega arith);
+    free = λ l. let y = K .free (omega arith) in (y .0, omega arith, λ n h c. unclaimed (y .1) (y .2) n (stands (r .rows) (s .rows) n h) c);
+    two = λ l. absurd (omega arith);
+  }
     where
       unclaimed : r .name < i → ((n : ℕ) → n < length (r .rows) → Claims (row-at (r .rows) n) (r .name) → ⊥)
           → (n : ℕ) → Stands (r .rows) (s .rows) n → Claims (row-at (r .rows ++ s .rows) n) (r .name) → ⊥
@@ -305,10 +318,11 @@ module _ (own back : ℕ → ℕ → Bool) where
   forked : {b f i : ℕ} (m : Mark) (r : Rows) → is-here m ≡ true → Kept b f i r → Kept b 2 (suc (suc i)) (in-rows .stamp m i r)
   forked silent r h K = absurd (false≢true h)
   forked {b} {f} {i} here r h K = record {
-      low = omega (arith, K .low);
-      rows = further {j = suc (suc i)} (omega arith) K .rows;
-      free = λ l. (K .low, omega arith, λ n l c. let z = K .rows .inside n i l c in omega arith);
-      two = λ l. omega arith }
+    low = omega (arith, K .low);
+    rows = further {j = suc (suc i)} (omega arith) K .rows;
+    free = λ l. (K .low, omega arith, λ n l c. let z = K .rows .inside n i l c in omega arith);
+    two = λ l. omega arith;
+  }
   forked (node k o) r h K = absurd (false≢true h)
   forked (leaf k o) r h K = absurd (false≢true h)
 

@@ -10,6 +10,7 @@ pub mod Exactness
 pub mod File
 pub mod FormedRows
 pub mod KindCases
+pub mod Later
 pub mod Literals
 pub mod Logic
 pub mod Meaning
@@ -31,6 +32,7 @@ pub mod Spelling
 pub mod Syntax
 pub mod SyntaxExamples
 pub mod TokenExamples
+pub mod TokenOrder
 pub mod Topological
 pub mod TypeCycle
 pub mod Typed
