@@ -16,3 +16,4 @@ pub mod PostOrder
 pub mod Children
 pub mod Below
 pub mod Naming
+pub mod Origin
