@@ -18,8 +18,10 @@ pub mod Once
 pub mod Operations
 pub mod Order
 pub mod OrderTest
+pub mod Owned
 pub mod Places
 pub mod Reach
+pub mod Renaming
 pub mod Select
 pub mod Shapes
 pub mod Spans
@@ -28,8 +30,7 @@ pub mod Syntax
 pub mod SyntaxExamples
 pub mod TokenExamples
 pub mod Topological
+pub mod TypeCycle
 pub mod Typed
 pub mod Untied
 pub mod Within
-pub mod Owned
-pub mod TypeCycle
