@@ -1,4 +1,4 @@
--- THE CASES of the scope that are to be proved: each text, read, named, typed and evaluated, has its answer.
+-- By computation, from the bytes on: the cases of the scope that are to be proved have their answers, and files of tests/cases their listings.
 use mathlib.Core.Path.{_≡_, refl}
 use mathlib.Core.Option.{Option, some}
 use mathlib.Core.List.{List, [], _∷_, map, flatMap}
@@ -27,9 +27,24 @@ use Rattle.express.specs.Kind.{type-nodes, typing}
 use Rattle.express.specs.Evaluate.{run, answers}
 use Rattle.express.specs.Order.{order}
 use Rattle.express.specs.Reply.{checked}
+use Rattle.express.specs.Listing.{digits, listing}
 use Rattle.express.specs.Case.{Case, cases, file-of, answers-of}
+use Rattle.express.specs.Files.{File, files}
 
-pub all-cases :
-  map (λ (c : Case). answers-of (checked (file-of (c .type) (c .expression)) 8192 8192 1024)) cases ≡ map (λ (c : Case). some (c .answer ∷ [])) cases
-unfolding wordByte space upper lower runEnd remarkEnd skipIn skipped numeral integerEnd exponentEnd realEnd stringEnd binaryEnd lone symbolSize symbolEnd kindAt tokenEnd lexIn lexed terminalOf among same symbolOf symbolsOf parsed first-deep parse descend mem budget span firstFrom keep any owner schemaOf added closure declared items own superEdges renamingEdges typeEdges inherited candidates typeMeant itemsOf itemMeant means binding bindings flatMap names stages least firstFault sort scope repeated typeName cyclic qualified expression constantEdges integerValue binaryBits exact quotient remainder DIV MOD power pow one AND OR XOR join compareBits simple declared-in operator-of shape type-nodes typing run answers tokens order checked
-all-cases = refl
+-- each expression, as the only constant of a file, has its answer
+abbrev Cases : Type 0
+Cases = map (λ (c : Case). answers-of (checked (file-of (c .type) (c .expression)) 8192 8192 1024)) cases ≡ map (λ (c : Case). some (c .answer ∷ [])) cases
+
+-- each file has its listing
+abbrev Listings : Type 0
+Listings = map (λ (f : File). listing (checked (f .text) (f .tokens) (f .nodes) (f .answers))) files ≡ map (λ (f : File). f .listing) files
+
+computed : Cases × Listings
+unfolding wordByte space upper lower runEnd remarkEnd skipIn skipped numeral integerEnd exponentEnd realEnd stringEnd binaryEnd lone symbolSize symbolEnd kindAt tokenEnd lexIn lexed terminalOf among same symbolOf symbolsOf parsed first-deep parse descend mem budget span firstFrom keep any owner schemaOf added closure declared items own superEdges renamingEdges typeEdges inherited candidates typeMeant itemsOf itemMeant means binding bindings flatMap names stages least firstFault sort scope repeated typeName cyclic qualified expression constantEdges integerValue binaryBits exact quotient remainder DIV MOD power pow one AND OR XOR join compareBits simple declared-in operator-of shape type-nodes typing run answers tokens order checked digits listing
+computed = (refl, refl)
+
+pub all-cases : Cases
+all-cases = computed .0
+
+pub all-files : Listings
+all-files = computed .1

@@ -116,8 +116,8 @@ module _ (t : Table) (b : List ℕ) (v : Literals t) (k : ℕ → Kind) (g : ℕ
 
   -- and there is this one
   one :
-    (n : ℕ) (s : Shape) → shape t b n ≡ s → Told t b n s → finding t b k n s ≡ found.kind (k n) → needs t Known n s →
-    comparable (k n) ≡ true → Made t b n (k n) (answer-of t g n s)
+      (n : ℕ) (s : Shape) → shape t b n ≡ s → Told t b n s → finding t b k n s ≡ found.kind (k n) → needs t Known n s →
+      comparable (k n) ≡ true → Made t b n (k n) (answer-of t g n s)
   one n (integer-literal w) e o i h c =
       let q : integers ≡ k n = cc in
       made n q (an-integer-literal e) (good-integer (rw (o .1) (v .small n (o .0))))
@@ -176,8 +176,8 @@ module _ (t : Table) (b : List ℕ) (v : Literals t) (k : ℕ → Kind) (g : ℕ
   one n unevaluated e o i h c = absurd (let z : _≡_ {A = ℕ} 0 1 = cc in omega arith)
 
   step :
-    (n : ℕ) → finding t b k n (shape t b n) ≡ found.kind (k n) → needs t Known n (shape t b n) →
-    Settled t b k n (answer-of t g n (shape t b n))
+      (n : ℕ) → finding t b k n (shape t b n) ≡ found.kind (k n) → needs t Known n (shape t b n) →
+      Settled t b k n (answer-of t g n (shape t b n))
   step n i h =
       record { only = λ a x. only-one x h; made = λ c. one n (shape t b n) refl (told t b n) i h c; fit = i }
 
@@ -206,8 +206,8 @@ module _ (t : Table) (b : List ℕ) (v : Literals t) (k : ℕ → Kind) where
   Sound xs P = (m : ℕ) → P m → Settled t b k m (answer-at xs m)
 
   stored :
-    (P : ℕ → Type 0) (s n : ℕ) (xs : List Answer) (a : Answer) → n < length xs → Settled t b k n a → Sound xs (Passed P s n) →
-    Sound (set xs n a) (Passed P s (suc n))
+      (P : ℕ → Type 0) (s n : ℕ) (xs : List Answer) (a : Answer) → n < length xs → Settled t b k n a → Sound xs (Passed P s n) →
+      Sound (set xs n a) (Passed P s (suc n))
   stored P s n xs a l h old m p = by (ℕ-discrete m n)
     where
       by : Dec (m ≡ n) → Settled t b k m (answer-at (set xs n a) m)
@@ -215,10 +215,10 @@ module _ (t : Table) (b : List ℕ) (v : Literals t) (k : ℕ → Kind) where
       by (no d) = rw (getD-set-other xs n m a indeterminate d) (old m (earlier P s (suc n) n m (λ i. omega arith) p))
 
   run-sound :
-    (P : ℕ → Type 0) (s e n j : ℕ) (xs : List Answer) → n + j ≡ e → e ≤ length xs →
-    ((m : ℕ) → n ≤ m → m < e → finding t b k m (shape t b m) ≡ found.kind (k m)) →
-    ((m : ℕ) → n ≤ m → m < e → needs t (Passed P s m) m (shape t b m)) →
-    Sound xs (Passed P s n) → Sound (run t b (span n j) xs) (Passed P s e)
+      (P : ℕ → Type 0) (s e n j : ℕ) (xs : List Answer) → n + j ≡ e → e ≤ length xs →
+      ((m : ℕ) → n ≤ m → m < e → finding t b k m (shape t b m) ≡ found.kind (k m)) →
+      ((m : ℕ) → n ≤ m → m < e → needs t (Passed P s m) m (shape t b m)) →
+      Sound xs (Passed P s n) → Sound (run t b (span n j) xs) (Passed P s e)
   unfolding run span
   run-sound P s e n zero xs i l f h old = λ m p. old m (earlier P s e n m (λ c. omega arith) p)
   run-sound P s e n (suc j) xs i l f h old =
@@ -229,8 +229,8 @@ module _ (t : Table) (b : List ℕ) (v : Literals t) (k : ℕ → Kind) where
 
 -- what a node of a constant goes by stands before it among the constant's nodes, or is a constant of P
 needs-passed :
-  (t : Table) (b : List ℕ) → Formed t → (P : ℕ → Type 0) (d m : ℕ) → m < count t → first t d ≤ first t m →
-  ((c : ℕ) → shape t b m ≡ name c → P c) → needs t (Passed P (first t d) m) m (shape t b m)
+    (t : Table) (b : List ℕ) → Formed t → (P : ℕ → Type 0) (d m : ℕ) → m < count t → first t d ≤ first t m →
+    ((c : ℕ) → shape t b m ≡ name c → P c) → needs t (Passed P (first t d) m) m (shape t b m)
 needs-passed t b f P d m l w h = by (shape t b m) refl (told t b m)
   where
     under : (c : ℕ) → Below t m c → Passed P (first t d) m c
@@ -261,9 +261,9 @@ module _ (t : Table) (b : List ℕ) (f : Formed t) (v : Literals t) (k : ℕ →
   Among ds c = List·Memᴰ c ds
 
   one-more :
-    (passed : List ℕ) (d : ℕ) (xs : List Answer) → length xs ≡ count t → d < count t → kind t d ≡ node.constant →
-    ((n c : ℕ) → first t d ≤ n → n < d → shape t b n ≡ name c → List·Memᴰ c passed) →
-    Sound t b v k xs (Among passed) → Sound t b v k (run t b (within t d) xs) (Among (d ∷ passed))
+      (passed : List ℕ) (d : ℕ) (xs : List Answer) → length xs ≡ count t → d < count t → kind t d ≡ node.constant →
+      ((n c : ℕ) → first t d ≤ n → n < d → shape t b n ≡ name c → List·Memᴰ c passed) →
+      Sound t b v k xs (Among passed) → Sound t b v k (run t b (within t d) xs) (Among (d ∷ passed))
   one-more passed d xs x l e names old c p = sound c (by (List·Memᴰ·cases-cons p))
     where
       z : size t d ≤ d + 1
@@ -296,8 +296,8 @@ module _ (t : Table) (b : List ℕ) (f : Formed t) (v : Literals t) (k : ℕ →
       by (inr h) = inl h
 
   all-sound :
-    {passed ds : List ℕ} (xs : List Answer) → length xs ≡ count t → Ordered t b passed ds → Sound t b v k xs (Among passed) →
-    (c : ℕ) → Among passed c ⊎ Among ds c → Settled t b k c (answer-at (run t b (all-within t ds) xs) c)
+      {passed ds : List ℕ} (xs : List Answer) → length xs ≡ count t → Ordered t b passed ds → Sound t b v k xs (Among passed) →
+      (c : ℕ) → Among passed c ⊎ Among ds c → Settled t b k c (answer-at (run t b (all-within t ds) xs) c)
   unfolding run flatMap
   all-sound xs x done old c (inl h) = old c h
   all-sound xs x done old c (inr h) = absurd (List·Memᴰ·not-nil h)
@@ -334,13 +334,13 @@ constant-holds t b d (an-unknown-boolean e x) i = an-end {e = 19} (omega arith) 
 
 -- whatever the list of answers holds before
 pub run-exact :
-  (t : Table) (b : List ℕ) → Formed t → Literals t → (ks : List Kind) → typing t b ≡ typed ks → (ds : List ℕ) → Order t b ds →
-  (xs : List Answer) → length xs ≡ count t → (c : ℕ) → c < count t → kind t c ≡ node.constant →
-  Exactly t b c (answer-at (run t b (all-within t ds) xs) c)
+    (t : Table) (b : List ℕ) → Formed t → Literals t → (ks : List Kind) → typing t b ≡ typed ks → (ds : List ℕ) → Order t b ds →
+    (xs : List Answer) → length xs ≡ count t → (c : ℕ) → c < count t → kind t c ≡ node.constant →
+    Exactly t b c (answer-at (run t b (all-within t ds) xs) c)
 run-exact t b f v ks e ds o xs x c l g =
     let s =
-          all-sound t b f v (kind-at ks) (typing-fits t b f ks e) xs x (o .ordered) (λ m h. absurd (List·Memᴰ·not-nil h)) c
-          (inr (o .complete c l g))
+    all-sound t b f v (kind-at ks) (typing-fits t b f ks e) xs x (o .ordered) (λ m h. absurd (List·Memᴰ·not-nil h)) c
+    (inr (o .complete c l g))
     in
     let d = declared t b (left t c) in
     let j = common (kind-of-type d) (kind-at ks (last c)) in
@@ -350,7 +350,7 @@ run-exact t b f v ks e ds o xs x c l g =
     record { only = λ a. (s .only a, λ q. rw q (m .gives)); holds = constant-holds t b d (m .gives) i }
 
 pub exactness :
-  (t : Table) (b : List ℕ) → Formed t → Literals t → (ks : List Kind) → typing t b ≡ typed ks → (ds : List ℕ) → Order t b ds →
-  (c : ℕ) → c < count t → kind t c ≡ node.constant → Exactly t b c (answer-at (answers t b ds) c)
+    (t : Table) (b : List ℕ) → Formed t → Literals t → (ks : List Kind) → typing t b ≡ typed ks → (ds : List ℕ) → Order t b ds →
+    (c : ℕ) → c < count t → kind t c ≡ node.constant → Exactly t b c (answer-at (answers t b ds) c)
 unfolding answers
 exactness t b f v ks e ds o = run-exact t b f v ks e ds o (replicate (count t) indeterminate) (length-replicate _ _)

@@ -23,8 +23,8 @@ use Rattle.express.proofs.Exactness.{exactness}
 
 module _ (t : Table) (scanned : Scanned t) (read : Read file t) (named : WellNamed t) (ks : List Kind) (accepted : typing t (bindings t) ≡ typed ks) where
   pub file-exact :
-    (ds : List ℕ) → Order t (bindings t) ds → (c : ℕ) → c < count t → kind t c ≡ node.constant →
-    Exactly t (bindings t) c (answer-at (answers t (bindings t) ds) c)
+      (ds : List ℕ) → Order t (bindings t) ds → (c : ℕ) → c < count t → kind t c ≡ node.constant →
+      Exactly t (bindings t) c (answer-at (answers t (bindings t) ds) c)
   file-exact ds o = exactness t (bindings t) (formed-rows read) (literals read scanned) ks accepted ds o
 
   pub file-order : Order t (bindings t) (order t)

@@ -66,18 +66,21 @@ press =
     (record {
       bytes = bytes press-text;
       starts =
-        0 ∷ 7 ∷ 12 ∷ 14 ∷ 23 ∷ 30 ∷ 32 ∷ 40 ∷ 43 ∷ 48 ∷ 50 ∷ 51 ∷ 53 ∷ 58 ∷ 60 ∷ 68 ∷ 71 ∷ 72 ∷ 74 ∷ 78 ∷ 79 ∷ 81 ∷ 86 ∷ 88 ∷ 96 ∷ 99 ∷
-        100 ∷ 102 ∷ 104 ∷ 109 ∷ 111 ∷ 113 ∷ 115 ∷ 118 ∷ 119 ∷ 121 ∷ 126 ∷ 128 ∷ 135 ∷ 138 ∷ 142 ∷ 144 ∷ 148 ∷ 150 ∷ 162 ∷ 164 ∷ 174 ∷ [];
+          0 ∷ 7 ∷ 12 ∷ 14 ∷ 23 ∷ 30 ∷ 32 ∷ 40 ∷ 43 ∷ 48 ∷ 50 ∷ 51 ∷ 53 ∷ 58 ∷ 60 ∷ 68 ∷ 71 ∷ 72 ∷ 74 ∷ 78 ∷ 79 ∷ 81 ∷ 86 ∷ 88 ∷ 96 ∷ 99 ∷
+          100 ∷ 102 ∷ 104 ∷ 109 ∷ 111 ∷ 113 ∷ 115 ∷ 118 ∷ 119 ∷ 121 ∷ 126 ∷ 128 ∷ 135 ∷ 138 ∷ 142 ∷ 144 ∷ 148 ∷ 150 ∷ 162 ∷ 164 ∷ 174 ∷ [];
       lengths =
-        6 ∷ 5 ∷ 1 ∷ 8 ∷ 6 ∷ 1 ∷ 7 ∷ 2 ∷ 4 ∷ 1 ∷ 1 ∷ 1 ∷ 4 ∷ 1 ∷ 7 ∷ 2 ∷ 1 ∷ 1 ∷ 3 ∷ 1 ∷ 1 ∷ 4 ∷ 1 ∷ 7 ∷ 2 ∷ 1 ∷ 1 ∷ 1 ∷ 4 ∷ 1 ∷ 2 ∷ 1 ∷
-        2 ∷ 1 ∷ 1 ∷ 4 ∷ 1 ∷ 6 ∷ 2 ∷ 3 ∷ 1 ∷ 4 ∷ 1 ∷ 12 ∷ 1 ∷ 10 ∷ 1 ∷ [];
+          6 ∷ 5 ∷ 1 ∷ 8 ∷ 6 ∷ 1 ∷ 7 ∷ 2 ∷ 4 ∷ 1 ∷ 1 ∷ 1 ∷ 4 ∷ 1 ∷ 7 ∷ 2 ∷ 1 ∷ 1 ∷ 3 ∷ 1 ∷ 1 ∷ 4 ∷ 1 ∷ 7 ∷ 2 ∷ 1 ∷ 1 ∷ 1 ∷ 4 ∷ 1 ∷ 2 ∷ 1 ∷
+          2 ∷ 1 ∷ 1 ∷ 4 ∷ 1 ∷ 6 ∷ 2 ∷ 3 ∷ 1 ∷ 4 ∷ 1 ∷ 12 ∷ 1 ∷ 10 ∷ 1 ∷ [];
       terminals =
-        125 ∷ 1 ∷ 9 ∷ 53 ∷ 1 ∷ 10 ∷ 92 ∷ 30 ∷ 1 ∷ 11 ∷ 2 ∷ 9 ∷ 1 ∷ 10 ∷ 92 ∷ 30 ∷ 13 ∷ 2 ∷ 58 ∷ 2 ∷ 9 ∷ 1 ∷ 10 ∷ 102 ∷ 30 ∷ 21 ∷ 2 ∷ 17 ∷
-        1 ∷ 17 ∷ 2 ∷ 22 ∷ 113 ∷ 6 ∷ 9 ∷ 1 ∷ 10 ∷ 48 ∷ 30 ∷ 5 ∷ 12 ∷ 5 ∷ 9 ∷ 63 ∷ 9 ∷ 73 ∷ 9 ∷ [];
+          125 ∷ 1 ∷ 9 ∷ 53 ∷ 1 ∷ 10 ∷ 92 ∷ 30 ∷ 1 ∷ 11 ∷ 2 ∷ 9 ∷ 1 ∷ 10 ∷ 92 ∷ 30 ∷ 13 ∷ 2 ∷ 58 ∷ 2 ∷ 9 ∷ 1 ∷ 10 ∷ 102 ∷ 30 ∷ 21 ∷ 2 ∷ 17 ∷
+          1 ∷ 17 ∷ 2 ∷ 22 ∷ 113 ∷ 6 ∷ 9 ∷ 1 ∷ 10 ∷ 48 ∷ 30 ∷ 5 ∷ 12 ∷ 5 ∷ 9 ∷ 63 ∷ 9 ∷ 73 ∷ 9 ∷ [];
       symbols =
-        0 ∷ 1 ∷ 2 ∷ 3 ∷ 4 ∷ 5 ∷ 6 ∷ 7 ∷ 8 ∷ 9 ∷ 10 ∷ 2 ∷ 8 ∷ 5 ∷ 6 ∷ 7 ∷ 16 ∷ 17 ∷ 18 ∷ 19 ∷ 2 ∷ 21 ∷ 5 ∷ 23 ∷ 7 ∷ 25 ∷ 26 ∷ 27 ∷ 8 ∷
-        27 ∷ 30 ∷ 31 ∷ 32 ∷ 33 ∷ 2 ∷ 35 ∷ 5 ∷ 37 ∷ 7 ∷ 39 ∷ 40 ∷ 41 ∷ 2 ∷ 43 ∷ 2 ∷ 45 ∷ 2 ∷ [];
-      kinds = []; tokens = []; sizes = []; roles = [];
+          0 ∷ 1 ∷ 2 ∷ 3 ∷ 4 ∷ 5 ∷ 6 ∷ 7 ∷ 8 ∷ 9 ∷ 10 ∷ 2 ∷ 8 ∷ 5 ∷ 6 ∷ 7 ∷ 16 ∷ 17 ∷ 18 ∷ 19 ∷ 2 ∷ 21 ∷ 5 ∷ 23 ∷ 7 ∷ 25 ∷ 26 ∷ 27 ∷ 8 ∷
+          27 ∷ 30 ∷ 31 ∷ 32 ∷ 33 ∷ 2 ∷ 35 ∷ 5 ∷ 37 ∷ 7 ∷ 39 ∷ 40 ∷ 41 ∷ 2 ∷ 43 ∷ 2 ∷ 45 ∷ 2 ∷ [];
+      kinds = [];
+      tokens = [];
+      sizes = [];
+      roles = [];
     })
     press-rows
 
@@ -119,10 +122,10 @@ press-file c l e =
     (rw press-bound press-typed) press-plan (rw press-bound (order-passes press press-bindings press-plan (press-order .0) (press-order .1))) c l e)
 
 pub press-exact :
-  Exactly press (bindings press) 4 (integer (negsuc 11)) ×
-  Exactly press (bindings press) 10 (integer (negsuc 3)) ×
-  Exactly press (bindings press) 20 (logical UNKNOWN) ×
-  Exactly press (bindings press) 25 (binary (true ∷ false ∷ false ∷ true ∷ true ∷ []))
+    Exactly press (bindings press) 4 (integer (negsuc 11)) ×
+    Exactly press (bindings press) 10 (integer (negsuc 3)) ×
+    Exactly press (bindings press) 20 (logical UNKNOWN) ×
+    Exactly press (bindings press) 25 (binary (true ∷ false ∷ false ∷ true ∷ true ∷ []))
 unfolding span keep flatMap numeral integerValue binaryBits exact quotient remainder DIV MOD power AND OR XOR join compareBits simple declared-in operator-of shape run answers owner firstFrom
 press-exact = (press-file 4 (omega arith) refl, press-file 10 (omega arith) refl, press-file 20 (omega arith) refl, press-file 25 (omega arith) refl)
 
@@ -143,23 +146,26 @@ shade =
     (record {
       bytes = bytes shade-text;
       starts =
-        0 ∷ 7 ∷ 8 ∷ 10 ∷ 19 ∷ 24 ∷ 26 ∷ 34 ∷ 37 ∷ 41 ∷ 42 ∷ 46 ∷ 49 ∷ 55 ∷ 56 ∷ 61 ∷ 62 ∷ 64 ∷ 68 ∷ 70 ∷ 76 ∷ 79 ∷ 82 ∷ 84 ∷ 90 ∷ 92 ∷
-        100 ∷ 103 ∷ 107 ∷ 109 ∷ 110 ∷ 112 ∷ 117 ∷ 119 ∷ 127 ∷ 130 ∷ 136 ∷ 140 ∷ 141 ∷ 143 ∷ 147 ∷ 149 ∷ 151 ∷ 152 ∷ 153 ∷ 155 ∷ 167 ∷
-        169 ∷ 174 ∷ 181 ∷ 183 ∷ 195 ∷ 198 ∷ 199 ∷ 202 ∷ 204 ∷ 209 ∷ 210 ∷ 212 ∷ 220 ∷ 222 ∷ 227 ∷ 233 ∷ 235 ∷ 241 ∷ 243 ∷ 251 ∷ 253 ∷
-        263 ∷ [];
+          0 ∷ 7 ∷ 8 ∷ 10 ∷ 19 ∷ 24 ∷ 26 ∷ 34 ∷ 37 ∷ 41 ∷ 42 ∷ 46 ∷ 49 ∷ 55 ∷ 56 ∷ 61 ∷ 62 ∷ 64 ∷ 68 ∷ 70 ∷ 76 ∷ 79 ∷ 82 ∷ 84 ∷ 90 ∷ 92 ∷
+          100 ∷ 103 ∷ 107 ∷ 109 ∷ 110 ∷ 112 ∷ 117 ∷ 119 ∷ 127 ∷ 130 ∷ 136 ∷ 140 ∷ 141 ∷ 143 ∷ 147 ∷ 149 ∷ 151 ∷ 152 ∷ 153 ∷ 155 ∷ 167 ∷
+          169 ∷ 174 ∷ 181 ∷ 183 ∷ 195 ∷ 198 ∷ 199 ∷ 202 ∷ 204 ∷ 209 ∷ 210 ∷ 212 ∷ 220 ∷ 222 ∷ 227 ∷ 233 ∷ 235 ∷ 241 ∷ 243 ∷ 251 ∷ 253 ∷
+          263 ∷ [];
       lengths =
-        6 ∷ 1 ∷ 1 ∷ 8 ∷ 4 ∷ 1 ∷ 7 ∷ 2 ∷ 3 ∷ 1 ∷ 3 ∷ 2 ∷ 6 ∷ 1 ∷ 5 ∷ 1 ∷ 1 ∷ 3 ∷ 1 ∷ 5 ∷ 2 ∷ 3 ∷ 1 ∷ 5 ∷ 1 ∷ 7 ∷ 2 ∷ 3 ∷ 1 ∷ 1 ∷ 1 ∷ 4 ∷
-        1 ∷ 7 ∷ 2 ∷ 5 ∷ 3 ∷ 1 ∷ 1 ∷ 3 ∷ 1 ∷ 1 ∷ 1 ∷ 1 ∷ 1 ∷ 12 ∷ 1 ∷ 4 ∷ 6 ∷ 1 ∷ 11 ∷ 2 ∷ 1 ∷ 3 ∷ 1 ∷ 5 ∷ 1 ∷ 1 ∷ 8 ∷ 1 ∷ 4 ∷ 5 ∷ 1 ∷ 6 ∷
-        1 ∷ 8 ∷ 1 ∷ 10 ∷ 1 ∷ [];
+          6 ∷ 1 ∷ 1 ∷ 8 ∷ 4 ∷ 1 ∷ 7 ∷ 2 ∷ 3 ∷ 1 ∷ 3 ∷ 2 ∷ 6 ∷ 1 ∷ 5 ∷ 1 ∷ 1 ∷ 3 ∷ 1 ∷ 5 ∷ 2 ∷ 3 ∷ 1 ∷ 5 ∷ 1 ∷ 7 ∷ 2 ∷ 3 ∷ 1 ∷ 1 ∷ 1 ∷ 4 ∷
+          1 ∷ 7 ∷ 2 ∷ 5 ∷ 3 ∷ 1 ∷ 1 ∷ 3 ∷ 1 ∷ 1 ∷ 1 ∷ 1 ∷ 1 ∷ 12 ∷ 1 ∷ 4 ∷ 6 ∷ 1 ∷ 11 ∷ 2 ∷ 1 ∷ 3 ∷ 1 ∷ 5 ∷ 1 ∷ 1 ∷ 8 ∷ 1 ∷ 4 ∷ 5 ∷ 1 ∷ 6 ∷
+          1 ∷ 8 ∷ 1 ∷ 10 ∷ 1 ∷ [];
       terminals =
-        125 ∷ 1 ∷ 9 ∷ 53 ∷ 1 ∷ 10 ∷ 50 ∷ 30 ∷ 106 ∷ 24 ∷ 1 ∷ 28 ∷ 1 ∷ 7 ∷ 1 ∷ 25 ∷ 9 ∷ 1 ∷ 10 ∷ 1 ∷ 30 ∷ 1 ∷ 9 ∷ 1 ∷ 10 ∷ 50 ∷ 30 ∷ 1 ∷
-        14 ∷ 6 ∷ 9 ∷ 1 ∷ 10 ∷ 102 ∷ 30 ∷ 1 ∷ 40 ∷ 24 ∷ 2 ∷ 58 ∷ 2 ∷ 14 ∷ 2 ∷ 25 ∷ 9 ∷ 63 ∷ 9 ∷ 140 ∷ 1 ∷ 14 ∷ 76 ∷ 110 ∷ 24 ∷ 1 ∷ 8 ∷ 1 ∷
-        25 ∷ 9 ∷ 74 ∷ 9 ∷ 140 ∷ 1 ∷ 14 ∷ 1 ∷ 9 ∷ 74 ∷ 9 ∷ 73 ∷ 9 ∷ [];
+          125 ∷ 1 ∷ 9 ∷ 53 ∷ 1 ∷ 10 ∷ 50 ∷ 30 ∷ 106 ∷ 24 ∷ 1 ∷ 28 ∷ 1 ∷ 7 ∷ 1 ∷ 25 ∷ 9 ∷ 1 ∷ 10 ∷ 1 ∷ 30 ∷ 1 ∷ 9 ∷ 1 ∷ 10 ∷ 50 ∷ 30 ∷ 1 ∷
+          14 ∷ 6 ∷ 9 ∷ 1 ∷ 10 ∷ 102 ∷ 30 ∷ 1 ∷ 40 ∷ 24 ∷ 2 ∷ 58 ∷ 2 ∷ 14 ∷ 2 ∷ 25 ∷ 9 ∷ 63 ∷ 9 ∷ 140 ∷ 1 ∷ 14 ∷ 76 ∷ 110 ∷ 24 ∷ 1 ∷ 8 ∷ 1 ∷
+          25 ∷ 9 ∷ 74 ∷ 9 ∷ 140 ∷ 1 ∷ 14 ∷ 1 ∷ 9 ∷ 74 ∷ 9 ∷ 73 ∷ 9 ∷ [];
       symbols =
-        0 ∷ 1 ∷ 2 ∷ 3 ∷ 4 ∷ 5 ∷ 6 ∷ 7 ∷ 8 ∷ 9 ∷ 10 ∷ 11 ∷ 12 ∷ 13 ∷ 14 ∷ 15 ∷ 2 ∷ 10 ∷ 5 ∷ 19 ∷ 7 ∷ 21 ∷ 2 ∷ 23 ∷ 5 ∷ 6 ∷ 7 ∷ 10 ∷ 28 ∷
-        29 ∷ 2 ∷ 31 ∷ 5 ∷ 33 ∷ 7 ∷ 23 ∷ 36 ∷ 9 ∷ 38 ∷ 39 ∷ 40 ∷ 28 ∷ 42 ∷ 15 ∷ 2 ∷ 45 ∷ 2 ∷ 47 ∷ 12 ∷ 28 ∷ 50 ∷ 51 ∷ 9 ∷ 21 ∷ 54 ∷ 14 ∷
-        15 ∷ 2 ∷ 58 ∷ 2 ∷ 47 ∷ 19 ∷ 28 ∷ 12 ∷ 2 ∷ 58 ∷ 2 ∷ 67 ∷ 2 ∷ [];
-      kinds = []; tokens = []; sizes = []; roles = [];
+          0 ∷ 1 ∷ 2 ∷ 3 ∷ 4 ∷ 5 ∷ 6 ∷ 7 ∷ 8 ∷ 9 ∷ 10 ∷ 11 ∷ 12 ∷ 13 ∷ 14 ∷ 15 ∷ 2 ∷ 10 ∷ 5 ∷ 19 ∷ 7 ∷ 21 ∷ 2 ∷ 23 ∷ 5 ∷ 6 ∷ 7 ∷ 10 ∷ 28 ∷
+          29 ∷ 2 ∷ 31 ∷ 5 ∷ 33 ∷ 7 ∷ 23 ∷ 36 ∷ 9 ∷ 38 ∷ 39 ∷ 40 ∷ 28 ∷ 42 ∷ 15 ∷ 2 ∷ 45 ∷ 2 ∷ 47 ∷ 12 ∷ 28 ∷ 50 ∷ 51 ∷ 9 ∷ 21 ∷ 54 ∷ 14 ∷
+          15 ∷ 2 ∷ 58 ∷ 2 ∷ 47 ∷ 19 ∷ 28 ∷ 12 ∷ 2 ∷ 58 ∷ 2 ∷ 67 ∷ 2 ∷ [];
+      kinds = [];
+      tokens = [];
+      sizes = [];
+      roles = [];
     })
     shade-rows
 
@@ -201,9 +207,9 @@ shade-file c l e =
     (rw shade-bound shade-typed) shade-plan (rw shade-bound (order-passes shade shade-bindings shade-plan (shade-order .0) (shade-order .1))) c l e)
 
 pub shade-exact :
-  Exactly shade (bindings shade) 5 (logical TRUE) ×
-  Exactly shade (bindings shade) 8 (item 23) ×
-  Exactly shade (bindings shade) 13 (end 19) ×
-  Exactly shade (bindings shade) 22 (end 19)
+    Exactly shade (bindings shade) 5 (logical TRUE) ×
+    Exactly shade (bindings shade) 8 (item 23) ×
+    Exactly shade (bindings shade) 13 (end 19) ×
+    Exactly shade (bindings shade) 22 (end 19)
 unfolding span keep flatMap numeral integerValue binaryBits exact quotient remainder DIV MOD power AND OR XOR join compareBits simple declared-in operator-of shape run answers owner firstFrom
 shade-exact = (shade-file 5 (omega arith) refl, shade-file 8 (omega arith) refl, shade-file 13 (omega arith) refl, shade-file 22 (omega arith) refl)

@@ -34,3 +34,5 @@ pub mod TypeCycle
 pub mod Typed
 pub mod Untied
 pub mod Within
+pub mod Enumeration
+pub mod Acceptance

@@ -9,8 +9,6 @@ use native.Mathlib.Omega.{arith}
 use borrow.Author.Tests.{ltb-true, leb-true, eqb-true, eqb-false, eq-eqb}
 use lib.Dec.{eqb, leb, ltb}
 use lib.ListN.{length, getD, take, drop, List·getD-map, List·getD-eq-default, length-map, length-take, length-drop}
-use Rattle.ebnf.specs.Set.{mem}
-use Rattle.ebnf.proofs.PostOrder.{token-named}
 use Rattle.express.specs.Bytes.{within, upper, digit}
 use Rattle.express.specs.Lexis.{Row, Lexed, Reading, at, refused, part, run, bit, numeral, greatest, integerEnd, binaryEnd, tokenEnd, kindAt, stopped, cons, afterToken, afterSkip, skipped, lexIn, lexed, starts, sizes, integerValue, binaryBits}
 use Rattle.express.specs.Terminal.{Fixed, identifier, integer, binary, the, symbols, reserved, among, terminalOf}
@@ -23,8 +21,7 @@ use Rattle.express.specs.Syntax.{Read}
 use Rattle.express.specs.Scanned.{spelled, terminals, Scanned}
 use Rattle.express.specs.Shape.{text, Literals}
 use Rattle.express.proofs.Places.{run-low, run-high}
-use Rattle.express.proofs.Nodes.{kinds}
-use Rattle.express.proofs.FormedRows.{kind-is, role-is, token-is, node-at}
+use Rattle.express.proofs.Within.{integer-named, binary-named}
 
 -- ---- tokens
 
@@ -41,8 +38,8 @@ unfolding integerEnd integerValue
 integer-small s q e h = by (leb (numeral 10 0 (part s q (run digit s q))) greatest) refl h
   where
     by :
-      (b : Bool) → leb (numeral 10 0 (part s q (run digit s q))) greatest ≡ b → cond b (at (run digit s q)) (refused 3 q) ≡ at e →
-      numeral 10 0 (part s q e) < 2 ^ 63
+        (b : Bool) → leb (numeral 10 0 (part s q (run digit s q))) greatest ≡ b → cond b (at (run digit s q)) (refused 3 q) ≡ at e →
+        numeral 10 0 (part s q e) < 2 ^ 63
     by true i g =
         let z : run digit s q ≡ e = cc in
         let l = leb-true (numeral 10 0 (part s q (run digit s q))) greatest i in
@@ -60,8 +57,8 @@ unfolding binaryEnd
 binary-bits s q e h = by (eqb (run bit s (q + 1) - (q + 1)) 0) (leb (run bit s (q + 1) - (q + 1)) 63) refl refl h
   where
     by :
-      (b c : Bool) → eqb (run bit s (q + 1) - (q + 1)) 0 ≡ b → leb (run bit s (q + 1) - (q + 1)) 63 ≡ c →
-      cond b (refused 2 q) (cond c (at (run bit s (q + 1))) (refused 3 q)) ≡ at e → Bits s q e
+        (b c : Bool) → eqb (run bit s (q + 1) - (q + 1)) 0 ≡ b → leb (run bit s (q + 1) - (q + 1)) 63 ≡ c →
+        cond b (refused 2 q) (cond c (at (run bit s (q + 1))) (refused 3 q)) ≡ at e → Bits s q e
     by true c i j g = absurd (let z : _≡_ {A = ℕ} 0 1 = cc in omega arith)
     by false false i j g = absurd (let z : _≡_ {A = ℕ} 0 1 = cc in omega arith)
     by false true i j g =
@@ -112,17 +109,17 @@ rows-sized zero s p i = nothing-sized s
 rows-sized (suc f) s p i = by (skipped s p) (λ q j. rows-sized f s q j)
   where
     at-row : (q e j : ℕ) → Sized s (record { kind = kindAt s q; start = q; size = e - q }) → ((j : ℕ) → Sized s (getD (lexIn f s e .rows) j no-row)) →
-      Sized s (getD (record { kind = kindAt s q; start = q; size = e - q } ∷ lexIn f s e .rows) j no-row)
+        Sized s (getD (record { kind = kindAt s q; start = q; size = e - q } ∷ lexIn f s e .rows) j no-row)
     at-row q e zero h more = h
     at-row q e (suc j) h more = more j
 
     token : (q : ℕ) (r : Reading) → q < length s → tokenEnd s q (kindAt s q) ≡ r → ((q j : ℕ) → Sized s (getD (lexIn f s q .rows) j no-row)) →
-      Sized s (getD (afterToken (kindAt s q) q r (λ q. lexIn f s q) .rows) i no-row)
+        Sized s (getD (afterToken (kindAt s q) q r (λ q. lexIn f s q) .rows) i no-row)
     token q (refused n o) l e more = nothing-sized s
     token q (at z) l e more = at-row q z i (sized s (kindAt s q) q z l e) (more z)
 
     inside : (q : ℕ) (b : Bool) → ltb q (length s) ≡ b → ((q j : ℕ) → Sized s (getD (lexIn f s q .rows) j no-row)) →
-      Sized s (getD (cond b (afterToken (kindAt s q) q (tokenEnd s q (kindAt s q)) (λ q. lexIn f s q)) (stopped (at q)) .rows) i no-row)
+        Sized s (getD (cond b (afterToken (kindAt s q) q (tokenEnd s q (kindAt s q)) (λ q. lexIn f s q)) (stopped (at q)) .rows) i no-row)
     inside q false e more = nothing-sized s
     inside q true e more = token q (tokenEnd s q (kindAt s q)) (ltb-true q (length s) e) refl more
 
@@ -146,7 +143,7 @@ among-not c [] s o e n = n
 among-not c (f ∷ fs) s o e n = by (same (f .spelling) s) (eqb (f .code) c) (any (λ (f : Fixed). eqb (f .code) c) fs) refl refl e (λ h. among-not c fs s o h n)
   where
     by : (a b d : Bool) → eqb (f .code) c ≡ b → any (λ (f : Fixed). eqb (f .code) c) fs ≡ d → b || d ≡ false →
-      (any (λ (f : Fixed). eqb (f .code) c) fs ≡ false → among fs s o ≢ c) → cond a (f .code) (among fs s o) ≢ c
+        (any (λ (f : Fixed). eqb (f .code) c) fs ≡ false → among fs s o ≢ c) → cond a (f .code) (among fs s o) ≢ c
     by a true d i j g more = absurd (false≢true (sym g))
     by true false d i j g more = eqb-false (f .code) c i
     by false false d i j g more = more (j ∙ g)
@@ -155,8 +152,8 @@ abbrev has-code : ℕ → Fixed → Bool
 has-code c f = eqb (f .code) c
 
 literal-kind :
-  (c k : ℕ) (s : List ℕ) → any (has-code c) reserved ≡ false → any (has-code c) symbols ≡ false → the identifier ≢ c → 0 ≢ c →
-  terminalOf k s ≡ c → k ≡ c
+    (c k : ℕ) (s : List ℕ) → any (has-code c) reserved ≡ false → any (has-code c) symbols ≡ false → the identifier ≢ c → 0 ≢ c →
+    terminalOf k s ≡ c → k ≡ c
 unfolding terminalOf
 literal-kind c k s w y i z e = by (eqb k 1) (eqb k 6) (within 2 5 k) e
   where
@@ -167,14 +164,6 @@ literal-kind c k s w y i z e = by (eqb k 1) (eqb k 6) (within 2 5 k) e
     by false false false g = absurd (z g)
 
 -- ---- nodes
-
-mem-one : (x c : ℕ) → mem x (c ∷ []) ≡ true → x ≡ c
-unfolding mem
-mem-one x c e = by (eqb x c) refl e
-  where
-    by : (b : Bool) → eqb x c ≡ b → b || false ≡ true → x ≡ c
-    by true i g = eqb-true x c i
-    by false i g = absurd (false≢true g)
 
 module _ {x : Nonterminal} {t : Table} (R : Read x t) (S : Scanned t) where
   -- the row of the token that names a node
@@ -200,22 +189,17 @@ module _ {x : Nonterminal} {t : Table} (R : Read x t) (S : Scanned t) where
       by (yes l) = l
       by (no l) = absurd (h (sym e ∙ List·getD-eq-default (t .kinds) 0 (omega arith)))
 
-  named : (n k : ℕ) → kind t n ≡ k → k ≢ 0 → mem (terminal t n) (kinds .named-by k (role t n)) ≡ true
-  named n k e h =
-      rw (token-is R n)
-      (token-named kinds (t .terminals) (R .rows) n (node-at R n (inside n k e h)) k (role t n) (sym (kind-is R n) ∙ e) (sym (role-is R n)))
-
   integer-row : (n : ℕ) → kind t n ≡ node.integer-literal → row n .kind ≡ 2
   unfolding any
   integer-row n e =
       literal-kind 2 (row n .kind) (spelled (t .bytes) (row n)) refl refl (λ (i : _≡_ {A = ℕ} 1 2). omega arith) (λ (i : _≡_ {A = ℕ} 0 2). omega arith)
-      (sym (terminal-is n) ∙ mem-one (terminal t n) 2 (named n node.integer-literal e (λ (i : _≡_ {A = ℕ} 1 0). omega arith)))
+      (sym (terminal-is n) ∙ integer-named R n (inside n node.integer-literal e (λ (i : _≡_ {A = ℕ} 1 0). omega arith)) e)
 
   binary-row : (n : ℕ) → kind t n ≡ node.binary-literal → row n .kind ≡ 5
   unfolding any
   binary-row n e =
       literal-kind 5 (row n .kind) (spelled (t .bytes) (row n)) refl refl (λ (i : _≡_ {A = ℕ} 1 5). omega arith) (λ (i : _≡_ {A = ℕ} 0 5). omega arith)
-      (sym (terminal-is n) ∙ mem-one (terminal t n) 5 (named n node.binary-literal e (λ (i : _≡_ {A = ℕ} 2 0). omega arith)))
+      (sym (terminal-is n) ∙ binary-named R n (inside n node.binary-literal e (λ (i : _≡_ {A = ℕ} 2 0). omega arith)) e)
 
   -- THE LITERALS of a text are within their bounds.
   pub literals : Literals t

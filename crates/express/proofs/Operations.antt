@@ -178,13 +178,13 @@ module _ {t : Table} where
   recast {a} e g = subst (λ (k : Kind). Good t k a) e g
 
   pub common-good :
-    (j k : Kind) {x y : Answer} → comparable (common j k) ≡ true → (comparable j ≡ true → Good t j x) → (comparable k ≡ true → Good t k y) →
-    Common t j k (common j k) x y
+      (j k : Kind) {x y : Answer} → comparable (common j k) ≡ true → (comparable j ≡ true → Good t j x) → (comparable k ≡ true → Good t k y) →
+      Common t j k (common j k) x y
   common-good j k {x} {y} e g h = by (same j undetermined) (same k undetermined) (same j k) refl refl refl e
     where
       by :
-        (p q r : Bool) → same j undetermined ≡ p → same k undetermined ≡ q → same j k ≡ r →
-        comparable (cond p k (cond q j (cond r j untyped))) ≡ true → Common t j k (cond p k (cond q j (cond r j untyped))) x y
+          (p q r : Bool) → same j undetermined ≡ p → same k undetermined ≡ q → same j k ≡ r →
+          comparable (cond p k (cond q j (cond r j untyped))) ≡ true → Common t j k (cond p k (cond q j (cond r j untyped))) x y
       by true q r i _ _ c =
           let u : j ≡ undetermined = same-kinds j undetermined i in
           let l : comparable j ≡ true = ap comparable u in
@@ -265,8 +265,8 @@ module _ {t : Table} where
   combined-good o g h = unless-end g (unless-end h (operated-good o g h))
 
   pub between-good :
-    (o p : Relation) {j k : Kind} {x y z : Answer} → Good t j x → Good t j y → Good t k y → Good t k z →
-    Good t logicals (between o p x y z)
+      (o p : Relation) {j k : Kind} {x y z : Answer} → Good t j x → Good t j y → Good t k y → Good t k z →
+      Good t logicals (between o p x y z)
   between-good o p g h i j = combined-good (connective and) (combined-good (relation o) g h) (combined-good (relation p) i j)
 
   pub signed-good : (o : Sign) {k : Kind} {x : Answer} → takes-one o k ≡ true → Good t k x → Good t (result-of-one o) (signed o x)
@@ -316,8 +316,8 @@ module _ {t : Table} where
   result-holds (unknown e) = an-end (nineteen .least) (nineteen .most)
 
   pub declared-good :
-    (d : Declared) (k : Kind) {a : Answer} → comparable (common (kind-of-type d) k) ≡ true → (comparable k ≡ true → Good t k a) →
-    Common t (kind-of-type d) k (kind-of-type d) a a
+      (d : Declared) (k : Kind) {a : Answer} → comparable (common (kind-of-type d) k) ≡ true → (comparable k ≡ true → Good t k a) →
+      Common t (kind-of-type d) k (kind-of-type d) a a
   declared-good d k {a} c g =
       let r : Common t (kind-of-type d) k (common (kind-of-type d) k) indeterminate a = common-good (kind-of-type d) k c (λ e. good-?) g in
       let m = recast (common-left (kind-of-type d) k (determined d) c) (r .second) in

@@ -64,20 +64,20 @@ ordered t b passed (d ∷ ds) e =
     next (ltb-true d (count t) (and-fst (ltb d (count t)) (is t node.constant d) two))
     (eqb-true (kind t d) node.constant (and-snd (ltb d (count t)) (is t node.constant d) two))
     (λ n c lo hi i.
-      among-mem passed c
-      (ap (names-pass (among passed)) (sym i) ∙
-      each (λ n. names-pass (among passed) (shape t b n)) (span (first t d) (d - first t d))
-      (and-snd (ltb d (count t) && is t node.constant d) test three) n (mem-span (first t d) (d - first t d) n lo (omega arith))))
+    among-mem passed c
+    (ap (names-pass (among passed)) (sym i) ∙
+    each (λ n. names-pass (among passed) (shape t b n)) (span (first t d) (d - first t d))
+    (and-snd (ltb d (count t) && is t node.constant d) test three) n (mem-span (first t d) (d - first t d) n lo (omega arith))))
     (ordered t b (d ∷ passed) ds last)
 
 pub order-passes :
-  (t : Table) (b ds : List ℕ) → in-order t b [] ds ≡ true → every (λ c. not (is t node.constant c) || among ds c) (nodes t) ≡ true →
-  Order t b ds
+    (t : Table) (b ds : List ℕ) → in-order t b [] ds ≡ true → every (λ c. not (is t node.constant c) || among ds c) (nodes t) ≡ true →
+    Order t b ds
 order-passes t b ds e f =
     record {
       ordered = ordered t b [] ds e;
       complete = λ c l q.
-        among-mem ds c
-        (rw (eq-eqb (kind t c) node.constant q) at
-        (each (λ c. not (is t node.constant c) || among ds c) (nodes t) f c (mem-span 0 (count t) c (omega arith) (omega arith))));
+          among-mem ds c
+          (rw (eq-eqb (kind t c) node.constant q) at
+          (each (λ c. not (is t node.constant c) || among ds c) (nodes t) f c (mem-span 0 (count t) c (omega arith) (omega arith))));
     }

@@ -26,7 +26,7 @@ pub data Declaring (k : ℕ) : Type 0 where
   a-type : k ≡ node.type → Declaring k
   an-entity : k ≡ node.entity → Declaring k
 
-declaring : (t : Table) (m : ℕ) → isDeclaration t m ≡ true → Declaring (kind t m)
+pub declaring : (t : Table) (m : ℕ) → isDeclaration t m ≡ true → Declaring (kind t m)
 declaring t m h =
     ⊎-elim
     (λ a. ⊎-elim (λ b. a-constant (eqb-true (kind t m) node.constant b)) (λ b. a-type (eqb-true (kind t m) node.type b)) (or-cases (is t node.constant m) (is t node.type m) a))

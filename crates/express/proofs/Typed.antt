@@ -37,17 +37,17 @@ span-rising hi lo i (suc d) ns l h r = cons l (omega arith) (span-rising hi (suc
 
 module _ (t : Table) (f : Formed t) where
   constants-rising :
-    (n k lo : ℕ) → n + k ≡ count t → ((c : ℕ) → n ≤ c → c < count t → kind t c ≡ node.constant → lo ≤ first t c) →
-    Rising (count t) lo (all-within t (keep (is t node.constant) (span n k)))
+      (n k lo : ℕ) → n + k ≡ count t → ((c : ℕ) → n ≤ c → c < count t → kind t c ≡ node.constant → lo ≤ first t c) →
+      Rising (count t) lo (all-within t (keep (is t node.constant) (span n k)))
   unfolding flatMap keep span
   constants-rising n zero lo e h = nil
   constants-rising n (suc k) lo e h = by (is t node.constant n) refl (λ low. constants-rising (suc n) k low (omega arith))
     where
       by :
-        (p : Bool) → is t node.constant n ≡ p →
-        ((low : ℕ) → ((c : ℕ) → suc n ≤ c → c < count t → kind t c ≡ node.constant → low ≤ first t c) →
-        Rising (count t) low (all-within t (keep (is t node.constant) (span (suc n) k)))) →
-        Rising (count t) lo (all-within t (cond p (n ∷ keep (is t node.constant) (span (suc n) k)) (keep (is t node.constant) (span (suc n) k))))
+          (p : Bool) → is t node.constant n ≡ p →
+          ((low : ℕ) → ((c : ℕ) → suc n ≤ c → c < count t → kind t c ≡ node.constant → low ≤ first t c) →
+          Rising (count t) low (all-within t (keep (is t node.constant) (span (suc n) k)))) →
+          Rising (count t) lo (all-within t (cond p (n ∷ keep (is t node.constant) (span (suc n) k)) (keep (is t node.constant) (span (suc n) k))))
       by true i more =
           let q : kind t n ≡ node.constant = eqb-true (kind t n) node.constant i in
           let z = f .inside n (omega arith) in
@@ -88,8 +88,8 @@ module _ (t : Table) (f : Formed t) where
 module _ (t : Table) (b : List ℕ) (f : Formed t) where
   -- what is found at a node goes by the kinds of its children
   same-finding :
-    (j k : ℕ → Kind) (n : ℕ) → n < count t → ((c : ℕ) → Below t n c → j c ≡ k c) →
-    finding t b j n (shape t b n) ≡ finding t b k n (shape t b n)
+      (j k : ℕ → Kind) (n : ℕ) → n < count t → ((c : ℕ) → Below t n c → j c ≡ k c) →
+      finding t b j n (shape t b n) ≡ finding t b k n (shape t b n)
   same-finding j k n l h = by (shape t b n) (told t b n)
     where
       by : (s : Shape) → Told t b n s → finding t b j n s ≡ finding t b k n s
@@ -151,8 +151,8 @@ module _ (t : Table) (b : List ℕ) (f : Formed t) where
     fits : (m : ℕ) → List·Memᴰ m ns → Fits t b (kind-at js) m
 
   fitted :
-    (lo : ℕ) (ns : List ℕ) (ks js : List Kind) → Rising (count t) lo ns → length ks ≡ count t → type-nodes t b ns ks ≡ typed js →
-    Fitted lo ns ks js
+      (lo : ℕ) (ns : List ℕ) (ks js : List Kind) → Rising (count t) lo ns → length ks ≡ count t → type-nodes t b ns ks ≡ typed js →
+      Fitted lo ns ks js
   unfolding type-nodes
   fitted lo [] ks js r l e =
       let q : ks ≡ js = cc in
@@ -164,15 +164,15 @@ module _ (t : Table) (b : List ℕ) (f : Formed t) where
       by (finding t b (kind-at ks) n (shape t b n)) refl e (λ k i. fitted (suc n) ns (set ks n k) js r (rw length-set l) i)
     where
       by :
-        (x : Finding) → finding t b (kind-at ks) n (shape t b n) ≡ x → then x n (λ k. type-nodes t b ns (set ks n k)) ≡ typed js →
-        ((k : Kind) → type-nodes t b ns (set ks n k) ≡ typed js → Fitted (suc n) ns (set ks n k) js) → Fitted lo (n ∷ ns) ks js
+          (x : Finding) → finding t b (kind-at ks) n (shape t b n) ≡ x → then x n (λ k. type-nodes t b ns (set ks n k)) ≡ typed js →
+          ((k : Kind) → type-nodes t b ns (set ks n k) ≡ typed js → Fitted (suc n) ns (set ks n k) js) → Fitted lo (n ∷ ns) ks js
       by (fault p) i g more = absurd (let z : _≡_ {A = ℕ} 0 1 = cc in omega arith)
       by (found.kind k) i g more =
           let w = more k g in
           record {
             kept = still lo n ks js k l a c i (w .kept);
             fits = λ m h.
-              ⊎-elim (λ q. rw q (fits-there lo n ks js k l a c i (w .kept))) (λ h′. w .fits m h′) (List·Memᴰ·cases-cons h);
+                ⊎-elim (λ q. rw q (fits-there lo n ks js k l a c i (w .kept))) (λ h′. w .fits m h′) (List·Memᴰ·cases-cons h);
           }
 
   -- refused
@@ -189,16 +189,16 @@ module _ (t : Table) (b : List ℕ) (f : Formed t) where
       ⊎-elim (λ (q : m ≡ n). omega arith) (λ h′. let z = rising-from hi (suc n) ns r m h′ in omega arith) (List·Memᴰ·cases-cons h)
 
   stopped :
-    (lo : ℕ) (ns : List ℕ) (ks : List Kind) (p n : ℕ) → Rising (count t) lo ns → length ks ≡ count t → type-nodes t b ns ks ≡ refused p n →
-    Stopped lo ns ks p n
+      (lo : ℕ) (ns : List ℕ) (ks : List Kind) (p n : ℕ) → Rising (count t) lo ns → length ks ≡ count t → type-nodes t b ns ks ≡ refused p n →
+      Stopped lo ns ks p n
   unfolding type-nodes
   stopped lo [] ks p n r l e = absurd (let z : _≡_ {A = ℕ} 0 1 = cc in omega arith)
   stopped lo (d ∷ ns) ks p n (cons a c r) l e =
       by (finding t b (kind-at ks) d (shape t b d)) refl e (λ k i. stopped (suc d) ns (set ks d k) p n r (rw length-set l) i)
     where
       by :
-        (x : Finding) → finding t b (kind-at ks) d (shape t b d) ≡ x → then x d (λ k. type-nodes t b ns (set ks d k)) ≡ refused p n →
-        ((k : Kind) → type-nodes t b ns (set ks d k) ≡ refused p n → Stopped (suc d) ns (set ks d k) p n) → Stopped lo (d ∷ ns) ks p n
+          (x : Finding) → finding t b (kind-at ks) d (shape t b d) ≡ x → then x d (λ k. type-nodes t b ns (set ks d k)) ≡ refused p n →
+          ((k : Kind) → type-nodes t b ns (set ks d k) ≡ refused p n → Stopped (suc d) ns (set ks d k) p n) → Stopped lo (d ∷ ns) ks p n
       by (fault q) i g more =
           let u : q ≡ p = cc in
           let v : d ≡ n = cc in
@@ -217,7 +217,7 @@ module _ (t : Table) (b : List ℕ) (f : Formed t) where
             there = List·Memᴰ·tail (w .there);
             is = w .is;
             fits = λ m h g.
-              ⊎-elim (λ q. rw q (fits-there lo d ks (w .kinds) k l a c i (w .kept))) (λ h′. w .fits m h h′) (List·Memᴰ·cases-cons g);
+                ⊎-elim (λ q. rw q (fits-there lo d ks (w .kinds) k l a c i (w .kept))) (λ h′. w .fits m h h′) (List·Memᴰ·cases-cons g);
           }
 
   -- ---- THE TYPING, by what it says
@@ -241,8 +241,8 @@ module _ (t : Table) (b : List ℕ) (f : Formed t) where
 
   -- kinds that fit at all nodes of constants below n are the same there
   agree :
-    (j k : ℕ → Kind) (n : ℕ) → ((m : ℕ) → m < n → Constant t m → Fits t b j m) → ((m : ℕ) → m < n → Constant t m → Fits t b k m) →
-    (z m : ℕ) → m < z → m < n → Constant t m → j m ≡ k m
+      (j k : ℕ → Kind) (n : ℕ) → ((m : ℕ) → m < n → Constant t m → Fits t b j m) → ((m : ℕ) → m < n → Constant t m → Fits t b k m) →
+      (z m : ℕ) → m < z → m < n → Constant t m → j m ≡ k m
   agree j k n x y zero m s l c = absurd (omega arith)
   agree j k n x y (suc z) m s l c =
       let e = same-finding j k m (omega (arith, c .upto, c .among)) (λ d q. agree j k n x y z d (omega (arith, q .under)) (omega (arith, q .under)) (child-in m d c q)) in
@@ -252,8 +252,8 @@ module _ (t : Table) (b : List ℕ) (f : Formed t) where
 
   -- and so is what is found at n
   agree-there :
-    (j k : ℕ → Kind) (n : ℕ) → Constant t n → ((m : ℕ) → m < n → Constant t m → Fits t b j m) →
-    ((m : ℕ) → m < n → Constant t m → Fits t b k m) → finding t b j n (shape t b n) ≡ finding t b k n (shape t b n)
+      (j k : ℕ → Kind) (n : ℕ) → Constant t n → ((m : ℕ) → m < n → Constant t m → Fits t b j m) →
+      ((m : ℕ) → m < n → Constant t m → Fits t b k m) → finding t b j n (shape t b n) ≡ finding t b k n (shape t b n)
   agree-there j k n c x y =
       same-finding j k n (omega (arith, c .upto, c .among)) (λ d q. agree j k n x y n d (q .under) (q .under) (child-in n d c q))
 

@@ -60,7 +60,8 @@ cyclic t es n = cond (isDeclaration t n && reaches es n n) (fault 13 (place t n)
 abbrev pub isValue : Table → ℕ → Bool
 isValue t k = isAttribute t k || is t constant k || is t enumeration-item k
 
--- "`type.item` needs a type declared as an enumeration": the first node of one is an item
+-- "`type.item` needs a type declared as an enumeration": the first node of one is an item, and of no other type (`enumeration-iff` of
+-- proofs/Enumeration)
 abbrev pub isEnumeration : Table → ℕ → Bool
 isEnumeration t y = is t type y && is t enumeration-item (first t y)
 

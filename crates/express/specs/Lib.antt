@@ -30,3 +30,5 @@ pub mod Terminal
 pub mod Tree
 pub mod Reply
 pub mod Acceptance
+pub mod Listing
+pub mod Files

@@ -16,9 +16,9 @@ use Rattle.express.specs.Kind.{constants}
 pub data Ordered (t : Table) (b : List ℕ) : List ℕ → List ℕ → Type 0 where
   done : {passed : List ℕ} → Ordered t b passed []
   next :
-    {passed ds : List ℕ} {d : ℕ} → d < count t → kind t d ≡ constant →
-    ((n c : ℕ) → first t d ≤ n → n < d → shape t b n ≡ name c → List·Memᴰ c passed) →
-    Ordered t b (d ∷ passed) ds → Ordered t b passed (d ∷ ds)
+      {passed ds : List ℕ} {d : ℕ} → d < count t → kind t d ≡ constant →
+      ((n c : ℕ) → first t d ≤ n → n < d → shape t b n ≡ name c → List·Memᴰ c passed) →
+      Ordered t b (d ∷ passed) ds → Ordered t b passed (d ∷ ds)
 
 pub record Order (t : Table) (b : List ℕ) (ds : List ℕ) : Type 0 where
   pub ordered : Ordered t b [] ds

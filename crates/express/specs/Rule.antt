@@ -52,14 +52,14 @@ pub data Gives (t : Table) (b : List ℕ) : ℕ → Answer → Type 0 where
   a-name : {n c : ℕ} {a : Answer} → shape t b n ≡ name c → Gives t b c a → Gives t b n a
   -- operators
   a-sign :
-    {n : ℕ} {o : Sign} {x : Answer} → shape t b n ≡ unary o → Gives t b (last n) x → Fit t (takes-one o) x x → Gives t b n (signed o x)
+      {n : ℕ} {o : Sign} {x : Answer} → shape t b n ≡ unary o → Gives t b (last n) x → Fit t (takes-one o) x x → Gives t b n (signed o x)
   an-operator :
-    {n : ℕ} {o : Operator} {x y : Answer} → shape t b n ≡ operator o → Gives t b (left t n) x → Gives t b (last n) y →
-    Fit t (takes o) x y → Gives t b n (combined o x y)
+      {n : ℕ} {o : Operator} {x y : Answer} → shape t b n ≡ operator o → Gives t b (left t n) x → Gives t b (last n) y →
+      Fit t (takes o) x y → Gives t b n (combined o x y)
   an-interval :
-    {n : ℕ} {o p : Relation} {x y z : Answer} → shape t b n ≡ interval o p →
-    Gives t b (low t n) x → Gives t b (middle t n) y → Gives t b (last n) z →
-    Fit t (takes (relation o)) x y → Fit t (takes (relation p)) y z → Gives t b n (between o p x y z)
+      {n : ℕ} {o p : Relation} {x y z : Answer} → shape t b n ≡ interval o p →
+      Gives t b (low t n) x → Gives t b (middle t n) y → Gives t b (last n) z →
+      Fit t (takes (relation o)) x y → Fit t (takes (relation p)) y z → Gives t b n (between o p x y z)
   -- "A constant's answer is its expression's if that is `?`, an end or a member of the declared type; it is 19 for UNKNOWN where that type is
   -- BOOLEAN or a renaming of it; else no rule."
   a-constant : {n : ℕ} {d : Declared} {a : Answer} → shape t b n ≡ constant d → Gives t b (last n) a → Holds t d a → Gives t b n a

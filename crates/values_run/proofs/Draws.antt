@@ -10,7 +10,7 @@ use mir.Facts.{toZ-ofZ}
 use lib.IntN.{ℤ}
 use Rattle.express.specs.Answer.{Answer}
 use Rattle.values_run.specs.Applied.{applied}
-use Rattle.values_run.specs.declared.integers.Operation.{Operation}
+use Rattle.values_run.specs.declared.arithmetic.Operation.{Operation}
 
 pub shifted-under : (w k : ℕ) → Fits w64 w → w / 2 / 2 ^ k ≤ 9223372036854775807
 shifted-under w k f = let h : w < 2 ^ 64 = f .fits in le-trans (shr-le (w / 2) k) (omega arith)

@@ -2,8 +2,8 @@
 use lib.IntN.{ℤ}
 use Rattle.express.specs.Answer.{Answer}
 use Rattle.express.specs.Integer.{sum, difference, product, negation, DIV, MOD, power}
-use Rattle.values_run.specs.declared.integers.Operation.{Operation}
-use Rattle.values_run.specs.declared.integers.Operation.the-variants.{Add, Subtract, Multiply, Div, Modulo, Power, Negate}
+use Rattle.values_run.specs.declared.arithmetic.Operation.{Operation}
+use Rattle.values_run.specs.declared.arithmetic.Operation.the-variants.{Add, Subtract, Multiply, Div, Modulo, Power, Negate}
 
 abbrev pub applied : Operation → ℤ → ℤ → Answer
 applied Add a b = sum a b

@@ -1,7 +1,7 @@
 // Text on the standard output.
+use integers::Outcome;
 use libc::STDOUT_FILENO;
 use values::End;
-use values::integer::Outcome;
 use values::logical::Logical;
 use values::order::Order;
 

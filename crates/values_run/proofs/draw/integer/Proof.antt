@@ -1,5 +1,5 @@
 use borrow.Author.Needs.{needs}
-use Rattle.values.proofs.Machine.{made-fits}
+use Rattle.integers.proofs.Machine.{made-fits}
 use Rattle.values_run.proofs.draw.integer.Statement.{statement}
 use Rattle.values_run.proofs.draw.integer.Tie as tie
 

@@ -1,5 +1,5 @@
 use borrow.Author.Needs.{needs}
-use Rattle.values.proofs.Machine.{minus-fits, minus-casts, plus-casts}
+use Rattle.integers.proofs.Machine.{minus-fits, minus-casts, plus-casts}
 use Rattle.values_run.proofs.show.size.Statement.{statement}
 use Rattle.values_run.proofs.show.size.Tie as tie
 
