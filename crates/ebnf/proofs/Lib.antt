@@ -17,3 +17,4 @@ pub mod Children
 pub mod Below
 pub mod Naming
 pub mod TextOrder
+pub mod Origin

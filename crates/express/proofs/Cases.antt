@@ -6,6 +6,7 @@ use lib.IntN.{pow, one}
 use Rattle.ebnf.specs.Set.{mem}
 use Rattle.ebnf.specs.Parse.{descend, budget, parse}
 use Rattle.ebnf.specs.Depth.{first-deep}
+use Rattle.express.specs.Answer.{Answer}
 use Rattle.express.specs.Bytes.{upper, lower, wordByte, space}
 use Rattle.express.specs.Lexis.{tokens, runEnd, remarkEnd, skipIn, skipped, numeral, integerEnd, exponentEnd, realEnd, stringEnd, binaryEnd, lone, symbolSize, symbolEnd, kindAt, tokenEnd, lexIn, lexed, integerValue, binaryBits}
 use Rattle.express.specs.Terminal.{among, terminalOf}

@@ -3,6 +3,7 @@ pub mod Backward
 pub mod Bits
 pub mod Cases
 pub mod ConstantOrder
+pub mod Denotes
 pub mod Descent
 pub mod Divide
 pub mod Enumeration
