@@ -16,4 +16,5 @@ pub mod PostOrder
 pub mod Children
 pub mod Below
 pub mod Naming
+pub mod TextOrder
 pub mod Origin

@@ -17,6 +17,49 @@ use Rattle.ebnf.proofs.Sets.{and-split, or-split, lt-or-le}
 use Rattle.ebnf.proofs.Derivations.{mono}
 use Rattle.ebnf.proofs.PostOrder.{no-row, row-at}
 
+-- where a row of two lists stands
+unfoldable pub Stands : List Row → List Row → ℕ → Type 0
+Stands r s n = ((n < length r) × (row-at (r ++ s) n ≡ row-at r n)) ⊎ ((k : ℕ) × (k < length s) × (n ≡ length r + k) × (row-at (r ++ s) n ≡ row-at s k))
+
+pub stands : (r s : List Row) (n : ℕ) → n < length (r ++ s) → Stands r s n
+unfolding Stands
+stands r s n h =
+    ⊎-elim (λ (l : n < length r). inl (l, List·getD-append r s no-row n l))
+    (λ (l : length r ≤ n).
+    let e = length-append r s in
+    let q : n ≡ length r + (n - length r) = omega arith in
+    inr (n - length r, omega arith, q, ap (λ (z : ℕ). row-at (r ++ s) z) q ∙ getD-append-add r s (n - length r) no-row))
+    (lt-or-le n (length r))
+
+abbrev pub is-here : Mark → Bool
+is-here silent = false
+is-here here = true
+is-here (node k o) = false
+is-here (leaf k o) = false
+
+abbrev pub is-none : {N : Type 0} → Ebnf N → Bool
+is-none none = true
+is-none (mark m) = false
+is-none (step m cs a) = false
+is-none (seq a b) = false
+is-none (alt a b) = false
+is-none (star a) = false
+is-none (fork m cs ds a b) = false
+is-none (nt x) = false
+
+pub at-none : {N : Type 0} {rules : N → Ebnf N} {ts : List ℕ} {a : Ebnf N} {i j : ℕ} {r s : Rows} → Derives in-rows rules ts a i r j s → is-none a ≡ true → (i ≡ j) × (r ≡ s)
+at-none nothing h = (refl, refl)
+at-none marked h = absurd (false≢true h)
+at-none (token c d) h = absurd (false≢true h)
+at-none (both d e) h = absurd (false≢true h)
+at-none (left d) h = absurd (false≢true h)
+at-none (right d) h = absurd (false≢true h)
+at-none stop h = absurd (false≢true h)
+at-none (more d e) h = absurd (false≢true h)
+at-none (label c g d) h = absurd (false≢true h)
+at-none (other d) h = absurd (false≢true h)
+at-none (rule d) h = absurd (false≢true h)
+
 -- ---- the test of a rule. The state: 0, or 1 where the token that names the next node is claimed by none, or 2 where it also stands two before.
 
 module _ (own back : ℕ → ℕ → Bool) where
@@ -43,22 +86,6 @@ module _ (own back : ℕ → ℕ → Bool) where
   close-state here f = f
   close-state (node k o) f = cond (own k o) 0 f
   close-state (leaf k o) f = cond (own k o) 0 f
-
-  abbrev is-here : Mark → Bool
-  is-here silent = false
-  is-here here = true
-  is-here (node k o) = false
-  is-here (leaf k o) = false
-
-  abbrev is-none : {N : Type 0} → Ebnf N → Bool
-  is-none none = true
-  is-none (mark m) = false
-  is-none (step m cs a) = false
-  is-none (seq a b) = false
-  is-none (alt a b) = false
-  is-none (star a) = false
-  is-none (fork m cs ds a b) = false
-  is-none (nt x) = false
 
   abbrev pub after : {N : Type 0} → Ebnf N → ℕ → ℕ
   after none f = f
@@ -91,20 +118,6 @@ module _ (own back : ℕ → ℕ → Bool) where
   pub record Claimed (b i : ℕ) (rs : List Row) : Type 0 where
     pub inside : (n x : ℕ) → n < length rs → Claims (row-at rs n) x → (b ≤ x) × (x < i)
     pub apart : (n m x : ℕ) → n < length rs → m < length rs → Claims (row-at rs n) x → Claims (row-at rs m) x → n ≡ m
-
-  -- where a row of two lists stands
-  Stands : List Row → List Row → ℕ → Type 0
-  Stands r s n = ((n < length r) × (row-at (r ++ s) n ≡ row-at r n)) ⊎ ((k : ℕ) × (k < length s) × (n ≡ length r + k) × (row-at (r ++ s) n ≡ row-at s k))
-
-  stands : (r s : List Row) (n : ℕ) → n < length (r ++ s) → Stands r s n
-  unfolding Stands
-  stands r s n h =
-      ⊎-elim (λ (l : n < length r). inl (l, List·getD-append r s no-row n l))
-      (λ (l : length r ≤ n).
-      let e = length-append r s in
-      let q : n ≡ length r + (n - length r) = omega arith in
-      inr (n - length r, omega arith, q, ap (λ (z : ℕ). row-at (r ++ s) z) q ∙ getD-append-add r s (n - length r) no-row))
-      (lt-or-le n (length r))
 
   -- two lists one after the other
   joined : {b i c j : ℕ} (r s : List Row) → Claimed b i r → Claimed c j s → b ≤ c → i ≤ j
@@ -277,19 +290,6 @@ module _ (own back : ℕ → ℕ → Bool) where
   marked-by (leaf k o) r e K = marked-row k o 1 r e K
 
   -- ---- all derivations
-
-  at-none : {N : Type 0} {rules : N → Ebnf N} {ts : List ℕ} {a : Ebnf N} {i j : ℕ} {r s : Rows} → Derives in-rows rules ts a i r j s → is-none a ≡ true → (i ≡ j) × (r ≡ s)
-  at-none nothing h = (refl, refl)
-  at-none marked h = absurd (false≢true h)
-  at-none (token c d) h = absurd (false≢true h)
-  at-none (both d e) h = absurd (false≢true h)
-  at-none (left d) h = absurd (false≢true h)
-  at-none (right d) h = absurd (false≢true h)
-  at-none stop h = absurd (false≢true h)
-  at-none (more d e) h = absurd (false≢true h)
-  at-none (label c g d) h = absurd (false≢true h)
-  at-none (other d) h = absurd (false≢true h)
-  at-none (rule d) h = absurd (false≢true h)
 
   started : (i : ℕ) → Kept i 0 i (in-rows .start i)
   started i = record {

@@ -1,36 +1,35 @@
 -- THE THEOREM of demand 3, `exactness`: of a table that is well formed and that typing accepts, with an order of its constants, the rules give
 -- each constant exactly the answer that the evaluation does.
 use mathlib.Core.Path.{_≡_, refl, sym, ap, ap₂, subst, _∙_}
-use mathlib.Core.Logic.{_⊎_, inl, inr, _↔_}
+use mathlib.Core.Logic.{_⊎_, inl, inr}
 use mathlib.Core.Bool.{Bool, true, false, cond, _&&_, false≢true}
-use mathlib.Core.List.{List, [], _∷_, _++_, flatMap, List·Memᴰ, List·Memᴰ·head, List·Memᴰ·tail, List·Memᴰ·not-nil, List·Memᴰ·cases-cons}
-use Prim.Native.Nat.{ℕ, zero, suc, _+_, _-_, _^_, _≤_, _<_}
+use mathlib.Core.List.{List, _∷_, flatMap, List·Memᴰ, List·Memᴰ·head, List·Memᴰ·tail, List·Memᴰ·not-nil, List·Memᴰ·cases-cons}
+use Prim.Native.Nat.{ℕ, zero, suc, _+_, _≤_, _<_}
 use native.Mathlib.Decide.{ℕ-discrete}
 use native.Mathlib.Omega.{arith}
-use lib.ListN.{length, getD, set, replicate, length-set, length-replicate}
+use lib.ListN.{length, set, replicate, length-set, length-replicate}
 use lib.Seq.{getD-set-same, getD-set-other}
-use lib.IntN.{ℤ, pos}
-use Rattle.express.specs.Answer.{UNKNOWN, Answer, indeterminate, integer, logical, binary, item, end}
+use Rattle.express.specs.Answer.{Answer, indeterminate, item}
 use Rattle.express.specs.NodeKind as node
 use Rattle.express.specs.Select.{span}
 use Rattle.express.specs.Tree.{Table, count, kind, size, first, last}
 use Rattle.express.specs.Formed.{left, middle, low, Formed}
-use Rattle.express.specs.Relation.{Relation}
 use Rattle.express.specs.Declared.{Declared, BOOLEAN, declared}
-use Rattle.express.specs.Shape.{Sign, Operator, relation, Shape, integer-literal, logical-literal, binary-literal, question, name, unary, operator, interval, interval-operator, type, constant, unevaluated, shape, text, Literals}
+use Rattle.express.specs.Shape.{relation, Shape, integer-literal, logical-literal, binary-literal, question, name, unary, operator, interval, interval-operator, type, constant, unevaluated, shape, Literals}
 use Rattle.express.specs.Shape as shapes
-use Rattle.express.specs.Operate.{Kind, integers, logicals, binaries, items, undetermined, untyped, comparable, takes, takes-one, combined, signed, between}
-use Rattle.express.specs.Rule.{Holds, an-end, Fit, Gives, an-integer-literal, a-logical-literal, a-binary-literal, a-question, a-name, a-sign, an-operator, an-interval, a-constant, an-unknown-boolean, Exactly}
+use Rattle.express.specs.Operate.{Kind, integers, logicals, binaries, undetermined, untyped, comparable, takes, takes-one, combined, signed}
+use Rattle.express.specs.Rule.{Holds, an-end, Gives, an-integer-literal, a-logical-literal, a-binary-literal, a-question, a-name, a-sign, an-operator, an-interval, a-constant, an-unknown-boolean, Exactly}
 use Rattle.express.specs.Rule as rule
-use Rattle.express.specs.Kind.{common, kind-of-type, result, result-of-one, Finding, fault, if-fits, if-evaluated, finding, kind-at, typed, within, all-within, typing, Constant, Fits}
+use Rattle.express.specs.Kind.{common, kind-of-type, fault, if-fits, if-evaluated, finding, kind-at, typed, within, all-within, typing, Constant, Fits}
 use Rattle.express.specs.Kind as found
 use Rattle.express.specs.Evaluate.{held, answer-of, answer-at, run, answers}
 use Rattle.express.specs.Order.{Ordered, done, next, Order}
 use Rattle.express.proofs.Select.{and-fst, and-snd}
-use Rattle.express.proofs.Operations.{Good, good-?, good-integer, good-logical, good-binary, good-item, good-of, recast, Common, common-good, declared-good, common-typed, takes-comparable, takes-one-comparable, combined-good, between-good, signed-good, Kept, itself, unknown, Result, held-good, result-holds, holds-held}
+use Rattle.express.proofs.Operations.{Good, good-?, good-integer, good-logical, good-binary, good-item, good-of, recast, common-good, declared-good, common-typed, takes-comparable, takes-one-comparable, combined-good, between-good, signed-good, Kept, itself, unknown, held-good, holds-held}
 use Rattle.express.proofs.Shapes.{Told, told, constant-shape}
 use Rattle.express.proofs.Spans.{Below, last-below, left-below, five-below, value-below, in-constant}
 use Rattle.express.proofs.Typed.{typing-fits}
+use Rattle.express.proofs.Walk.{length-run, run-append}
 
 -- ---- one node
 
@@ -190,16 +189,6 @@ Passed P s e c = P c ⊎ ((s ≤ c) × (c < e))
 earlier : (P : ℕ → Type 0) (s e i m : ℕ) → (m < e → m < i) → Passed P s e m → Passed P s i m
 earlier P s e i m h (inl p) = inl p
 earlier P s e i m h (inr q) = inr (q .0, h (q .1))
-
-length-run : (t : Table) (b ns : List ℕ) (xs : List Answer) → length (run t b ns xs) ≡ length xs
-unfolding run
-length-run t b [] xs = refl
-length-run t b (n ∷ ns) xs = length-run t b ns _ ∙ length-set xs n _
-
-run-append : (t : Table) (b ms ns : List ℕ) (xs : List Answer) → run t b (ms ++ ns) xs ≡ run t b ns (run t b ms xs)
-unfolding run
-run-append t b [] ns xs = refl
-run-append t b (m ∷ ms) ns xs = run-append t b ms ns _
 
 module _ (t : Table) (b : List ℕ) (v : Literals t) (k : ℕ → Kind) where
   abbrev Sound : List Answer → (ℕ → Type 0) → Type 0

@@ -3,7 +3,6 @@
 use mathlib.Core.Path.{_≡_}
 use mathlib.Core.List.{List}
 use Prim.Native.Nat.{ℕ, _<_}
-use Rattle.express.specs.Answer.{Answer}
 use Rattle.express.specs.NodeKind as node
 use Rattle.express.specs.Tree.{Table, count, kind}
 use Rattle.express.specs.Grammar.{file}

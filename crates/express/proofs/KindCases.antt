@@ -2,17 +2,16 @@
 -- `exactness` asks, and so the rules give their constants these answers and no others.
 use mathlib.Core.Path.{_≡_, refl, subst}
 use mathlib.Core.Bool.{true, false, not, _||_}
-use mathlib.Core.List.{List, [], _∷_, map, flatMap}
+use mathlib.Core.List.{List, [], _∷_, flatMap}
 use Prim.Native.Nat.{ℕ, _<_}
 use Prim.Native.String.{String}
 use native.Mathlib.Omega.{arith}
-use lib.IntN.{pos, negsuc, pow}
-use lib.ListN.{getD}
+use lib.IntN.{negsuc}
 use Rattle.ebnf.specs.Set.{mem}
 use Rattle.ebnf.specs.Rows.{Row}
 use Rattle.ebnf.specs.Parse.{descend, budget, parse}
 use Rattle.ebnf.specs.Depth.{first-deep, good}
-use Rattle.express.specs.Answer.{FALSE, UNKNOWN, TRUE, Answer, integer, logical, binary, item, end}
+use Rattle.express.specs.Answer.{UNKNOWN, TRUE, integer, logical, binary, item, end}
 use Rattle.express.specs.Terminal.{bytes, among, terminalOf}
 use Rattle.express.specs.Spelling.{same}
 use Rattle.express.specs.Tree.{Table, kind, nodes, is, owner, schemaOf}

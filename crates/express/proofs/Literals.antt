@@ -1,26 +1,26 @@
 -- The literals of a file are within their bounds: "Integer literals reach 9223372036854775807. Binary literals have 1 to 63 bits."
-use mathlib.Core.Path.{_≡_, refl, sym, ap, subst, _∙_}
-use mathlib.Core.Logic.{_≢_, _⊎_, inl, inr}
+use mathlib.Core.Path.{_≡_, refl, sym, ap, _∙_}
+use mathlib.Core.Logic.{_≢_}
 use mathlib.Core.Bool.{Bool, true, false, cond, _||_, false≢true}
 use mathlib.Core.List.{List, [], _∷_, map}
 use Prim.Native.Nat.{ℕ, zero, suc, _+_, _-_, _^_, _≤_, _<_}
 use native.Mathlib.Decide.{decLt}
 use native.Mathlib.Omega.{arith}
-use borrow.Author.Tests.{ltb-true, leb-true, eqb-true, eqb-false, eq-eqb}
+use borrow.Author.Tests.{ltb-true, leb-true, eqb-false}
 use lib.Dec.{eqb, leb, ltb}
 use lib.ListN.{length, getD, take, drop, List·getD-map, List·getD-eq-default, length-map, length-take, length-drop}
 use Rattle.express.specs.Bytes.{within, upper, digit}
-use Rattle.express.specs.Lexis.{Row, Lexed, Reading, at, refused, part, run, bit, numeral, greatest, integerEnd, binaryEnd, tokenEnd, kindAt, stopped, cons, afterToken, afterSkip, skipped, lexIn, lexed, starts, sizes, integerValue, binaryBits}
-use Rattle.express.specs.Terminal.{Fixed, identifier, integer, binary, the, symbols, reserved, among, terminalOf}
+use Rattle.express.specs.Lexis.{Row, Reading, at, refused, part, run, bit, numeral, greatest, integerEnd, binaryEnd, tokenEnd, kindAt, stopped, afterToken, afterSkip, skipped, lexIn, lexed, starts, integerValue, binaryBits}
+use Rattle.express.specs.Terminal.{Fixed, identifier, the, symbols, reserved, among, terminalOf}
 use Rattle.express.specs.Spelling.{same}
 use Rattle.express.specs.NodeKind as node
 use Rattle.express.specs.Select.{any}
-use Rattle.express.specs.Tree.{Table, count, kind, token, role, terminal}
+use Rattle.express.specs.Tree.{Table, count, kind, token, terminal}
 use Rattle.express.specs.Grammar.{Nonterminal}
 use Rattle.express.specs.Syntax.{Read}
-use Rattle.express.specs.Scanned.{spelled, terminals, Scanned}
+use Rattle.express.specs.Scanned.{spelled, Scanned}
 use Rattle.express.specs.Shape.{text, Literals}
-use Rattle.express.proofs.Places.{run-low, run-high}
+use Rattle.express.proofs.Places.{run-high}
 use Rattle.express.proofs.Within.{integer-named, binary-named}
 
 -- ---- tokens

@@ -18,7 +18,7 @@ use Rattle.express.specs.Integer as int
 use Rattle.express.specs.Bits.{join}
 use Rattle.express.specs.Relation.{Relation}
 use Rattle.express.specs.Declared.{Declared, INTEGER, BOOLEAN, LOGICAL, BINARY, enumeration, other}
-use Rattle.express.specs.Shape.{Arithmetic, minus, times, divide, modulo, power, Connective, and, Operator, plus, arithmetic, relation, connective, Sign, positive, negative, not}
+use Rattle.express.specs.Shape.{Arithmetic, minus, times, divide, modulo, power, and, Operator, plus, arithmetic, relation, connective, Sign, positive, negative, not}
 use Rattle.express.specs.Operate.{Kind, integers, logicals, binaries, items, undetermined, untyped, Of, of-?, of-end, of-integer, of-logical, of-binary, of-item, integral, truthful, summable, comparable, takes, takes-one, end-in, given, computed, operated, combined, signed, between}
 use Rattle.express.specs.Rule.{Member, an-integer, is-false, is-true, a-logical, a-binary, an-item, Holds, no-value, an-end, a-member}
 use Rattle.express.specs.Kind.{number, same, common, kind-of-type, result, result-of-one}

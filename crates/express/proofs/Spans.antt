@@ -1,16 +1,14 @@
 -- The nodes of an expression and of a constant: where children stand, and that the nodes of a node hold those of each of them.
-use mathlib.Core.Path.{_≡_, refl, sym, ap, _∙_}
+use mathlib.Core.Path.{_≡_, refl}
 use mathlib.Core.Logic.{_⊎_, inl, inr}
-use mathlib.Core.Bool.{Bool, true, false, _&&_, _||_}
+use mathlib.Core.Bool.{Bool, true, false, _||_}
 use Prim.Native.Nat.{ℕ, zero, suc, _+_, _-_, _≤_, _<_}
 use native.Mathlib.Decide.{ℕ-discrete, decLt}
 use native.Mathlib.Omega.{arith}
-use borrow.Author.Tests.{leb-true, leb-false, eqb-true, le-leb, eq-eqb}
+use borrow.Author.Tests.{leb-true, leb-false, eqb-true, le-leb}
 use lib.Dec.{eqb, leb}
-use lib.ListN.{length}
-use Rattle.express.specs.NodeKind as node
-use Rattle.express.specs.Tree.{Table, count, kind, size, last, before, first}
-use Rattle.express.specs.Formed.{left, upper, middle, lower, low, expression, childless, One, Two, Five, Pair, Formed}
+use Rattle.express.specs.Tree.{Table, count, kind, size, last, first}
+use Rattle.express.specs.Formed.{left, upper, middle, lower, low, expression, childless, Formed}
 use Rattle.express.proofs.Select.{and-fst, and-snd, or-cases}
 
 -- The kinds of nodes that lie in a constant

@@ -35,7 +35,7 @@ scope t n = cond (leb (sort t n) 1) 0 (cond (eqb (sort t n) 2) (schemaOf t n) (o
 abbrev pub alike : Table → ℕ → ℕ → Bool
 alike t n k = eqb (symbol t k) (symbol t n) && eqb (sort t k) (sort t n) && eqb (scope t k) (scope t n)
 
--- "the later name"
+-- "the later name": of two nodes of one sort the later stands later in the text (`repeated-iff` of proofs/Later)
 unfoldable pub repeated : Table → ℕ → Fault
 repeated t n = cond (not (eqb (sort t n) 0) && any (alike t n) (span 0 n)) (fault 9 (place t n)) fine
 

@@ -1,6 +1,6 @@
 -- Typing: a kind for each node of a constant, in node order, or the first fault, 14 or 15.
 use mathlib.Core.Path.{_≡_}
-use mathlib.Core.Bool.{Bool, true, false, cond, _&&_}
+use mathlib.Core.Bool.{Bool, cond, _&&_}
 use mathlib.Core.List.{List, [], _∷_, flatMap}
 use Prim.Native.Nat.{ℕ, _+_, _≤_, _<_}
 use lib.Dec.{eqb}
@@ -58,8 +58,7 @@ pub data Finding : Type 0 where
 
 -- "15: operand or declared type does not fit"
 abbrev pub if-fits : Bool → Kind → Finding
-if-fits true k = kind k
-if-fits false k = fault 15
+if-fits p k = cond p (kind k) (fault 15)
 
 -- "14: not evaluated: other declared type (at its own node), the name of a constant so declared"
 abbrev pub if-evaluated : Declared → Kind → Finding

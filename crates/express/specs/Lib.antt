@@ -1,3 +1,4 @@
+pub mod Acceptance
 pub mod Answer
 pub mod AnswerRow
 pub mod Bits
@@ -6,11 +7,13 @@ pub mod Case
 pub mod Declared
 pub mod Evaluate
 pub mod Fault
+pub mod Files
 pub mod Formed
 pub mod Grammar
 pub mod Integer
 pub mod Kind
 pub mod Lexis
+pub mod Listing
 pub mod Logic
 pub mod Lookahead
 pub mod Names
@@ -19,6 +22,7 @@ pub mod Operate
 pub mod Order
 pub mod Reach
 pub mod Relation
+pub mod Reply
 pub mod Rule
 pub mod Scanned
 pub mod Scope
@@ -28,7 +32,3 @@ pub mod Spelling
 pub mod Syntax
 pub mod Terminal
 pub mod Tree
-pub mod Reply
-pub mod Acceptance
-pub mod Listing
-pub mod Files

@@ -13,7 +13,7 @@ use Rattle.express.specs.NodeKind.{enumeration-item}
 use Rattle.express.specs.Tree.{Table, kind, owner, last}
 use Rattle.express.specs.Formed.{left, middle, low}
 use Rattle.express.specs.Declared.{Declared, INTEGER, BOOLEAN, LOGICAL, BINARY, enumeration, declared}
-use Rattle.express.specs.Shape.{Operator, relation, Sign, Shape, integer-literal, logical-literal, binary-literal, question, name, unary, operator, interval, constant, shape}
+use Rattle.express.specs.Shape.{Operator, relation, Sign, integer-literal, logical-literal, binary-literal, question, name, unary, operator, interval, constant, shape}
 use Rattle.express.specs.Shape as shapes
 use Rattle.express.specs.Operate.{Kind, Of, takes, takes-one, combined, signed, between}
 
