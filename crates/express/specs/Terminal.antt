@@ -5,7 +5,7 @@ use Prim.Native.Char.{code}
 use Prim.Native.String.{String, [] as none, _∷_ as _then_}
 use mathlib.Core.Bool.{cond}
 use lib.Dec.{eqb}
-use lib.ListN.{getD}
+use lib.ListN.{getD, take, drop}
 use Rattle.express.specs.Bytes.{upper, within}
 use Rattle.express.specs.Spelling.{same}
 
@@ -665,3 +665,10 @@ terminalOf kind s =
     cond (eqb kind 1) (wordTerminal s)
     (cond (eqb kind 6) (symbolTerminal s)
     (cond (within 2 5 kind) kind 0))
+
+-- the terminal of each token of a table, which is as long as its shortest column: of a kind, from a start on, so many bytes
+unfoldable pub terminals : List ℕ → List ℕ → List ℕ → List ℕ → List ℕ
+terminals text [] starts sizes = []
+terminals text (k ∷ ks) [] sizes = []
+terminals text (k ∷ ks) (p ∷ ps) [] = []
+terminals text (k ∷ ks) (p ∷ ps) (n ∷ ns) = terminalOf k (take n (drop p text)) ∷ terminals text ks ps ns
