@@ -40,3 +40,5 @@ pub mod Typed
 pub mod Untied
 pub mod Walk
 pub mod Within
+pub mod Terminal
+pub mod Files
