@@ -42,3 +42,4 @@ pub mod Walk
 pub mod Within
 pub mod Terminal
 pub mod Files
+pub mod Formed

@@ -27,7 +27,7 @@ use Rattle.express.proofs.Nodes.{kinds, all-rows, all-below, children-h
 use Rattle.express.proofs.FormedRows.{kind-is, role-is, size-is, token-is, count-is, node-at}
 use Rattle.express.proofs.Select.{first-of}
 use Rattle.express.specs.NodeKind as node
-use Rattle.express.specs.Formed as form
+use Rattle.express.proofs.Formed as form
 
 module _ {x : Nonterminal} {t : Table} (d : Read x t) where
   -- THE NAMING TOKEN of a node is one of those that name its kind
