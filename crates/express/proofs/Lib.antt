@@ -13,6 +13,7 @@ pub mod FormedRows
 pub mod KindCases
 pub mod Later
 pub mod Literals
+pub mod Integer
 pub mod Logic
 pub mod Meaning
 pub mod NameCases
