@@ -29,7 +29,7 @@ use Rattle.express.specs.Order.{order}
 use Rattle.express.specs.Reply.{checked}
 use Rattle.express.specs.Listing.{digits, listing}
 use Rattle.express.specs.Case.{Case, cases, file-of, answers-of}
-use Rattle.express.specs.Files.{File, files}
+use Rattle.express.proofs.Files.{File, files}
 
 -- each expression, as the only constant of a file, has its answer
 abbrev Cases : Type 0

@@ -12,8 +12,8 @@ use lib.Seq.{getD-set-same, getD-set-other}
 use Rattle.express.specs.Answer.{Answer, indeterminate, item}
 use Rattle.express.specs.NodeKind as node
 use Rattle.express.specs.Select.{span}
-use Rattle.express.specs.Tree.{Table, count, kind, size, first, last}
-use Rattle.express.specs.Formed.{left, middle, low, Formed}
+use Rattle.express.specs.Tree.{Table, count, kind, size, first, last, left, middle, low}
+use Rattle.express.proofs.Formed.{Formed}
 use Rattle.express.specs.Declared.{Declared, BOOLEAN, declared}
 use Rattle.express.specs.Shape.{relation, Shape, integer-literal, logical-literal, binary-literal, question, name, unary, operator, interval, interval-operator, type, constant, unevaluated, shape, Literals}
 use Rattle.express.specs.Shape as shapes

@@ -13,6 +13,7 @@ pub mod FormedRows
 pub mod KindCases
 pub mod Later
 pub mod Literals
+pub mod Integer
 pub mod Logic
 pub mod Meaning
 pub mod NameCases
@@ -40,3 +41,6 @@ pub mod Typed
 pub mod Untied
 pub mod Walk
 pub mod Within
+pub mod Terminal
+pub mod Files
+pub mod Formed

@@ -9,8 +9,7 @@ use lib.Dec.{eqb}
 use lib.ListN.{getD}
 use Rattle.express.specs.Lexis.{integerValue, binaryBits}
 use Rattle.express.specs.NodeKind as node
-use Rattle.express.specs.Tree.{Table, kind, terminal, is}
-use Rattle.express.specs.Formed.{left}
+use Rattle.express.specs.Tree.{Table, kind, terminal, is, left}
 use Rattle.express.specs.Declared.{declaration, bound, declared}
 use Rattle.express.specs.Shape.{Operator, Shape, integer-literal, logical-literal, binary-literal, question, item, name, unary, operator, interval, interval-operator, type, constant, unevaluated, text, operator-of, evaluated, named, shape}
 use Rattle.express.proofs.Select.{and-snd}

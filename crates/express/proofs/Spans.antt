@@ -7,8 +7,8 @@ use native.Mathlib.Decide.{ℕ-discrete, decLt}
 use native.Mathlib.Omega.{arith}
 use borrow.Author.Tests.{leb-true, leb-false, eqb-true, le-leb}
 use lib.Dec.{eqb, leb}
-use Rattle.express.specs.Tree.{Table, count, kind, size, last, first}
-use Rattle.express.specs.Formed.{left, upper, middle, lower, low, expression, childless, Formed}
+use Rattle.express.specs.Tree.{Table, count, kind, size, last, first, left, upper, middle, lower, low}
+use Rattle.express.proofs.Formed.{expression, childless, Formed}
 use Rattle.express.proofs.Select.{and-fst, and-snd, or-cases}
 
 -- The kinds of nodes that lie in a constant

@@ -11,8 +11,8 @@ use lib.ListN.{length, set, replicate, length-set, length-replicate}
 use lib.Seq.{getD-set-same, getD-set-other}
 use Rattle.express.specs.NodeKind as node
 use Rattle.express.specs.Select.{span, keep}
-use Rattle.express.specs.Tree.{Table, count, kind, size, first, last, nodes, is}
-use Rattle.express.specs.Formed.{left, middle, low, Formed}
+use Rattle.express.specs.Tree.{Table, count, kind, size, first, last, nodes, is, left, middle, low}
+use Rattle.express.proofs.Formed.{Formed}
 use Rattle.express.specs.Shape.{Shape, integer-literal, logical-literal, binary-literal, question, item, name, unary, operator, interval, interval-operator, type, constant, unevaluated, shape}
 use Rattle.express.specs.Operate.{Kind, untyped}
 use Rattle.express.specs.Kind.{Finding, fault, finding, kind-at, Typing, typed, refused, then, type-nodes, within, all-within, constants, typing, Constant, Fits, WellTyped, FirstFault}

@@ -7,9 +7,8 @@ use lib.Dec.{eqb}
 use lib.ListN.{getD, set, replicate}
 use Rattle.express.specs.NodeKind as node
 use Rattle.express.specs.Select.{span, keep}
-use Rattle.express.specs.Tree.{Table, count, size, first, last, nodes, is, owner}
+use Rattle.express.specs.Tree.{Table, count, size, first, last, nodes, is, owner, left, middle, low}
 use Rattle.express.specs.Tree as tree
-use Rattle.express.specs.Formed.{left, middle, low}
 use Rattle.express.specs.Declared.{Declared, INTEGER, BOOLEAN, LOGICAL, BINARY, enumeration, other, declared}
 use Rattle.express.specs.Shape.{Operator, plus, arithmetic, relation, connective, Sign, positive, negative, not, Shape, integer-literal, logical-literal, binary-literal, question, item, name, unary, operator, interval, interval-operator, type, constant, unevaluated, shape}
 use Rattle.express.specs.Operate.{Kind, integers, logicals, binaries, items, undetermined, untyped, takes, takes-one, comparable}

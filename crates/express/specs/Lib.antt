@@ -7,8 +7,6 @@ pub mod Case
 pub mod Declared
 pub mod Evaluate
 pub mod Fault
-pub mod Files
-pub mod Formed
 pub mod Grammar
 pub mod Integer
 pub mod Kind

@@ -10,8 +10,7 @@ use lib.Signed.{mag}
 use Rattle.express.specs.Answer.{Logical, FALSE, UNKNOWN, TRUE, Answer, indeterminate, integer, logical, binary, item, end}
 use Rattle.express.specs.Relation.{Relation}
 use Rattle.express.specs.NodeKind.{enumeration-item}
-use Rattle.express.specs.Tree.{Table, kind, owner, last}
-use Rattle.express.specs.Formed.{left, middle, low}
+use Rattle.express.specs.Tree.{Table, kind, owner, last, left, middle, low}
 use Rattle.express.specs.Declared.{Declared, INTEGER, BOOLEAN, LOGICAL, BINARY, enumeration, declared}
 use Rattle.express.specs.Shape.{Operator, relation, Sign, integer-literal, logical-literal, binary-literal, question, name, unary, operator, interval, constant, shape}
 use Rattle.express.specs.Shape as shapes

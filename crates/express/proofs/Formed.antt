@@ -4,24 +4,7 @@ use mathlib.Core.Path.{_≡_}
 use mathlib.Core.Bool.{Bool, true, _&&_, _||_}
 use Prim.Native.Nat.{ℕ, _+_, _≤_, _<_}
 use lib.Dec.{eqb, leb}
-use Rattle.express.specs.Tree.{Table, count, kind, size, last, before}
-
--- The children of a node, from the right: an operator's right (or only) operand is `last`, and an interval's high side.
-abbrev pub left : Table → ℕ → ℕ
-left t n = before t (last n)
-
--- "interval (low, operator, item, operator, high)": its operators are `lower` and `upper`
-abbrev pub upper : Table → ℕ → ℕ
-upper t n = left t n
-
-abbrev pub middle : Table → ℕ → ℕ
-middle t n = before t (upper t n)
-
-abbrev pub lower : Table → ℕ → ℕ
-lower t n = before t (middle t n)
-
-abbrev pub low : Table → ℕ → ℕ
-low t n = before t (lower t n)
+use Rattle.express.specs.Tree.{Table, count, kind, size, last, left, upper, middle, lower, low}
 
 -- The kinds of the node of an expression
 abbrev pub expression : ℕ → Bool
