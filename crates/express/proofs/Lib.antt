@@ -2,6 +2,7 @@ pub mod Bits
 pub mod Divide
 pub mod FormedRows
 pub mod Logic
+pub mod Longest
 pub mod NameCases
 pub mod Names
 pub mod Nodes
@@ -16,6 +17,7 @@ pub mod Syntax
 pub mod SyntaxExamples
 pub mod Places
 pub mod TokenExamples
+pub mod TokenRows
 pub mod Topological
 pub mod Inside
 pub mod ConstantOrder
