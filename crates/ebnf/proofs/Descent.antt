@@ -1,19 +1,20 @@
--- The descend as recursive descent: what a rule comes to, token by token, in terms of what its nonterminals and repetitions come to.
+-- The parse as recursive descent: what a rule comes to, token by token, in terms of what its nonterminals and repetitions come to. Proofs about
+-- readers cite `phrase-walks` and `repeat-walks` (for rows), or `phrase-is` and `repeat-is` (for any value).
 use mathlib.Core.Bool.{Bool, true, false, _&&_, cond, false≢true}
 use mathlib.Core.List.{List}
-use mathlib.Core.Path.{_≡_, refl, sym, ap, _∙_}
-use Prim.Native.Nat.{ℕ, suc, _+_, _≤_}
+use mathlib.Core.Path.{_≡_, refl, sym, ap, _∙_, subst}
+use Prim.Native.Nat.{ℕ, zero, suc, _+_, _≤_}
 use native.Mathlib.Omega.{arith}
 use lib.ListN.{length, getD}
 use Rattle.ebnf.specs.Set.{mem}
-use Rattle.ebnf.specs.Grammar.{Mark, silent, here, node, leaf, Ebnf, none, mark, step, seq, alt, star, fork, nt, Actions, Derives, nothing, marked, token, both, left, right, stop, more, label, other, rule}
+use Rattle.ebnf.specs.Grammar.{Mark, silent, here, node, leaf, Ebnf, none, mark, step, seq, alt, star, fork, nt, Actions, Derives}
 use Rattle.ebnf.specs.Rows.{stamp-name, Rows, in-rows}
-use Rattle.ebnf.specs.Parse.{Tables, first, Result, at, refused, starved, bind, verdict, parse}
+use Rattle.ebnf.specs.Parse.{Tables, first, Result, at, refused, starved, bind, descend, verdict, parse}
 use Rattle.ebnf.proofs.Sets.{and-split}
 use Rattle.ebnf.proofs.Derivations.{mono}
 use Rattle.ebnf.proofs.Predictive.{Ok, Predictive}
 use Rattle.ebnf.proofs.Lookahead.{eats, inside}
-use Rattle.ebnf.proofs.Sound.{Right}
+use Rattle.ebnf.proofs.Sound.{Right, cond-cases}
 use Rattle.ebnf.proofs.Fuel.{Fed}
 use Rattle.ebnf.proofs.Equations.{parsed, parsed-none, parsed-mark, parsed-step, parsed-nt, parsed-alt, parsed-right, parsed-seq, parsed-star, parsed-fork, parsed-fed}
 
@@ -28,10 +29,10 @@ bind-bind (refused i) f k = refl
 bind-bind starved f k = refl
 
 -- the way that a test picks, followed by what comes after
-pick-bind : {W : Type 0} (b : Bool) (x y u v : Result W) (k : ℕ → W → Result W) → (b ≡ true → bind x k ≡ u) → (b ≡ false → bind y k ≡ v) →
+cond-bind : {W : Type 0} (b : Bool) (x y u v : Result W) (k : ℕ → W → Result W) → (b ≡ true → bind x k ≡ u) → (b ≡ false → bind y k ≡ v) →
     bind (cond b x y) k ≡ cond b u v
-pick-bind true x y u v k f g = f refl
-pick-bind false x y u v k f g = g refl
+cond-bind true x y u v k f g = f refl
+cond-bind false x y u v k f g = g refl
 
 module _ {N : Type 0} {rules : N → Ebnf N} {T : Tables N} (G : Predictive rules T) (A : Actions) (ts : List ℕ) where
   -- what the rule of x comes to at i
@@ -66,7 +67,7 @@ module _ {N : Type 0} {rules : N → Ebnf N} {T : Tables N} (G : Predictive rule
   runs (mark m) o i r l k = rw (parsed-mark G A ts m i r l)
   runs (step m cs a) o i r l k =
       ap (λ (x : Result (A .Value)). bind x k) (parsed-step G A ts m cs a o i r l)
-      ∙ pick-bind (mem (getD ts i 0) cs) _ _ _ _ k
+      ∙ cond-bind (mem (getD ts i 0) cs) _ _ _ _ k
       (λ h. bind-bind (parsed G A ts a (suc i) r) _ k ∙ runs a (o .0) (suc i) r (inside G ts cs i (o .1) h) (λ j s. k j (A .stamp m i s)))
       (λ h. refl)
   runs (seq a b) o i r l k =
@@ -76,11 +77,11 @@ module _ {N : Type 0} {rules : N → Ebnf N} {T : Tables N} (G : Predictive rule
       ∙ runs a (o .0) i r l (λ j s. run b j s k)))
   runs (alt a b) o i r l k =
       ap (λ (x : Result (A .Value)). bind x k) (parsed-alt G A ts a b o i r l)
-      ∙ pick-bind (mem (getD ts i 0) (first T a)) _ _ _ _ k (λ h. runs a (o .0) i r l k) (λ h. runs b (o .1) i r l k)
+      ∙ cond-bind (mem (getD ts i 0) (first T a)) _ _ _ _ k (λ h. runs a (o .0) i r l k) (λ h. runs b (o .1) i r l k)
   runs (star a) o i r l k = refl
   runs (fork m cs ds a b) o i r l k =
       ap (λ (x : Result (A .Value)). bind x k) (parsed-fork G A ts m cs ds a b o i r l)
-      ∙ pick-bind (mem (getD ts i 0) cs && mem (getD ts (suc i) 0) ds) _ _ _ _ k
+      ∙ cond-bind (mem (getD ts i 0) cs && mem (getD ts (suc i) 0) ds) _ _ _ _ k
       (λ h.
       let p = and-split (mem (getD ts i 0) cs) _ h in
       runs a (o .0) (suc (suc i)) (A .stamp m i r) (inside G ts ds (suc i) (o .3) (p .1)) k)
@@ -156,36 +157,107 @@ name-stamp here i n h = absurd (false≢true h)
 name-stamp (node k o) i n h = refl
 name-stamp (leaf k o) i n h = refl
 
-name-kept : {N : Type 0} {rules : N → Ebnf N} {ts : List ℕ} {e : Ebnf N} {i j : ℕ} {r s : Rows} → Derives in-rows rules ts e i r j s → nameless e ≡ true →
-    s .name ≡ r .name
-name-kept nothing h = refl
-name-kept marked h = refl
-name-kept (token {m = m} {a = a} {i = i} {s = s} c d) h =
-    let p = and-split (nameless-mark m) _ h in name-stamp m i (s .name) (p .0) ∙ name-kept d (p .1)
-name-kept (both {a = a} d e) h = let p = and-split (nameless a) _ h in name-kept e (p .1) ∙ name-kept d (p .0)
-name-kept (left {a = a} d) h = let p = and-split (nameless a) _ h in name-kept d (p .0)
-name-kept (right {a = a} d) h = let p = and-split (nameless a) _ h in name-kept d (p .1)
-name-kept stop h = refl
-name-kept (more d e) h = name-kept e h ∙ name-kept d h
-name-kept (label {m = m} {a = a} {i = i} {r = r} c g d) h =
-    let p = and-split (nameless-mark m) _ h in
-    let q = and-split (nameless a) _ (p .1) in
-    name-kept d (q .0) ∙ name-stamp m i (r .name) (p .0)
-name-kept (other {m = m} {a = a} d) h =
-    let p = and-split (nameless-mark m) _ h in
-    let q = and-split (nameless a) _ (p .1) in
-    name-kept d (q .1)
-name-kept (rule d) h = refl
+-- the rows go on under this name, if there are any
+abbrev Under : ℕ → Result Rows → Type 0
+Under n (at j s) = s .name ≡ n
+Under n (refused k) = Unit {0}
+Under n starved = Unit {0}
+
+under-bind : (m n : ℕ) (y : Result Rows) (k : ℕ → Rows → Result Rows) → Under m y → ((j : ℕ) (s : Rows) → s .name ≡ m → Under n (k j s)) → Under n (bind y k)
+under-bind m n (at j s) k e f = f j s e
+under-bind m n (refused i) k e f = tt
+under-bind m n starved k e f = tt
+
+under-join : (y : Result Rows) (r : Rows) → Under (r .name) (bind y (λ j s. at j (in-rows .join r s)))
+under-join (at j s) r = refl
+under-join (refused i) r = tt
+under-join starved r = tt
+
+bind-ext : {W : Type 0} (y : Result W) (k l : ℕ → W → Result W) → ((j : ℕ) (s : W) → k j s ≡ l j s) → bind y k ≡ bind y l
+bind-ext (at j s) k l h = h j s
+bind-ext (refused i) k l h = refl
+bind-ext starved k l h = refl
+
+under-name : (n : ℕ) (y : Result Rows) → Under n y → (k : ℕ → Rows → Result Rows) → bind y k ≡ bind y (λ j s. k j (record { name = n; rows = s .rows }))
+under-name n (at j s) e k = ap (λ (m : ℕ). k j (record { name = m; rows = s .rows })) e
+under-name n (refused i) e k = refl
+under-name n starved e k = refl
+
+module _ {N : Type 0} (rules : N → Ebnf N) (T : Tables N) (ts : List ℕ) where
+  name-kept : (n : ℕ) (e : Ebnf N) → nameless e ≡ true → (i : ℕ) (r : Rows) → Under (r .name) (descend in-rows rules T ts n e i r)
+  unfolding descend
+  name-kept zero e h i r = tt
+  name-kept (suc n) none h i r = refl
+  name-kept (suc n) (mark m) h i r = refl
+  name-kept (suc n) (step m cs a) h i r =
+      let p = and-split (nameless-mark m) _ h in
+      cond-cases (Under (r .name)) (mem (getD ts i 0) cs) _ _
+      (λ c. under-bind (r .name) (r .name) (descend in-rows rules T ts n a (suc i) r) _ (name-kept n a (p .1) (suc i) r) (λ j s e. name-stamp m i (s .name) (p .0) ∙ e))
+      (λ c. tt)
+  name-kept (suc n) (seq a b) h i r =
+      let p = and-split (nameless a) _ h in
+      under-bind (r .name) (r .name) (descend in-rows rules T ts n a i r) _ (name-kept n a (p .0) i r)
+      (λ j s e. subst (λ (m : ℕ). Under m (descend in-rows rules T ts n b j s)) e (name-kept n b (p .1) j s))
+  name-kept (suc n) (alt a b) h i r =
+      let p = and-split (nameless a) _ h in
+      cond-cases (Under (r .name)) (mem (getD ts i 0) (first T a)) _ _ (λ c. name-kept n a (p .0) i r) (λ c. name-kept n b (p .1) i r)
+  name-kept (suc n) (star a) h i r =
+      cond-cases (Under (r .name)) (mem (getD ts i 0) (first T a)) _ _
+      (λ c.
+      under-bind (r .name) (r .name) (descend in-rows rules T ts n a i r) _ (name-kept n a h i r)
+      (λ j s e. subst (λ (m : ℕ). Under m (descend in-rows rules T ts n (star a) j s)) e (name-kept n (star a) h j s)))
+      (λ c. refl)
+  name-kept (suc n) (fork m cs ds a b) h i r =
+      let p = and-split (nameless-mark m) _ h in
+      let q = and-split (nameless a) _ (p .1) in
+      let z = name-stamp m i (r .name) (p .0) in
+      cond-cases (Under (r .name)) (mem (getD ts i 0) cs && mem (getD ts (suc i) 0) ds) _ _
+      (λ c.
+      subst (λ (l : ℕ). Under l (descend in-rows rules T ts n a (suc (suc i)) (in-rows .stamp m i r))) z (name-kept n a (q .0) (suc (suc i)) (in-rows .stamp m i r)))
+      (λ c. name-kept n b (q .1) i r)
+  name-kept (suc n) (nt x) h i r = under-join (descend in-rows rules T ts n (rules x) i (in-rows .start i)) r
 
 module _ {N : Type 0} {rules : N → Ebnf N} {T : Tables N} (G : Predictive rules T) (ts : List ℕ) where
-  same-name : (e : Ebnf N) → nameless e ≡ true → (i : ℕ) (r : Rows) (y : Result Rows) → Right in-rows rules ts e i r y → (k : ℕ → Rows → Result Rows) →
-      bind y k ≡ bind y (λ j s. k j (record { name = r .name; rows = s .rows }))
-  same-name e h i r (at j s) d k = ap (λ (n : ℕ). k j (record { name = n; rows = s .rows })) (name-kept (d .0) h)
-  same-name e h i r (refused j) d k = refl
-  same-name e h i r starved d k = refl
+  -- as `run`, for rows: after a repetition that names no token, the rule's next row has the name that it had before
+  abbrev pub walk : Ebnf N → ℕ → Rows → (ℕ → Rows → Result Rows) → Result Rows
+  walk none i r k = k i r
+  walk (mark m) i r k = k i (in-rows .close m r)
+  walk (step m cs a) i r k = cond (mem (getD ts i 0) cs) (walk a (suc i) r (λ j s. k j (in-rows .stamp m i s))) (refused i)
+  walk (seq a b) i r k = walk a i r (λ j s. walk b j s k)
+  walk (alt a b) i r k = cond (mem (getD ts i 0) (first T a)) (walk a i r k) (walk b i r k)
+  walk (star a) i r k = bind (repeat G in-rows ts a i r) (λ j s. k j (record { name = cond (nameless a) (r .name) (s .name); rows = s .rows }))
+  walk (fork m cs ds a b) i r k =
+      cond (mem (getD ts i 0) cs && mem (getD ts (suc i) 0) ds) (walk a (suc (suc i)) (in-rows .stamp m i r) k) (walk b i r k)
+  walk (nt x) i r k = bind (phrase G in-rows ts x i) (λ j s. k j (in-rows .join r s))
 
-  -- after a repetition that names no token, the rule's next row has the name that it had before
-  pub repeat-name : (a : Ebnf N) → Ok T (star a) → nameless a ≡ true → (i : ℕ) (r : Rows) → i ≤ length ts → (k : ℕ → Rows → Result Rows) →
-      bind (repeat G in-rows ts a i r) k ≡ bind (repeat G in-rows ts a i r) (λ j s. k j (record { name = r .name; rows = s .rows }))
-  unfolding repeat
-  repeat-name a o h i r l k = same-name (star a) h i r (parsed G in-rows ts (star a) i r) (parsed-right G in-rows ts (star a) o i r l) k
+  -- what follows may differ in form alone
+  walks : (e : Ebnf N) (i : ℕ) (r : Rows) (k l : ℕ → Rows → Result Rows) → ((j : ℕ) (s : Rows) → k j s ≡ l j s) → run G in-rows ts e i r k ≡ walk e i r l
+  unfolding repeat parsed
+  walks none i r k l h = h i r
+  walks (mark m) i r k l h = h i (in-rows .close m r)
+  walks (step m cs a) i r k l h =
+      ap (λ (y : Result Rows). cond (mem (getD ts i 0) cs) y (refused i)) (walks a (suc i) r _ _ (λ j s. h j (in-rows .stamp m i s)))
+  walks (seq a b) i r k l h = walks a i r _ _ (λ j s. walks b j s k l h)
+  walks (alt a b) i r k l h =
+      ap (λ (y : Result Rows). cond (mem (getD ts i 0) (first T a)) y (run G in-rows ts b i r k)) (walks a i r k l h)
+      ∙ ap (λ (y : Result Rows). cond (mem (getD ts i 0) (first T a)) (walk a i r l) y) (walks b i r k l h)
+  walks (star a) i r k l h = bind-ext (repeat G in-rows ts a i r) k l h ∙ go (nameless a) refl
+    where
+      go : (b : Bool) → nameless a ≡ b →
+          bind (repeat G in-rows ts a i r) l ≡ bind (repeat G in-rows ts a i r) (λ j s. l j (record { name = cond b (r .name) (s .name); rows = s .rows }))
+      go true e = under-name (r .name) (repeat G in-rows ts a i r) (name-kept rules T ts _ (star a) e i r) l
+      go false e = refl
+  walks (fork m cs ds a b) i r k l h =
+      ap (λ (y : Result Rows). cond (mem (getD ts i 0) cs && mem (getD ts (suc i) 0) ds) y (run G in-rows ts b i r k)) (walks a (suc (suc i)) (in-rows .stamp m i r) k l h)
+      ∙ ap (λ (y : Result Rows). cond (mem (getD ts i 0) cs && mem (getD ts (suc i) 0) ds) (walk a (suc (suc i)) (in-rows .stamp m i r) l) y) (walks b i r k l h)
+  walks (nt x) i r k l h = bind-ext (phrase G in-rows ts x i) _ _ (λ j s. h j (in-rows .join r s))
+
+  -- THE EQUATION OF A NONTERMINAL, for rows
+  pub phrase-walks : (x : N) (i : ℕ) → i ≤ length ts → phrase G in-rows ts x i ≡ walk (rules x) i (in-rows .start i) (λ j s. at j s)
+  phrase-walks x i l = phrase-is G in-rows ts x i l ∙ walks (rules x) i (in-rows .start i) _ _ (λ j s. refl)
+
+  -- THE EQUATION OF A REPETITION, for rows
+  pub repeat-walks : (a : Ebnf N) → Ok T (star a) → (i : ℕ) (r : Rows) → i ≤ length ts →
+      repeat G in-rows ts a i r ≡ cond (mem (getD ts i 0) (first T a)) (walk a i r (λ j s. repeat G in-rows ts a j s)) (at i r)
+  repeat-walks a o i r l =
+      repeat-is G in-rows ts a o i r l ∙ ap (λ (y : Result Rows). cond (mem (getD ts i 0) (first T a)) y (at i r)) (walks a i r _ _ (λ j s. refl))

@@ -13,3 +13,8 @@ pub mod Trees
 pub mod Sorts
 pub mod Parts
 pub mod PostOrder
+pub mod Children
+pub mod Below
+pub mod Naming
+pub mod TextOrder
+pub mod Origin

@@ -13,7 +13,7 @@ use Rattle.express.specs.Tree.{Table, count, kind, role, symbol, place, 
 use Rattle.express.specs.Scope.{Meaning, none, one, several, meaning, spelled, declared, items, own, inherited, itemsOf, candidates, typeMeant, itemMeant, means}
 use Rattle.express.specs.Fault.{Fault, fault, fine, sort, scope, alike, repeated}
 use Rattle.express.specs.Names.{Passes}
-use Rattle.express.proofs.Select.{and-fst, and-snd, and-both, or-cases, mem-span, span-mem, keep-mem, mem-any}
+use Rattle.express.proofs.Select.{and-fst, and-snd, and-both, or-cases, span-mem, mem-upto, keep-mem, mem-any}
 
 one-several : (k : ℕ) → one k ≡ several → ⊥
 one-several k e = let z : _≡_ {A = ℕ} 0 1 = cc in omega arith
@@ -87,9 +87,9 @@ module _ (t : Table) (stage9 : Passes (nodes t) (repeated t)) where
   unfolding repeated
   once x y h b d e f g =
       let a : alike t y x ≡ true = and-both (eqb (symbol t x) (symbol t y) && eqb (sort t x) (sort t y)) (eqb (scope t x) (scope t y)) (and-both (eqb (symbol t x) (symbol t y)) (eqb (sort t x) (sort t y)) (eq-eqb _ _ g) (eq-eqb _ _ e)) (eq-eqb _ _ f) in
-      let c : any (alike t y) (span 0 y) ≡ true = mem-any (alike t y) (span 0 y) (mem-span 0 y x (omega arith) (omega arith)) a in
+      let c : any (alike t y) (span 0 y) ≡ true = mem-any (alike t y) (span 0 y) (mem-upto y x h) a in
       let z : repeated t y .number ≡ 9 = rw (ne-eqb (sort t y) 0 d, c) in
-      let w = stage9 y (mem-span 0 (count t) y (omega arith) (omega arith)) in
+      let w = stage9 y (mem-upto (count t) y b) in
       omega arith
 
   -- of the nodes with a symbol that pass a test, there are not several, if the test fixes their sort and scope
@@ -110,7 +110,7 @@ module _ (t : Table) (stage9 : Passes (nodes t) (repeated t)) where
   declared-once n s =
       spelled-once s (λ k. isDeclaration t k && eqb (schemaOf t k) (schemaOf t n)) 2 (schemaOf t n) (λ (e : 2 ≡ 0). omega arith)
       (λ k h. let e = sort-declaration t k (and-fst (isDeclaration t k) (eqb (schemaOf t k) (schemaOf t n)) h) in
-        (e, scope-declaration t k e ∙ eqb-true _ _ (and-snd (isDeclaration t k) (eqb (schemaOf t k) (schemaOf t n)) h)))
+      (e, scope-declaration t k e ∙ eqb-true _ _ (and-snd (isDeclaration t k) (eqb (schemaOf t k) (schemaOf t n)) h)))
 
   -- own attributes and labels
   pub own-once : (n s : ℕ) → meaning (own t n s) ≢ several
@@ -118,7 +118,7 @@ module _ (t : Table) (stage9 : Passes (nodes t) (repeated t)) where
   own-once n s =
       spelled-once s (λ k. isMember t k && eqb (owner t k) (owner t n)) 4 (owner t n) (λ (e : 4 ≡ 0). omega arith)
       (λ k h. let e = sort-member t k (and-fst (isMember t k) (eqb (owner t k) (owner t n)) h) in
-        (e, scope-member t k e ∙ eqb-true _ _ (and-snd (isMember t k) (eqb (owner t k) (owner t n)) h)))
+      (e, scope-member t k e ∙ eqb-true _ _ (and-snd (isMember t k) (eqb (owner t k) (owner t n)) h)))
 
   -- the items of one enumeration
   pub item-once : (y s : ℕ) → meaning (itemsOf t y s) ≢ several
@@ -126,15 +126,15 @@ module _ (t : Table) (stage9 : Passes (nodes t) (repeated t)) where
   item-once y s =
       spelled-once s (λ k. is t enumeration-item k && eqb (owner t k) y) 3 y (λ (e : 3 ≡ 0). omega arith)
       (λ k h. let e = sort-item t k (and-fst (is t enumeration-item k) (eqb (owner t k) y) h) in
-        (e, scope-item t k e ∙ eqb-true _ _ (and-snd (is t enumeration-item k) (eqb (owner t k) y) h)))
+      (e, scope-item t k e ∙ eqb-true _ _ (and-snd (is t enumeration-item k) (eqb (owner t k) y) h)))
 
   -- two meanings: of a name in an expression, with no own meaning; two inherited attributes, or none and no declaration, and two items
   pub record Several (n : ℕ) : Type 0 where
     pub in-an-expression : isName t in-expression n ≡ true
     pub no-own : own t n (symbol t n) ≡ []
     pub from :
-      (meaning (inherited t n (symbol t n)) ≡ several)
-      ⊎ ((inherited t n (symbol t n) ≡ []) × (declared t n (symbol t n) ≡ []) × (meaning (items t n (symbol t n)) ≡ several))
+        (meaning (inherited t n (symbol t n)) ≡ several)
+        ⊎ ((inherited t n (symbol t n) ≡ []) × (declared t n (symbol t n) ≡ []) × (meaning (items t n (symbol t n)) ≡ several))
 
   candidates-several : (n : ℕ) → isName t in-expression n ≡ true → meaning (candidates t n (symbol t n)) ≡ several → Several n
   unfolding candidates

@@ -67,6 +67,12 @@ span-mem i (suc d) k m =
     ⊎-elim (λ (e : k ≡ i). (omega arith, omega arith))
     (λ m′. let r = span-mem (suc i) d k m′ in (omega arith, omega arith)) (List·Memᴰ·cases-cons m)
 
+pub mem-upto : (n k : ℕ) → k < n → List·Memᴰ k (span 0 n)
+mem-upto n k h = mem-span 0 n k (omega arith) (omega arith)
+
+pub upto-mem : (n k : ℕ) → List·Memᴰ k (span 0 n) → k < n
+upto-mem n k m = let r = span-mem 0 n k m in omega arith
+
 -- the first that passes
 pub first-step : (p : ℕ → Bool) (n i : ℕ) → i < n → firstFrom p i (n - i) ≡ cond (p i) i (firstFrom p (i + 1) (n - (i + 1)))
 unfolding firstFrom
@@ -99,6 +105,18 @@ first-is p i (suc d) = by (p i) refl (first-is p (suc i) d)
         below : (j : ℕ) → i ≤ j → j < firstFrom p (suc i) d → p j ≡ false
         below j a b = at j (j - i) a b refl
 
+-- so a number is the first if it passes and none before it does
+pub first-of : (p : ℕ → Bool) (n i k : ℕ) → i ≤ k → k < n → p k ≡ true → ((j : ℕ) → i ≤ j → j < k → p j ≡ false) → firstFrom p i (n - i) ≡ k
+first-of p n i k lo hi hit none = by (first-is p i (n - i))
+  where
+    by : First p i (n - i) (firstFrom p i (n - i)) → firstFrom p i (n - i) ≡ k
+    by F =
+        let f = firstFrom p i (n - i) in
+        let l = F .from in
+        ⊎-elim
+        (λ (a : f ≤ k). ⊎-elim (λ (b : k ≤ f). omega arith) (λ (b : f < k). absurd (false≢true (sym (none f l b) ∙ F .passes (omega arith)))) (le-or k f))
+        (λ (a : k < f). absurd (false≢true (sym (F .none k lo a) ∙ hit))) (le-or f k)
+
 -- a column made of them, at one place
 column-from : (f : ℕ → ℕ) (i d k : ℕ) → k < d → getD (map f (span i d)) k 0 ≡ f (i + k)
 unfolding span
@@ -108,15 +126,6 @@ column-from f i (suc d) (suc k) h = let q : suc i + k ≡ i + suc k = omega arit
 
 pub column-at : (f : ℕ → ℕ) (n k : ℕ) → k < n → getD (map f (span 0 n)) k 0 ≡ f k
 column-at f n k h = let q : 0 + k ≡ k = omega arith in column-from f 0 n k h ∙ ap f q
-
--- one place only
-pub first-only : (p : ℕ → Bool) (j k : ℕ) → ((i : ℕ) → i < j → p i ≡ false) → p j ≡ true → ((i : ℕ) → i < k → p i ≡ false) → p k ≡ true → j ≡ k
-first-only p j k none hit none′ hit′ = by (j - k) (k - j) refl refl
-  where
-    by : (a b : ℕ) → j - k ≡ a → k - j ≡ b → j ≡ k
-    by zero zero e f = omega arith
-    by (suc a) b e f = absurd (false≢true (sym (none k (omega arith)) ∙ hit′))
-    by zero (suc b) e f = absurd (false≢true (sym (none′ j (omega arith)) ∙ hit))
 
 module _ {A : Type 0} where
   pub keep-cons : (p : A → Bool) (x : A) (xs : List A) → keep p (x ∷ xs) ≡ cond (p x) (x ∷ keep p xs) (keep p xs)

@@ -1,6 +1,6 @@
 -- What a name means.
 use mathlib.Core.Bool.{Bool, cond, _&&_, _||_}
-use mathlib.Core.List.{List, [], _∷_, map, flatMap}
+use mathlib.Core.List.{List, [], _∷_, _++_, map, flatMap}
 use Prim.Native.Nat.{ℕ, _+_, _-_}
 use lib.Dec.{eqb}
 use Rattle.express.specs.NodeKind.{name, qualified-item, enumeration-item, in-expression, renamed-type, select-name, supertype-name}
@@ -36,16 +36,21 @@ declaredAs t n = declared t n (symbol t n)
 unfoldable pub superEdges : Table → List Edge
 superEdges t = edges t (isName t supertype-name) (declaredAs t)
 
--- from types and entities to the types and entities that they rename, select or have as supertypes
+-- from types to the types and entities that they rename or select
+unfoldable pub renamingEdges : Table → List Edge
+renamingEdges t = edges t (λ n. isName t renamed-type n || isName t select-name n) (declaredAs t)
+
+-- "cycle of renamings and select lists, of supertypes": none runs over both (`type-cycle` of proofs/TypeCycle)
 unfoldable pub typeEdges : Table → List Edge
-typeEdges t = edges t (λ n. isName t renamed-type n || isName t select-name n || isName t supertype-name n) (declaredAs t)
+typeEdges t = renamingEdges t ++ superEdges t
 
 -- "an inherited attribute", "reached by several supertype paths is one declaration": the attributes of all that n's entity reaches
 unfoldable pub inherited : Table → ℕ → ℕ → List ℕ
 inherited t n s = spelled t s (λ k. isAttribute t k && reaches (superEdges t) (owner t n) (owner t k))
 
 -- "A name in an entity means its own attribute or label; failing these, an inherited attribute; failing these, the schema's constant, type or
--- entity; failing these, an enumeration item." In a type's WHERE nothing is inherited, in a constant nothing is own either.
+-- entity; failing these, an enumeration item." In a type's WHERE nothing is inherited, in a constant nothing is own either (`nothing-inherited`,
+-- `nothing-own` of proofs/Owned).
 unfoldable pub candidates : Table → ℕ → ℕ → List ℕ
 candidates t n s = nearest (own t n s) (nearest (inherited t n s) (nearest (declared t n s) (items t n s)))
 

@@ -1,0 +1,4 @@
+pub mod Arithmetic
+pub mod Calls
+pub mod Machine
+pub mod Powers
