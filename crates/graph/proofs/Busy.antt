@@ -2,14 +2,13 @@
 use mathlib.Core.Path.{_≡_, refl, sym, ap, ap₂, _∙_}
 use mathlib.Core.List.{List}
 use mathlib.Core.Logic.{by-cases}
-use Prim.Native.Nat.{ℕ, zero, suc, _+_, _-_, _≤_, _<_}
+use Prim.Native.Nat.{ℕ, zero, suc, _+_, _≤_, _<_}
 use native.Mathlib.Omega.{arith}
-use native.Mathlib.Decide.{ℕ-discrete, decLt}
-use lib.ListN.{length, getD, set}
+use native.Mathlib.Decide.{ℕ-discrete}
+use lib.ListN.{getD}
 use Rattle.graph.specs.Mark.{flag, busy}
-use lib.Seq.{getD-set-same, getD-set-other}
 
-flag-one : (x : ℕ) → 0 < x → flag x ≡ 1
+pub flag-one : (x : ℕ) → 0 < x → flag x ≡ 1
 unfolding flag
 flag-one zero h = absurd (omega arith)
 flag-one (suc x) h = refl
@@ -44,36 +43,22 @@ busy-all s zero h = refl
 busy-all s (suc n) h =
     omega (arith, flag-one (getD s n 0) (h n (omega arith)), busy-all s n (λ v l. h v (omega arith)))
 
--- a store past them changes nothing
-busy-out : (s : List ℕ) (n w x : ℕ) → n ≤ w → busy (set s w x) n ≡ busy s n
+-- where the same elements are not 0, as many are
+pub busy-agree : (l l′ : List ℕ) (n : ℕ) → ((v : ℕ) → v < n → flag (getD l′ v 0) ≡ flag (getD l v 0)) → busy l′ n ≡ busy l n
 unfolding busy
-busy-out s zero w x l = refl
-busy-out s (suc n) w x l =
-    ap₂ _+_ (ap flag (getD-set-other s w n x 0 (λ e. omega arith))) (busy-out s n w x (omega arith))
+busy-agree l l′ zero h = refl
+busy-agree l l′ (suc n) h = ap₂ _+_ (h n (omega arith)) (busy-agree l l′ n (λ v k. h v (omega arith)))
 
-pub busy-push : (s : List ℕ) (n w x : ℕ) → w < length s → w < n → getD s w 0 ≡ 0 → 0 < x → busy (set s w x) n ≡ busy s n + 1
+-- one more
+pub busy-more : (l l′ : List ℕ) (n w : ℕ) → w < n → getD l w 0 ≡ 0 → 0 < getD l′ w 0 → ((v : ℕ) → (v ≡ w → ⊥) → getD l′ v 0 ≡ getD l v 0) → busy l′ n ≡ busy l n + 1
 unfolding busy flag
-busy-push s zero w x r l h p = absurd (omega arith)
-busy-push s (suc n) w x r l h p =
+busy-more l l′ zero w k h p off = absurd (omega arith)
+busy-more l l′ (suc n) w k h p off =
     by-cases (ℕ-discrete w n)
     (λ e.
-    let a : flag (getD (set s w x) n 0) ≡ 1 = ap (λ (k : ℕ). flag (getD (set s w x) k 0)) (sym e) ∙ ap flag (getD-set-same s w x 0 r) ∙ flag-one x p in
-    let b : flag (getD s n 0) ≡ 0 = ap (λ (k : ℕ). flag (getD s k 0)) (sym e) ∙ ap flag h in
-    omega (arith, a, b, busy-out s n w x (omega arith)))
+    let a : flag (getD l′ n 0) ≡ 1 = ap (λ (x : ℕ). flag (getD l′ x 0)) (sym e) ∙ flag-one (getD l′ w 0) p in
+    let b : flag (getD l n 0) ≡ 0 = ap (λ (x : ℕ). flag (getD l x 0)) (sym e) ∙ ap flag h in
+    omega (arith, a, b, busy-agree l l′ n (λ v j. ap flag (off v (λ q. omega arith)))))
     (λ e.
-    let a : flag (getD (set s w x) n 0) ≡ flag (getD s n 0) = ap flag (getD-set-other s w n x 0 (λ q. e (sym q))) in
-    omega (arith, a, busy-push s n w x r (omega (arith, e)) h p))
-
-pub busy-keep : (s : List ℕ) (n w x : ℕ) → w < length s → 0 < getD s w 0 → 0 < x → busy (set s w x) n ≡ busy s n
-unfolding busy
-busy-keep s zero w x r h p = refl
-busy-keep s (suc n) w x r h p =
-    let i = busy-keep s n w x r h p in
-    by-cases (ℕ-discrete w n)
-    (λ e.
-    let a : flag (getD (set s w x) n 0) ≡ 1 = ap (λ (k : ℕ). flag (getD (set s w x) k 0)) (sym e) ∙ ap flag (getD-set-same s w x 0 r) ∙ flag-one x p in
-    let b : flag (getD s n 0) ≡ 1 = ap (λ (k : ℕ). flag (getD s k 0)) (sym e) ∙ flag-one (getD s w 0) h in
-    omega (arith, a, b, i))
-    (λ e.
-    let a : flag (getD (set s w x) n 0) ≡ flag (getD s n 0) = ap flag (getD-set-other s w n x 0 (λ q. e (sym q))) in
-    omega (arith, a, i))
+    let a : flag (getD l′ n 0) ≡ flag (getD l n 0) = ap flag (off n (λ q. e (sym q))) in
+    omega (arith, a, busy-more l l′ n w (omega (arith, e)) h p off))

@@ -13,7 +13,7 @@ use Rattle.express.proofs.Reach.{reaches-trans}
 use Rattle.graph.specs.Graph.{vertices, Graph, Arc}
 use Rattle.graph.specs.Mark.{busy, Markable, Marks, Spread, Expanded}
 use Rattle.graph.proofs.Store.{Put, put}
-use Rattle.graph.proofs.Busy.{busy-zero, busy-le, busy-white, busy-push}
+use Rattle.graph.proofs.Busy.{busy-zero, busy-le, busy-white, busy-more}
 use Rattle.graph.proofs.Arcs.{arc-source, arc-target, arc-place}
 
 pub markable-set : {first to mark queue : List ℕ} {from : ℕ} → Markable first to from mark queue → (mark′ queue′ : List ℕ) → length mark′ ≡ length mark → length queue′ ≡ length queue → Markable first to from mark′ queue′
@@ -51,7 +51,7 @@ module _ {first to mark queue : List ℕ} {from t : ℕ} (s : Spread first to fr
       let before : (k : ℕ) → k < t → getD (set queue t w) k 0 ≡ getD queue k 0 = λ k g. q .off k (λ e. omega arith) in
       record {
         markable = markable-set (s .markable) (set mark w 1) (set queue t w) (m .long) (q .long);
-        counted = omega (arith, busy-push mark (vertices first) w 1 rm l h (omega arith), s .counted);
+        counted = omega (arith, busy-more mark (set mark w 1) (vertices first) w l h (omega (arith, m .at)) (m .off), s .counted);
         bits = λ v. by-cases (ℕ-discrete v w) (λ e. rw (e, m .at) (omega arith)) (λ e. rw (m .off v e) (s .bits v));
         low = λ k g. by-cases (ℕ-discrete k t) (λ e. rw (e, q .at) l) (λ e. rw (before k (omega (arith, e))) (s .low k (omega (arith, e))));
         reached = λ k g. by-cases (ℕ-discrete k t) (λ e. rw (e, q .at) r) (λ e. rw (before k (omega (arith, e))) (s .reached k (omega (arith, e))));
