@@ -7,3 +7,5 @@ pub mod End
 pub mod Following
 pub mod Shutting
 pub mod Running
+pub mod Scan
+pub mod Tested

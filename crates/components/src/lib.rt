@@ -6,6 +6,7 @@ ghost use lib.ListN.{length, getD, set};
 ghost use Rattle.graph.specs.Graph.{vertices, Graph, Arc, OnCycle, Tells};
 ghost use Rattle.components.specs.Component.{Grouped};
 ghost use Rattle.components.specs.Search.{Room, Search, Ready};
+ghost use Rattle.components.specs.Answer.{Inner, Smallest, Fits, Solved, Bounded, Shortest, Arrangeable, Arranged, CycleAnswers, OrderAnswers};
 ghost use Rattle.components.specs.Step.{Going, Chosen, Followable, Followed, Enterable, Entered, Closable, Shut};
 
 // What the search does next.
@@ -196,4 +197,155 @@ fn search(
             }
         }
     }
+}
+
+// Has vertex v an arc into its own group?
+fn inner(first: &[u32], to: &[u32], group: &[u32], v: usize) -> bool
+    requires { ⌜ Bounded (now first) (now to) (length (now group)) ⌝ }
+    requires { ⌜ v < vertices (now first) ⌝ }
+    ensures { λ r. ⌜ Tells (Inner (now (first .entry)) (now (to .entry)) (now (group .entry)) v) r ⌝ }
+{
+    let own = group[v];
+    let mut e = columns::index(first[v]);
+    let end = columns::index(first[v + 1]);
+    while e < end {
+        let w = columns::index(to[e]);
+        if group[w] == own {
+            return true;
+        }
+        e += 1;
+    }
+    false
+}
+
+// The smallest vertex that has one; the number of vertices where none has.
+fn least(first: &[u32], to: &[u32], group: &[u32]) -> usize
+    requires { ⌜ Bounded (now first) (now to) (length (now group)) ⌝ }
+    ensures { λ r. ⌜ Smallest (Inner (now (first .entry)) (now (to .entry)) (now (group .entry))) (vertices (now (first .entry))) r ⌝ }
+{
+    let n = first.len() - 1;
+    let mut v = 0;
+    while v < n {
+        if inner(first, to, group, v) {
+            return v;
+        }
+        v += 1;
+    }
+    n
+}
+
+// The smallest vertex on a cycle; the number of vertices where there is no cycle.
+fn solve(
+    first: &[u32],
+    to: &[u32],
+    group: &mut [u32],
+    place: &mut [u32],
+    at: &mut [u32],
+    stack: &mut [u32],
+    path: &mut [u32],
+    bound: &mut [u32],
+) -> usize
+    requires { ⌜ Fits (now first) (now to) (now group) (now place) (now at) (now stack) (now path) (now bound) ⌝ }
+    ensures { λ r. ⌜ Solved (now (first .entry)) (now (to .entry)) (now (place .exit)) r ⌝ }
+{
+    columns::clear32(group, 0);
+    search(first, to, group, place, at, stack, path, bound);
+    least(first, to, group)
+}
+
+fn shortest(a: usize, b: usize, c: usize, d: usize, e: usize, f: usize) -> usize
+    ensures { λ r. ⌜ Shortest a b c d e f r ⌝ }
+{
+    let left = columns::shorter(a, columns::shorter(b, c));
+    let right = columns::shorter(d, columns::shorter(e, f));
+    columns::shorter(left, right)
+}
+
+// Are the two columns a graph for which there is room?
+fn fits(first: &[u32], to: &[u32], room: usize) -> bool
+    ensures { λ r. ⌜ Tells (Bounded (now (first .entry)) (now (to .entry)) room) r ⌝ }
+{
+    if !graph::valid(first, to) {
+        return false;
+    }
+    first.len() - 1 <= room
+}
+
+// The smallest vertex that lies on a cycle.
+pub fn least_on_cycle(
+    first: &[u32],
+    to: &[u32],
+    group: &mut [u32],
+    place: &mut [u32],
+    at: &mut [u32],
+    stack: &mut [u32],
+    path: &mut [u32],
+    bound: &mut [u32],
+) -> Cycle
+    ensures { λ r. ⌜ CycleAnswers (now (first .entry)) (now (to .entry)) (now (group .entry)) (now (place .entry)) (now (at .entry)) (now (stack .entry)) (now (path .entry)) (now (bound .entry)) (now (group .exit)) (now (place .exit)) (now (at .exit)) (now (stack .exit)) (now (path .exit)) (now (bound .exit)) r ⌝ }
+{
+    let room = shortest(
+        group.len(),
+        place.len(),
+        at.len(),
+        stack.len(),
+        path.len(),
+        bound.len(),
+    );
+    if !fits(first, to, room) {
+        return Cycle::Malformed;
+    }
+    let n = first.len() - 1;
+    let v = solve(first, to, group, place, at, stack, path, bound);
+    if v < n {
+        return Cycle::At(v);
+    }
+    Cycle::Nothing
+}
+
+// Puts each vertex at its place.
+fn arrange(order: &mut [u32], place: &[u32], n: usize)
+    requires { ⌜ Arrangeable (now order) (now place) n ⌝ }
+    ensures { λ _. ⌜ Arranged (now (order .entry)) (now (place .entry)) (now (order .exit)) n ⌝ }
+{
+    let mut v = 0;
+    while v < n {
+        let k = columns::index(place[v]);
+        order[k] = v as u32;
+        v += 1;
+    }
+}
+
+// The vertices in an order in which each stands after all that it depends on, or the smallest vertex on a cycle.
+pub fn order(
+    first: &[u32],
+    to: &[u32],
+    order: &mut [u32],
+    group: &mut [u32],
+    place: &mut [u32],
+    at: &mut [u32],
+    stack: &mut [u32],
+    path: &mut [u32],
+    bound: &mut [u32],
+) -> Sorted
+    ensures { λ r. ⌜ OrderAnswers (now (first .entry)) (now (to .entry)) (now (order .entry)) (now (group .entry)) (now (place .entry)) (now (at .entry)) (now (stack .entry)) (now (path .entry)) (now (bound .entry)) (now (order .exit)) (now (group .exit)) (now (place .exit)) (now (at .exit)) (now (stack .exit)) (now (path .exit)) (now (bound .exit)) r ⌝ }
+{
+    let scratch = shortest(
+        group.len(),
+        place.len(),
+        at.len(),
+        stack.len(),
+        path.len(),
+        bound.len(),
+    );
+    if !fits(first, to, columns::shorter(order.len(), scratch)) {
+        return Sorted::Malformed;
+    }
+    let n = first.len() - 1;
+    let v = solve(first, to, group, place, at, stack, path, bound);
+    if v < n {
+        return Sorted::Cyclic(v);
+    }
+    arrange(order, place, n);
+    Sorted::Acyclic
 }
