@@ -11,7 +11,7 @@ use lib.ListN.{length, getD}
 use Rattle.express.specs.Spelling.{spelling, same, symbolOf, symbolsOf}
 use Rattle.express.proofs.Select.{and-fst, and-snd, and-both, column-at, First, first-is}
 
-same-true : (xs ys : List ℕ) → same xs ys ≡ true → xs ≡ ys
+pub same-true : (xs ys : List ℕ) → same xs ys ≡ true → xs ≡ ys
 unfolding same
 same-true [] [] e = refl
 same-true [] (y ∷ ys) e = absurd (false≢true e)
@@ -19,7 +19,7 @@ same-true (x ∷ xs) [] e = absurd (false≢true e)
 same-true (x ∷ xs) (y ∷ ys) e =
     ap₂ {C = List ℕ} (λ z zs. z ∷ zs) (eqb-true x y (and-fst (eqb x y) (same xs ys) e)) (same-true xs ys (and-snd (eqb x y) (same xs ys) e))
 
-same-refl : (xs : List ℕ) → same xs xs ≡ true
+pub same-refl : (xs : List ℕ) → same xs xs ≡ true
 unfolding same
 same-refl [] = refl
 same-refl (x ∷ xs) = and-both (eqb x x) (same xs xs) (eq-eqb x x refl) (same-refl xs)
