@@ -13,6 +13,7 @@ use lib.Seq.{sets, take-suc, take-all, length-sets}
 use borrow.Author.Tests.{eqb-true, eq-eqb, leb-true, not-true, not-false}
 use Rattle.columns.specs.Column.{cleared}
 use Rattle.columns.proofs.Laws.{sets-snoc, length-cleared}
+use Rattle.express.specs.Bytes.{lower}
 use Rattle.express.specs.Select.{span}
 use Rattle.express.specs.Spelling.{spelling, same, symbolOf, symbolsOf}
 use Rattle.express.proofs.Select.{and-fst, and-snd, and-both, untrue}
@@ -22,7 +23,7 @@ use Rattle.index.specs.Room.{fits, enough}
 use Rattle.index.specs.Interning.{lastBelow, bucketAt, chained, Linked, Fills, Readied, Interns}
 use Rattle.index.specs.declared.Outcome.the-variants.{Done, Short}
 use Rattle.index.proofs.Search.{last-skip, last-next, last-none-yet, last-le, last-passes, last-none, at-set}
-use Rattle.index.proofs.Spellings.{same-is}
+use Rattle.index.proofs.Spellings.{same-is, heard}
 use Rattle.index.proofs.Entries.{fits-parts, zeros-at}
 
 -- the bucket of a number is that of an equal one
@@ -75,18 +76,19 @@ module _ (bytes starts lengths : List ℕ) where
         (λ l. omega (arith, symbol-le bytes starts lengths i, l))
 
   -- the link at hand leads to the last of the chain below `upto`, and what is to be met from there is what was to be met
-  pub record Walk (next : List ℕ) (head i l : ℕ) : Type 0 where
+  pub record Walk (next : List ℕ) (head i : ℕ) (word : List ℕ) (l : ℕ) : Type 0 where
     pub linked : Linked bytes starts lengths next head i
+    pub spells : map lower word ≡ spelling bytes starts lengths i
     pub upto : ℕ
     pub low : upto ≤ i
     pub here : l ≡ lastBelow (chained bytes starts lengths (linked .buckets) (bucketAt bytes starts lengths (linked .buckets) i)) upto
     pub left : lastBelow (wanted (linked .buckets) i) upto ≡ lastBelow (wanted (linked .buckets) i) i
 
-  module _ {next : List ℕ} {head i : ℕ} where
-    pub walk-starts : (l : ℕ) → Linked bytes starts lengths next head i → l ≡ head → Walk next head i l
-    walk-starts l L e = record { linked = L; upto = i; low = omega arith; here = e ∙ L .heads; left = refl }
+  module _ {next word : List ℕ} {head i : ℕ} where
+    pub walk-starts : {l : ℕ} → Linked bytes starts lengths next head i → map lower word ≡ spelling bytes starts lengths i → l ≡ head → Walk next head i word l
+    walk-starts L p e = record { linked = L; spells = p; upto = i; low = omega arith; here = e ∙ L .heads; left = refl }
 
-    module _ {l : ℕ} (w : Walk next head i l) where
+    module _ {l : ℕ} (w : Walk next head i word l) where
       abbrev L : Linked bytes starts lengths next head i
       L = w .linked
 
@@ -96,8 +98,12 @@ module _ (bytes starts lengths : List ℕ) where
       abbrev mine : ℕ → Bool
       mine = on buckets (bucket buckets i)
 
-      pub walk-low : l ≤ i
+      walk-low : l ≤ i
       walk-low = omega (arith, w .here, last-le mine (w .upto), w .low)
+
+      -- the token that it leads to has its start, its length and its link
+      pub walk-inside : 0 < l → (l - 1 < length starts) × (l - 1 < length lengths) × (l - 1 < length next)
+      walk-inside h = let low = walk-low in let L = w .linked in (omega arith, omega arith, omega arith)
 
       -- what is left to be met stands at the link or below it
       to-here : lastBelow (wanted buckets i) (w .upto) ≡ lastBelow (wanted buckets i) l
@@ -113,19 +119,22 @@ module _ (bytes starts lengths : List ℕ) where
             omega (arith, e, last-le (on buckets (bucket buckets (l - 1))) (l - 1))
 
         -- the token is spelled alike, and the first of its spelling
-        pub walk-hits : same (spelling bytes starts lengths (l - 1)) (spelling bytes starts lengths i) ≡ true → l - 1 ≡ symbolOf bytes starts lengths i
-        walk-hits t =
+        pub walk-hits : {r : Bool} → r ≡ same (spelling bytes starts lengths (l - 1)) (map lower word) → r ≡ true → l - 1 ≡ symbolOf bytes starts lengths i
+        walk-hits e f =
+            let t = heard (spelt (l - 1)) (w .spells) e f in
             sym (on-first buckets (bucket buckets i) (l - 1) met)
             ∙ symbol-iff bytes starts lengths (l - 1) i .1 (same-true _ _ t)
 
-        pub walk-goes-on : (x : ℕ) → same (spelling bytes starts lengths (l - 1)) (spelling bytes starts lengths i) ≡ false → x ≡ getD next (l - 1) 0 → Walk next head i x
-        walk-goes-on x t e =
+        pub walk-goes-on : {r : Bool} {x : ℕ} → r ≡ same (spelling bytes starts lengths (l - 1)) (map lower word) → r ≡ false → x ≡ getD next (l - 1) 0 → Walk next head i word x
+        walk-goes-on c f e =
             let k = l - 1 in
+            let t = heard (spelt k) (w .spells) c f in
             let q : k + 1 ≡ l = omega arith in
             let off : wanted buckets i k ≡ false = untrue (wanted buckets i k) (λ y. false≢true (sym t ∙ and-snd (mine k) _ y)) in
             let same-bucket : bucket buckets k ≡ bucket buckets i = on-bucket buckets (bucket buckets i) k met in
             record {
               linked = L;
+              spells = w .spells;
               upto = k;
               low = omega (arith, walk-low);
               here = e ∙ L .links k (omega (arith, walk-low)) ∙ ap (λ (b : ℕ). lastBelow (on buckets b) k) same-bucket;

@@ -17,7 +17,7 @@ abbrev μ-loop : tie.MeasureT-loop
 μ-loop bytes starts lengths symbols₀ heads₀ next₀ i₀ symbols heads next i = length starts - i
 
 loop-holds : tie.Need-loop-holds Inv-loop μ-loop
-loop-holds c = filling-starts (c .before .before .before .before .before .before .args .bytes .now) (c .before .before .before .before .before .before .args .starts .now) (c .before .before .before .before .before .before .args .lengths .now) (c .before .before .before .before .before .before .pre)
+loop-holds c = filling-starts _ _ _ (c .before .before .before .before .before .before .pre)
 
 token-bucket-requires : tie.Need-token-bucket-requires Inv-loop μ-loop
 token-bucket-requires c κs = (c .loop-test .taken, omega (arith, c .loop-test .taken, c .before .loop .inv .sized), omega (arith, c .before .loop .inv .some, c .before .loop .inv .heads-long))
@@ -29,10 +29,10 @@ slice-read-head : tie.Need-slice-read-head Inv-loop μ-loop
 slice-read-head c = omega (arith, c .before .token-bucket .ensures .small)
 
 least-requires : tie.Need-least-requires Inv-loop μ-loop
-least-requires c κs = linked (c .before .before .before .before .before .before .before .before .before .before .before .args .bytes .now) (c .before .before .before .before .before .before .before .before .before .before .before .args .starts .now) (c .before .before .before .before .before .before .before .before .before .before .before .args .lengths .now) (c .before .before .before .before .loop .inv) _ (c .before .before .before .loop-test .taken) (c .before .before .token-bucket .ensures)
+least-requires c κs = linked _ _ _ (c .before .before .before .before .loop .inv) _ (c .before .before .before .loop-test .taken) (c .before .before .token-bucket .ensures)
 
 number-requires : tie.Need-number-requires Inv-loop μ-loop
-number-requires c κs = omega (arith, c .least .ensures, symbol-le (c .before .before .before .before .before .before .before .before .before .before .before .before .args .bytes .now) (c .before .before .before .before .before .before .before .before .before .before .before .before .args .starts .now) (c .before .before .before .before .before .before .before .before .before .before .before .before .args .lengths .now) (c .before .before .before .before .before .loop .i), c .before .before .before .before .before .loop .inv .small, c .before .before .before .before .loop-test .taken)
+number-requires c κs = let s = c .before .before .before .before .before .before .before .before .before .before .before .before in omega (arith, c .least .ensures, symbol-le (s .args .bytes .now) (s .args .starts .now) (s .args .lengths .now) (c .before .before .before .before .before .loop .i), c .before .before .before .before .before .loop .inv .small, c .before .before .before .before .loop-test .taken)
 
 mul-symbols : tie.Need-mul-symbols Inv-loop μ-loop
 mul-symbols c = search needs
@@ -67,8 +67,8 @@ loop-less c = omega (arith, c .before .before .before .before .before .before .l
 loop-again : tie.Need-loop-again Inv-loop μ-loop
 loop-again c =
     ⊎-elim
-    (λ w. filling-adds (c .before .before .before .before .before .before .before .before .before .before .before .before .before .before .args .bytes .now) (c .before .before .before .before .before .before .before .before .before .before .before .before .before .before .args .starts .now) (c .before .before .before .before .before .before .before .before .before .before .before .before .before .before .args .lengths .now) (c .before .before .before .before .before .before .before .loop .inv) (c .before .before .before .before .before .before .loop-test .taken) _ _ _ (c .before .before .before .before .before .token-bucket .ensures) (c .before .before .least .ensures) (c .before .number .ensures) _ (w .0 .taken) (w .1 .ensures) (w .2))
-    (λ w. filling-repeats (c .before .before .before .before .before .before .before .before .before .before .before .before .before .before .args .bytes .now) (c .before .before .before .before .before .before .before .before .before .before .before .before .before .before .args .starts .now) (c .before .before .before .before .before .before .before .before .before .before .before .before .before .before .args .lengths .now) (c .before .before .before .before .before .before .before .loop .inv) (c .before .before .before .before .before .before .loop-test .taken) _ _ _ (c .before .before .before .before .before .token-bucket .ensures) (c .before .before .least .ensures) (c .before .number .ensures) (w .0 .left) (w .1)) (c .if1 .came)
+    (λ w. filling-adds _ _ _ (c .before .before .before .before .before .before .before .loop .inv) (c .before .before .before .before .before .before .loop-test .taken) _ _ _ (c .before .before .before .before .before .token-bucket .ensures) (c .before .before .least .ensures) (c .before .number .ensures) _ (w .0 .taken) (w .1 .ensures) (w .2))
+    (λ w. filling-repeats _ _ _ (c .before .before .before .before .before .before .before .loop .inv) (c .before .before .before .before .before .before .loop-test .taken) _ _ _ (c .before .before .before .before .before .token-bucket .ensures) (c .before .before .least .ensures) (c .before .number .ensures) (w .0 .left) (w .1)) (c .if1 .came)
 
 same-length : tie.Need-same-length Inv-loop μ-loop
 same-length c = c .before .loop .inv .symbols-long
@@ -80,7 +80,7 @@ same-length-3 : tie.Need-same-length-3 Inv-loop μ-loop
 same-length-3 c = c .before .loop .inv .next-long
 
 returns : tie.Need-returns Inv-loop μ-loop
-returns c = filling-ends (c .before .before .before .before .before .before .before .before .args .bytes .now) (c .before .before .before .before .before .before .before .before .args .starts .now) (c .before .before .before .before .before .before .before .before .args .lengths .now) (c .before .loop .inv) (c .loop-test .left)
+returns c = filling-ends _ _ _ (c .before .loop .inv) (c .loop-test .left)
 
 pub fill-spec : {M : Type 1} → statement M
 fill-spec =

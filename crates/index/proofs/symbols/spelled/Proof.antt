@@ -28,7 +28,7 @@ alike-requires : tie.Need-alike-requires
 alike-requires c κs = search needs
 
 returns : tie.Need-returns
-returns c = c .alike .ensures ∙ ap (λ (xs : List ℕ). same xs (map lower (c .before .before .before .before .before .before .before .before .args .word .now))) (part-spelling (c .before .before .before .before .before .before .before .before .args .bytes .now) (c .before .before .before .before .before .before .before .before .args .starts .now) (c .before .before .before .before .before .before .before .before .args .lengths .now) (c .before .before .before .before .before .before .before .before .args .k) _ _ (c .before .before .before .begin .ensures) (c .before .before .end .ensures))
+returns c = let s = c .before .before .before .before .before .before .before .before in c .alike .ensures ∙ ap (λ (xs : List ℕ). same xs (map lower (s .args .word .now))) (part-spelling (s .args .bytes .now) (s .args .starts .now) (s .args .lengths .now) (s .args .k) _ _ (c .before .before .before .begin .ensures) (c .before .before .end .ensures))
 
 pub spelled-spec : {M : Type 1} → statement M
 spelled-spec =
