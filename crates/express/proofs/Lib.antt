@@ -15,6 +15,7 @@ pub mod Later
 pub mod Literals
 pub mod Integer
 pub mod Logic
+pub mod Longest
 pub mod Meaning
 pub mod NameCases
 pub mod Names
@@ -34,6 +35,7 @@ pub mod Spelling
 pub mod Syntax
 pub mod SyntaxExamples
 pub mod TokenExamples
+pub mod TokenRows
 pub mod TokenOrder
 pub mod Topological
 pub mod TypeCycle

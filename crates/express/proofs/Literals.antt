@@ -3,14 +3,14 @@ use mathlib.Core.Path.{_≡_, refl, sym, ap, _∙_}
 use mathlib.Core.Logic.{_≢_}
 use mathlib.Core.Bool.{Bool, true, false, cond, _||_, false≢true}
 use mathlib.Core.List.{List, [], _∷_, map}
-use Prim.Native.Nat.{ℕ, zero, suc, _+_, _-_, _^_, _≤_, _<_}
+use Prim.Native.Nat.{ℕ, _-_, _^_, _≤_, _<_}
 use native.Mathlib.Decide.{decLt}
 use native.Mathlib.Omega.{arith}
-use borrow.Author.Tests.{ltb-true, leb-true, eqb-false}
-use lib.Dec.{eqb, leb, ltb}
-use lib.ListN.{length, getD, take, drop, List·getD-map, List·getD-eq-default, length-map, length-take, length-drop}
-use Rattle.express.specs.Bytes.{within, upper, digit}
-use Rattle.express.specs.Lexis.{Row, Reading, at, refused, part, run, bit, numeral, greatest, integerEnd, binaryEnd, tokenEnd, kindAt, stopped, afterToken, afterSkip, skipped, lexIn, lexed, starts, integerValue, binaryBits}
+use borrow.Author.Tests.{eqb-false}
+use lib.Dec.{eqb}
+use lib.ListN.{length, getD, List·getD-map, List·getD-eq-default}
+use Rattle.express.specs.Bytes.{within, upper}
+use Rattle.express.specs.Lexis.{Row, lexed, starts, integerValue, binaryBits}
 use Rattle.express.specs.Terminal.{Fixed, identifier, the, symbols, reserved, among, terminalOf}
 use Rattle.express.specs.Spelling.{same}
 use Rattle.express.specs.NodeKind as node
@@ -20,7 +20,7 @@ use Rattle.express.specs.Grammar.{Nonterminal}
 use Rattle.express.specs.Syntax.{Read}
 use Rattle.express.specs.Scanned.{spelled, Scanned}
 use Rattle.express.specs.Shape.{text, Literals}
-use Rattle.express.proofs.Places.{run-high}
+use Rattle.express.proofs.TokenRows.{no-row, row-at, tokens-of, integer-small, binary-some, binary-few}
 use Rattle.express.proofs.Within.{integer-named, binary-named}
 
 -- ---- tokens
@@ -30,70 +30,6 @@ pub record Sized (s : List ℕ) (r : Row) : Type 0 where
   pub some-bits : r .kind ≡ 5 → 1 ≤ length (binaryBits (spelled s r))
   pub few-bits : r .kind ≡ 5 → length (binaryBits (spelled s r)) ≤ 63
 
-abbrev no-row : Row
-no-row = record { kind = 0; start = 0; size = 0 }
-
-integer-small : (s : List ℕ) (q e : ℕ) → integerEnd s q ≡ at e → integerValue (part s q e) < 2 ^ 63
-unfolding integerEnd integerValue
-integer-small s q e h = by (leb (numeral 10 0 (part s q (run digit s q))) greatest) refl h
-  where
-    by :
-        (b : Bool) → leb (numeral 10 0 (part s q (run digit s q))) greatest ≡ b → cond b (at (run digit s q)) (refused 3 q) ≡ at e →
-        numeral 10 0 (part s q e) < 2 ^ 63
-    by true i g =
-        let z : run digit s q ≡ e = cc in
-        let l = leb-true (numeral 10 0 (part s q (run digit s q))) greatest i in
-        rw z at (let m : numeral 10 0 (part s q (run digit s q)) < 2 ^ 63 = omega arith in m)
-    by false i g = absurd (let z : _≡_ {A = ℕ} 0 1 = cc in omega arith)
-
--- the bits after a `%`
-record Bits (s : List ℕ) (q e : ℕ) : Type 0 where
-  is : run bit s (q + 1) ≡ e
-  some : 1 ≤ e - (q + 1)
-  few : e - (q + 1) ≤ 63
-
-binary-bits : (s : List ℕ) (q e : ℕ) → binaryEnd s q ≡ at e → Bits s q e
-unfolding binaryEnd
-binary-bits s q e h = by (eqb (run bit s (q + 1) - (q + 1)) 0) (leb (run bit s (q + 1) - (q + 1)) 63) refl refl h
-  where
-    by :
-        (b c : Bool) → eqb (run bit s (q + 1) - (q + 1)) 0 ≡ b → leb (run bit s (q + 1) - (q + 1)) 63 ≡ c →
-        cond b (refused 2 q) (cond c (at (run bit s (q + 1))) (refused 3 q)) ≡ at e → Bits s q e
-    by true c i j g = absurd (let z : _≡_ {A = ℕ} 0 1 = cc in omega arith)
-    by false false i j g = absurd (let z : _≡_ {A = ℕ} 0 1 = cc in omega arith)
-    by false true i j g =
-        let z : run bit s (q + 1) ≡ e = cc in
-        let n : run bit s (q + 1) - (q + 1) ≢ 0 = eqb-false _ 0 i in
-        let l : run bit s (q + 1) - (q + 1) ≤ 63 = leb-true _ 63 j in
-        record { is = z; some = omega (arith, n); few = omega arith }
-
-bits-length : (s : List ℕ) (q e : ℕ) → q < length s → Bits s q e → length (binaryBits (take (e - q) (drop q s))) ≡ e - (q + 1)
-unfolding binaryBits
-bits-length s q e l h =
-    let u : run bit s (q + 1) ≤ length s = run-high bit s (q + 1) (omega arith) in
-    let w = h .is in
-    let a : length (map (λ (b : ℕ). eqb b 49) (drop 1 (take (e - q) (drop q s)))) ≡ length (drop 1 (take (e - q) (drop q s))) = length-map (drop 1 (take (e - q) (drop q s))) (λ (b : ℕ). eqb b 49) in
-    let b = length-drop 1 (take (e - q) (drop q s)) in
-    let c = length-take (e - q) (drop q s) in
-    let d = length-drop q s in
-    omega arith
-
--- the token of a kind that ends at e
-sized : (s : List ℕ) (k q e : ℕ) → q < length s → tokenEnd s q k ≡ at e → Sized s (record { kind = k; start = q; size = e - q })
-unfolding tokenEnd
-sized s k q e l h =
-    record {
-      small = λ i. integer-small s q e (sym (of-integer i) ∙ h);
-      some-bits = λ i. let b = binary-bits s q e (sym (of-binary i) ∙ h) in omega (arith, bits-length s q e l b);
-      few-bits = λ i. let b = binary-bits s q e (sym (of-binary i) ∙ h) in omega (arith, bits-length s q e l b);
-    }
-  where
-    of-integer : k ≡ 2 → tokenEnd s q k ≡ integerEnd s q
-    of-integer i = rw i
-
-    of-binary : k ≡ 5 → tokenEnd s q k ≡ binaryEnd s q
-    of-binary i = rw i
-
 nothing-sized : (s : List ℕ) → Sized s no-row
 nothing-sized s =
     record {
@@ -102,38 +38,14 @@ nothing-sized s =
       few-bits = λ (i : _≡_ {A = ℕ} 0 5). absurd (omega arith);
     }
 
--- each of the rows that are read
-rows-sized : (f : ℕ) (s : List ℕ) (p i : ℕ) → Sized s (getD (lexIn f s p .rows) i no-row)
-unfolding lexIn
-rows-sized zero s p i = nothing-sized s
-rows-sized (suc f) s p i = by (skipped s p) (λ q j. rows-sized f s q j)
-  where
-    at-row : (q e j : ℕ) → Sized s (record { kind = kindAt s q; start = q; size = e - q }) → ((j : ℕ) → Sized s (getD (lexIn f s e .rows) j no-row)) →
-        Sized s (getD (record { kind = kindAt s q; start = q; size = e - q } ∷ lexIn f s e .rows) j no-row)
-    at-row q e zero h more = h
-    at-row q e (suc j) h more = more j
-
-    token : (q : ℕ) (r : Reading) → q < length s → tokenEnd s q (kindAt s q) ≡ r → ((q j : ℕ) → Sized s (getD (lexIn f s q .rows) j no-row)) →
-        Sized s (getD (afterToken (kindAt s q) q r (λ q. lexIn f s q) .rows) i no-row)
-    token q (refused n o) l e more = nothing-sized s
-    token q (at z) l e more = at-row q z i (sized s (kindAt s q) q z l e) (more z)
-
-    inside : (q : ℕ) (b : Bool) → ltb q (length s) ≡ b → ((q j : ℕ) → Sized s (getD (lexIn f s q .rows) j no-row)) →
-        Sized s (getD (cond b (afterToken (kindAt s q) q (tokenEnd s q (kindAt s q)) (λ q. lexIn f s q)) (stopped (at q)) .rows) i no-row)
-    inside q false e more = nothing-sized s
-    inside q true e more = token q (tokenEnd s q (kindAt s q)) (ltb-true q (length s) e) refl more
-
-    by : (r : Reading) → ((q j : ℕ) → Sized s (getD (lexIn f s q .rows) j no-row)) → Sized s (getD (afterSkip s r (λ q. lexIn f s q) .rows) i no-row)
-    by (refused n o) more = nothing-sized s
-    by (at q) more = inside q (ltb q (length s)) refl more
-
 pub lexed-sized : (s : List ℕ) (i : ℕ) → Sized s (getD (lexed s .rows) i no-row)
-unfolding lexed
-lexed-sized s i = by (leb (length s) 65536)
+lexed-sized s i = by (decLt i (length (lexed s .rows)))
   where
-    by : (b : Bool) → Sized s (getD (cond b (lexIn (length s + 1) s 0) (stopped (refused 1 65536)) .rows) i no-row)
-    by true = rows-sized (length s + 1) s 0 i
-    by false = nothing-sized s
+    by : Dec (i < length (lexed s .rows)) → Sized s (getD (lexed s .rows) i no-row)
+    by (yes l) =
+        let t = tokens-of s .token i l in
+        record { small = integer-small s (row-at (lexed s .rows) i) t; some-bits = binary-some s (row-at (lexed s .rows) i) t; few-bits = binary-few s (row-at (lexed s .rows) i) t }
+    by (no n) = rw (List·getD-eq-default (lexed s .rows) no-row {n = i} (omega (arith, n))) (nothing-sized s)
 
 -- ---- terminals: the code of a literal is that of no word and no symbol
 

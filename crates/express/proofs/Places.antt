@@ -1,19 +1,19 @@
 -- Where the readers of tokens stop: a reading step from inside the text gives a place inside it, and a token has a byte at least.
 use mathlib.Core.Path.{_≡_, refl, sym, ap, _∙_}
-use mathlib.Core.Bool.{Bool, true, false, cond, _&&_, _||_}
+use mathlib.Core.Bool.{Bool, true, false, cond, _&&_}
 use mathlib.Core.List.{List, [], _∷_}
 use Prim.Native.Nat.{ℕ, zero, suc, _+_, _-_, _≤_, _<_}
 use native.Mathlib.Omega.{arith}
 use native.Mathlib.Nat.{le-refl, le-trans}
 use native.Mathlib.Numerals.{add-one}
 use native.Mathlib.Decide.{decLt}
-use lib.ListN.{length, take, drop, getD, length-drop, drop-of-length-le, List·getD-eq-default}
+use lib.ListN.{length, drop, getD, length-drop, List·getD-eq-default}
 use lib.Seq.{drop-cons}
-use lib.Dec.{eqb, leb, ltb}
+use lib.Dec.{eqb, leb}
 use borrow.Author.Needs.{needs}
-use borrow.Author.Tests.{eq-eqb, ne-eqb, eqb-true, leb-true, ltb-true}
+use borrow.Author.Tests.{eq-eqb, eqb-true}
 use Rattle.express.specs.Bytes.{within, letter, digit, wordByte, space}
-use Rattle.express.specs.Lexis.{Reading, at, refused, part, runEnd, run, pair, opens, dashes, inLine, remarkEnd, andThen, skipIn, skipped, numeral, integerEnd, either, exponentDigits, exponentEnd, realEnd, stringEnd, binaryEnd, lone, symbolSize, symbolEnd, kindAt, tokenEnd}
+use Rattle.express.specs.Lexis.{Reading, at, refused, part, runEnd, run, pair, opens, dashes, inLine, remarkEnd, andThen, skipIn, skipped, numeral, integerEnd, either, exponentDigits, exponentEnd, realEnd, stringEnd, binaryEnd, symbolSize, symbolEnd, kindAt, tokenEnd}
 
 -- a step that goes on gives a place from lo to hi
 abbrev pub From : ℕ → ℕ → Reading → Type 0

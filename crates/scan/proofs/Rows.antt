@@ -2,15 +2,15 @@
 use mathlib.Core.Path.{_≡_, refl, sym, ap, ap₂, _∙_, subst}
 use mathlib.Core.Bool.{cond}
 use lib.Dec.{leb}
-use mathlib.Core.List.{List, [], _∷_, map}
-use Prim.Native.Nat.{ℕ, zero, suc, _+_, _-_, _<_, _≤_, min}
+use mathlib.Core.List.{List}
+use Prim.Native.Nat.{ℕ, suc, _+_, _-_, _<_, _≤_, min}
 use native.Mathlib.Omega.{arith}
 use native.Mathlib.Numerals.{add-one}
 use native.Mathlib.Nat.{add-zero}
 use lib.ListN.{length, set, length-set}
 use lib.Seq.{sets}
 use borrow.Author.Tests.{lt-ltb, le-ltb, le-leb, lt-leb}
-use Rattle.express.specs.Lexis.{Reading, at, refused, skipped, kindAt, tokenEnd, Row, Lexed, stopped, cons, afterSkip, afterToken, lexIn, lexed, kinds, starts, sizes, counted, tokens}
+use Rattle.express.specs.Lexis.{Reading, at, refused, skipped, kindAt, tokenEnd, Lexed, stopped, cons, afterSkip, afterToken, lexIn, lexed, kinds, starts, sizes, counted, tokens}
 use Rattle.express.proofs.Places.{inside-at, skip-inside, token-inside}
 use Rattle.scan.specs.Scan.{reading, ended, Filled, Scanned}
 use Rattle.scan.specs.declared.Step.{Step}

@@ -1,12 +1,12 @@
 -- Spaces and remarks: what one turn of the loop of `skip` does.
-use mathlib.Core.Path.{_≡_, refl, sym, ap, _∙_}
+use mathlib.Core.Path.{_≡_, sym, ap, _∙_}
 use mathlib.Core.Bool.{true, false}
 use mathlib.Core.List.{List}
-use Prim.Native.Nat.{ℕ, zero, suc, _+_, _-_, _<_, _≤_}
+use Prim.Native.Nat.{ℕ, suc, _+_, _-_, _<_, _≤_}
 use native.Mathlib.Omega.{arith}
 use lib.ListN.{length, drop, getD}
 use Rattle.express.specs.Bytes.{space}
-use Rattle.express.specs.Lexis.{Reading, at, refused, run, opens, dashes, inLine, remarkEnd, andThen, skipIn, skipped}
+use Rattle.express.specs.Lexis.{Reading, at, run, opens, dashes, inLine, remarkEnd, andThen, skipIn, skipped}
 use Rattle.express.proofs.Places.{past, inside-at, remark-low}
 use Rattle.scan.specs.Scan.{reading}
 use Rattle.scan.specs.declared.Step.{Step}
