@@ -5,7 +5,7 @@
 
 use compare::random::{well_typed, LARGEST};
 use proved::{intern, scan, terminals};
-use reference::terminals::classify;
+use reference::terminals::{classify, Terminal};
 use reference::{symbols, tokens, TokenRow, MAX_BYTES};
 use std::hint::black_box;
 use std::time::Instant;
@@ -59,18 +59,20 @@ struct Timed {
     reference: f64,
 }
 
-/// The token reader, the terminals of the tokens that it read, and their symbols (the reference's of identifiers alone).
+/// The token reader, the terminals of the tokens that it read, and the symbols of the identifiers among them.
 fn steps(file: &[u8], rows: &[TokenRow]) -> [Timed; 3] {
     let column = || vec![0; rows.len()];
     let (mut kinds, mut starts, mut lengths) = (vec![0; rows.len()], column(), column());
     let (mut out, mut symbols, mut heads, mut next) = (vec![0; rows.len()], column(), vec![0; BUCKETS], column());
     assert_eq!(scan(file, &mut kinds, &mut starts, &mut lengths), Ok(rows.len()));
     let words = classify(file, rows);
+    let names = rows.iter().zip(&words).filter(|(_, &word)| word == Terminal::Identifier).map(|(row, _)| row);
+    let (name_starts, name_lengths): (Vec<u32>, Vec<u32>) = names.map(|row| (row.start, row.length)).unzip();
     let file = black_box(file);
     let read = best(|| scan(file, &mut kinds, &mut starts, &mut lengths), || tokens::read(file));
     let classified = best(|| terminals(file, &kinds, &starts, &lengths, &mut out), || classify(file, rows));
     let interned = best(
-        || intern(file, &starts, &lengths, &mut symbols, &mut heads, &mut next),
+        || intern(file, &name_starts, &name_lengths, &mut symbols, &mut heads, &mut next),
         || symbols::intern(file, rows, &words),
     );
     [("scan", read), ("terminals", classified), ("intern", interned)].map(|(step, [proved, reference])| Timed {
