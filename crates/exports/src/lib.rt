@@ -2,7 +2,9 @@
 // length; a reading step as its reply, returned, and its number, written to a place of the caller's.
 ghost use mathlib.Core.Path.{_≡_};
 ghost use lib.ListN.{length, take, drop};
+ghost use lib.Seq.{sets};
 ghost use Rattle.express.specs.Lexis.{integerValue, binaryValue};
+ghost use Rattle.express.specs.Terminal.{terminals};
 ghost use Rattle.literals.specs.Literal.{capped};
 ghost use Rattle.scan.specs.Scan.{reading};
 ghost use Rattle.exports.specs.Reply.{reply, number, Scans};
@@ -52,4 +54,17 @@ pub extern "C" fn woffulent_binary(s: &[u8], start: usize, length: usize) -> u64
     ensures { λ r. ⌜ r ≡ capped (binaryValue (take length (drop start (now (s .entry))))) ⌝ }
 {
     literals::binary(s, start, length)
+}
+
+#[no_mangle]
+pub extern "C" fn woffulent_terminals(
+    src: &[u8],
+    kinds: &[u8],
+    starts: &[u32],
+    lengths: &[u32],
+    out: &mut [u8],
+)
+    ensures { λ _. ⌜ now (out .exit) ≡ sets (now (out .entry)) 0 (terminals (now (src .entry)) (now (kinds .entry)) (now (starts .entry)) (now (lengths .entry))) ⌝ }
+{
+    words::terminals(src, kinds, starts, lengths, out);
 }

@@ -1,19 +1,19 @@
 -- Laws on integers taken apart, in the form that `search` takes: x is the answer of a call, and each premise is what a call promised or a test said.
 use mathlib.Core.Path.{_≡_, refl, sym, ap, _∙_}
-use mathlib.Core.Bool.{Bool, true, false, not, Bool·beq}
+use mathlib.Core.Bool.{Bool, true, false, not, cond, Bool·beq}
 use Prim.Native.Nat.{ℕ, zero, suc, _+_, _-_, _*_, _/_, _%_, _^_, _≤_, _<_}
 use native.Mathlib.Nat.{zero-mul, mul-zero, mul-comm, div-lt-iff-lt-mul, le-div-iff-mul-le, div-le-self, mod-lt}
 use native.Mathlib.Omega.{arith}
 use native.Mathlib.Numerals.{add-one}
-use borrow.Author.Tests.{lt-ltb, le-ltb, ne-eqb}
-use lib.Dec.{leb·suc-suc}
-use lib.IntN.{ℤ, pos, negsuc, negℤ, subℕ, natAbs, _+ℤ_, _-ℤ_, _*ℤ_, +ℤ-idl, zero-*ℤ}
+use borrow.Author.Tests.{ltb-false, lt-ltb, le-ltb, ne-eqb}
+use lib.Dec.{ltb}
+use lib.IntN.{ℤ, pos, negsuc, negℤ, subℕ, _+ℤ_, _-ℤ_, _*ℤ_, +ℤ-idl, zero-*ℤ}
 use lib.Signed.{mag, ltZ, shrZ}
 use mir.Syntax.{w64}
 use mir.Val.{SFits, Fits, toZ, ofZ}
 use mir.Facts.{toZ-ofZ}
 use Rattle.express.specs.Answer.{Answer, integer, end}
-use Rattle.express.specs.Integer.{exact, sum, difference, product, negation, negative, signed, rest, quotient, remainder, DIV, MOD}
+use Rattle.express.specs.Integer.{exact, difference, product, negation, negative, signed, rest, quotient, remainder, DIV, MOD}
 use Rattle.integers.specs.Parted.{complement, Complemented, Measured}
 use Rattle.integers.specs.declared.Complement.{Complement}
 use Rattle.integers.specs.declared.Magnitude.{Magnitude}
@@ -26,6 +26,23 @@ exact-fits z h = rw (lt-ltb (mag z) (2 ^ 63) h)
 pub exact-over : (z : ℤ) → 2 ^ 63 ≤ mag z → exact z ≡ end 16
 unfolding exact
 exact-over z h = rw (le-ltb (mag z) (2 ^ 63) h)
+
+-- ---- what an answer tells of the exact result
+is-integer : (t : Bool) (z w : ℤ) → cond t (integer z) (end 16) ≡ integer w → z ≡ w
+is-integer true z w e = cc
+is-integer false z w e = let n : _≡_ {A = ℕ} 0 1 = cc in absurd (omega arith)
+
+is-ended : (t : Bool) (z : ℤ) (k : ℕ) → cond t (integer z) (end 16) ≡ end k → t ≡ false
+is-ended true z k e = let n : _≡_ {A = ℕ} 0 1 = cc in absurd (omega arith)
+is-ended false z k e = refl
+
+pub value-is : (z : ℤ) {w : ℤ} → exact z ≡ integer w → z ≡ w
+unfolding exact
+value-is z {w} e = is-integer (ltb (mag z) (2 ^ 63)) z w e
+
+pub ended-is : (z : ℤ) {k : ℕ} → exact z ≡ end k → 2 ^ 63 ≤ mag z
+unfolding exact
+ended-is z {k} e = ltb-false _ _ (is-ended (ltb (mag z) (2 ^ 63)) z k e)
 
 -- ---- signs and sizes
 pub below-zero : (z : ℤ) → ltZ z (pos 0) ≡ negative z
@@ -51,26 +68,7 @@ sub-le a b h = rw (le-ltb a b h)
 pub sub-lt : (a b : ℕ) → a < b → subℕ a b ≡ negsuc (b - suc a)
 sub-lt a b h = rw (lt-ltb a b h)
 
-module _ (m n : ℕ) {x : Answer} where
-  pub minus-less : x ≡ exact (negsuc (n - m - 1)) → m < n → x ≡ exact (subℕ m n)
-  minus-less e h = e ∙ ap exact (ap negsuc (omega arith) ∙ sym (sub-lt m n h))
-
-  pub minus-most : x ≡ exact (pos (m - n)) → n ≤ m → x ≡ exact (subℕ m n)
-  minus-most e h = e ∙ ap exact (sym (sub-le m n h))
-
-pub ruleset minuses = (minus-less, minus-most)
-
-sub-suc : (a b : ℕ) → subℕ (suc a) (suc b) ≡ subℕ a b
-sub-suc a b =
-    let e : suc b - suc (suc a) ≡ b - suc a = omega arith in
-    let f : suc a - suc b ≡ a - b = omega arith in
-    rw (leb·suc-suc (suc a) b, e, f)
-
-neg-pos : (m n : ℕ) → negsuc m -ℤ pos n ≡ negsuc (m + n)
-neg-pos m zero = sub-lt 0 (suc m) (omega arith) ∙ ap negsuc (omega arith)
-neg-pos m (suc n) = ap negsuc (omega arith)
-
-pos-pos : (m n : ℕ) → pos m -ℤ pos n ≡ subℕ m n
+pub pos-pos : (m n : ℕ) → pos m -ℤ pos n ≡ subℕ m n
 pos-pos m zero = ap pos (omega arith) ∙ sym (sub-le m 0 (omega arith))
 pos-pos m (suc n) = refl
 
@@ -110,36 +108,7 @@ module _ {a : ℤ} {p : Complement} (P : Complemented a p) where
 
 pub ruleset measures = (own, measured-minus, measured-plus)
 
--- ---- a sum and a difference
-module _ {a b : ℤ} {p q : Complement} {x : Answer} (P : Complemented a p) (Q : Complemented b q) where
-  pub add-mm : x ≡ exact (negsuc (p .size + q .size + 1)) → p .minus ≡ true → q .minus ≡ true → x ≡ sum a b
-  add-mm e s t = e ∙ ap exact (rw (← P .is, ← Q .is, s, t) (ap negsuc (omega arith)))
-
-  pub add-mp : x ≡ exact (subℕ (q .size) (p .size + 1)) → p .minus ≡ true → q .minus ≡ false → x ≡ sum a b
-  add-mp e s t = e ∙ ap exact (rw (← P .is, ← Q .is, s, t, add-one))
-
-  pub add-pm : x ≡ exact (subℕ (p .size) (q .size + 1)) → p .minus ≡ false → q .minus ≡ true → x ≡ sum a b
-  add-pm e s t = e ∙ ap exact (rw (← P .is, ← Q .is, s, t, add-one))
-
-  pub add-pp : x ≡ exact (pos (p .size + q .size)) → p .minus ≡ false → q .minus ≡ false → x ≡ sum a b
-  add-pp e s t = e ∙ ap exact (rw (← P .is, ← Q .is, s, t))
-
-  pub sub-mm : x ≡ exact (subℕ (q .size) (p .size)) → p .minus ≡ true → q .minus ≡ true → x ≡ difference a b
-  sub-mm e s t = e ∙ ap exact (rw (← P .is, ← Q .is, s, t) (sym (sub-suc (q .size) (p .size))))
-
-  pub sub-mp : x ≡ exact (negsuc (p .size + q .size)) → p .minus ≡ true → q .minus ≡ false → x ≡ difference a b
-  sub-mp e s t = e ∙ ap exact (rw (← P .is, ← Q .is, s, t) (sym (neg-pos _ _)))
-
-  pub sub-pm : x ≡ exact (pos (p .size + q .size + 1)) → p .minus ≡ false → q .minus ≡ true → x ≡ difference a b
-  sub-pm e s t = e ∙ ap exact (rw (← P .is, ← Q .is, s, t) (ap pos (omega arith)))
-
-  pub sub-pp : x ≡ exact (subℕ (p .size) (q .size)) → p .minus ≡ false → q .minus ≡ false → x ≡ difference a b
-  sub-pp e s t = e ∙ ap exact (rw (← P .is, ← Q .is, s, t) (sym (pos-pos (p .size) (q .size))))
-
-pub ruleset sums = (own, add-mm, add-mp, add-pm, add-pp)
-
-pub ruleset differences = (own, sub-mm, sub-mp, sub-pm, sub-pp)
-
+-- ---- a negation
 pub negated : {a : ℤ} {x : Answer} → SFits w64 a → x ≡ difference (pos 0) (toZ w64 (ofZ w64 a)) → x ≡ negation a
 negated {a} f e = e ∙ ap exact (+ℤ-idl (negℤ (toZ w64 (ofZ w64 a))) ∙ ap negℤ (toZ-ofZ f))
 

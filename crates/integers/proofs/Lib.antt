@@ -2,3 +2,4 @@ pub mod Arithmetic
 pub mod Calls
 pub mod Machine
 pub mod Powers
+pub mod Sums

@@ -1,12 +1,11 @@
 -- Laws of the power: a turn of the loop, what is too large stays so, and the powers of 0, 1 and -1.
 use mathlib.Core.Path.{_≡_, refl, sym, ap, _∙_}
-use mathlib.Core.Bool.{Bool, true, false, not, cond}
+use mathlib.Core.Bool.{Bool, true, false, not}
 use Prim.Native.Nat.{ℕ, zero, suc, _+_, _-_, _*_, _%_, _^_, _≤_, _<_}
 use native.Mathlib.Nat.{add-zero, add-suc, mul-le-mul, le-trans}
 use native.Mathlib.Numerals.{add-one}
 use native.Mathlib.Omega.{arith}
-use borrow.Author.Tests.{ltb-false}
-use lib.Dec.{ltb, eqb}
+use lib.Dec.{eqb}
 use lib.IntN.{ℤ, pos, negsuc, negℤ, natAbs, _*ℤ_, pow, one, *ℤ-zero}
 use lib.Signed.{mag}
 use mir.Syntax.{w64}
@@ -22,24 +21,7 @@ use Rattle.integers.specs.declared.Outcome.the-variants.{Value, Ended}
 use Rattle.integers.specs.Parted.{Complemented, Measured}
 use Rattle.integers.specs.declared.Complement.{Complement}
 use Rattle.integers.specs.declared.Magnitude.{Magnitude}
-use Rattle.integers.proofs.Arithmetic.{exact-fits, exact-over, is-zero, is-minus, is-plus, own, own-measure}
-
--- ---- what an answer tells of the exact result
-is-integer : (t : Bool) (z w : ℤ) → cond t (integer z) (end 16) ≡ integer w → z ≡ w
-is-integer true z w e = cc
-is-integer false z w e = let n : _≡_ {A = ℕ} 0 1 = cc in absurd (omega arith)
-
-is-ended : (t : Bool) (z : ℤ) (k : ℕ) → cond t (integer z) (end 16) ≡ end k → t ≡ false
-is-ended true z k e = let n : _≡_ {A = ℕ} 0 1 = cc in absurd (omega arith)
-is-ended false z k e = refl
-
-pub value-is : (z : ℤ) {w : ℤ} → exact z ≡ integer w → z ≡ w
-unfolding exact
-value-is z {w} e = is-integer (ltb (mag z) (2 ^ 63)) z w e
-
-pub ended-is : (z : ℤ) {k : ℕ} → exact z ≡ end k → 2 ^ 63 ≤ mag z
-unfolding exact
-ended-is z {k} e = ltb-false _ _ (is-ended (ltb (mag z) (2 ^ 63)) z k e)
+use Rattle.integers.proofs.Arithmetic.{exact-fits, exact-over, value-is, ended-is, is-zero, is-minus, is-plus, own, own-measure}
 
 -- ---- the magnitude of a product, and that what is too large stays so
 abs-neg : (n : ℕ) → natAbs (negℤ (pos n)) ≡ n

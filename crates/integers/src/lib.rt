@@ -1,7 +1,7 @@
 // Integers of 64 bits: exact results, and the ends of what has none.
 ghost use mathlib.Core.Path.{_≡_};
 ghost use Prim.Native.Nat.{_≤_};
-ghost use lib.IntN.{pos, natAbs, pow, subℕ};
+ghost use lib.IntN.{pos, natAbs, pow};
 ghost use Rattle.express.specs.Integer.{exact, sum, difference, product, negation, signed, DIV, MOD, power, compareℤ};
 ghost use Rattle.values.specs.Meaning.{orderingOf};
 ghost use Rattle.integers.specs.Meaning.{answerOf};
@@ -55,48 +55,30 @@ fn made(minus: bool, n: u64) -> Outcome
     Outcome::Value(n as i64)
 }
 
-// m - n, of two naturals.
-fn minus(m: u64, n: u64) -> Outcome
-    ensures { λ r. ⌜ answerOf r ≡ exact (subℕ m n) ⌝ }
-{
-    if m < n {
-        return made(true, n - m - 1);
-    }
-    made(false, m - n)
-}
-
+// Whether the sum leaves the range is seen from the first operand: the end of the range less the second lies within it.
 pub fn add(a: i64, b: i64) -> Outcome
     ensures { λ r. ⌜ answerOf r ≡ sum a b ⌝ }
 {
-    let p = split(a);
-    let q = split(b);
-    if p.minus {
-        if q.minus {
-            return made(true, p.size + q.size + 1);
+    if b < 0 {
+        if a < -9223372036854775808 - b {
+            return Outcome::Ended(End::OutOfRange);
         }
-        return minus(q.size, p.size + 1);
+        return Outcome::Value(a + b);
     }
-    if q.minus {
-        return minus(p.size, q.size + 1);
+    if 9223372036854775807 - b < a {
+        return Outcome::Ended(End::OutOfRange);
     }
-    made(false, p.size + q.size)
+    Outcome::Value(a + b)
 }
 
+// -1 - x lies in the range exactly when x does, and a - b is that of (-1 - a) + b.
 pub fn subtract(a: i64, b: i64) -> Outcome
     ensures { λ r. ⌜ answerOf r ≡ difference a b ⌝ }
 {
-    let p = split(a);
-    let q = split(b);
-    if p.minus {
-        if q.minus {
-            return minus(q.size, p.size);
-        }
-        return made(true, p.size + q.size);
+    match add(-1 - a, b) {
+        Outcome::Value(v) => Outcome::Value(-1 - v),
+        Outcome::Ended(e) => Outcome::Ended(e),
     }
-    if q.minus {
-        return made(false, p.size + q.size + 1);
-    }
-    minus(p.size, q.size)
 }
 
 pub fn negate(a: i64) -> Outcome

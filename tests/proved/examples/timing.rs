@@ -1,10 +1,12 @@
 //! Times the proved functions against the reference's, side by side in one run; an argument chooses files by name.
 //!
-//! Columns are lent as long as needed and are not cleared between runs: the proved reader writes its rows over what they
-//! hold. The reference allocates its rows anew in each run, which is part of its time.
+//! Columns are lent as long as needed and are not cleared between runs: the proved functions write over what they hold.
+//! The reference allocates its rows anew in each run, which is part of its time.
 
 use compare::random::{well_typed, LARGEST};
-use reference::{tokens, MAX_BYTES};
+use proved::{scan, terminals};
+use reference::terminals::classify;
+use reference::{tokens, TokenRow, MAX_BYTES};
 use std::hint::black_box;
 use std::time::Instant;
 
@@ -48,19 +50,34 @@ fn files() -> Vec<(String, Vec<u8>)> {
     generated.chain(uniform.map(|(name, file)| (name.to_string(), file))).collect()
 }
 
+/// What is timed of a file: the two ways to do one thing.
+struct Timed {
+    step: &'static str,
+    proved: f64,
+    reference: f64,
+}
+
+/// The token reader, then the terminals of the tokens that it read.
+fn steps(file: &[u8], rows: &[TokenRow]) -> [Timed; 2] {
+    let count = rows.len();
+    let (mut kinds, mut starts, mut lengths, mut out) =
+        (vec![0; count], vec![0; count], vec![0; count], vec![0; count]);
+    assert_eq!(scan(file, &mut kinds, &mut starts, &mut lengths), Ok(count));
+    let read = best(|| scan(black_box(file), &mut kinds, &mut starts, &mut lengths), || tokens::read(black_box(file)));
+    let classified =
+        best(|| terminals(black_box(file), &kinds, &starts, &lengths, &mut out), || classify(black_box(file), rows));
+    [("scan", read), ("terminals", classified)].map(|(step, [proved, reference])| Timed { step, proved, reference })
+}
+
 fn main() {
     println!("nanoseconds for each byte, the best of {RUNS} runs; columns as long as needed, not cleared");
-    println!("{:24}{:>8}{:>8}{:>10}{:>10}{:>8}", "scan", "bytes", "tokens", "proved", "reference", "ratio");
+    println!("{:24}{:>8}{:>8}  {:12}{:>8}{:>10}{:>8}", "", "bytes", "tokens", "", "proved", "reference", "ratio");
     let only = std::env::args().nth(1).unwrap_or_default();
     for (name, file) in files().into_iter().filter(|(name, _)| name.contains(&only)) {
-        let count = tokens::read(&file).expect("a file of tokens").len();
-        let (mut kinds, mut starts, mut lengths) = (vec![0; count], vec![0; count], vec![0; count]);
-        assert_eq!(proved::scan(&file, &mut kinds, &mut starts, &mut lengths), Ok(count));
-        let [proved, reference] = best(
-            || proved::scan(black_box(&file), &mut kinds, &mut starts, &mut lengths),
-            || tokens::read(black_box(&file)),
-        )
-        .map(|time| time / file.len() as f64);
-        println!("{name:24}{:8}{count:8}{proved:10.3}{reference:10.3}{:8.2}", file.len(), proved / reference);
+        let rows = tokens::read(&file).expect("a file of tokens");
+        for Timed { step, proved, reference } in steps(&file, &rows) {
+            let [a, b] = [proved, reference].map(|time| time / file.len() as f64);
+            println!("{name:24}{:8}{:8}  {step:12}{a:8.3}{b:10.3}{:8.2}", file.len(), rows.len(), a / b);
+        }
     }
 }

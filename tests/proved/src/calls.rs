@@ -20,6 +20,18 @@ extern "C" {
         lengths_length: usize,
         number: &mut usize,
     ) -> u8;
+    fn woffulent_terminals(
+        src: *const u8,
+        src_length: usize,
+        kinds: *const u8,
+        kinds_length: usize,
+        starts: *const u32,
+        starts_length: usize,
+        lengths: *const u32,
+        lengths_length: usize,
+        out: *mut u8,
+        out_length: usize,
+    );
     fn woffulent_integer(s: *const u8, s_length: usize, start: usize, length: usize) -> u64;
     fn woffulent_binary(s: *const u8, s_length: usize, start: usize, length: usize) -> u64;
 }
@@ -50,6 +62,25 @@ pub fn scan(src: &[u8], kinds: &mut [u8], starts: &mut [u32], lengths: &mut [u32
         )
     };
     outcome(reply, number)
+}
+
+/// The terminal of each token, as far as the column goes.
+pub fn terminals(src: &[u8], kinds: &[u8], starts: &[u32], lengths: &[u32], out: &mut [u8]) {
+    // SAFETY: see the head of this file.
+    unsafe {
+        woffulent_terminals(
+            src.as_ptr(),
+            src.len(),
+            kinds.as_ptr(),
+            kinds.len(),
+            starts.as_ptr(),
+            starts.len(),
+            lengths.as_ptr(),
+            lengths.len(),
+            out.as_mut_ptr(),
+            out.len(),
+        )
+    }
 }
 
 /// The value of the integer literal of `length` bytes at `start`, as far as 2 to the 63.

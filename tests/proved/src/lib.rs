@@ -3,4 +3,4 @@
 
 mod calls;
 
-pub use calls::{binary, integer, scan};
+pub use calls::{binary, integer, scan, terminals};

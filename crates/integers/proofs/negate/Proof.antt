@@ -1,4 +1,3 @@
-use borrow.Author.Needs.{needs}
 use Rattle.integers.proofs.Arithmetic.{negated}
 use Rattle.integers.proofs.negate.Statement.{statement}
 use Rattle.integers.proofs.negate.Tie as tie

@@ -1,4 +1,3 @@
-use borrow.Author.Needs.{needs}
 use Rattle.integers.proofs.Machine.{minus-fits, minus-casts, minus-whole, plus-casts, plus-whole}
 use Rattle.integers.proofs.split.Statement.{statement}
 use Rattle.integers.proofs.split.Tie as tie
