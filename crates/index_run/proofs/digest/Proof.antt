@@ -4,7 +4,6 @@ use Rattle.index_run.proofs.digest.Tie as tie
 use borrow.Author.Needs.{needs}
 use Prim.Native.Nat.{_≤_, _<_, _-_}
 use lib.ListN.{length}
-use native.Mathlib.Omega.{arith}
 
 abbrev Inv-loop : tie.InvT-loop
 Inv-loop column sum₀ i₀ sum i = (i ≤ length column) × (sum < 1000003)

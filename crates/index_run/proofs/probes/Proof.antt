@@ -4,7 +4,6 @@ use Rattle.index_run.proofs.probes.Tie as tie
 use borrow.Author.Needs.{needs}
 use Prim.Native.Nat.{_≤_, _+_, _-_}
 use lib.ListN.{length}
-use native.Mathlib.Omega.{arith}
 
 abbrev Inv-loop : tie.InvT-loop
 Inv-loop keys heads next i₀ i = i ≤ length keys + 96

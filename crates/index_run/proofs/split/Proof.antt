@@ -5,7 +5,6 @@ use borrow.Author.Needs.{needs}
 use Prim.Native.Nat.{_≤_, _-_}
 use mathlib.Core.Path.{_≡_}
 use lib.ListN.{length}
-use native.Mathlib.Omega.{arith}
 
 abbrev Inv-loop : tie.InvT-loop
 Inv-loop text starts₀ lengths₀ count₀ from₀ i₀ starts lengths count from i = (count ≤ i) × (from ≤ i) × (i ≤ length text) × (length starts ≡ length starts₀) × (length lengths ≡ length lengths₀)
