@@ -48,7 +48,7 @@ pub cond-ge : (t : Bool) {a b n : ℕ} → n ≤ a → n ≤ b → n ≤ cond t 
 cond-ge true p q = p
 cond-ge false p q = q
 
-and-false : (t : Bool) → (t && false) ≡ false
+pub and-false : (t : Bool) → (t && false) ≡ false
 and-false true = refl
 and-false false = refl
 

@@ -1,9 +1,9 @@
 -- Laws of the dictionary: what its answers mean, how a chain is walked, and how the chains are built.
 use mathlib.Core.Path.{_≡_, refl, sym, ap, _∙_}
-use mathlib.Core.Bool.{Bool, true, false, cond, _&&_, not, false≢true}
+use mathlib.Core.Bool.{Bool, true, false, cond, not, false≢true}
 use mathlib.Core.List.{List}
 use mathlib.Core.Logic.{_⊎_, inl, inr, by-cases}
-use Prim.Native.Nat.{ℕ, zero, suc, _+_, _-_, _≤_, _<_, min}
+use Prim.Native.Nat.{ℕ, _+_, _-_, _≤_, _<_, min}
 use native.Mathlib.Omega.{arith}
 use native.Mathlib.Decide.{ℕ-discrete, decLt}
 use lib.Dec.{eqb, leb, ltb}
@@ -12,10 +12,10 @@ use borrow.Author.Tests.{eqb-true, eqb-false, eq-eqb, ne-eqb, lt-ltb, le-ltb, lt
 use Rattle.columns.specs.Column.{cleared}
 use Rattle.columns.proofs.Laws.{length-cleared, clear-all}
 use Rattle.express.specs.Select.{firstFrom}
-use Rattle.express.proofs.Select.{and-fst, and-snd, and-both, untrue, First, first-is, first-step, first-end}
+use Rattle.express.proofs.Select.{and-fst, and-snd, and-both, untrue, first-is, first-step, first-end}
 use Rattle.index.specs.Bucket.{bucketOf, InBucket}
 use Rattle.index.specs.Room.{fits}
-use Rattle.index.specs.Dictionary.{has, among, firstWith, falls, linkTo, link, Indexed, Holds, Walks, Builds, Finds, Continues}
+use Rattle.index.specs.Dictionary.{has, among, firstWith, falls, linkTo, link, Indexed, Walks, Builds, Finds, Continues}
 use Rattle.index.specs.declared.Outcome.the-variants.{Done, Short}
 use Rattle.index.specs.declared.dictionary.Found.{Found}
 use Rattle.index.specs.declared.dictionary.Found.the-variants.{At, Nothing}
@@ -156,7 +156,7 @@ module _ (keys : List ℕ) where
   -- ---- walking a chain: the link at hand leads to the first entry of the key's bucket from an index on, and what is to be found from
   -- there is what was to be found from the start
 
-  module _ (m key from : ℕ) (keyed : 0 < key) where
+  module _ (m key : ℕ) (keyed : 0 < key) where
     abbrev bucket : ℕ
     bucket = bucketOf m key
 
@@ -245,18 +245,18 @@ module _ {keys next : List ℕ} {key from first : ℕ} where
     walking-hits h inside e =
         record {
           holds = (omega (arith, w .past), inside, e);
-          is = λ heads I k f. let s = w .is heads I k f in walk-hit keys (length heads) key from k h (s .0) e ∙ s .1;
+          is = λ heads I k f. let s = w .is heads I k f in walk-hit keys (length heads) key k h (s .0) e ∙ s .1;
         }
 
     pub walking-ends : l ≤ at → Walks keys next key from first Nothing
-    walking-ends h = record { holds = tt; is = λ heads I k f. let s = w .is heads I k f in walk-end keys (length heads) key from k h (s .0) ∙ s .1 }
+    walking-ends h = record { holds = tt; is = λ heads I k f. let s = w .is heads I k f in walk-end keys (length heads) key k h (s .0) ∙ s .1 }
 
     -- chains as `build` leaves them stay among the entries
     pub walking-leaves : at < l → min (length keys) (length next) ≤ l - 1 → Walks keys next key from first Nothing
     walking-leaves h out =
         record {
           holds = tt;
-          is = λ heads I k f. let L = leads keys (length heads) key from k h (w .is heads I k f .0) in absurd (omega (arith, L .inside, I .room));
+          is = λ heads I k f. let L = leads keys (length heads) key k h (w .is heads I k f .0) in absurd (omega (arith, L .inside, I .room));
         }
 
     pub walking-goes-on : (x : ℕ) → at < l → l - 1 < length keys → (getD keys (l - 1) 0 ≡ key → ⊥) → x ≡ getD next (l - 1) 0 → Walking keys next key from first l x
@@ -267,10 +267,10 @@ module _ {keys next : List ℕ} {key from first : ℕ} where
               λ heads I k f.
               let m = length heads in
               let s = w .is heads I k f in
-              let L = leads keys m key from k h (s .0) in
+              let L = leads keys m key k h (s .0) in
               let q : l - 1 + 1 ≡ l = omega arith in (
                 e ∙ I .goes (l - 1) inside (L .some) ∙ ap (λ (b : ℕ). link keys m b (l - 1 + 1)) (L .same) ∙ ap (link keys m (bucketOf m key)) q,
-                walk-on keys m key from k h (s .0) n ∙ s .1,
+                walk-on keys m key k h (s .0) n ∙ s .1,
               );
         }
 

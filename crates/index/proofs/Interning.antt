@@ -2,25 +2,26 @@
 use mathlib.Core.Path.{_≡_, refl, sym, ap, _∙_}
 use mathlib.Core.Bool.{Bool, true, false, cond, _&&_, not, false≢true}
 use mathlib.Core.List.{List, [], _∷_, _++_, map}
-use mathlib.Core.Logic.{_⊎_, inl, inr, by-cases}
+use mathlib.Core.Logic.{by-cases}
 use Prim.Native.Nat.{ℕ, zero, suc, _+_, _-_, _≤_, _<_}
 use native.Mathlib.Omega.{arith}
 use native.Mathlib.Numerals.{add-one}
-use native.Mathlib.Decide.{ℕ-discrete, decLt}
+use native.Mathlib.Decide.{decLt}
 use lib.Dec.{eqb, leb}
 use lib.ListN.{length, getD, set, take, length-set, length-take, length-map}
-use lib.Seq.{sets, take-suc, take-all, length-sets}
+use lib.Seq.{sets, take-suc, take-all}
 use borrow.Author.Tests.{eqb-true, eq-eqb, leb-true, not-true, not-false}
 use Rattle.columns.specs.Column.{cleared}
-use Rattle.columns.proofs.Laws.{sets-snoc, length-cleared}
+use Rattle.columns.proofs.Laws.{sets-snoc, take-rows, length-cleared}
 use Rattle.express.specs.Bytes.{lower}
 use Rattle.express.specs.Select.{span}
 use Rattle.express.specs.Spelling.{spelling, same, symbolOf, symbolsOf}
 use Rattle.express.proofs.Select.{and-fst, and-snd, and-both, untrue}
 use Rattle.express.proofs.Spelling.{same-true, symbol-le, symbol-spelled, symbol-iff, symbols-at}
 use Rattle.index.specs.Bucket.{bucketOf, hashFrom, InBucket}
-use Rattle.index.specs.Room.{fits, enough}
+use Rattle.index.specs.Room.{done, fits, enough}
 use Rattle.index.specs.Interning.{lastBelow, bucketAt, chained, Linked, Fills, Readied, Interns}
+use Rattle.index.specs.declared.Outcome.{Outcome}
 use Rattle.index.specs.declared.Outcome.the-variants.{Done, Short}
 use Rattle.index.proofs.Search.{last-skip, last-next, last-none-yet, last-le, last-passes, last-none, at-set}
 use Rattle.index.proofs.Spellings.{same-is, heard}
@@ -303,6 +304,16 @@ module _ {bytes starts lengths symbols heads next : List ℕ} {b : Bool} (e : b 
 
   pub interns-done : {symbols′ : List ℕ} → not b ≡ false → Fills bytes starts lengths symbols symbols′ → Interns bytes starts lengths symbols heads next Done symbols′
   interns-done t F = record { answer = sym (not-false b t) ∙ e; stored = F .is }
+
+-- what a caller has of it: the column begins with the symbols
+pub interned : {bytes starts lengths symbols heads next symbols′ : List ℕ} {r : Outcome} → Interns bytes starts lengths symbols heads next r symbols′ → done r ≡ true → take (length starts) symbols′ ≡ symbolsOf bytes starts lengths
+interned {bytes} {starts} {lengths} {symbols} {heads} {next} {symbols′} {r} I d =
+    let every = symbolsOf bytes starts lengths in
+    let long : length every ≡ length starts = length-all bytes starts lengths in
+    let rest = and-snd (leb (length starts) (length lengths)) _ (sym (I .answer) ∙ d) in
+    let fit : length starts ≤ length symbols = leb-true (length starts) (length symbols) (and-fst _ _ rest) in
+    let is : symbols′ ≡ sets symbols 0 every = I .stored ∙ ap (λ (b : Bool). cond b (sets symbols 0 every) symbols) d in
+    ap (take (length starts)) is ∙ ap (λ (k : ℕ). take k (sets symbols 0 every)) (sym long) ∙ take-rows symbols every (omega arith)
 
 -- cleared heads begin no chain
 pub readied : {starts lengths symbols heads₀ next : List ℕ} (heads : List ℕ) → enough (length starts) (length lengths) (length symbols) (length heads) (length next) ≡ true

@@ -2,3 +2,4 @@ pub mod Search
 pub mod Entries
 pub mod Spellings
 pub mod Interning
+pub mod Examples

@@ -1,5 +1,5 @@
 -- Laws of spellings: the part of the bytes that a token has, its hash, and words that are spelled alike.
-use mathlib.Core.Path.{_≡_, refl, sym, ap, _∙_}
+use mathlib.Core.Path.{_≡_, sym, ap, _∙_}
 use mathlib.Core.Bool.{Bool, true, false}
 use mathlib.Core.List.{List, map}
 use mathlib.Core.Logic.{by-cases}
@@ -42,9 +42,6 @@ clip bytes s l from to e f =
 pub part-spelling : (bytes starts lengths : List ℕ) (i from to : ℕ) → from ≡ min (getD starts i 0) (length bytes) → to ≡ min (getD starts i 0 + getD lengths i 0) (length bytes)
     → map lower (take (to - from) (drop from bytes)) ≡ spelling bytes starts lengths i
 part-spelling bytes starts lengths i from to e f = ap (λ (xs : List ℕ). map lower xs) (clip bytes (getD starts i 0) (getD lengths i 0) from to e f)
-
-pub part-inside : (s l n from to : ℕ) → from ≡ min s n → to ≡ min (s + l) n → (from ≤ to) × (to ≤ n)
-part-inside s l n from to e f = (omega arith, omega arith)
 
 -- ---- words that agree
 

@@ -1,6 +1,4 @@
 // A dictionary over an array of keys, 0 for an entry that has none: the least entry with a key, and the next one.
-ghost use mathlib.Core.Path.{_≡_};
-ghost use lib.ListN.{length, getD};
 ghost use Rattle.index.specs.Dictionary.{Builds, Finds, Continues, Walks};
 use crate::Outcome;
 use crate::bucket;

@@ -1,7 +1,7 @@
 // Interning: for each token the least token that is spelled alike, letters without case.
 ghost use mathlib.Core.Path.{_≡_};
 ghost use mathlib.Core.List.{map};
-ghost use Prim.Native.Nat.{_+_, _<_, _≤_, min};
+ghost use Prim.Native.Nat.{_+_, _<_, min};
 ghost use lib.ListN.{length, getD};
 ghost use Rattle.express.specs.Bytes.{lower};
 ghost use Rattle.express.specs.Spelling.{same, spelling, symbolOf};

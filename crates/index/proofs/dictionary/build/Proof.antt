@@ -3,12 +3,10 @@ use Rattle.index.proofs.dictionary.build.Statement.{statement}
 use Rattle.index.proofs.dictionary.build.Tie as tie
 use borrow.Author.Needs.{needs}
 use Rattle.index.proofs.Entries.{Building, building-starts, building-passes, building-enters, built, builds-short, builds-done}
-use lib.ListN.{length}
-use mathlib.Core.Path.{_∙_, sym, ap}
+use mathlib.Core.Path.{_∙_, sym}
 use borrow.Author.Tests.{not-false}
-use Prim.Native.Nat.{_-_, ℕ}
+use Prim.Native.Nat.{_-_}
 use native.Mathlib.Omega.{arith}
-use Rattle.index.specs.Bucket.{bucketOf}
 
 abbrev Inv-loop : tie.InvT-loop
 Inv-loop keys heads₀ next₀ i₀ heads next i = Building keys heads₀ next₀ heads next i

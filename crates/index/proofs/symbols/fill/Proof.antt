@@ -5,7 +5,6 @@ use borrow.Author.Needs.{needs}
 use Rattle.index.proofs.Interning.{Filling, filling-starts, linked, filling-adds, filling-repeats, filling-ends}
 use Rattle.express.proofs.Spelling.{symbol-le}
 use mathlib.Core.Logic.{⊎-elim}
-use mathlib.Core.Path.{_∙_, sym}
 use lib.ListN.{length}
 use Prim.Native.Nat.{_-_}
 use native.Mathlib.Omega.{arith}
