@@ -1,6 +1,7 @@
 // The proved functions under the names by which Rust and C call them. A number passes as itself, a slice as a pointer and a
 // length; a reading step as its reply, returned, and its number, written to a place of the caller's; any other enum as one
 // number.
+pub mod arithmetic;
 pub mod graphs;
 pub mod names;
 

@@ -3,7 +3,7 @@
 //! Columns are lent as long as needed and are not cleared between runs: the proved functions write over what they hold.
 //! The reference allocates its rows anew in each run, which is part of its time.
 
-use compare::random::{well_typed, LARGEST};
+use compare::random::{well_typed, Rng, LARGEST};
 use proved::{intern, scan, terminals};
 use reference::terminals::{classify, Terminal};
 use reference::{symbols, tokens, TokenRow, MAX_BYTES};
@@ -82,6 +82,38 @@ fn steps(file: &[u8], rows: &[TokenRow]) -> [Timed; 3] {
     })
 }
 
+type Operation = fn(i64, i64) -> Result<i64, u8>;
+
+/// The proved operations, each with its like in Rust's checked arithmetic.
+const OPERATIONS: [(&str, Operation, Operation); 4] = [
+    ("add", proved::add, |a, b| a.checked_add(b).ok_or(16)),
+    ("multiply", proved::multiply, |a, b| a.checked_mul(b).ok_or(16)),
+    ("div", proved::div, |a, b| a.checked_div_euclid(b).ok_or(if b == 0 { 17 } else { 16 })),
+    ("power", proved::power, |a, b| match (a, u32::try_from(b)) {
+        _ if b < 0 => Err(18),
+        (-1..=1, _) => Ok(a.pow((b != 0) as u32 * (2 - (b & 1) as u32))),
+        (_, Ok(b)) => a.checked_pow(b).ok_or(16),
+        _ => Err(16),
+    }),
+];
+
+/// Nanoseconds for each call, on operands of every size and sign.
+fn print_arithmetic() {
+    let mut rng = Rng::new(0);
+    let mut number = || (rng.next() as i64) >> rng.below(64);
+    let operands: Vec<(i64, i64)> = (0..4_096).map(|_| (number(), number())).collect();
+    println!("\nnanoseconds for each call\n{:12}{:>8}{:>10}{:>8}", "", "proved", "plain", "ratio");
+    for (name, proved, plain) in OPERATIONS {
+        assert!(operands.iter().all(|&(a, b)| proved(a, b) == plain(a, b)), "{name}");
+        let all = |operation: Operation| {
+            let operation = black_box(operation);
+            operands.iter().filter(|&&(a, b)| operation(a, b).is_ok()).count()
+        };
+        let [a, b] = best(|| all(proved), || all(plain)).map(|time| time / operands.len() as f64);
+        println!("{name:12}{a:8.2}{b:10.2}{:8.2}", a / b);
+    }
+}
+
 fn main() {
     println!("nanoseconds for each byte, the best of {RUNS} runs; columns as long as needed, not cleared");
     println!("{:24}{:>8}{:>8}  {:12}{:>8}{:>10}{:>8}", "", "bytes", "tokens", "", "proved", "reference", "ratio");
@@ -92,5 +124,8 @@ fn main() {
             let [a, b] = [proved, reference].map(|time| time / file.len() as f64);
             println!("{name:24}{:8}{:8}  {step:12}{a:8.3}{b:10.3}{:8.2}", file.len(), rows.len(), a / b);
         }
+    }
+    if "arithmetic".contains(&only) {
+        print_arithmetic();
     }
 }

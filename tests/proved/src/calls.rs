@@ -34,6 +34,13 @@ extern "C" {
     );
     fn woffulent_integer(s: *const u8, s_length: usize, start: usize, length: usize) -> u64;
     fn woffulent_binary(s: *const u8, s_length: usize, start: usize, length: usize) -> u64;
+    fn woffulent_add(a: i64, b: i64, value: &mut i64) -> u8;
+    fn woffulent_subtract(a: i64, b: i64, value: &mut i64) -> u8;
+    fn woffulent_multiply(a: i64, b: i64, value: &mut i64) -> u8;
+    fn woffulent_div(a: i64, b: i64, value: &mut i64) -> u8;
+    fn woffulent_modulo(a: i64, b: i64, value: &mut i64) -> u8;
+    fn woffulent_power(a: i64, b: i64, value: &mut i64) -> u8;
+    fn woffulent_negate(a: i64, value: &mut i64) -> u8;
     fn woffulent_intern(
         bytes: *const u8,
         bytes_length: usize,
@@ -277,4 +284,55 @@ pub fn order(first: &[u32], to: &[u32], order: &mut [u32], scratch: [&mut [u32];
         1 => Sorted::Acyclic,
         _ => Sorted::Cyclic(vertex),
     }
+}
+
+/// The value that a call writes, or the number of the end that it returns.
+fn value(call: impl FnOnce(&mut i64) -> u8) -> Result<i64, u8> {
+    let mut value = 0;
+    match call(&mut value) {
+        1 => Ok(value),
+        end => Err(end),
+    }
+}
+
+/// `a + b`, or the number of the end that it comes to.
+pub fn add(a: i64, b: i64) -> Result<i64, u8> {
+    // SAFETY: numbers, and a place that is lent to the call alone.
+    value(|value| unsafe { woffulent_add(a, b, value) })
+}
+
+/// `a - b`, or the number of the end that it comes to.
+pub fn subtract(a: i64, b: i64) -> Result<i64, u8> {
+    // SAFETY: numbers, and a place that is lent to the call alone.
+    value(|value| unsafe { woffulent_subtract(a, b, value) })
+}
+
+/// `a * b`, or the number of the end that it comes to.
+pub fn multiply(a: i64, b: i64) -> Result<i64, u8> {
+    // SAFETY: numbers, and a place that is lent to the call alone.
+    value(|value| unsafe { woffulent_multiply(a, b, value) })
+}
+
+/// `a DIV b`, or the number of the end that it comes to.
+pub fn div(a: i64, b: i64) -> Result<i64, u8> {
+    // SAFETY: numbers, and a place that is lent to the call alone.
+    value(|value| unsafe { woffulent_div(a, b, value) })
+}
+
+/// `a MOD b`, or the number of the end that it comes to.
+pub fn modulo(a: i64, b: i64) -> Result<i64, u8> {
+    // SAFETY: numbers, and a place that is lent to the call alone.
+    value(|value| unsafe { woffulent_modulo(a, b, value) })
+}
+
+/// `a ** b`, or the number of the end that it comes to.
+pub fn power(a: i64, b: i64) -> Result<i64, u8> {
+    // SAFETY: numbers, and a place that is lent to the call alone.
+    value(|value| unsafe { woffulent_power(a, b, value) })
+}
+
+/// `-a`, or the number of the end that it comes to.
+pub fn negate(a: i64) -> Result<i64, u8> {
+    // SAFETY: a number, and a place that is lent to the call alone.
+    value(|value| unsafe { woffulent_negate(a, value) })
 }

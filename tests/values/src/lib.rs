@@ -4,7 +4,7 @@ use std::cmp::Ordering;
 use std::fmt::Write;
 
 /// A value, or the number of an end.
-type Outcome = Result<i64, u8>;
+pub type Outcome = Result<i64, u8>;
 
 const OUT_OF_RANGE: u8 = 16;
 const ZERO_DIVISOR: u8 = 17;
@@ -37,7 +37,8 @@ fn power(a: i64, b: i64) -> Outcome {
     }
 }
 
-fn apply(operation: &str, a: i64, b: i64) -> Outcome {
+/// The result of an operation on two integers; negation is of the first alone.
+pub fn apply(operation: &str, a: i64, b: i64) -> Outcome {
     let (x, y) = (i128::from(a), i128::from(b));
     match operation {
         "+" => exact(x + y),
@@ -50,7 +51,7 @@ fn apply(operation: &str, a: i64, b: i64) -> Outcome {
     }
 }
 
-const OPERATIONS: [&str; 7] = ["+", "-", "*", "DIV", "MOD", "**", "negation"];
+pub const OPERATIONS: [&str; 7] = ["+", "-", "*", "DIV", "MOD", "**", "negation"];
 
 fn shown(o: Outcome) -> String {
     match o {

@@ -12,7 +12,7 @@ use Rattle.values.specs.declared.End.the-variants.{OutOfRange, ZeroDivisor, Neg
 use Rattle.integers.specs.Meaning.{answerOf}
 use Rattle.integers.specs.declared.Outcome.{Outcome}
 use Rattle.integers.specs.declared.Outcome.the-variants.{Value, Ended}
-use Rattle.values_c.specs.Row.{rowAnswer}
+use Rattle.exports.specs.Row.{rowAnswer}
 
 pub row-value : {o : Outcome} {z : ℤ} → SFits w64 z → o ≡ Value z → integer (toZ w64 (ofZ w64 z)) ≡ answerOf o
 row-value f e = rw (e, toZ-ofZ f)

@@ -1,9 +1,9 @@
 use borrow.Author.Needs.{needs}
 use mir.Syntax.{w64}
 use mir.Val.{SFits}
-use Rattle.values_c.proofs.Answers.{row-value, row-ended}
-use Rattle.values_c.proofs.row.Statement.{statement}
-use Rattle.values_c.proofs.row.Tie as tie
+use Rattle.exports.proofs.Answers.{row-value, row-ended}
+use Rattle.exports.proofs.arithmetic.row.Statement.{statement}
+use Rattle.exports.proofs.arithmetic.row.Tie as tie
 
 returns : tie.Need-returns
 returns c = let f : SFits w64 (c .before .o .given .0 .0) = search needs in row-value f (c .before .o .given .1)

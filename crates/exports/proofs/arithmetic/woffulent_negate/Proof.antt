@@ -1,0 +1,10 @@
+use mathlib.Core.Path.{_∙_}
+use Rattle.integers.proofs.Calls.{own-negation}
+use Rattle.exports.proofs.arithmetic.woffulent_negate.Statement.{statement}
+use Rattle.exports.proofs.arithmetic.woffulent_negate.Tie as tie
+
+returns : tie.Need-returns
+returns c = let d = c .before .before in c .row .ensures ∙ own-negation (d .before .fits .a) (d .negate .ensures)
+
+pub woffulent-negate-spec : {M : Type 1} → statement M
+woffulent-negate-spec = tie.close (tie.spec (λ c κs. tt) (λ c κs. tt) returns)
