@@ -1,5 +1,5 @@
 -- For the callers: the answer of `order` as a sorted list of the vertices.
-use mathlib.Core.Path.{_≡_, refl, sym, ap, _∙_}
+use mathlib.Core.Path.{_≡_, refl, sym, ap}
 use mathlib.Core.List.{List, [], _∷_, List·Memᴰ, List·Memᴰ·head, List·Memᴰ·tail, List·Memᴰ·cases-cons, List·Memᴰ·not-nil, Memᴰ·cast}
 use mathlib.Core.Logic.{⊎-elim, by-cases}
 use Prim.Native.Nat.{ℕ, zero, suc, _+_, _-_, _≤_, _<_}
@@ -33,13 +33,13 @@ module _ {first to : List ℕ} (order : List ℕ) (g : Graph first to) (room : v
       let l : i < vertices first = omega arith in
       rw (drop-cons order i 0 (omega arith))
       (next {d = getD order i 0}
-        (λ c e.
-          let x = o .all c (arc-target g e) in
-          let y = x .2 in
-          let k = o .after i (x .0) l (x .1) (rw y e) in
-          Memᴰ·cast (sym y) (h (x .0) k))
-        (from-place r (suc i) (getD order i 0 ∷ passed) (omega arith)
-          (λ j k. by-cases (ℕ-discrete j i) (λ e. List·Memᴰ·head (ap (λ (z : ℕ). getD order z 0) e)) (λ e. List·Memᴰ·tail (h j (omega (arith, e)))))))
+      (λ c e.
+      let x = o .all c (arc-target g e) in
+      let y = x .2 in
+      let k = o .after i (x .0) l (x .1) (rw y e) in
+      Memᴰ·cast (sym y) (h (x .0) k))
+      (from-place r (suc i) (getD order i 0 ∷ passed) (omega arith)
+      (λ j k. by-cases (ℕ-discrete j i) (λ e. List·Memᴰ·head (ap (λ (z : ℕ). getD order z 0) e)) (λ e. List·Memᴰ·tail (h j (omega (arith, e)))))))
 
   -- each vertex stands after all that it has arcs to
   pub order-sorted : Sorted (Arc first to) [] (take (vertices first) order)
