@@ -4,7 +4,7 @@ use mathlib.Core.Logic.{_⊎_}
 use mathlib.Core.List.{List}
 use Prim.Native.Nat.{ℕ, _+_, _-_, _≤_, _<_}
 use lib.ListN.{length, getD, set}
-use Rattle.graph.specs.Graph.{vertices, Graph, Arc}
+use Rattle.graph.specs.Graph.{vertices, Arc}
 use Rattle.components.specs.Search.{start, Search}
 use Rattle.components.specs.declared.Step.{Step}
 use Rattle.components.specs.declared.Step.the-variants.{Done, Skip, Enter, Join, Pass, Leave, Close}
