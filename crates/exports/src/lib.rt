@@ -1,5 +1,9 @@
 // The proved functions under the names by which Rust and C call them. A number passes as itself, a slice as a pointer and a
-// length; a reading step as its reply, returned, and its number, written to a place of the caller's.
+// length; a reading step as its reply, returned, and its number, written to a place of the caller's; any other enum as one
+// number.
+pub mod graphs;
+pub mod names;
+
 ghost use mathlib.Core.Path.{_≡_};
 ghost use lib.ListN.{length, take, drop};
 ghost use lib.Seq.{sets};

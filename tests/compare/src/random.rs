@@ -16,7 +16,7 @@ pub use demand::demand_one;
 pub use driver::{compare, needed, Difference, Outcome};
 pub use tally::Tally;
 
-use rng::Rng;
+pub use rng::Rng;
 use source::Source;
 
 /// How a file is built.

@@ -4,13 +4,15 @@
 //! The reference allocates its rows anew in each run, which is part of its time.
 
 use compare::random::{well_typed, LARGEST};
-use proved::{scan, terminals};
-use reference::terminals::classify;
-use reference::{tokens, TokenRow, MAX_BYTES};
+use proved::{intern, scan, terminals};
+use reference::terminals::{classify, Terminal};
+use reference::{symbols, tokens, TokenRow, MAX_BYTES};
 use std::hint::black_box;
 use std::time::Instant;
 
 const RUNS: usize = 400;
+/// Of the chains that interning keeps: as many as lent for the largest files.
+const BUCKETS: usize = 16_384;
 
 /// The best of many runs each, in nanoseconds; the two take turns, so that what else the machine does falls on both.
 fn best<A, B>(mut first: impl FnMut() -> A, mut second: impl FnMut() -> B) -> [f64; 2] {
@@ -57,16 +59,27 @@ struct Timed {
     reference: f64,
 }
 
-/// The token reader, then the terminals of the tokens that it read.
-fn steps(file: &[u8], rows: &[TokenRow]) -> [Timed; 2] {
-    let count = rows.len();
-    let (mut kinds, mut starts, mut lengths, mut out) =
-        (vec![0; count], vec![0; count], vec![0; count], vec![0; count]);
-    assert_eq!(scan(file, &mut kinds, &mut starts, &mut lengths), Ok(count));
-    let read = best(|| scan(black_box(file), &mut kinds, &mut starts, &mut lengths), || tokens::read(black_box(file)));
-    let classified =
-        best(|| terminals(black_box(file), &kinds, &starts, &lengths, &mut out), || classify(black_box(file), rows));
-    [("scan", read), ("terminals", classified)].map(|(step, [proved, reference])| Timed { step, proved, reference })
+/// The token reader, the terminals of the tokens that it read, and the symbols of the identifiers among them.
+fn steps(file: &[u8], rows: &[TokenRow]) -> [Timed; 3] {
+    let column = || vec![0; rows.len()];
+    let (mut kinds, mut starts, mut lengths) = (vec![0; rows.len()], column(), column());
+    let (mut out, mut symbols, mut heads, mut next) = (vec![0; rows.len()], column(), vec![0; BUCKETS], column());
+    assert_eq!(scan(file, &mut kinds, &mut starts, &mut lengths), Ok(rows.len()));
+    let words = classify(file, rows);
+    let names = rows.iter().zip(&words).filter(|(_, &word)| word == Terminal::Identifier).map(|(row, _)| row);
+    let (name_starts, name_lengths): (Vec<u32>, Vec<u32>) = names.map(|row| (row.start, row.length)).unzip();
+    let file = black_box(file);
+    let read = best(|| scan(file, &mut kinds, &mut starts, &mut lengths), || tokens::read(file));
+    let classified = best(|| terminals(file, &kinds, &starts, &lengths, &mut out), || classify(file, rows));
+    let interned = best(
+        || intern(file, &name_starts, &name_lengths, &mut symbols, &mut heads, &mut next),
+        || symbols::intern(file, rows, &words),
+    );
+    [("scan", read), ("terminals", classified), ("intern", interned)].map(|(step, [proved, reference])| Timed {
+        step,
+        proved,
+        reference,
+    })
 }
 
 fn main() {

@@ -34,6 +34,75 @@ extern "C" {
     );
     fn woffulent_integer(s: *const u8, s_length: usize, start: usize, length: usize) -> u64;
     fn woffulent_binary(s: *const u8, s_length: usize, start: usize, length: usize) -> u64;
+    fn woffulent_intern(
+        bytes: *const u8,
+        bytes_length: usize,
+        starts: *const u32,
+        starts_length: usize,
+        lengths: *const u32,
+        lengths_length: usize,
+        symbols: *mut u32,
+        symbols_length: usize,
+        heads: *mut u32,
+        heads_length: usize,
+        next: *mut u32,
+        next_length: usize,
+    ) -> bool;
+    fn woffulent_build(
+        keys: *const u64,
+        keys_length: usize,
+        heads: *mut u32,
+        heads_length: usize,
+        next: *mut u32,
+        next_length: usize,
+    ) -> bool;
+    fn woffulent_find(
+        keys: *const u64,
+        keys_length: usize,
+        heads: *const u32,
+        heads_length: usize,
+        next: *const u32,
+        next_length: usize,
+        key: u64,
+    ) -> usize;
+    fn woffulent_next_of(
+        keys: *const u64,
+        keys_length: usize,
+        next: *const u32,
+        next_length: usize,
+        at: usize,
+    ) -> usize;
+    fn woffulent_reachable(
+        first: *const u32,
+        first_length: usize,
+        to: *const u32,
+        to_length: usize,
+        from: usize,
+        mark: *mut u32,
+        mark_length: usize,
+        queue: *mut u32,
+        queue_length: usize,
+    ) -> bool;
+    fn woffulent_order(
+        first: *const u32,
+        first_length: usize,
+        to: *const u32,
+        to_length: usize,
+        order: *mut u32,
+        order_length: usize,
+        group: *mut u32,
+        group_length: usize,
+        place: *mut u32,
+        place_length: usize,
+        at: *mut u32,
+        at_length: usize,
+        stack: *mut u32,
+        stack_length: usize,
+        path: *mut u32,
+        path_length: usize,
+        bound: *mut u32,
+        bound_length: usize,
+    ) -> usize;
 }
 
 /// A reply and the number beside it, as the reference gives them.
@@ -93,4 +162,119 @@ pub fn integer(s: &[u8], start: usize, length: usize) -> u64 {
 pub fn binary(s: &[u8], start: usize, length: usize) -> u64 {
     // SAFETY: see the head of this file.
     unsafe { woffulent_binary(s.as_ptr(), s.len(), start, length) }
+}
+
+/// Stores for each token the least one that is spelled alike; whether there was room. The scratch is left with anything.
+pub fn intern(
+    bytes: &[u8],
+    starts: &[u32],
+    lengths: &[u32],
+    symbols: &mut [u32],
+    heads: &mut [u32],
+    next: &mut [u32],
+) -> bool {
+    // SAFETY: see the head of this file.
+    unsafe {
+        woffulent_intern(
+            bytes.as_ptr(),
+            bytes.len(),
+            starts.as_ptr(),
+            starts.len(),
+            lengths.as_ptr(),
+            lengths.len(),
+            symbols.as_mut_ptr(),
+            symbols.len(),
+            heads.as_mut_ptr(),
+            heads.len(),
+            next.as_mut_ptr(),
+            next.len(),
+        )
+    }
+}
+
+/// Chains the entries of a dictionary by their keys (0 is none); whether there was room.
+pub fn build(keys: &[u64], heads: &mut [u32], next: &mut [u32]) -> bool {
+    // SAFETY: see the head of this file.
+    unsafe {
+        woffulent_build(keys.as_ptr(), keys.len(), heads.as_mut_ptr(), heads.len(), next.as_mut_ptr(), next.len())
+    }
+}
+
+/// An index, unless it is the number that stands for none.
+fn entry(number: usize) -> Option<usize> {
+    (number != usize::MAX).then_some(number)
+}
+
+/// The least entry with a key.
+pub fn find(keys: &[u64], heads: &[u32], next: &[u32], key: u64) -> Option<usize> {
+    // SAFETY: see the head of this file.
+    entry(unsafe {
+        woffulent_find(keys.as_ptr(), keys.len(), heads.as_ptr(), heads.len(), next.as_ptr(), next.len(), key)
+    })
+}
+
+/// The next entry with the key of this one.
+pub fn next_of(keys: &[u64], next: &[u32], at: usize) -> Option<usize> {
+    // SAFETY: see the head of this file.
+    entry(unsafe { woffulent_next_of(keys.as_ptr(), keys.len(), next.as_ptr(), next.len(), at) })
+}
+
+/// Marks by 1 all that a vertex reaches over one or more arcs; false where the columns are no graph with room.
+pub fn reachable(first: &[u32], to: &[u32], from: usize, mark: &mut [u32], queue: &mut [u32]) -> bool {
+    // SAFETY: see the head of this file.
+    unsafe {
+        woffulent_reachable(
+            first.as_ptr(),
+            first.len(),
+            to.as_ptr(),
+            to.len(),
+            from,
+            mark.as_mut_ptr(),
+            mark.len(),
+            queue.as_mut_ptr(),
+            queue.len(),
+        )
+    }
+}
+
+/// What `order` answers.
+#[derive(Clone, Copy, Debug, PartialEq, Eq)]
+pub enum Sorted {
+    Acyclic,
+    /// The smallest vertex on a cycle.
+    Cyclic(usize),
+    Malformed,
+}
+
+/// The vertices in an order in which each stands after all that it has arcs to.
+pub fn order(first: &[u32], to: &[u32], order: &mut [u32], scratch: [&mut [u32]; 6]) -> Sorted {
+    let [group, place, at, stack, path, bound] = scratch;
+    // SAFETY: see the head of this file.
+    let vertex = unsafe {
+        woffulent_order(
+            first.as_ptr(),
+            first.len(),
+            to.as_ptr(),
+            to.len(),
+            order.as_mut_ptr(),
+            order.len(),
+            group.as_mut_ptr(),
+            group.len(),
+            place.as_mut_ptr(),
+            place.len(),
+            at.as_mut_ptr(),
+            at.len(),
+            stack.as_mut_ptr(),
+            stack.len(),
+            path.as_mut_ptr(),
+            path.len(),
+            bound.as_mut_ptr(),
+            bound.len(),
+        )
+    };
+    match usize::MAX - vertex {
+        0 => Sorted::Malformed,
+        1 => Sorted::Acyclic,
+        _ => Sorted::Cyclic(vertex),
+    }
 }

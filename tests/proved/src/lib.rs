@@ -3,4 +3,4 @@
 
 mod calls;
 
-pub use calls::{binary, integer, scan, terminals};
+pub use calls::{binary, build, find, integer, intern, next_of, order, reachable, scan, terminals, Sorted};

@@ -1,0 +1,145 @@
+//! The proved orders and marks on small random graphs, against all paths; and on graphs that are none.
+
+use compare::random::Rng;
+use proved::{order, reachable, Sorted};
+
+const GRAPHS: u64 = 20_000;
+/// What columns and scratch hold before a call.
+const BEFORE: u32 = 0xdead_beef;
+
+/// Vertices with their arcs grouped by source.
+#[derive(Debug)]
+struct Graph {
+    first: Vec<u32>,
+    to: Vec<u32>,
+}
+
+impl Graph {
+    /// Mostly with few arcs, so that about half of the graphs have a cycle; some begin with arcs that belong to no vertex.
+    fn random(rng: &mut Rng) -> Self {
+        let vertices = rng.below(12);
+        let mut to: Vec<u32> = (0..rng.below(2)).map(|_| u32::MAX).collect();
+        let mut first = vec![to.len() as u32];
+        let most = 1 + rng.below(4);
+        for vertex in 0..vertices {
+            let downward = rng.below(3) != 0;
+            let targets = if downward { vertex } else { vertices };
+            (0..rng.below(most) * usize::from(targets > 0)).for_each(|_| to.push(rng.below(targets) as u32));
+            first.push(to.len() as u32);
+        }
+        (0..rng.below(2)).for_each(|_| to.push(u32::MAX));
+        Graph { first, to }
+    }
+
+    fn vertices(&self) -> usize {
+        self.first.len() - 1
+    }
+
+    fn targets(&self, vertex: usize) -> &[u32] {
+        &self.to[self.first[vertex] as usize..self.first[vertex + 1] as usize]
+    }
+
+    /// For each vertex which are reached over one or more arcs (Warshall).
+    fn reached(&self) -> Vec<Vec<bool>> {
+        let vertices = self.vertices();
+        let arcs = |v| (0..vertices).map(|w| self.targets(v).contains(&(w as u32))).collect::<Vec<_>>();
+        let mut reached: Vec<Vec<bool>> = (0..vertices).map(arcs).collect();
+        for by in 0..vertices {
+            for from in 0..vertices {
+                for to in 0..vertices {
+                    reached[from][to] |= reached[from][by] && reached[by][to];
+                }
+            }
+        }
+        reached
+    }
+}
+
+/// The answer, and what stands in a column of so many entries; the scratch has as many each as it is given.
+fn ordered(graph: &Graph, lent: usize, scratch: usize) -> (Sorted, Vec<u32>) {
+    let mut column = vec![BEFORE; lent];
+    let mut room: [Vec<u32>; 6] = std::array::from_fn(|_| vec![BEFORE; scratch]);
+    let sorted = order(&graph.first, &graph.to, &mut column, room.each_mut().map(Vec::as_mut_slice));
+    if sorted == Sorted::Malformed {
+        assert!(room.iter().flatten().all(|&entry| entry == BEFORE), "{graph:?}");
+    }
+    (sorted, column)
+}
+
+#[test]
+fn vertices_stand_after_what_they_need_or_the_smallest_on_a_cycle_is_given() {
+    let mut cyclic = 0;
+    for seed in 0..GRAPHS {
+        let graph = Graph::random(&mut Rng::new(seed));
+        let (vertices, reached) = (graph.vertices(), graph.reached());
+        let (sorted, column) = ordered(&graph, vertices + 1, vertices);
+        match (0..vertices).find(|&vertex| reached[vertex][vertex]) {
+            Some(vertex) => {
+                assert_eq!(sorted, Sorted::Cyclic(vertex), "{graph:?}");
+                assert!(column.iter().all(|&entry| entry == BEFORE), "{graph:?}");
+                cyclic += 1;
+            }
+            None => {
+                assert_eq!(sorted, Sorted::Acyclic, "{graph:?}");
+                assert_eq!(column[vertices], BEFORE);
+                for (at, &vertex) in column[..vertices].iter().enumerate() {
+                    let before = &column[..at];
+                    assert!(graph.targets(vertex as usize).iter().all(|target| before.contains(target)), "{graph:?}");
+                    assert!(!before.contains(&vertex), "{graph:?}");
+                }
+            }
+        }
+        if vertices > 0 {
+            assert_eq!(ordered(&graph, vertices - 1, vertices).0, Sorted::Malformed);
+            assert_eq!(ordered(&graph, vertices, vertices - 1).0, Sorted::Malformed);
+        }
+    }
+    assert!((GRAPHS / 5..GRAPHS / 5 * 4).contains(&cyclic), "{cyclic} graphs with a cycle");
+}
+
+#[test]
+fn what_a_vertex_reaches_is_marked() {
+    for seed in 0..GRAPHS {
+        let graph = Graph::random(&mut Rng::new(seed));
+        let vertices = graph.vertices();
+        for (from, reached) in graph.reached().into_iter().enumerate() {
+            let (mut mark, mut queue) = (vec![BEFORE; vertices], vec![BEFORE; vertices]);
+            assert!(reachable(&graph.first, &graph.to, from, &mut mark, &mut queue));
+            assert_eq!(mark, reached.into_iter().map(u32::from).collect::<Vec<_>>(), "{from} of {graph:?}");
+            mark.fill(BEFORE);
+            queue.fill(BEFORE);
+            assert!(!reachable(&graph.first, &graph.to, vertices, &mut mark, &mut queue));
+            assert!(!reachable(&graph.first, &graph.to, from, &mut mark[1..], &mut queue));
+            assert!(mark.iter().chain(&queue).all(|&entry| entry == BEFORE));
+        }
+    }
+}
+
+#[test]
+fn columns_that_are_no_graph_are_refused() {
+    let malformed: [(&[u32], &[u32]); 6] =
+        [(&[], &[]), (&[0, 1, 0], &[0]), (&[0, 2], &[0]), (&[0, 1], &[1]), (&[1, 0], &[0]), (&[0, u32::MAX], &[0])];
+    for (first, to) in malformed {
+        let graph = Graph { first: first.to_vec(), to: to.to_vec() };
+        let (sorted, column) = ordered(&graph, 4, 4);
+        assert_eq!(sorted, Sorted::Malformed, "{graph:?}");
+        assert!(column.iter().all(|&entry| entry == BEFORE), "{graph:?}");
+        let (mut mark, mut queue) = ([BEFORE; 4], [BEFORE; 4]);
+        assert!(!reachable(first, to, 0, &mut mark, &mut queue), "{graph:?}");
+        assert_eq!((mark, queue), ([BEFORE; 4], [BEFORE; 4]));
+    }
+}
+
+/// A chain of the most vertices, a ring of them, and one more than that.
+#[test]
+fn large_graphs() {
+    let chain = |vertices: u32, last: &[u32]| Graph {
+        first: (0..vertices).chain([vertices - 1 + last.len() as u32]).collect(),
+        to: (1..vertices).chain(last.iter().copied()).collect(),
+    };
+    let (sorted, column) = ordered(&chain(65_536, &[]), 65_536, 65_536);
+    assert_eq!(sorted, Sorted::Acyclic);
+    assert!(column.into_iter().eq((0..65_536).rev()));
+    assert_eq!(ordered(&chain(65_536, &[7]), 65_536, 65_536).0, Sorted::Cyclic(7));
+    assert_eq!(ordered(&chain(65_537, &[]), 65_537, 65_537).0, Sorted::Malformed);
+}

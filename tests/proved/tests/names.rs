@@ -1,0 +1,131 @@
+//! The proved interning and dictionary: the least token of a spelling, the least entry with a key and those after it.
+
+use compare::cases;
+use compare::random::{self, Rng};
+use proved::{build, find, intern, next_of};
+use reference::{symbols, terminals, tokens, TokenRow};
+use std::collections::HashMap;
+
+const FILES: u64 = 10_000;
+const DICTIONARIES: u64 = 5_000;
+/// What columns and scratch hold before a call.
+const BEFORE: u32 = 0xdead_beef;
+
+/// For each token the least one that is spelled alike.
+fn least(bytes: &[u8], rows: &[TokenRow]) -> Vec<u32> {
+    let mut first = HashMap::new();
+    let spellings = rows.iter().map(|row| tokens::text(bytes, row).to_ascii_lowercase());
+    spellings.zip(0..).map(|(spelling, token)| *first.entry(spelling).or_insert(token)).collect()
+}
+
+/// The same of identifiers alone, by the reference's symbols.
+fn least_by_reference(bytes: &[u8], rows: &[TokenRow]) -> Vec<(usize, u32)> {
+    let terminals = terminals::classify(bytes, rows);
+    let symbols = symbols::intern(bytes, rows, &terminals);
+    let mut first = HashMap::new();
+    let identifiers = (0..rows.len()).filter(|&token| terminals[token] == terminals::Terminal::Identifier);
+    identifiers.map(|token| (token, *first.entry(symbols.of_token(token as u32)).or_insert(token as u32))).collect()
+}
+
+fn hold(bytes: &[u8], buckets: usize) {
+    let Ok(rows) = tokens::read(bytes) else { return };
+    let starts: Vec<u32> = rows.iter().map(|row| row.start).collect();
+    let lengths: Vec<u32> = rows.iter().map(|row| row.length).collect();
+    let (mut symbols, mut heads, mut next) =
+        (vec![BEFORE; rows.len() + 1], vec![BEFORE; buckets], vec![BEFORE; rows.len()]);
+    assert!(intern(bytes, &starts, &lengths, &mut symbols, &mut heads, &mut next));
+    assert_eq!(symbols.pop(), Some(BEFORE));
+    assert_eq!(symbols, least(bytes, &rows), "{buckets} buckets: {}", bytes.escape_ascii());
+    for (token, first) in least_by_reference(bytes, &rows) {
+        assert_eq!(symbols[token], first, "token {token}: {}", bytes.escape_ascii());
+    }
+}
+
+#[test]
+fn tokens_of_files_are_interned() {
+    for seed in 0..FILES {
+        let file = random::file(seed);
+        hold(&file, if file.len() < 400 { 1 + seed as usize % 9 } else { 4_096 });
+    }
+    cases::all().iter().for_each(|case| hold(&case.input, 512));
+}
+
+/// Tokens that reach past the bytes are spelled by what is there; without room nothing is stored.
+#[test]
+fn any_columns_are_interned_or_refused() {
+    let bytes = b"ab AB a";
+    let (starts, lengths) = ([0, 3, 6, 6, 9, 0], [2, 2, 1, 99, 5, 0]);
+    let expected = [0, 0, 2, 2, 4, 4];
+    for [starts_lent, lengths_lent, symbols_lent, heads_lent, next_lent] in [
+        [6, 6, 6, 1, 6],
+        [6, 6, 8, 9, 9],
+        [0, 0, 0, 1, 0],
+        [6, 5, 6, 1, 6],
+        [6, 6, 5, 1, 6],
+        [6, 6, 6, 0, 6],
+        [6, 6, 6, 1, 5],
+    ] {
+        let (mut symbols, mut heads, mut next) =
+            (vec![BEFORE; symbols_lent], vec![BEFORE; heads_lent], vec![BEFORE; next_lent]);
+        let lent = (&starts[..starts_lent], &lengths[..lengths_lent]);
+        let done = intern(bytes, lent.0, lent.1, &mut symbols, &mut heads, &mut next);
+        let room = starts_lent <= lengths_lent.min(symbols_lent).min(next_lent) && heads_lent > 0;
+        assert_eq!(done, room);
+        let stored = if done { starts_lent } else { 0 };
+        assert_eq!(symbols[..stored], expected[..stored]);
+        assert!(symbols[stored..].iter().all(|&symbol| symbol == BEFORE));
+    }
+}
+
+/// Keys of few values, so that many are alike; some are 0.
+fn keys(rng: &mut Rng) -> Vec<u64> {
+    let (length, values) = (rng.below(60), 1 + rng.below(20));
+    (0..length).map(|_| rng.below(values) as u64 * 0x1_0000_0001).collect()
+}
+
+#[test]
+fn entries_are_found_by_their_keys() {
+    for seed in 0..DICTIONARIES {
+        let mut rng = Rng::new(seed);
+        let keys = keys(&mut rng);
+        let (mut heads, mut next) = (vec![BEFORE; 1 + rng.below(30)], vec![BEFORE; keys.len() + rng.below(3)]);
+        assert!(build(&keys, &mut heads, &mut next));
+        for key in keys.iter().copied().chain([0, 7, u64::MAX]) {
+            let expected = keys.iter().position(|&other| other == key && key != 0);
+            assert_eq!(find(&keys, &heads, &next, key), expected, "key {key} of {keys:?}");
+        }
+        for at in 0..keys.len() + 2 {
+            let later = (at + 1..keys.len()).find(|&later| keys[later] == keys[at] && keys[at] != 0);
+            assert_eq!(next_of(&keys, &next, at), later, "after {at} of {keys:?}");
+        }
+    }
+}
+
+/// With anything in heads and next a search ends, and an entry that it gives has the key.
+#[test]
+fn any_chains_are_searched() {
+    for seed in 0..DICTIONARIES {
+        let mut rng = Rng::new(seed);
+        let keys = keys(&mut rng);
+        let column = |rng: &mut Rng| -> Vec<u32> {
+            let length = rng.below(60);
+            (0..length).map(|_| if rng.one_in(9) { u32::MAX } else { rng.below(62) as u32 }).collect()
+        };
+        let (heads, next) = (column(&mut rng), column(&mut rng));
+        for &key in &keys {
+            assert!(find(&keys, &heads, &next, key).is_none_or(|entry| keys[entry] == key));
+        }
+        for at in 0..keys.len() {
+            assert!(next_of(&keys, &next, at).is_none_or(|entry| entry > at && keys[entry] == keys[at]));
+        }
+    }
+}
+
+#[test]
+fn a_dictionary_without_room_is_left_alone() {
+    for (heads_lent, next_lent) in [(0, 3), (2, 2), (0, 0)] {
+        let (mut heads, mut next) = (vec![BEFORE; heads_lent], vec![BEFORE; next_lent]);
+        assert!(!build(&[1, 2, 1], &mut heads, &mut next));
+        assert!(heads.iter().chain(&next).all(|&entry| entry == BEFORE));
+    }
+}
