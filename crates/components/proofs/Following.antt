@@ -10,9 +10,16 @@ use Rattle.graph.specs.Graph.{vertices, Arc}
 use Rattle.graph.proofs.Busy.{busy-le}
 use Rattle.graph.proofs.Arcs.{arc-place, arc-below}
 use Rattle.components.specs.Search.{start, Search}
-use Rattle.components.specs.Step.{top, Next, ToLeave, ToClose, Followable, Followed, Chosen}
+use Rattle.components.specs.Step.{top, ToLeave, ToClose, Followable, Followed, Chosen}
 use Rattle.components.specs.declared.Step.{Step}
 use Rattle.components.specs.declared.Step.the-variants.{Done, Skip, Enter, Join, Pass, Leave, Close}
+
+-- arc e is the next one of v, the end of the path
+pub record Next (first at stack path : List ℕ) (d v e : ℕ) : Type 0 where
+  pub some : 0 < d
+  pub vertex : v ≡ top stack path d
+  pub arc : e ≡ getD at v 0
+  pub more : e < getD first (v + 1) 0
 
 -- an element of a rising list is no smaller than its index
 at-least : (l : List ℕ) (n : ℕ) → ((j k : ℕ) → j < k → k < n → getD l j 0 < getD l k 0) → (k : ℕ) → k < n → k ≤ getD l k 0
