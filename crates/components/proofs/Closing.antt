@@ -1,24 +1,23 @@
 -- Closing the last group: its vertices are the strongly connected component of the end of the path.
-use mathlib.Core.Path.{_≡_, refl, sym, ap, _∙_}
+use mathlib.Core.Path.{_≡_, sym, ap, _∙_}
 use mathlib.Core.List.{List}
 use mathlib.Core.Logic.{_⊎_, inl, inr, ⊎-elim, by-cases}
 use Prim.Native.Nat.{ℕ, _+_, _-_, _≤_, _<_}
 use native.Mathlib.Omega.{arith}
 use native.Mathlib.Decide.{ℕ-discrete, decLt}
-use lib.ListN.{length, getD}
-use Rattle.graph.specs.Graph.{vertices, Graph, Arc}
-use Rattle.graph.specs.Mark.{flag, busy}
+use lib.ListN.{getD}
+use Rattle.graph.specs.Graph.{Arc}
+use Rattle.graph.specs.Mark.{flag}
 use Rattle.graph.proofs.Busy.{flag-one, busy-agree}
 use Rattle.graph.proofs.Arcs.{arc-target, arc-below}
 use Rattle.components.specs.Component.{Leads, Components}
-use Rattle.components.specs.Search.{Room, start, Within, Opened, Path, Settled, Passed, Search}
+use Rattle.components.specs.Search.{start, Opened, Settled, Passed, Search}
 use Rattle.components.specs.Step.{top, ToClose, Shut}
 use Rattle.components.proofs.Line.{start-last, path-close}
 
 module _ {first to group place at stack path bound group′ place′ : List ℕ} {n root s d b m from : ℕ}
-  (S : Search first to group place at stack path bound n root s d b m) (t : ToClose first at stack path bound d b from)
-  (c : Shut group place stack group′ place′ from s m) where
-
+    (S : Search first to group place at stack path bound n root s d b m) (t : ToClose first at stack path bound d b from)
+    (c : Shut group place stack group′ place′ from s m) where
   upto : from < s
   upto = omega (arith, t .place, S .line .low (d - 1) (omega (arith, t .some)))
 
@@ -87,15 +86,15 @@ module _ {first to group place at stack path bound group′ place′ : List ℕ}
       let q = i .is in
       let lw : w < n = omega (arith, S .count, arc-target (S .graph) a) in
       let all : getD first (v + 1) 0 ≤ getD at v 0 =
-          ⊎-elim (λ h. rw q at h)
-          (λ h.
-          let end : h .0 ≡ d - 1 =
-              by-cases (ℕ-discrete (h .0) (d - 1)) (λ z. z)
-              (λ z. absurd (omega (arith, t .place, i .from-there, h .2, S .line .rise (h .0) (d - 1) (omega (arith, z, h .1)) (omega (arith, t .some))))) in
-          let z : getD path (d - 1) 0 ≡ j = ap (λ (x : ℕ). getD path x 0) (sym end) ∙ h .2 in
-          let y : top stack path d ≡ v = ap (λ (x : ℕ). getD stack x 0) z ∙ q in
-          rw y at (t .spent))
-          (S .passed .spent j (i .below)) in
+      ⊎-elim (λ h. rw q at h)
+      (λ h.
+      let end : h .0 ≡ d - 1 =
+      by-cases (ℕ-discrete (h .0) (d - 1)) (λ z. z)
+      (λ z. absurd (omega (arith, t .place, i .from-there, h .2, S .line .rise (h .0) (d - 1) (omega (arith, z, h .1)) (omega (arith, t .some))))) in
+      let z : getD path (d - 1) 0 ≡ j = ap (λ (x : ℕ). getD path x 0) (sym end) ∙ h .2 in
+      let y : top stack path d ≡ v = ap (λ (x : ℕ). getD stack x 0) z ∙ q in
+      rw y at (t .spent))
+      (S .passed .spent j (i .below)) in
       let r : getD first (getD stack j 0) 0 ≡ getD first v 0 = ap (λ (x : ℕ). getD first x 0) q in
       let u : getD at (getD stack j 0) 0 ≡ getD at v 0 = ap (λ (x : ℕ). getD at x 0) q in
       let z : Settled group place path bound b j w = rw (a .target) at (S .passed .settled j (a .place) (i .below) (omega (arith, a .from, r)) (omega (arith, a .upto, all, u))) in
@@ -238,11 +237,15 @@ module _ {first to group place at stack path bound group′ place′ : List ℕ}
               bound-room = R .bound-room;
             };
         counted =
-            omega (arith, upto, S .counted,
+            omega (
+              arith,
+              upto,
+              S .counted,
               busy-agree group group′ n
-              (λ v l.
-              ⊎-elim (λ i. flag-one (getD group′ v 0) (omega (arith, in-group v i)) ∙ sym (flag-one (getD group v 0) (omega (arith, in-was v i))))
-              (λ o. ap flag (c .group-out v o)) (in-or-out v l)));
+                  (λ v l.
+                  ⊎-elim (λ i. flag-one (getD group′ v 0) (omega (arith, in-group v i)) ∙ sym (flag-one (getD group v 0) (omega (arith, in-was v i))))
+                  (λ o. ap flag (c .group-out v o)) (in-or-out v l)),
+            );
         root-low = S .root-low;
         roots =
             λ v l.

@@ -1,22 +1,20 @@
 -- The search at its start and at its end, and what components say of cycles and orders.
-use mathlib.Core.Path.{_≡_, refl, sym, ap, _∙_}
-use mathlib.Core.Bool.{Bool, true, false}
+use mathlib.Core.Path.{_≡_, refl}
 use mathlib.Core.List.{List}
-use mathlib.Core.Logic.{_⊎_, inl, inr, ⊎-elim, by-cases}
-use Prim.Native.Nat.{ℕ, _+_, _-_, _≤_, _<_}
+use mathlib.Core.Logic.{by-cases}
+use Prim.Native.Nat.{ℕ, _-_, _≤_, _<_}
 use native.Mathlib.Omega.{arith}
 use native.Mathlib.Decide.{ℕ-discrete, decLt}
-use lib.ListN.{length, getD}
+use lib.ListN.{getD}
 use Rattle.express.specs.Reach.{Reaches, direct, onward}
 use Rattle.graph.specs.Graph.{vertices, Graph, Arc, OnCycle}
-use Rattle.graph.specs.Mark.{busy}
 use Rattle.graph.proofs.Busy.{busy-zero, busy-all}
-use Rattle.graph.proofs.Arcs.{arc-source, arc-target, reaches-source, reaches-target}
-use Rattle.components.specs.Component.{Leads, stays, goes, Components, Grouped}
+use Rattle.graph.proofs.Arcs.{arc-source, arc-target, reaches-source}
+use Rattle.components.specs.Component.{Grouped}
 use Rattle.components.specs.Search.{Room, Search}
 use Rattle.components.specs.Step.{ToStop}
 use Rattle.components.specs.Answer.{Inner, Smallest, Least, Placed}
-use Rattle.components.proofs.Keep.{leads-arc, reaches-leads}
+use Rattle.components.proofs.Keep.{reaches-leads}
 
 pub search-start : {first to group place at stack path bound : List ℕ} {n : ℕ} → Graph first to → n ≡ vertices first → Room n group place at stack path bound → ((k : ℕ) → getD group k 0 ≡ 0) → Search first to group place at stack path bound n 0 0 0 0 0
 search-start {group = group} {n = n} g q r z =
@@ -126,7 +124,7 @@ module _ {first to group place : List ℕ} {n : ℕ} (g : Graph first to) (q : n
             let k : v < n = omega (arith, arc-source a) in
             let o : w < n = omega (arith, arc-target g a) in
             let h : getD group w 0 < getD group v 0 =
-                by-cases (decLt (getD group w 0) (getD group v 0)) (λ z. z) (λ z. absurd (s .before v (omega arith) (arc-inner a (omega (arith, z))))) in
+            by-cases (decLt (getD group w 0) (getD group v 0)) (λ z. z) (λ z. absurd (s .before v (omega arith) (arc-inner a (omega (arith, z))))) in
             omega (arith, C .ranges v w k o (G .closed v k) (G .closed w o) h, C .starts v k (G .closed v k));
         acyclic = no;
       }

@@ -1,26 +1,24 @@
 -- Entering a new vertex.
-use mathlib.Core.Path.{_≡_, refl, sym, ap, _∙_}
+use mathlib.Core.Path.{_≡_, sym, ap, _∙_}
 use mathlib.Core.List.{List}
 use mathlib.Core.Logic.{_⊎_, inl, inr, ⊎-elim, by-cases}
-use Prim.Native.Nat.{ℕ, _+_, _-_, _≤_, _<_}
+use Prim.Native.Nat.{ℕ, _+_, _-_, _<_}
 use native.Mathlib.Omega.{arith}
 use native.Mathlib.Decide.{ℕ-discrete, decLt}
-use lib.ListN.{length, getD}
-use Rattle.graph.specs.Graph.{vertices, Graph, Arc}
-use Rattle.graph.specs.Mark.{busy}
-use Rattle.graph.proofs.Store.{Put, put}
+use lib.ListN.{getD}
+use Rattle.graph.specs.Graph.{Arc}
+use Rattle.graph.proofs.Store.{Put}
 use Rattle.graph.proofs.Busy.{busy-more, busy-white}
-use Rattle.components.specs.Component.{Leads, stays, goes, Components}
-use Rattle.components.specs.Search.{Room, start, Within, Opened, Path, Settled, Passed, Search}
-use Rattle.components.specs.Step.{top, ToEnter, Entered}
+use Rattle.components.specs.Component.{Leads, stays, goes}
+use Rattle.components.specs.Search.{Within, Opened, Settled, Passed, Search}
+use Rattle.components.specs.Step.{top, ToEnter}
 use Rattle.components.proofs.Keep.{leads-arc, components-keep}
 use Rattle.components.proofs.Line.{within-top, start-new, within-old, within-new, path-enter}
 
 module _ {first to group place at stack path bound group′ place′ at′ stack′ path′ bound′ : List ℕ} {n root s d b m w : ℕ}
-  (S : Search first to group place at stack path bound n root s d b m) (t : ToEnter first to group stack path d w)
-  (g : Put group group′ w 1) (p : Put place place′ w s) (a : Put at at′ w (getD first w 0))
-  (o : Put stack stack′ s w) (x : Put path path′ d s) (y : Put bound bound′ b d) where
-
+    (S : Search first to group place at stack path bound n root s d b m) (t : ToEnter first to group stack path d w)
+    (g : Put group group′ w 1) (p : Put place place′ w s) (a : Put at at′ w (getD first w 0))
+    (o : Put stack stack′ s w) (x : Put path path′ d s) (y : Put bound bound′ b d) where
   low : w < n
   low = omega (arith, S .count, t .low)
 

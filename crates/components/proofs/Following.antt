@@ -1,19 +1,25 @@
 -- The choice of a step: what is read is there, and what was read means the step.
 use mathlib.Core.Path.{_≡_, refl, sym, ap, _∙_}
 use mathlib.Core.List.{List}
-use mathlib.Core.Logic.{_⊎_, inl, inr, ⊎-elim, by-cases}
+use mathlib.Core.Logic.{_⊎_, inl, inr, by-cases}
 use Prim.Native.Nat.{ℕ, zero, suc, _+_, _-_, _≤_, _<_}
 use native.Mathlib.Omega.{arith}
-use native.Mathlib.Decide.{ℕ-discrete, decLt}
-use lib.ListN.{length, getD}
-use Rattle.graph.specs.Graph.{vertices, Graph, Arc}
-use Rattle.graph.specs.Mark.{busy}
+use native.Mathlib.Decide.{decLt}
+use lib.ListN.{getD}
+use Rattle.graph.specs.Graph.{vertices, Arc}
 use Rattle.graph.proofs.Busy.{busy-le}
 use Rattle.graph.proofs.Arcs.{arc-place, arc-below}
-use Rattle.components.specs.Search.{Room, start, Opened, Path, Passed, Search}
-use Rattle.components.specs.Step.{top, Next, ToEnter, ToJoin, ToPass, ToLeave, ToClose, Followable, Followed, Chosen}
+use Rattle.components.specs.Search.{start, Search}
+use Rattle.components.specs.Step.{top, ToLeave, ToClose, Followable, Followed, Chosen}
 use Rattle.components.specs.declared.Step.{Step}
 use Rattle.components.specs.declared.Step.the-variants.{Done, Skip, Enter, Join, Pass, Leave, Close}
+
+-- arc e is the next one of v, the end of the path
+pub record Next (first at stack path : List ℕ) (d v e : ℕ) : Type 0 where
+  pub some : 0 < d
+  pub vertex : v ≡ top stack path d
+  pub arc : e ≡ getD at v 0
+  pub more : e < getD first (v + 1) 0
 
 -- an element of a rising list is no smaller than its index
 at-least : (l : List ℕ) (n : ℕ) → ((j k : ℕ) → j < k → k < n → getD l j 0 < getD l k 0) → (k : ℕ) → k < n → k ≤ getD l k 0
@@ -115,7 +121,7 @@ module _ (to group place path bound : List ℕ) (b e w last : ℕ) (q : w ≡ ge
 
 -- what is read at the end of the path
 module _ {first to group place at stack path bound : List ℕ} {n root s d b m : ℕ} (S : Search first to group place at stack path bound n root s d b m)
-  (h : d ≡ 0 → ⊥) {p : ℕ} (q : p ≡ getD path (d - 1) 0) where
+    (h : d ≡ 0 → ⊥) {p : ℕ} (q : p ≡ getD path (d - 1) 0) where
   some : 0 < d
   some = omega (arith, h)
 

@@ -1,10 +1,10 @@
 -- What stays while no vertex is closed; and ways put together.
-use mathlib.Core.Path.{_≡_, refl, sym, ap, subst, _∙_}
+use mathlib.Core.Path.{_≡_, sym, subst, _∙_}
 use mathlib.Core.List.{List}
-use Prim.Native.Nat.{ℕ, _+_, _-_, _≤_, _<_}
+use Prim.Native.Nat.{ℕ, _-_, _≤_}
 use native.Mathlib.Omega.{arith}
-use lib.ListN.{length, getD}
-use Rattle.express.specs.Reach.{Reaches, direct, onward}
+use lib.ListN.{getD}
+use Rattle.express.specs.Reach.{Reaches, direct}
 use Rattle.express.proofs.Reach.{reaches-trans}
 use Rattle.components.specs.Component.{Leads, stays, goes, Components}
 
@@ -18,10 +18,10 @@ reaches-leads r (goes t) = reaches-trans r t
 
 -- the closed vertices are the same, and so are their groups and places
 pub components-keep :
-  {first to group place group′ place′ : List ℕ} {n m : ℕ} → Components first to group place n m
-  → ((v : ℕ) → 2 ≤ getD group′ v 0 → 2 ≤ getD group v 0)
-  → ((v : ℕ) → 2 ≤ getD group v 0 → (getD group′ v 0 ≡ getD group v 0) × (getD place′ v 0 ≡ getD place v 0))
-  → Components first to group′ place′ n m
+    {first to group place group′ place′ : List ℕ} {n m : ℕ} → Components first to group place n m
+    → ((v : ℕ) → 2 ≤ getD group′ v 0 → 2 ≤ getD group v 0)
+    → ((v : ℕ) → 2 ≤ getD group v 0 → (getD group′ v 0 ≡ getD group v 0) × (getD place′ v 0 ≡ getD place v 0))
+    → Components first to group′ place′ n m
 components-keep {first} {to} {group} {place} {group′} {place′} {n} {m} c back same =
     let G : (v : ℕ) → 2 ≤ getD group v 0 → getD group′ v 0 ≡ getD group v 0 = λ v h. same v h .0 in
     let P : (v : ℕ) → 2 ≤ getD group v 0 → getD place′ v 0 ≡ getD place v 0 = λ v h. same v h .1 in

@@ -9,3 +9,4 @@ pub mod Shutting
 pub mod Running
 pub mod Scan
 pub mod Tested
+pub mod Caller

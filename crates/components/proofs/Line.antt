@@ -1,11 +1,11 @@
 -- The path and the groups along it: what each step makes of them.
-use mathlib.Core.Path.{_≡_, refl, sym, ap, _∙_}
+use mathlib.Core.Path.{_≡_, sym, ap, _∙_}
 use mathlib.Core.List.{List}
 use mathlib.Core.Logic.{by-cases}
 use Prim.Native.Nat.{ℕ, _+_, _-_, _≤_, _<_}
 use native.Mathlib.Omega.{arith}
 use native.Mathlib.Decide.{ℕ-discrete, decLt}
-use lib.ListN.{length, getD}
+use lib.ListN.{getD}
 use Rattle.graph.proofs.Store.{Put}
 use Rattle.components.specs.Search.{start, Within, Path}
 
@@ -25,9 +25,6 @@ module _ {path bound : List ℕ} {s d b : ℕ} (p : Path path bound s d b) where
 
   pub within-top : (i : ℕ) → Within path bound b i (getD path (d - 1) 0)
   within-top i g l h = path-upto (getD bound g 0) (d - 1) (omega (arith, p .bound-low g l)) (omega (arith, p .bound-low g l))
-
-  pub bound-some : 0 < d → 0 < b
-  bound-some h = p .bound-some h
 
   -- merging the last two groups
   pub path-join : 0 < d → (j : ℕ) → j < start path bound (b - 1) → Path path bound s d (b - 1)

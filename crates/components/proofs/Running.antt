@@ -1,16 +1,14 @@
 -- The search as the code runs it: a law for each step that was chosen.
 use mathlib.Core.Path.{_≡_, refl, sym, ap, subst, _∙_}
 use mathlib.Core.List.{List}
-use mathlib.Core.Logic.{by-cases}
 use Prim.Native.Nat.{ℕ, _+_, _*_, _-_, _≤_, _<_}
 use native.Mathlib.Omega.{arith}
-use native.Mathlib.Decide.{ℕ-discrete}
-use lib.ListN.{length, getD, set, length-set}
-use Rattle.graph.specs.Graph.{vertices, Graph, Arc}
+use lib.ListN.{length, getD, set}
+use Rattle.graph.specs.Graph.{vertices}
 use Rattle.graph.proofs.Store.{Put, put}
 use Rattle.components.specs.Component.{Grouped}
-use Rattle.components.specs.Search.{Room, Search, Ready}
-use Rattle.components.specs.Step.{top, Going, ToStop, ToSkip, ToEnter, ToJoin, ToPass, ToLeave, ToClose, Chosen, Enterable, Entered, Closable, Shut}
+use Rattle.components.specs.Search.{Search, Ready}
+use Rattle.components.specs.Step.{top, Going, ToSkip, ToEnter, ToJoin, ToPass, ToLeave, ToClose, Chosen, Enterable, Entered, Closable, Shut}
 use Rattle.components.specs.declared.Step.{Step}
 use Rattle.components.specs.declared.Step.the-variants.{Done, Skip, Enter, Join, Pass, Leave, Close}
 use Rattle.components.proofs.Entering.{search-enter, enter-room}
@@ -58,8 +56,7 @@ put-is : (l l′ : List ℕ) (i x : ℕ) → l′ ≡ set l i x → i < length l
 put-is l l′ i x q h = subst (λ (z : List ℕ). Put l z i x) (sym q) (put l i x h)
 
 module _ {first to group₀ place₀ at₀ stack₀ path₀ bound₀ group place at stack path bound : List ℕ} {root s d b m : ℕ}
-  (R : Running first to group₀ place₀ at₀ stack₀ path₀ bound₀ group place at stack path bound root s d b m) where
-
+    (R : Running first to group₀ place₀ at₀ stack₀ path₀ bound₀ group place at stack path bound root s d b m) where
   S : Search first to group place at stack path bound (vertices first) root s d b m
   S = R .search
 
@@ -116,9 +113,9 @@ module _ {first to group₀ place₀ at₀ stack₀ path₀ bound₀ group place
     enter-more {w} q = let t : ToEnter first to group stack path d w = chosen q in enter-room S t
 
     pub running-enter :
-      {w : ℕ} {group′ place′ at′ stack′ path′ bound′ : List ℕ} → r ≡ Enter w
-      → Entered first group place at stack path bound group′ place′ at′ stack′ path′ bound′ w s d b
-      → Running first to group₀ place₀ at₀ stack₀ path₀ bound₀ group′ place′ at′ stack′ path′ bound′ root (s + 1) (d + 1) (b + 1) m
+        {w : ℕ} {group′ place′ at′ stack′ path′ bound′ : List ℕ} → r ≡ Enter w
+        → Entered first group place at stack path bound group′ place′ at′ stack′ path′ bound′ w s d b
+        → Running first to group₀ place₀ at₀ stack₀ path₀ bound₀ group′ place′ at′ stack′ path′ bound′ root (s + 1) (d + 1) (b + 1) m
     running-enter {w} {group′} {place′} {at′} {stack′} {path′} {bound′} q e =
         let t : ToEnter first to group stack path d w = chosen q in
         let more = enter-room S t in

@@ -6,12 +6,11 @@ use Prim.Native.Nat.{ℕ, _+_, _-_, _≤_, _<_}
 use native.Mathlib.Omega.{arith}
 use native.Mathlib.Decide.{ℕ-discrete}
 use lib.ListN.{length, getD, set}
-use Rattle.graph.specs.Graph.{vertices, Graph, Arc}
-use Rattle.graph.proofs.Store.{Put, put}
+use Rattle.graph.specs.Graph.{vertices, Graph}
+use Rattle.graph.proofs.Store.{put}
 use Rattle.graph.proofs.Arcs.{arc-place, arc-below}
 use Rattle.components.specs.Component.{Grouped}
-use Rattle.components.specs.Search.{Room}
-use Rattle.components.specs.Answer.{Inner, Smallest, Bounded, Fits, Placed, Least, Solved, Ordered, Arrangeable, Arranged}
+use Rattle.components.specs.Answer.{Inner, Smallest, Bounded, Placed, Solved, Ordered, Arrangeable, Arranged}
 use Rattle.components.proofs.End.{least-found, none-found}
 
 -- ---- the arcs of v up to e do not lead into its group
@@ -103,9 +102,9 @@ pub ordered : {first to order place order′ : List ℕ} → Placed first to pla
 ordered {first} {to} {order} {place} {order′} p a =
     -- the vertex at a place
     let is : (k : ℕ) (l : k < vertices first) → getD order′ k 0 ≡ p .all k l .0 =
-        λ k l. let x = p .all k l in ap (λ (z : ℕ). getD order′ z 0) (sym (x .2)) ∙ a .is (x .0) (x .1) in
+    λ k l. let x = p .all k l in ap (λ (z : ℕ). getD order′ z 0) (sym (x .2)) ∙ a .is (x .0) (x .1) in
     let back : (k : ℕ) → k < vertices first → getD place (getD order′ k 0) 0 ≡ k =
-        λ k l. ap (λ (z : ℕ). getD place z 0) (is k l) ∙ p .all k l .2 in
+    λ k l. ap (λ (z : ℕ). getD place z 0) (is k l) ∙ p .all k l .2 in
     record {
       low = λ k l. omega (arith, is k l, p .all k l .1);
       all = λ v l. (getD place v 0, p .low v l, a .is v l);

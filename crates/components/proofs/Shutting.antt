@@ -1,12 +1,12 @@
 -- The loop that closes a group: what is shut up to a place.
-use mathlib.Core.Path.{_≡_, refl, sym, ap, _∙_}
+use mathlib.Core.Path.{_≡_, refl, sym, _∙_}
 use mathlib.Core.List.{List}
 use mathlib.Core.Logic.{by-cases}
 use Prim.Native.Nat.{ℕ, _+_, _-_, _≤_, _<_}
 use native.Mathlib.Omega.{arith}
 use native.Mathlib.Decide.{ℕ-discrete}
 use lib.ListN.{length, getD, set}
-use Rattle.graph.proofs.Store.{Put, put}
+use Rattle.graph.proofs.Store.{put}
 use Rattle.components.specs.Step.{Closable, Shut}
 
 pub record Shutting (group₀ place₀ stack : List ℕ) (from s m : ℕ) (group place : List ℕ) (i : ℕ) : Type 0 where

@@ -1,12 +1,11 @@
 -- What the tests of the public functions say, both ways.
 use mathlib.Core.Path.{_≡_}
 use mathlib.Core.List.{List}
-use Prim.Native.Nat.{ℕ, _-_, _≤_, _<_, min}
+use Prim.Native.Nat.{ℕ, _-_, min}
 use native.Mathlib.Omega.{arith}
-use lib.ListN.{length, getD}
-use Rattle.graph.specs.Graph.{vertices, Graph}
-use Rattle.components.specs.Search.{Room}
-use Rattle.components.specs.Answer.{Fits, FitsAll, Bounded, Shortest, Untouched}
+use lib.ListN.{length}
+use Rattle.graph.specs.Graph.{vertices}
+use Rattle.components.specs.Answer.{Fits, FitsAll, Bounded, Shortest}
 
 module _ {first to group place at stack path bound : List ℕ} {r : ℕ} (s : Shortest (length group) (length place) (length at) (length stack) (length path) (length bound) r) where
   pub fits-yes : Bounded first to r → Fits first to group place at stack path bound

@@ -1,17 +1,17 @@
 -- The steps that enter and close no vertex: a root that was seen, a join of groups, an arc that is passed, a vertex that leaves the path.
-use mathlib.Core.Path.{_≡_, refl, sym, ap, _∙_}
+use mathlib.Core.Path.{_≡_, sym, ap, _∙_}
 use mathlib.Core.List.{List}
 use mathlib.Core.Logic.{_⊎_, inl, inr, ⊎-elim, by-cases}
 use Prim.Native.Nat.{ℕ, _+_, _-_, _≤_, _<_}
 use native.Mathlib.Omega.{arith}
 use native.Mathlib.Decide.{ℕ-discrete, decLt}
-use lib.ListN.{length, getD}
-use Rattle.graph.specs.Graph.{vertices, Graph, Arc}
+use lib.ListN.{getD}
+use Rattle.graph.specs.Graph.{Arc}
 use Rattle.graph.proofs.Store.{Put}
 use Rattle.graph.proofs.Arcs.{arc-target}
 use Rattle.components.specs.Component.{Leads, goes}
-use Rattle.components.specs.Search.{Room, start, Within, Opened, Path, Settled, Passed, Search}
-use Rattle.components.specs.Step.{top, ToSkip, ToJoin, ToPass, ToLeave}
+use Rattle.components.specs.Search.{start, Within, Search}
+use Rattle.components.specs.Step.{ToSkip, ToJoin, ToPass, ToLeave}
 use Rattle.components.proofs.Keep.{leads-arc, reaches-leads}
 use Rattle.components.proofs.Line.{start-last, within-top, path-join, path-leave}
 
@@ -50,10 +50,10 @@ module _ {first to group place at stack path bound : List ℕ} {n root s d b m :
       let up = S .leads i (getD path (d - 1) 0) li (end-low (t .some)) (within-top (S .line) i) in
       let q : getD stack (getD place w 0) 0 ≡ w = S .opened .is w lw (t .opened) in
       let down : Leads (Arc first to) (getD stack (getD place w 0) 0) (getD stack j 0) =
-          S .leads (getD place w 0) j (S .opened .found w lw (t .opened)) lj
-          (λ g k f.
-          by-cases (ℕ-discrete g (b - 1)) (λ e. absurd (omega (arith, ap (λ (z : ℕ). start path bound z) e, t .back)))
-          (λ e. h g (omega (arith, e)) (omega (arith, start-last (S .line) g k, l)))) in
+      S .leads (getD place w 0) j (S .opened .found w lw (t .opened)) lj
+      (λ g k f.
+      by-cases (ℕ-discrete g (b - 1)) (λ e. absurd (omega (arith, ap (λ (z : ℕ). start path bound z) e, t .back)))
+      (λ e. h g (omega (arith, e)) (omega (arith, start-last (S .line) g k, l)))) in
       goes (reaches-leads (leads-arc up (t .arc)) (rw q at down)))
 
   pub search-join : ToJoin first to group place stack path bound d b → Search first to group place at stack path bound n root s d (b - 1) m

@@ -2,9 +2,9 @@
 use mathlib.Core.Path.{_≡_}
 use mathlib.Core.List.{List}
 use Prim.Native.Nat.{ℕ, _+_, _≤_, _<_}
-use lib.ListN.{length, getD}
+use lib.ListN.{getD}
 use Rattle.express.specs.Reach.{Reaches}
-use Rattle.graph.specs.Graph.{vertices, Graph, Arc, OnCycle}
+use Rattle.graph.specs.Graph.{Arc}
 
 -- over no arc or more
 pub data Leads (E : ℕ → ℕ → Type 0) (a b : ℕ) : Type 0 where

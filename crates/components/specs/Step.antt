@@ -4,7 +4,7 @@ use mathlib.Core.Logic.{_⊎_}
 use mathlib.Core.List.{List}
 use Prim.Native.Nat.{ℕ, _+_, _-_, _≤_, _<_}
 use lib.ListN.{length, getD, set}
-use Rattle.graph.specs.Graph.{vertices, Graph, Arc}
+use Rattle.graph.specs.Graph.{vertices, Arc}
 use Rattle.components.specs.Search.{start, Search}
 use Rattle.components.specs.declared.Step.{Step}
 use Rattle.components.specs.declared.Step.the-variants.{Done, Skip, Enter, Join, Pass, Leave, Close}
@@ -61,6 +61,7 @@ pub record ToClose (first at stack path bound : List ℕ) (d b from : ℕ) : Typ
   pub starts : getD bound (b - 1) 0 ≡ d - 1
   pub place : from ≡ getD path (d - 1) 0
 
+-- what each step was chosen for
 abbrev pub Chosen : List ℕ → List ℕ → List ℕ → List ℕ → List ℕ → List ℕ → List ℕ → List ℕ → ℕ → ℕ → ℕ → Step → Type 0
 Chosen first to group place at stack path bound root d b Done = ToStop first root d
 Chosen first to group place at stack path bound root d b Skip = ToSkip first group root d
@@ -72,6 +73,7 @@ Chosen first to group place at stack path bound root d b (Close from) = ToClose 
 
 -- ---- the next arc, e, of the end of the path, v
 
+-- what is read is there
 pub record Followable (to group place path bound : List ℕ) (b e : ℕ) : Type 0 where
   pub arc-low : e < length to
   pub arc-small : e < 4294967295
@@ -84,6 +86,7 @@ pub record Followable (to group place path bound : List ℕ) (b e : ℕ) : Type 
   pub path-low : getD bound (b - 1) 0 < length path
   pub path-small : getD bound (b - 1) 0 < 65536
 
+-- where it leads
 abbrev pub Followed : List ℕ → List ℕ → List ℕ → List ℕ → List ℕ → ℕ → ℕ → ℕ → Step → Type 0
 Followed to group place path bound b v e (Enter w) = (w ≡ getD to e 0) × (getD group w 0 ≡ 0)
 Followed to group place path bound b v e Join = (getD group (getD to e 0) 0 ≡ 1) × (getD place (getD to e 0) 0 < start path bound (b - 1))
@@ -94,14 +97,9 @@ Followed to group place path bound b v e Skip = ⊥
 Followed to group place path bound b v e Leave = ⊥
 Followed to group place path bound b v e (Close from) = ⊥
 
-pub record Next (first at stack path : List ℕ) (d v e : ℕ) : Type 0 where
-  pub some : 0 < d
-  pub vertex : v ≡ top stack path d
-  pub arc : e ≡ getD at v 0
-  pub more : e < getD first (v + 1) 0
-
 -- ---- entering a vertex
 
+-- what is stored is small enough
 pub record Enterable (first : List ℕ) (w s d b : ℕ) : Type 0 where
   pub low : w < length first
   pub small : w < 65536

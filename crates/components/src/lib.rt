@@ -1,11 +1,10 @@
 // Strongly connected components, and with them the smallest vertex on a cycle and the order of dependencies.
-ghost use mathlib.Core.Path.{_≡_};
 ghost use mathlib.Core.Bool.{true, false};
-ghost use Prim.Native.Nat.{ℕ, _+_, _-_, _≤_, _<_, min};
-ghost use lib.ListN.{length, getD, set};
-ghost use Rattle.graph.specs.Graph.{vertices, Graph, Arc, OnCycle, Tells};
+ghost use Prim.Native.Nat.{_+_, _-_, _<_};
+ghost use lib.ListN.{length};
+ghost use Rattle.graph.specs.Graph.{vertices, Tells};
 ghost use Rattle.components.specs.Component.{Grouped};
-ghost use Rattle.components.specs.Search.{Room, Search, Ready};
+ghost use Rattle.components.specs.Search.{Ready};
 ghost use Rattle.components.specs.Answer.{Inner, Smallest, Fits, Solved, Bounded, Shortest, Arrangeable, Arranged, CycleAnswers, OrderAnswers};
 ghost use Rattle.components.specs.Step.{Going, Chosen, Followable, Followed, Enterable, Entered, Closable, Shut};
 
@@ -125,14 +124,7 @@ fn enter(
 }
 
 // The open vertices from a place on are closed: they are a component, and have the next places, from m on.
-fn close(
-    group: &mut [u32],
-    place: &mut [u32],
-    stack: &[u32],
-    from: usize,
-    s: usize,
-    m: usize,
-)
+fn close(group: &mut [u32], place: &mut [u32], stack: &[u32], from: usize, s: usize, m: usize)
     requires { ⌜ Closable (now group) (now place) (now stack) from s m ⌝ }
     ensures { λ _. ⌜ Shut (now (group .entry)) (now (place .entry)) (now (stack .entry)) (now (group .exit)) (now (place .exit)) from s m ⌝ }
 {

@@ -1,20 +1,18 @@
 -- The search from one vertex: a law for each step.
-use mathlib.Core.Path.{_≡_, refl, sym, ap, _∙_}
-use mathlib.Core.Bool.{Bool, true, false}
-use mathlib.Core.List.{List, []}
-use mathlib.Core.Logic.{_⊎_, inl, inr, ⊎-elim, by-cases}
-use Prim.Native.Nat.{ℕ, zero, suc, _+_, _*_, _-_, _≤_, _<_}
+use mathlib.Core.Path.{_≡_, refl, sym, _∙_}
+use mathlib.Core.List.{List}
+use mathlib.Core.Logic.{_⊎_, inl, inr, by-cases}
+use Prim.Native.Nat.{ℕ, _+_, _-_, _≤_, _<_}
 use native.Mathlib.Omega.{arith}
-use native.Mathlib.Decide.{ℕ-discrete, decLt}
-use lib.ListN.{length, getD, set, take, replicate, length-set}
-use Rattle.columns.specs.Column.{cleared}
+use native.Mathlib.Decide.{ℕ-discrete}
+use lib.ListN.{length, getD, set, length-set}
 use Rattle.express.specs.Reach.{Reaches, direct, onward}
 use Rattle.express.proofs.Reach.{reaches-trans}
-use Rattle.graph.specs.Graph.{vertices, Graph, Arc}
-use Rattle.graph.specs.Mark.{busy, Markable, Marks, Spread, Expanded}
+use Rattle.graph.specs.Graph.{vertices, Arc}
+use Rattle.graph.specs.Mark.{Markable, Marks, Spread, Expanded}
 use Rattle.graph.proofs.Store.{Put, put}
 use Rattle.graph.proofs.Busy.{busy-zero, busy-le, busy-white, busy-more}
-use Rattle.graph.proofs.Arcs.{arc-source, arc-target, arc-place}
+use Rattle.graph.proofs.Arcs.{arc-target, arc-place}
 
 pub markable-set : {first to mark queue : List ℕ} {from : ℕ} → Markable first to from mark queue → (mark′ queue′ : List ℕ) → length mark′ ≡ length mark → length queue′ ≡ length queue → Markable first to from mark′ queue′
 markable-set r mark′ queue′ p q =

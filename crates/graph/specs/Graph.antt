@@ -29,7 +29,7 @@ pub record Arc (first to : List ℕ) (v w : ℕ) : Type 0 where
 abbrev pub OnCycle : List ℕ → List ℕ → ℕ → Type 0
 OnCycle first to v = Reaches (Arc first to) v v
 
--- what a test of the two columns says
+-- what a test says: it is true exactly if P holds
 pub record Tells (P : Type 0) (r : Bool) : Type 0 where
   pub yes : r ≡ true → P
   pub no : r ≡ false → P → ⊥

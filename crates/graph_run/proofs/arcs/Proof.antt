@@ -1,10 +1,6 @@
+-- `graph_run::arcs` meets its contract. Assumes nothing.
 use Rattle.graph_run.proofs.arcs.Statement.{statement}
 use Rattle.graph_run.proofs.arcs.Tie as tie
-use Rattle.graph_run.proofs.arcs.Reads as reads
-use Rattle.graph_run.proofs.arcs.Lts as lts
-use Rattle.columns.proofs.put32.Reads as put32-reads
-use Rattle.graph_run.proofs.arc.Reads as arc-reads
-use Rattle.graph_run.proofs.one.Reads as one-reads
 use borrow.Author.Needs.{needs}
 use Prim.Native.Nat.{_+_, _≤_, _-_}
 use lib.ListN.{length}
@@ -17,47 +13,36 @@ Inv-loop shape n v to₀ from e₀ j₀ to e j = (j ≤ 4) × (e ≤ from + j) �
 abbrev μ-loop : tie.MeasureT-loop
 μ-loop shape n v to₀ from e₀ j₀ to e j = 4 - j
 
--- src/main.rt:133:5
 loop-holds : tie.Need-loop-holds Inv-loop μ-loop
 loop-holds c = (omega arith, omega arith, refl)
 
--- src/main.rt:134:13
 arc-requires : tie.Need-arc-requires Inv-loop μ-loop
 arc-requires c κs = search needs
 
--- src/main.rt:135:31
 cast-put32 : tie.Need-cast-put32 Inv-loop μ-loop
 cast-put32 c = search needs
 
--- src/main.rt:135:9
 put32-requires : tie.Need-put32-requires Inv-loop μ-loop
 put32-requires c κs = search needs
 
--- src/main.rt:136:14
 one-requires : tie.Need-one-requires Inv-loop μ-loop
 one-requires c κs = search needs
 
--- src/main.rt:136:9
 add-e : tie.Need-add-e Inv-loop μ-loop
 add-e c = search needs
 
--- src/main.rt:137:9
 add-j : tie.Need-add-j Inv-loop μ-loop
 add-j c = search needs
 
--- src/main.rt:133:5
 loop-less : tie.Need-loop-less Inv-loop μ-loop
 loop-less c = search needs
 
--- src/main.rt:133:5
 loop-again : tie.Need-loop-again Inv-loop μ-loop
 loop-again c = (omega arith, omega (arith, c .one .ensures, c .before .before .before .before .before .before .before .loop .inv .1), omega (arith, c .before .before .before .put32 .kept .0, c .before .before .before .before .before .before .before .loop .inv .2))
 
--- src/main.rt:127:1
 same-length : tie.Need-same-length Inv-loop μ-loop
 same-length c = c .before .loop .inv .2
 
--- src/main.rt:127:1
 returns : tie.Need-returns Inv-loop μ-loop
 returns c = search needs
 

@@ -1,9 +1,6 @@
+-- `graph_run::row` meets its contract. Assumes nothing.
 use Rattle.graph_run.proofs.row.Statement.{statement}
 use Rattle.graph_run.proofs.row.Tie as tie
-use Rattle.graph_run.proofs.row.Reads as reads
-use Rattle.graph_run.proofs.row.Lts as lts
-use Rattle.columns.proofs.index.Reads as index-reads
-use Rattle.graph_run.proofs.number.Reads as number-reads
 use borrow.Author.Needs.{needs}
 use Prim.Native.Nat.{_≤_, _-_}
 
@@ -13,39 +10,30 @@ Inv-loop column n i₀ i = i ≤ n
 abbrev μ-loop : tie.MeasureT-loop
 μ-loop column n i₀ i = n - i
 
--- src/main.rt:21:5
 loop-holds : tie.Need-loop-holds Inv-loop μ-loop
 loop-holds c = search needs
 
--- src/main.rt:23:35
 mul-index : tie.Need-mul-index Inv-loop μ-loop
 mul-index c = search needs
 
--- src/main.rt:23:35
 shared-slice-read-index : tie.Need-shared-slice-read-index Inv-loop μ-loop
 shared-slice-read-index c = search needs
 
--- src/main.rt:23:20
 index-requires : tie.Need-index-requires Inv-loop μ-loop
 index-requires c κs = search needs
 
--- src/main.rt:23:13
 number-requires : tie.Need-number-requires Inv-loop μ-loop
 number-requires c κs = search needs
 
--- src/main.rt:25:9
 add-i : tie.Need-add-i Inv-loop μ-loop
 add-i c = search needs
 
--- src/main.rt:21:5
 loop-less : tie.Need-loop-less Inv-loop μ-loop
 loop-less c = search needs
 
--- src/main.rt:21:5
 loop-again : tie.Need-loop-again Inv-loop μ-loop
 loop-again c = search needs
 
--- src/main.rt:19:1
 returns : tie.Need-returns Inv-loop μ-loop
 returns c = search needs
 
