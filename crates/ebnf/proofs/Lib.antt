@@ -13,3 +13,4 @@ pub mod Trees
 pub mod Sorts
 pub mod Parts
 pub mod PostOrder
+pub mod Count

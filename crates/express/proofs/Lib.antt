@@ -1,5 +1,6 @@
 pub mod Bits
 pub mod Descent
+pub mod Count
 pub mod Divide
 pub mod FormedRows
 pub mod Logic
