@@ -30,7 +30,7 @@ fit-append : (r s : List Row) → All-fit r → All-fit s → All-fit (r ++ s)
 fit-append [] s p q = q
 fit-append (x ∷ r) s p q = (p .0, fit-append r s (p .1) q)
 
-map-length : (r : List Row) → length (map word-of r) ≡ length r
+pub map-length : (r : List Row) → length (map word-of r) ≡ length r
 map-length [] = refl
 map-length (x ∷ r) = ap suc (map-length r)
 

@@ -4,3 +4,5 @@ pub mod Operators
 pub mod Steps
 pub mod Atoms
 pub mod Operands
+pub mod Limit
+pub mod Columns
