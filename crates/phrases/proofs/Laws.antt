@@ -92,6 +92,9 @@ module _ {ts : List ℕ} {want : Result Rows} {n : ℕ} {a : List ℕ} {m : ℕ}
   pub last : {e : Ebnf Nonterminal} → Reading ts want n a e m x b → Reading ts want n a (seq e none) m x b
   last r = record { done = r .done; found = r .found; named = r .named; is = r .is }
 
+  pub alone : {e : Ebnf Nonterminal} → Reading ts want n a (seq e none) m x b → Reading ts want n a e m x b
+  alone r = record { done = r .done; found = r .found; named = r .named; is = r .is }
+
   pub apart : {e f g : Ebnf Nonterminal} → Reading ts want n a (seq (seq e f) g) m x b → Reading ts want n a (seq e (seq f g)) m x b
   apart r = record { done = r .done; found = r .found; named = r .named; is = r .is }
 

@@ -26,11 +26,11 @@ use Rattle.phrases.proofs.Laws.{start, finish, last, apart, together, d
 
 module _ (ts : List ℕ) (want : Result Rows) (n : ℕ) (a : List ℕ) (m p : ℕ) (g : Ready ts p n) (r : Read) (b : List ℕ) where
   -- what a row labelled l, or none where l is 0, leaves
-  abbrev Label : ℕ → Type 0
+  abbrev pub Label : ℕ → Type 0
   Label l = Took (not (eqb l 0)) l p n r a b
 
   -- the token is of the set and leaves its row, or the other alternatives are tried
-  leafs : (cs : List ℕ) (k o : ℕ) (others : Ebnf _) (l : ℕ) → k < 256 → o < 256 → eqb (labelled k o) 0 ≡ false →
+  pub leafs : (cs : List ℕ) (k o : ℕ) (others : Ebnf _) (l : ℕ) → k < 256 → o < 256 → eqb (labelled k o) 0 ≡ false →
       (Label l → Reading ts want n a (seq others none) m (At p n) a → Found want n r a b) →
       Label (cond (mem (getD ts p 0) cs) (labelled k o) l) → Reading ts want n a (seq (alt (step (leaf k o) cs none) others) none) m (At p n) a → Found want n r a b
   leafs cs k o others l hk ho z next h v = go (mem (getD ts p 0) cs) refl h
@@ -42,7 +42,7 @@ module _ (ts : List ℕ) (want : Result Rows) (n : ℕ) (a : List ℕ) (m p : �
       go false e w = next w (right e v)
 
   -- the last alternative
-  leafs-last : (cs : List ℕ) (k o : ℕ) → k < 256 → o < 256 → eqb (labelled k o) 0 ≡ false →
+  pub leafs-last : (cs : List ℕ) (k o : ℕ) → k < 256 → o < 256 → eqb (labelled k o) 0 ≡ false →
       Label (cond (mem (getD ts p 0) cs) (labelled k o) 0) → Reading ts want n a (seq (step (leaf k o) cs none) none) m (At p n) a → Found want n r a b
   leafs-last cs k o hk ho z h v = finish (took r b hk ho g (go (mem (getD ts p 0) cs) h) v)
     where
