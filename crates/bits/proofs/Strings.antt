@@ -4,17 +4,15 @@ use mathlib.Core.Bool.{Bool, true, false}
 use mathlib.Core.List.{List, [], _∷_, _++_}
 use mathlib.Core.Logic.{_⊎_, inl, inr}
 use Prim.Native.Nat.{ℕ, zero, suc, _+_, _-_, _*_, _/_, _%_, _^_, _≤_, _<_, compare, Ordering, Ordering·lt, Ordering·eq, Ordering·gt, compare·suc-suc}
-use native.Mathlib.Nat.{lt-of-lt-of-le, le-of-lt, zero-add, suc-add, zero-mul, one-mul, mod-lt, mod-eq-of-lt, div-eq-of-lt}
+use native.Mathlib.Nat.{lt-of-lt-of-le, zero-add, suc-add, one-mul, mod-lt, mod-eq-of-lt, div-eq-of-lt}
 use native.Mathlib.Omega.{arith}
 use borrow.Author.Tests.{le-leb, lt-leb}
 use lib.Arith.{digits-lt}
-use lib.Dec.{leb}
 use lib.ListN.{length, take, drop, length-append, length-drop, drop-of-length-le}
 use lib.Seq.{take-at, length-take-le}
 use lib.Pow.{pow-pos, pow-mono, pow-lt, pow-add, high, low, shl-exact}
 use mir.Syntax.{w64}
 use mir.Val.{Fits}
-use Rattle.express.specs.Answer.{binary, end}
 use Rattle.express.specs.Bits.{bit, number, bits, join, compareBits}
 use Rattle.express.proofs.Bits.{length-bits, number-mod, number-lt, bits-mod, bits-append}
 use Rattle.express.proofs.Order.{compare-lt, compare-gt, compare-eq}

@@ -6,7 +6,6 @@ use native.Mathlib.Nat.{le-refl}
 use native.Mathlib.Omega.{arith}
 use lib.ListN.{length, getD, List·getD-append}
 use Rattle.ebnf.specs.Grammar.{Ebnf, Actions, Derives, nothing, marked, token, both, left, right, stop, more, label, other, rule}
-use Rattle.ebnf.specs.Parse.{at}
 
 -- the two lists have the same tokens before n
 abbrev pub Same : List ℕ → List ℕ → ℕ → Type 0

@@ -1,4 +1,5 @@
--- The descend as recursive descent: what a rule comes to, token by token, in terms of what its nonterminals and repetitions come to.
+-- The parse as recursive descent: what a rule comes to, token by token, in terms of what its nonterminals and repetitions come to. Proofs about
+-- readers cite `phrase-walks` and `repeat-walks` (for rows), or `phrase-is` and `repeat-is` (for any value).
 use mathlib.Core.Bool.{Bool, true, false, _&&_, cond, false≢true}
 use mathlib.Core.List.{List}
 use mathlib.Core.Path.{_≡_, refl, sym, ap, _∙_, subst}
@@ -28,10 +29,10 @@ bind-bind (refused i) f k = refl
 bind-bind starved f k = refl
 
 -- the way that a test picks, followed by what comes after
-pick-bind : {W : Type 0} (b : Bool) (x y u v : Result W) (k : ℕ → W → Result W) → (b ≡ true → bind x k ≡ u) → (b ≡ false → bind y k ≡ v) →
+cond-bind : {W : Type 0} (b : Bool) (x y u v : Result W) (k : ℕ → W → Result W) → (b ≡ true → bind x k ≡ u) → (b ≡ false → bind y k ≡ v) →
     bind (cond b x y) k ≡ cond b u v
-pick-bind true x y u v k f g = f refl
-pick-bind false x y u v k f g = g refl
+cond-bind true x y u v k f g = f refl
+cond-bind false x y u v k f g = g refl
 
 module _ {N : Type 0} {rules : N → Ebnf N} {T : Tables N} (G : Predictive rules T) (A : Actions) (ts : List ℕ) where
   -- what the rule of x comes to at i
@@ -66,7 +67,7 @@ module _ {N : Type 0} {rules : N → Ebnf N} {T : Tables N} (G : Predictive rule
   runs (mark m) o i r l k = rw (parsed-mark G A ts m i r l)
   runs (step m cs a) o i r l k =
       ap (λ (x : Result (A .Value)). bind x k) (parsed-step G A ts m cs a o i r l)
-      ∙ pick-bind (mem (getD ts i 0) cs) _ _ _ _ k
+      ∙ cond-bind (mem (getD ts i 0) cs) _ _ _ _ k
       (λ h. bind-bind (parsed G A ts a (suc i) r) _ k ∙ runs a (o .0) (suc i) r (inside G ts cs i (o .1) h) (λ j s. k j (A .stamp m i s)))
       (λ h. refl)
   runs (seq a b) o i r l k =
@@ -76,11 +77,11 @@ module _ {N : Type 0} {rules : N → Ebnf N} {T : Tables N} (G : Predictive rule
       ∙ runs a (o .0) i r l (λ j s. run b j s k)))
   runs (alt a b) o i r l k =
       ap (λ (x : Result (A .Value)). bind x k) (parsed-alt G A ts a b o i r l)
-      ∙ pick-bind (mem (getD ts i 0) (first T a)) _ _ _ _ k (λ h. runs a (o .0) i r l k) (λ h. runs b (o .1) i r l k)
+      ∙ cond-bind (mem (getD ts i 0) (first T a)) _ _ _ _ k (λ h. runs a (o .0) i r l k) (λ h. runs b (o .1) i r l k)
   runs (star a) o i r l k = refl
   runs (fork m cs ds a b) o i r l k =
       ap (λ (x : Result (A .Value)). bind x k) (parsed-fork G A ts m cs ds a b o i r l)
-      ∙ pick-bind (mem (getD ts i 0) cs && mem (getD ts (suc i) 0) ds) _ _ _ _ k
+      ∙ cond-bind (mem (getD ts i 0) cs && mem (getD ts (suc i) 0) ds) _ _ _ _ k
       (λ h.
       let p = and-split (mem (getD ts i 0) cs) _ h in
       runs a (o .0) (suc (suc i)) (A .stamp m i r) (inside G ts ds (suc i) (o .3) (p .1)) k)

@@ -1,4 +1,4 @@
--- The descend without fuel: its equations, by which a recursive descent in code is proved.
+-- The parse without fuel: an equation for each construct.
 use mathlib.Core.Bool.{Bool, true, false, _&&_, cond}
 use mathlib.Core.List.{List}
 use mathlib.Core.Logic.{⊎-elim}
@@ -22,19 +22,19 @@ bind-grow (at j s) x′ k k′ f g h = rw (f tt) (g j s h)
 bind-grow (refused j) x′ k k′ f g h = rw (f tt)
 bind-grow starved x′ k k′ f g h = absurd h
 
-pick-grow : {W : Type 0} → (b : Bool) (x x′ y y′ : Result W) → (Fed x → x′ ≡ x) → (Fed y → y′ ≡ y) → Fed (cond b x y) → cond b x′ y′ ≡ cond b x y
-pick-grow true x x′ y y′ f g h = f h
-pick-grow false x x′ y y′ f g h = g h
+cond-grow : {W : Type 0} → (b : Bool) (x x′ y y′ : Result W) → (Fed x → x′ ≡ x) → (Fed y → y′ ≡ y) → Fed (cond b x y) → cond b x′ y′ ≡ cond b x y
+cond-grow true x x′ y y′ f g h = f h
+cond-grow false x x′ y y′ f g h = g h
 
 module _ (A : Actions) {N : Type 0} (rules : N → Ebnf N) (T : Tables N) (ts : List ℕ) where
-  -- one more fuel changes no answer
+  -- one more fuel changes no result
   one-more : (n : ℕ) (e : Ebnf N) (i : ℕ) (r : A .Value) → Fed (descend A rules T ts n e i r) → descend A rules T ts (suc n) e i r ≡ descend A rules T ts n e i r
   unfolding descend
   one-more zero e i r h = absurd h
   one-more (suc n) none i r h = refl
   one-more (suc n) (mark m) i r h = refl
   one-more (suc n) (step m cs a) i r h =
-      pick-grow (mem (getD ts i 0) cs) _ _ (refused i) (refused i)
+      cond-grow (mem (getD ts i 0) cs) _ _ (refused i) (refused i)
       (bind-grow (descend A rules T ts n a (suc i) r) (descend A rules T ts (suc n) a (suc i) r) (λ j s. at j (A .stamp m i s)) (λ j s. at j (A .stamp m i s))
       (one-more n a (suc i) r) (λ j s h. refl))
       (λ h. refl) h
@@ -42,14 +42,14 @@ module _ (A : Actions) {N : Type 0} (rules : N → Ebnf N) (T : Tables N) (ts : 
       bind-grow (descend A rules T ts n a i r) (descend A rules T ts (suc n) a i r) (λ j s. descend A rules T ts n b j s) (λ j s. descend A rules T ts (suc n) b j s)
       (one-more n a i r) (λ j s. one-more n b j s) h
   one-more (suc n) (alt a b) i r h =
-      pick-grow (mem (getD ts i 0) (first T a)) _ _ _ _ (one-more n a i r) (one-more n b i r) h
+      cond-grow (mem (getD ts i 0) (first T a)) _ _ _ _ (one-more n a i r) (one-more n b i r) h
   one-more (suc n) (star a) i r h =
-      pick-grow (mem (getD ts i 0) (first T a)) _ _ (at i r) (at i r)
+      cond-grow (mem (getD ts i 0) (first T a)) _ _ (at i r) (at i r)
       (bind-grow (descend A rules T ts n a i r) (descend A rules T ts (suc n) a i r) (λ j s. descend A rules T ts n (star a) j s) (λ j s. descend A rules T ts (suc n) (star a) j s)
       (one-more n a i r) (λ j s. one-more n (star a) j s))
       (λ h. refl) h
   one-more (suc n) (fork m cs ds a b) i r h =
-      pick-grow (mem (getD ts i 0) cs && mem (getD ts (suc i) 0) ds) _ _ _ _ (one-more n a (suc (suc i)) (A .stamp m i r)) (one-more n b i r) h
+      cond-grow (mem (getD ts i 0) cs && mem (getD ts (suc i) 0) ds) _ _ _ _ (one-more n a (suc (suc i)) (A .stamp m i r)) (one-more n b i r) h
   one-more (suc n) (nt x) i r h =
       bind-grow (descend A rules T ts n (rules x) i (A .start i)) (descend A rules T ts (suc n) (rules x) i (A .start i)) (λ j s. at j (A .join r s)) (λ j s. at j (A .join r s))
       (one-more n (rules x) i (A .start i)) (λ j s h. refl) h
@@ -65,7 +65,7 @@ module _ (A : Actions) {N : Type 0} (rules : N → Ebnf N) (T : Tables N) (ts : 
       (lt-or-le m n)
 
 module _ {N : Type 0} {rules : N → Ebnf N} {T : Tables N} (G : Predictive rules T) (A : Actions) (ts : List ℕ) where
-  -- the answer at i, whatever the fuel, if it is enough
+  -- the result at i, whatever the fuel, if it is enough
   unfoldable pub parsed : Ebnf N → ℕ → A .Value → Result (A .Value)
   parsed e i r = descend A rules T ts (budget (T .bound) ts i + depth-of T e) e i r
 
@@ -74,7 +74,7 @@ module _ {N : Type 0} {rules : N → Ebnf N} {T : Tables N} (G : Predictive rule
   unfolding parsed
   enough n e o i r l f = more-fuel A rules T ts n _ e i r f (fed G A ts _ e o i r l (le-refl _))
 
-  -- the descend with one fuel to spare is the descend
+  -- with one fuel to spare
   spare : (e : Ebnf N) → Ok T e → (i : ℕ) (r : A .Value) → i ≤ length ts →
       parsed e i r ≡ descend A rules T ts (suc (budget (T .bound) ts i + depth-of T e)) e i r
   spare e o i r l = sym (enough _ e o i r l (omega arith))

@@ -22,7 +22,7 @@ same-of-take : (ts us : List ℕ) (n : ℕ) → take n us ≡ take n ts → Same
 same-of-take ts us n e m l = sym (getD-take n ts m 0 l) ∙ (ap (λ (v : List ℕ). getD v m 0) (sym e) ∙ getD-take n us m 0 l)
 
 module _ {N : Type 0} {rules : N → Ebnf N} {T : Tables N} (G : Predictive rules T) (A : Actions) (x : N) where
-  -- the answer that the verdict reads, with what is known of it
+  -- the result that the verdict reads, with what is known of it
   the-result : List ℕ → Result (A .Value)
   the-result ts = descend A rules T ts (budget (T .bound) ts 0 + T .depth x) (nt x) 0 (A .start 0)
 

@@ -1,4 +1,4 @@
--- The descend of ts goes the way of each derivation over us, as far as the tokens of the two are the same.
+-- The parse of ts goes the way of each derivation over us, as far as the tokens of the two are the same.
 use mathlib.Core.Bool.{Bool, true, false, _&&_, cond, false≢true, and-false}
 use mathlib.Core.List.{List}
 use mathlib.Core.Logic.{_⊎_, inl, inr, ⊎-elim}
@@ -15,7 +15,7 @@ use Rattle.ebnf.proofs.Derivations.{Same}
 use Rattle.ebnf.proofs.Predictive.{Ok, Predictive}
 use Rattle.ebnf.proofs.Lookahead.{starts, eats, seconds}
 
--- The answer lies at i or behind it.
+-- The result lies at i or behind it.
 abbrev Past : {W : Type 0} → ℕ → Result W → Type 0
 Past i (at j s) = i ≤ j
 Past i (refused k) = i ≤ k
@@ -31,34 +31,34 @@ past-bind i (at j s) k p f = past-more i j p (k j s) (f j s)
 past-bind i (refused j) k p f = p
 past-bind i starved k p f = tt
 
-past-pick : {W : Type 0} → (i : ℕ) (b : Bool) (x y : Result W) → Past i x → Past i y → Past i (cond b x y)
-past-pick i true x y p q = p
-past-pick i false x y p q = q
+past-cond : {W : Type 0} → (i : ℕ) (b : Bool) (x y : Result W) → Past i x → Past i y → Past i (cond b x y)
+past-cond i true x y p q = p
+past-cond i false x y p q = q
 
 module _ (A : Actions) {N : Type 0} (rules : N → Ebnf N) (T : Tables N) (ts : List ℕ) where
-  -- a descend never goes back
+  -- the parse never goes back
   pub onward : (n : ℕ) (e : Ebnf N) (i : ℕ) (r : A .Value) → Past i (descend A rules T ts n e i r)
   unfolding descend
   onward zero e i r = tt
   onward (suc n) none i r = le-refl i
   onward (suc n) (mark m) i r = le-refl i
   onward (suc n) (step m cs a) i r =
-      past-pick i (mem (getD ts i 0) cs) _ _
+      past-cond i (mem (getD ts i 0) cs) _ _
       (past-bind i (descend A rules T ts n a (suc i) r) _ (past-more i (suc i) (omega arith) (descend A rules T ts n a (suc i) r) (onward n a (suc i) r)) (λ j s. le-refl j))
       (le-refl i)
   onward (suc n) (seq a b) i r = past-bind i (descend A rules T ts n a i r) _ (onward n a i r) (λ j s. onward n b j s)
-  onward (suc n) (alt a b) i r = past-pick i (mem (getD ts i 0) (first T a)) _ _ (onward n a i r) (onward n b i r)
+  onward (suc n) (alt a b) i r = past-cond i (mem (getD ts i 0) (first T a)) _ _ (onward n a i r) (onward n b i r)
   onward (suc n) (star a) i r =
-      past-pick i (mem (getD ts i 0) (first T a)) _ _
+      past-cond i (mem (getD ts i 0) (first T a)) _ _
       (past-bind i (descend A rules T ts n a i r) _ (onward n a i r) (λ j s. onward n (star a) j s))
       (le-refl i)
   onward (suc n) (fork m cs ds a b) i r =
-      past-pick i (mem (getD ts i 0) cs && mem (getD ts (suc i) 0) ds) _ _
+      past-cond i (mem (getD ts i 0) cs && mem (getD ts (suc i) 0) ds) _ _
       (past-more i (suc (suc i)) (omega arith) (descend A rules T ts n a (suc (suc i)) (A .stamp m i r)) (onward n a (suc (suc i)) (A .stamp m i r)))
       (onward n b i r)
   onward (suc n) (nt x) i r = past-bind i (descend A rules T ts n (rules x) i (A .start i)) _ (onward n (rules x) i (A .start i)) (λ j s. le-refl j)
 
--- The answer takes nothing, and does not refuse.
+-- The result takes nothing, and does not refuse.
 abbrev Skips : {W : Type 0} → ℕ → Result W → Type 0
 Skips i (at j s) = j ≡ i
 Skips i (refused k) = ⊥
@@ -119,13 +119,13 @@ module _ {N : Type 0} {rules : N → Ebnf N} {T : Tables N} (G : Predictive rule
   bites (suc n) (star a) o i r h =
       rw h (past-bind (suc i) (descend A rules T ts n a i r) _ (bites n a (o .0) i r h) (λ j s. onward A rules T ts n (star a) j s))
   bites (suc n) (fork m cs ds a b) o i r h =
-      past-pick (suc i) (mem (getD ts i 0) cs && mem (getD ts (suc i) 0) ds) _ _
+      past-cond (suc i) (mem (getD ts i 0) cs && mem (getD ts (suc i) 0) ds) _ _
       (past-more (suc i) (suc (suc i)) (omega arith) (descend A rules T ts n a (suc (suc i)) (A .stamp m i r)) (onward A rules T ts n a (suc (suc i)) (A .stamp m i r)))
       (bites n b (o .1) i r (⊎-elim (λ e. in-more _ cs _ (o .5) e) (λ e. e) (in-cases _ cs (first T b) h)))
   bites (suc n) (nt x) o i r h =
       past-bind (suc i) (descend A rules T ts n (rules x) i (A .start i)) _ (bites n (rules x) (G .ok x) i (A .start i) (in-more _ _ _ (G .begins-only x) h)) (λ j s. le-refl j)
 
--- The answer is the derivation's, or lies at M or behind it.
+-- The result is the derivation's, or lies at M or behind it.
 abbrev pub Good : {W : Type 0} → ℕ → ℕ → W → Result W → Type 0
 Good M j s (at k t) = ((k ≡ j) × (t ≡ s)) ⊎ (M ≤ k)
 Good M j s (refused k) = M ≤ k

@@ -1,4 +1,4 @@
--- With fuel for each token left, and for the depth before the next token, a descend comes to an answer.
+-- With fuel for each token left, and for the depth before the next token, the parse comes to a result.
 use mathlib.Core.Bool.{true, _&&_}
 use mathlib.Core.List.{List}
 use mathlib.Core.Logic.{⊎-elim}

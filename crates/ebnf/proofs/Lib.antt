@@ -14,3 +14,8 @@ pub mod Sorts
 pub mod Parts
 pub mod PostOrder
 pub mod Count
+pub mod Children
+pub mod Below
+pub mod Naming
+pub mod TextOrder
+pub mod Origin

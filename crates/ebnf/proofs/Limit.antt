@@ -13,7 +13,7 @@ use lib.Seq.{take-take}
 use borrow.Author.Tests.{leb-true, leb-false}
 use Rattle.ebnf.specs.Set.{mem}
 use Rattle.ebnf.specs.Grammar.{Ebnf, Actions, Text, Begins, Stuck}
-use Rattle.ebnf.specs.Parse.{Tables, at, Verdict, accepted, refused-at, parse}
+use Rattle.ebnf.specs.Parse.{Tables, Verdict, accepted, refused-at, parse}
 use Rattle.ebnf.specs.Depth.{next, opened, Deep-from, Deep, first-deep, Outcome, good, unexpected, too-deep, uncut, cut-at, outcome-to, outcome, Says}
 use Rattle.ebnf.proofs.Sets.{and-split, lt-or-le}
 use Rattle.ebnf.proofs.Predictive.{Predictive}

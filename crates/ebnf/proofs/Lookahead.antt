@@ -8,7 +8,7 @@ use native.Mathlib.Omega.{arith}
 use lib.ListN.{length, getD, List·getD-eq-default}
 use Rattle.ebnf.specs.Set.{mem}
 use Rattle.ebnf.specs.Grammar.{Ebnf, Actions, Derives, nothing, marked, token, both, left, right, stop, more, label, other, rule}
-use Rattle.ebnf.specs.Parse.{nullable, Tables, first, second, at}
+use Rattle.ebnf.specs.Parse.{nullable, Tables, first, second}
 use Rattle.ebnf.proofs.Sets.{or-left, or-right, in-left, in-right, in-more, lt-or-le}
 use Rattle.ebnf.proofs.Derivations.{mono}
 use Rattle.ebnf.proofs.Predictive.{Predictive}

@@ -10,7 +10,7 @@ use lib.Seq.{getD-append-seam, append-snoc}
 use borrow.Author.Tests.{leb-true, not-true, ltb-true}
 use Rattle.ebnf.specs.Set.{mem, disjoint, subset}
 use Rattle.ebnf.specs.Grammar.{Mark, Ebnf, none, mark, step, seq, alt, star, fork, nt, Actions, Derives, nothing, marked, token, both, left, right, stop, other, rule}
-use Rattle.ebnf.specs.Parse.{nullable, Tables, first, after, second, depth-of, at}
+use Rattle.ebnf.specs.Parse.{nullable, Tables, first, after, second, depth-of}
 use Rattle.ebnf.specs.Check.{ok, productive, passes}
 use Rattle.ebnf.proofs.Sets.{and-split, or-split}
 use Rattle.ebnf.proofs.Derivations.{move, same-append}

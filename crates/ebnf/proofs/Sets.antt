@@ -7,7 +7,6 @@ use Prim.Native.Nat.{ℕ, _≤_, _<_}
 use lib.Dec.{eqb, ltb}
 use borrow.Author.Tests.{eqb-true, eq-eqb, not-true, ltb-true, ltb-false}
 use Rattle.ebnf.specs.Set.{mem, disjoint, subset}
-use Rattle.ebnf.specs.Parse.{at}
 
 pub and-split : (a b : Bool) → (a && b) ≡ true → (a ≡ true) × (b ≡ true)
 and-split true b h = (refl, h)
@@ -110,3 +109,7 @@ in-nothing x h = false≢true h
 pub mem-itself : (n : ℕ) → mem n (n ∷ []) ≡ true
 unfolding mem
 mem-itself n = or-left (eqb n n) false (eq-eqb n n refl)
+
+pub mem-one : (x c : ℕ) → mem x (c ∷ []) ≡ true → x ≡ c
+unfolding mem
+mem-one x c h = ⊎-elim (λ e. eqb-true x c e) (λ (e : false ≡ true). absurd (false≢true e)) (or-split (eqb x c) false h)

@@ -24,7 +24,7 @@ module _ (A : Actions) {N : Type 0} (rules : N → Ebnf N) (ts : List ℕ) where
     pub from : i ≤ k
     pub upto : k ≤ length ts
 
-  -- What an answer claims.
+  -- What a result claims.
   abbrev pub Right : Ebnf N → ℕ → A .Value → Result (A .Value) → Type 0
   Right e i r (at j s) = Derives A rules ts e i r j s × (j ≤ length ts)
   Right e i r (refused k) = Partial e i r k
@@ -130,7 +130,7 @@ module _ {N : Type 0} {rules : N → Ebnf N} {T : Tables N} (G : Predictive rule
       }
   right-label m cs ds a b i r h g starved u = tt
 
-  -- THE PARSE IS RIGHT
+  -- WHAT THE PARSE COMES TO IS RIGHT
   pub right-at : (n : ℕ) (e : Ebnf N) → Ok T e → (i : ℕ) (r : A .Value) → i ≤ length ts → Right A rules ts e i r (descend A rules T ts n e i r)
   unfolding descend
   right-at zero e o i r l = tt

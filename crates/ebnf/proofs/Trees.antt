@@ -1,14 +1,11 @@
--- Derivations that make trees, and rows as the trees laid out in post-order.
-use mathlib.Core.Bool.{true}
+-- The rows of a text are those of its one tree, in post-order.
 use mathlib.Core.List.{List, _++_, append-assoc}
 use mathlib.Core.Path.{_≡_, refl, sym, ap, _∙_}
-use Prim.Native.Nat.{ℕ, suc}
-use lib.ListN.{getD}
-use Rattle.ebnf.specs.Set.{mem}
-use Rattle.ebnf.specs.Grammar.{Mark, silent, here, node, leaf, Ebnf, none, mark, step, seq, alt, star, fork, nt, Actions, Derives, nothing, marked, token, both, left, right, stop, more, label, other, rule, Text}
+use Prim.Native.Nat.{ℕ}
+use Rattle.ebnf.specs.Grammar.{Mark, silent, here, node, leaf, Ebnf, Actions, Derives, nothing, marked, token, both, left, right, stop, more, label, other, rule, Text}
 use Rattle.ebnf.specs.Rows.{Row, stamp-rows, stamp-name, Rows, in-rows}
 use Rattle.ebnf.specs.Trees.{Forest, empty, add, beside, stamp-trees, Grove, in-trees, flat, laid}
-use Rattle.ebnf.specs.Parse.{Tables, at}
+use Rattle.ebnf.specs.Parse.{Tables}
 use Rattle.ebnf.proofs.Predictive.{Predictive}
 use Rattle.ebnf.proofs.Exact.{unique}
 
@@ -69,7 +66,7 @@ module _ (A B : Actions) (h : A .Value → B .Value) (h-start : (i : ℕ) → h 
       let c = source d (A .stamp m i r) (h-stamp m i r ∙ ap (B .stamp m i) e) in (c .0, label g k (c .1), c .2)
   source (other d) r e = let c = source d r e in (c .0, other (c .1), c .2)
 
--- ---- so the rows of a file are those of its one tree
+-- ---- so the rows of a text are those of its one tree
 
 module _ {N : Type 0} {rules : N → Ebnf N} {T : Tables N} (G : Predictive rules T) (x : N) where
   pub one-tree : (ts : List ℕ) (f g : Grove) → Text in-trees rules x ts f → Text in-trees rules x ts g → f ≡ g
@@ -80,37 +77,3 @@ module _ {N : Type 0} {rules : N → Ebnf N} {T : Tables N} (G : Predictive rule
 
   pub tree-of-rows : (ts : List ℕ) (s : Rows) → Text in-rows rules x ts s → (f : Grove) × Text in-trees rules x ts f × (laid f ≡ s)
   tree-of-rows ts s d = source in-trees in-rows laid (λ i. refl) laid-join laid-stamp laid-close d _ refl
-
--- ---- a derivation with each nonterminal's phrase replaced by what a family P says of it
-
-module _ (A : Actions) {N : Type 0} where
-  pub data Shape (P : N → ℕ → ℕ → A .Value → Type 0) (ts : List ℕ) : Ebnf N → ℕ → A .Value → ℕ → A .Value → Type 0 where
-    nothing· : {i : ℕ} {r : A .Value} → Shape P ts none i r i r
-    marked· : {m : Mark} {i : ℕ} {r : A .Value} → Shape P ts (mark m) i r i (A .close m r)
-    token· : {m : Mark} {cs : List ℕ} {a : Ebnf N} {i j : ℕ} {r s : A .Value} →
-        mem (getD ts i 0) cs ≡ true → Shape P ts a (suc i) r j s → Shape P ts (step m cs a) i r j (A .stamp m i s)
-    both· : {a b : Ebnf N} {i j k : ℕ} {r s t : A .Value} → Shape P ts a i r j s → Shape P ts b j s k t → Shape P ts (seq a b) i r k t
-    left· : {a b : Ebnf N} {i j : ℕ} {r s : A .Value} → Shape P ts a i r j s → Shape P ts (alt a b) i r j s
-    right· : {a b : Ebnf N} {i j : ℕ} {r s : A .Value} → Shape P ts b i r j s → Shape P ts (alt a b) i r j s
-    stop· : {a : Ebnf N} {i : ℕ} {r : A .Value} → Shape P ts (star a) i r i r
-    more· : {a : Ebnf N} {i j k : ℕ} {r s t : A .Value} → Shape P ts a i r j s → Shape P ts (star a) j s k t → Shape P ts (star a) i r k t
-    label· : {m : Mark} {cs ds : List ℕ} {a b : Ebnf N} {i j : ℕ} {r s : A .Value} → mem (getD ts i 0) cs ≡ true → mem (getD ts (suc i) 0) ds ≡ true →
-        Shape P ts a (suc (suc i)) (A .stamp m i r) j s → Shape P ts (fork m cs ds a b) i r j s
-    other· : {m : Mark} {cs ds : List ℕ} {a b : Ebnf N} {i j : ℕ} {r s : A .Value} → Shape P ts b i r j s → Shape P ts (fork m cs ds a b) i r j s
-    rule· : {x : N} {i j : ℕ} {r s : A .Value} → P x i j s → Shape P ts (nt x) i r j (A .join r s)
-
-  -- what each rule keeps, each derivation has
-  module _ (rules : N → Ebnf N) (P : N → ℕ → ℕ → A .Value → Type 0) (ts : List ℕ)
-      (keep : (x : N) (i j : ℕ) (s : A .Value) → Shape P ts (rules x) i (A .start i) j s → P x i j s) where
-    pub shape : {e : Ebnf N} {i j : ℕ} {r s : A .Value} → Derives A rules ts e i r j s → Shape P ts e i r j s
-    shape nothing = nothing·
-    shape marked = marked·
-    shape (token h d) = token· h (shape d)
-    shape (both d e) = both· (shape d) (shape e)
-    shape (left d) = left· (shape d)
-    shape (right d) = right· (shape d)
-    shape stop = stop·
-    shape (more d e) = more· (shape d) (shape e)
-    shape (label h g d) = label· h g (shape d)
-    shape (other d) = other· (shape d)
-    shape (rule {x = x} {i = i} {j = j} {s = s} d) = rule· (keep x i j s (shape d))

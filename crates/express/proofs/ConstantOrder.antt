@@ -17,14 +17,16 @@ use Rattle.express.specs.Scope.{Meaning, several, one, meaning, spelled,
 use Rattle.express.specs.Scope as scope
 use Rattle.express.specs.Fault.{Fault, judged, suits, typeName, cyclic, inConstant, constantsMeant, constantEdges}
 use Rattle.express.specs.Names.{WellNamed}
-use Rattle.express.specs.Formed.{Formed, lower, upper}
+use Rattle.express.specs.Grammar.{Nonterminal}
+use Rattle.express.specs.Syntax.{Read}
 use Rattle.express.specs.Declared.{declaration, bound, declared}
 use Rattle.express.specs.Shape.{Shape, Operator, name, shape, named, operator-of, evaluated}
-use Rattle.express.specs.Order.{Ordered, done, next, Order}
+use Rattle.express.specs.Order.{Ordered, done, next, Order, order}
 use Rattle.express.proofs.Select.{and-fst, and-snd, and-both, or-cases, or-left, untrue, le-or, mem-upto, keep-mem, mem-keep, flat-mem, mem-flat, column-at}
 use Rattle.express.proofs.Reach.{reaches-iff}
+use Rattle.express.proofs.Meaning.{edge-start}
 use Rattle.express.proofs.Topological as topological
-use Rattle.express.proofs.Inside.{constant-owns}
+use Rattle.express.proofs.Owned.{constant-owns}
 
 -- what a shape that names a constant tells
 pub record Named (t : Table) (b : List ℕ) (n c : ℕ) : Type 0 where
@@ -63,13 +65,13 @@ shape-named t b n c e =
     let e₄ = skip (is t node.question n) _ _ (λ q. let z : _≡_ {A = ℕ} 0 1 = cc in omega arith) e₃ in
     ⊎-elim (λ q. named-is t b n c (q .0) (q .1))
     (λ e₅.
-      let e₆ = skip (is t node.unary n) _ _ (λ q. let z : _≡_ {A = ℕ} 0 1 = cc in omega arith) e₅ in
-      let e₇ = skip (is t node.two-operand n) _ _ (operator-no (operator-of _)) e₆ in
-      let e₈ = skip (is t node.interval n) _ _ (λ q. let z : _≡_ {A = ℕ} 0 1 = cc in omega arith) e₇ in
-      let e₉ = skip (is t node.interval-operator n) _ _ (λ q. let z : _≡_ {A = ℕ} 0 1 = cc in omega arith) e₈ in
-      let e₁₀ = skip (is t node.simple-type n) _ _ (λ q. let z : _≡_ {A = ℕ} 0 1 = cc in omega arith) e₉ in
-      let e₁₁ = skip (is t node.constant n) _ _ (λ q. let z : _≡_ {A = ℕ} 0 1 = cc in omega arith) e₁₀ in
-      let z : _≡_ {A = ℕ} 0 1 = cc in absurd (omega arith))
+    let e₆ = skip (is t node.unary n) _ _ (λ q. let z : _≡_ {A = ℕ} 0 1 = cc in omega arith) e₅ in
+    let e₇ = skip (is t node.two-operand n) _ _ (operator-no (operator-of _)) e₆ in
+    let e₈ = skip (is t node.interval n) _ _ (λ q. let z : _≡_ {A = ℕ} 0 1 = cc in omega arith) e₇ in
+    let e₉ = skip (is t node.interval-operator n) _ _ (λ q. let z : _≡_ {A = ℕ} 0 1 = cc in omega arith) e₈ in
+    let e₁₀ = skip (is t node.simple-type n) _ _ (λ q. let z : _≡_ {A = ℕ} 0 1 = cc in omega arith) e₉ in
+    let e₁₁ = skip (is t node.constant n) _ _ (λ q. let z : _≡_ {A = ℕ} 0 1 = cc in omega arith) e₁₀ in
+    let z : _≡_ {A = ℕ} 0 1 = cc in absurd (omega arith))
     (take (is t node.name n || is t node.qualified-item n) _ _ e₄)
 
 module _ (t : Table) where
@@ -145,9 +147,9 @@ module _ (t : Table) where
         let N = shape-named t (bindings t) n c e in
         let m = bound-means n c l (N .bound-to) (N .constant) in
         mem-flat (λ k. map (edge (owner t k)) (constantsMeant t (means t k))) (keep (λ k. isName t node.in-expression k && inConstant t k) (nodes t))
-          (mem-keep (λ k. isName t node.in-expression k && inConstant t k) (nodes t) (mem-upto (count t) n l)
-            (and-both (isName t node.in-expression n) (inConstant t n) (by (isName t node.in-expression n) (is t node.name n) (is t node.qualified-item n) refl refl refl (N .is-name) (m .0) (m .1)) own))
-          (Memᴰ·map (edge (owner t n)) (meant (m .0) (m .1)))
+        (mem-keep (λ k. isName t node.in-expression k && inConstant t k) (nodes t) (mem-upto (count t) n l)
+        (and-both (isName t node.in-expression n) (inConstant t n) (by (isName t node.in-expression n) (is t node.name n) (is t node.qualified-item n) refl refl refl (N .is-name) (m .0) (m .1)) own))
+        (Memᴰ·map (edge (owner t n)) (meant (m .0) (m .1)))
       where
         meant : means t n ≡ one c → is t node.constant c ≡ true → List·Memᴰ c (constantsMeant t (means t n))
         meant m k = rw (m, k) (List·Memᴰ·head refl)
@@ -163,13 +165,9 @@ module _ (t : Table) where
     edge-constants : (a c : ℕ) → Joins (constantEdges t) a c → (is t node.constant a ≡ true) × (is t node.constant c ≡ true)
     unfolding constantEdges
     edge-constants a c m =
-        let r = flat-mem (λ k. map (edge (owner t k)) (constantsMeant t (means t k))) (keep (λ k. isName t node.in-expression k && inConstant t k) (nodes t)) m in
+        let r = edge-start t (λ k. isName t node.in-expression k && inConstant t k) (λ k. constantsMeant t (means t k)) a c m in
         let n = r .0 in
-        let k = keep-mem (λ k. isName t node.in-expression k && inConstant t k) (nodes t) (r .1) in
-        let l = Memᴰ·of-map (edge (owner t n)) (constantsMeant t (means t n)) (r .2) in
-        let p : owner t n ≡ a = ap (λ (e : Edge). e .from) (l .2) in
-        let q : l .0 ≡ c = ap (λ (e : Edge). e .to) (l .2) in
-        (subst (λ (x : ℕ). is t node.constant x ≡ true) p (and-snd (isName t node.in-expression n) (inConstant t n) (k .1)), subst (λ (x : ℕ). is t node.constant x ≡ true) q (by (means t n) (l .1)))
+        (subst (λ (x : ℕ). is t node.constant x ≡ true) (r .3) (and-snd (isName t node.in-expression n) (inConstant t n) (r .2)), by (means t n) (r .4))
       where
         if : (k x : ℕ) (b : Bool) → is t node.constant k ≡ b → List·Memᴰ x (cond b (k ∷ []) []) → is t node.constant x ≡ true
         if k x true e m = let q = List·Memᴰ·eq-of-singleton m in subst (λ (y : ℕ). is t node.constant y ≡ true) (sym q) e
@@ -195,29 +193,30 @@ module _ (t : Table) where
         let g = W .constant-cycles c (mem-upto (count t) c (constant-below c h)) in omega arith
 
     -- the constants in an order
-    pub arranged : topological.Arranged (Joins (constantEdges t)) constants
+    pub arranged : topological.Arranged (Joins (constantEdges t)) constants (order t)
+    unfolding order
     arranged =
         topological.acyclic-arranged (constantEdges t) constants (λ a b e m. constant-mem b (edge-constants a b e .1))
         (λ v m r. no-cycle v (keep-mem (is t node.constant) (nodes t) m .1) r)
 
     -- and so as the evaluation asks for it
-    module _ (F : Formed t) where
+    module _ {x : Nonterminal} (r : Read x t) where
       ordered : {passed ds : List ℕ} → topological.Sorted (Joins (constantEdges t)) passed ds → ((d : ℕ) → List·Memᴰ d ds → is t node.constant d ≡ true) → Ordered t (bindings t) passed ds
       ordered topological.done h = done
-      ordered (topological.next {d = d} e s) h =
-          let k = h d (List·Memᴰ·head refl) in
-          let b = constant-below d k in
-          let q = eqb-true (kind t d) node.constant k in
+      ordered (topological.next {d = v} e s) h =
+          let k = h v (List·Memᴰ·head refl) in
+          let b = constant-below v k in
+          let q = eqb-true (kind t v) node.constant k in
           next b q
           (λ n c lo hi x.
-            let o = constant-owns t F d b q n lo hi in
-            e c (subst (λ (y : ℕ). Joins (constantEdges t) y c) o (named-edge n c (omega arith) (subst (λ (y : ℕ). is t node.constant y ≡ true) (sym o) k) x)))
+          let o = constant-owns r v b q n lo hi in
+          e c (subst (λ (y : ℕ). Joins (constantEdges t) y c) o (named-edge n c (omega arith) (subst (λ (y : ℕ). is t node.constant y ≡ true) (sym o) k) x)))
           (ordered s (λ x m. h x (List·Memᴰ·tail m)))
 
       -- THE ORDER: of a well-named file's constants, each after those that it names
-      pub constants-ordered : (ds : List ℕ) × Order t (bindings t) ds
-      constants-ordered = (
-        arranged .order,
-        record {
-          ordered = ordered (arranged .sorted) (λ d m. keep-mem (is t node.constant) (nodes t) (arranged .among d m) .1);
-          complete = λ c l q. arranged .complete c (constant-mem c (eq-eqb (kind t c) node.constant q)) })
+      pub order-is : Order t (bindings t) (order t)
+      order-is =
+          record {
+            ordered = ordered (arranged .sorted) (λ d m. keep-mem (is t node.constant) (nodes t) (arranged .among d m) .1);
+            complete = λ c l q. arranged .complete c (constant-mem c (eq-eqb (kind t c) node.constant q));
+          }

@@ -1,19 +1,21 @@
 -- The parse as recursive descent, rule by rule: what the proofs of the readers cite. Fuel is gone, and the rows of a rule are lists.
 use mathlib.Core.Bool.{Bool, true, _&&_, cond}
 use mathlib.Core.List.{List, [], _∷_, _++_}
-use mathlib.Core.Path.{_≡_, refl}
+use mathlib.Core.Option.{Option, some, none as nowhere}
+use mathlib.Core.Path.{_≡_, refl, ap, _∙_}
 use Prim.Native.Nat.{ℕ, suc, _≤_}
-use lib.ListN.{length, getD}
+use lib.ListN.{length, getD, take}
 use Rattle.ebnf.specs.Set.{mem, disjoint}
-use Rattle.ebnf.specs.Grammar.{leaf, Ebnf, none, step, star, nt, rule}
+use Rattle.ebnf.specs.Grammar.{leaf, Ebnf, none, step, star, nt}
 use Rattle.ebnf.specs.Rows.{Row, Rows, in-rows}
-use Rattle.ebnf.specs.Parse.{Result, at, refused, bind, verdict, parse}
+use Rattle.ebnf.specs.Parse.{Result, at, refused, bind, Verdict, verdict, parse}
 use Rattle.ebnf.specs.Check.{ok}
+use Rattle.ebnf.specs.Depth.{first-deep, uncut, cut-at, outcome-to}
 use Rattle.ebnf.proofs.Predictive.{Ok, ok-of}
 use Rattle.express.specs.Terminal.{identifier, integer, binary, question, dot, comma, semicolon, colon, equal, lbrace, rbrace, lparen, rparen, becomes, power, CONSTANT, DERIVE, END-CONSTANT, END-ENTITY, END-SCHEMA, END-TYPE, ENTITY, ENUMERATION, OF, OPTIONAL, SCHEMA, SELECT, SELF, SUBTYPE, TYPE, WHERE}
-use Rattle.express.specs.Tree.{kind, token, size, role}
-use Rattle.express.specs.Grammar.{Nonterminal, file, schema, constants, constant, base, type-declaration, underlying, where-clause, domain-rule, entity, attributes, derived, expression, sum, term, factor, operand, atom, interval, _·_, _∣_, tok, named, row, name, simple-types, relations, additions, multiplications, signs, comparisons, logicals, others, rules}
+use Rattle.express.specs.Grammar.{Nonterminal, file, schema, constants, constant, base, type-declaration, underlying, where-clause, domain-rule, entity, attributes, derived, expression, sum, term, factor, operand, atom, interval, _·_, _∣_, tok, named, row, simple-types, relations, additions, multiplications, signs, comparisons, logicals, others, rules}
 use Rattle.express.specs.Lookahead.{tables}
+use Rattle.express.specs.Syntax.{opening, closing, nesting, parsed}
 use Rattle.express.proofs.Syntax.{express}
 use Rattle.express.specs.NodeKind as kind
 use Rattle.ebnf.proofs.Descent as descent
@@ -322,3 +324,16 @@ module _ (ts : List ℕ) where
       compared j r (λ k s.
       bind (phrase sum k) (λ m u. expect rbrace m (at (suc m) (so i (over kind.interval 0 i (s ++ u .rows))))))))
   interval-is i l = descent.phrase-walks express ts interval i l
+
+-- ---- a whole text, with the limit on nesting: all tokens, or those up to and including the first that is too deep
+
+abbrev pub judged : Nonterminal → List ℕ → Verdict Rows
+judged x ts = verdict (length ts) (bind (phrase ts x 0) (λ j s. at j (so 0 (s .rows))))
+
+pub parsed-uncut : (x : Nonterminal) (ts : List ℕ) → first-deep opening closing nesting 0 ts ≡ nowhere → parsed x ts ≡ uncut (judged x ts)
+unfolding parsed
+parsed-uncut x ts e = ap (λ (o : Option ℕ). outcome-to in-rows rules tables x o ts) e ∙ ap uncut (parse-is ts x)
+
+pub parsed-cut : (x : Nonterminal) (ts : List ℕ) (k : ℕ) → first-deep opening closing nesting 0 ts ≡ some k → parsed x ts ≡ cut-at k (judged x (take (suc k) ts))
+unfolding parsed
+parsed-cut x ts k e = ap (λ (o : Option ℕ). outcome-to in-rows rules tables x o ts) e ∙ ap (cut-at k) (parse-is (take (suc k) ts) x)

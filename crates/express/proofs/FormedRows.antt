@@ -2,25 +2,23 @@
 use mathlib.Core.Bool.{true, _||_}
 use mathlib.Core.List.{List, [], _∷_}
 use mathlib.Core.Logic.{⊎-elim}
-use mathlib.Core.Option.{some}
 use mathlib.Core.Path.{_≡_, refl, sym, ap, _∙_, subst}
 use Prim.Native.Nat.{ℕ, suc, _+_, _-_, _≤_, _<_}
 use native.Mathlib.Omega.{arith}
 use lib.Dec.{eqb}
 use lib.ListN.{length, getD, List·getD-map, length-map}
 use borrow.Author.Tests.{eqb-true}
-use Rattle.ebnf.specs.Grammar.{left}
 use Rattle.ebnf.specs.Rows.{Row}
-use Rattle.ebnf.specs.Parse.{at}
 use Rattle.ebnf.proofs.Sets.{or-split}
-use Rattle.ebnf.proofs.Lookahead.{inside}
 use Rattle.ebnf.proofs.Sorts.{Sort, of-sorts, every, every-of}
-use Rattle.ebnf.proofs.PostOrder.{no-row, row-at, size-at, Node, size-fits, ones, Chain, children-chain, childless}
+use Rattle.ebnf.proofs.PostOrder.{no-row, row-at, size-at, Node, size-fits}
+use Rattle.ebnf.proofs.Children.{ones, Chain, children-chain, childless}
 use Rattle.express.specs.Tree.{Table, count, kind, token, size, role, last, before, first}
-use Rattle.express.specs.Grammar.{Nonterminal, constant, base, expression, operand, interval}
+use Rattle.express.specs.Grammar.{Nonterminal}
 use Rattle.express.specs.Syntax.{Read}
 use Rattle.express.proofs.Nodes.{expressions, operators, bases, kinds, each-row, all-below, childless-kind}
-use Rattle.express.specs.Formed as form
+use Rattle.express.specs.Tree as tree
+use Rattle.express.proofs.Formed as form
 
 -- From node p on, going from a child to the one before it: nodes of these sorts, the first of which has its first node at a.
 abbrev pub Children : Table → ℕ → ℕ → List Sort → List (List Sort) → Type 0
@@ -124,16 +122,16 @@ module _ {x : Nonterminal} {t : Table} (d : Read x t) where
       record {
         left-operand = is-expression _ (b .0);
         right-operand = is-expression _ (c .1 .0);
-        all = two-sum n (size t n) (size t (last n)) (size t (form.left t n)) (c .0) ((sized n l) .1) (c .1 .1) (b .1);
+        all = two-sum n (size t n) (size t (last n)) (size t (tree.left t n)) (c .0) ((sized n l) .1) (c .1 .1) (b .1);
       }
 
   constant-pair : (n : ℕ) → n < count t → kind t n ≡ 17 → form.Pair t n
   constant-pair n l e =
       let c = children n 17 expressions (bases ∷ []) l e refl in
       let b = c .1 .2 in
-      let u : form.left t n < count t = let v = c .0 in omega (arith, l, v) in
-      let s = leaf (form.left t n) u (base-leaf (kind t (form.left t n)) (is-base _ (b .0))) in
-      let z = two-sum n (size t n) (size t (last n)) (size t (form.left t n)) (c .0) ((sized n l) .1) (c .1 .1) (b .1) in
+      let u : tree.left t n < count t = let v = c .0 in omega (arith, l, v) in
+      let s = leaf (tree.left t n) u (base-leaf (kind t (tree.left t n)) (is-base _ (b .0))) in
+      let z = two-sum n (size t n) (size t (last n)) (size t (tree.left t n)) (c .0) ((sized n l) .1) (c .1 .1) (b .1) in
       record { base = is-base _ (b .0); value = is-expression _ (c .1 .0); all = rw s at z }
 
   interval-five : (n : ℕ) → n < count t → kind t n ≡ 11 → form.Five t n
@@ -146,8 +144,8 @@ module _ {x : Nonterminal} {t : Table} (d : Read x t) where
       let v = c .0 in
       let k₂ = is-operator _ (c₂ .0) in
       let k₄ = is-operator _ (c₄ .0) in
-      let s₂ = leaf (form.upper t n) (omega (arith, l, v)) (rw k₂ refl) in
-      let s₄ = leaf (form.lower t n) (omega (arith, l, v)) (rw k₄ refl) in
+      let s₂ = leaf (tree.upper t n) (omega (arith, l, v)) (rw k₂ refl) in
+      let s₄ = leaf (tree.lower t n) (omega (arith, l, v)) (rw k₄ refl) in
       record {
         low-operand = is-expression _ (c₅ .0);
         lower-operator = k₄;

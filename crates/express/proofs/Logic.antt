@@ -1,7 +1,7 @@
 -- The operators of the three-valued logic as tables, and by the numbers of the values.
 use mathlib.Core.Path.{_≡_, refl}
 use mathlib.Core.List.{List, [], _∷_}
-use Prim.Native.Nat.{ℕ, min, max, _-_}
+use Prim.Native.Nat.{min, max, _-_}
 use Rattle.express.specs.Answer.{Logical, FALSE, UNKNOWN, TRUE}
 use Rattle.express.specs.Logic.{rank, AND, OR, NOT, XOR}
 

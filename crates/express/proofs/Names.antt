@@ -68,17 +68,25 @@ module _ (s : Stage) where
     where
       weaker : {f : Fault} → Least ns s f → (s k .number ≢ 0 → f .place ≤ s k .place) → Least (k ∷ ns) s f
       weaker L low = record {
-          node = L .node; among = List·Memᴰ·tail (L .among); is = L .is; fault = L .fault;
-          least = λ n m g. ⊎-elim (λ p. let q : s n ≡ s k = ap s p in
+        node = L .node;
+        among = List·Memᴰ·tail (L .among);
+        is = L .is;
+        fault = L .fault;
+        least = λ n m g. ⊎-elim (λ p. let q : s n ≡ s k = ap s p in
             let r : s k .number ≢ 0 = λ (e : s k .number ≡ 0). g (ap (λ (x : Fault). x .number) q ∙ e) in
-            omega (arith, low r, ap (λ (x : Fault). x .place) q)) (λ m′. L .least n m′ g) (List·Memᴰ·cases-cons m) }
+            omega (arith, low r, ap (λ (x : Fault). x .place) q)) (λ m′. L .least n m′ g) (List·Memᴰ·cases-cons m);
+      }
 
       by : Sooner (s k) (least s ns) → (least s ns .number ≢ 0 → Least ns s (least s ns)) → Least (k ∷ ns) s (sooner (s k) (least s ns))
       by (the-first g l q) more = rw q (record {
-          node = k; among = List·Memᴰ·head refl; is = refl; fault = g;
-          least = λ n m f. ⊎-elim (λ p. let e : s n .place ≡ s k .place = ap (λ x. s x .place) p in omega arith)
+        node = k;
+        among = List·Memᴰ·head refl;
+        is = refl;
+        fault = g;
+        least = λ n m f. ⊎-elim (λ p. let e : s n .place ≡ s k .place = ap (λ x. s x .place) p in omega arith)
             (λ m′. ⊎-elim (λ z. absurd (f (least-passes ns z n m′))) (λ z. let a = l z in let b = more z .least n m′ f in omega arith) (zero-or (least s ns .number)))
-            (List·Memᴰ·cases-cons m) })
+            (List·Memᴰ·cases-cons m);
+      })
       by (the-second g q) more =
           rw q (weaker (more (λ (e : least s ns .number ≡ 0). h (ap (λ (x : Fault). x .number) q ∙ e))) (λ z. g z .1))
 
@@ -163,13 +171,15 @@ pub names-passes : (t : Table) → (names t .number ≡ 0) ↔ WellNamed t
 unfolding names stages
 names-passes t = (
   λ e. let h = fine-all (nodes t) (stages t) e in
-    record {
-      once = h _ (List·Memᴰ·head refl);
-      types = h _ (List·Memᴰ·tail (List·Memᴰ·head refl));
-      type-cycles = h _ (List·Memᴰ·tail (List·Memᴰ·tail (List·Memᴰ·head refl)));
-      expressions = h _ (List·Memᴰ·tail (List·Memᴰ·tail (List·Memᴰ·tail (List·Memᴰ·head refl))));
-      constant-cycles = h _ (List·Memᴰ·tail (List·Memᴰ·tail (List·Memᴰ·tail (List·Memᴰ·tail (List·Memᴰ·head refl))))) },
-  λ W. all-fine (nodes t) (stages t) (all-cons (W .once) (all-cons (W .types) (all-cons (W .type-cycles) (all-cons (W .expressions) (all-cons (W .constant-cycles) (λ s m. absurd (List·Memᴰ·not-nil m))))))))
+      record {
+        once = h _ (List·Memᴰ·head refl);
+        types = h _ (List·Memᴰ·tail (List·Memᴰ·head refl));
+        type-cycles = h _ (List·Memᴰ·tail (List·Memᴰ·tail (List·Memᴰ·head refl)));
+        expressions = h _ (List·Memᴰ·tail (List·Memᴰ·tail (List·Memᴰ·tail (List·Memᴰ·head refl))));
+        constant-cycles = h _ (List·Memᴰ·tail (List·Memᴰ·tail (List·Memᴰ·tail (List·Memᴰ·tail (List·Memᴰ·head refl)))));
+      },
+  λ W. all-fine (nodes t) (stages t) (all-cons (W .once) (all-cons (W .types) (all-cons (W .type-cycles) (all-cons (W .expressions) (all-cons (W .constant-cycles) (λ s m. absurd (List·Memᴰ·not-nil m))))))),
+)
 
 -- Else `names` is the least fault of the first stage that has one, and, without ties, nothing else is.
 pub names-refused : (t : Table) → names t .number ≢ 0 → Refused (nodes t) (names t) (stages t)

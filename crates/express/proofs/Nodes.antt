@@ -7,17 +7,17 @@ use Prim.Native.Nat.{ℕ, zero, suc, _≤_, _<_}
 use native.Mathlib.Omega.{arith}
 use lib.Dec.{eqb}
 use lib.ListN.{length, getD, List·getD-eq-default}
+use borrow.Author.Tests.{not-true}
 use Rattle.ebnf.specs.Set.{mem, subset}
-use Rattle.ebnf.specs.Grammar.{rule}
 use Rattle.ebnf.specs.Rows.{Row}
-use Rattle.ebnf.specs.Parse.{at}
 use Rattle.ebnf.proofs.Sets.{and-split, lt-or-le}
 use Rattle.ebnf.proofs.Sorts.{Sort, sort, of-sorts, every}
 use Rattle.ebnf.proofs.Parts.{Part, one, many, within, fits, Kinds, known, keeps}
-use Rattle.ebnf.proofs.PostOrder.{Ends, Node, post-order, text-ends, every-part}
+use Rattle.ebnf.proofs.PostOrder.{Ends, Node, post-order, text-ends}
+use Rattle.ebnf.proofs.Below.{every-part}
 use Rattle.express.specs.Terminal.{identifier, integer, binary, question, dot, lbrace, power, ENUMERATION, SCHEMA, SELECT, SELF}
-use Rattle.express.specs.Tree.{kind, role}
-use Rattle.express.specs.Grammar.{Nonterminal, file, schema, constants, constant, base, type-declaration, underlying, where-clause, domain-rule, entity, attributes, derived, expression, sum, term, factor, operand, atom, interval, leaves, name, simple-types, relations, additions, multiplications, signs, comparisons, logicals, others, rules}
+use Rattle.express.specs.Tree.{role}
+use Rattle.express.specs.Grammar.{Nonterminal, file, schema, constants, constant, base, type-declaration, underlying, where-clause, domain-rule, entity, attributes, derived, expression, sum, term, factor, operand, atom, interval, simple-types, relations, additions, multiplications, signs, comparisons, logicals, others, rules}
 use Rattle.express.specs.Lookahead.{operand-begins, tables}
 use Rattle.express.specs.Syntax.{whole, Parses}
 use Rattle.express.proofs.Syntax.{express}
@@ -207,3 +207,18 @@ children-have q p e k h =
 pub children-pass : (q p : ℕ → Bool) → all-below 27 (λ k. not (q k) || every-part (λ j o. p j) (kinds .children k)) ≡ true →
     (k : ℕ) → q k ≡ true → every-part (λ j o. p j) (kinds .children k) ≡ true
 children-pass q p e k h = children-have q (λ j o. p j) e k h
+
+-- no kind is named by the token 0, which stands past the end of a text
+pub named-by-some : (k o : ℕ) → mem 0 (kinds .named-by k o) ≡ false
+unfolding mem all-below
+named-by-some k o = cond-false (eqb k kind.rule && eqb o kind.labelled) identifier _ refl (⊎-elim inside past (lt-or-le k 27))
+  where
+    inside : k < 27 → mem 0 ((getD table k (entry [] [])) .tokens) ≡ false
+    inside l = not-true _ (each-below 27 (λ j. not (mem 0 ((getD table j (entry [] [])) .tokens))) refl k l)
+
+    past : 27 ≤ k → mem 0 ((getD table k (entry [] [])) .tokens) ≡ false
+    past l = rw (List·getD-eq-default table (entry [] []) l) refl
+
+    cond-false : (b : Bool) (cs ds : List ℕ) → mem 0 cs ≡ false → mem 0 ds ≡ false → mem 0 (cond b cs ds) ≡ false
+    cond-false true cs ds u v = u
+    cond-false false cs ds u v = v

@@ -110,7 +110,7 @@ module _ (t : Table) (stage9 : Passes (nodes t) (repeated t)) where
   declared-once n s =
       spelled-once s (λ k. isDeclaration t k && eqb (schemaOf t k) (schemaOf t n)) 2 (schemaOf t n) (λ (e : 2 ≡ 0). omega arith)
       (λ k h. let e = sort-declaration t k (and-fst (isDeclaration t k) (eqb (schemaOf t k) (schemaOf t n)) h) in
-        (e, scope-declaration t k e ∙ eqb-true _ _ (and-snd (isDeclaration t k) (eqb (schemaOf t k) (schemaOf t n)) h)))
+      (e, scope-declaration t k e ∙ eqb-true _ _ (and-snd (isDeclaration t k) (eqb (schemaOf t k) (schemaOf t n)) h)))
 
   -- own attributes and labels
   pub own-once : (n s : ℕ) → meaning (own t n s) ≢ several
@@ -118,7 +118,7 @@ module _ (t : Table) (stage9 : Passes (nodes t) (repeated t)) where
   own-once n s =
       spelled-once s (λ k. isMember t k && eqb (owner t k) (owner t n)) 4 (owner t n) (λ (e : 4 ≡ 0). omega arith)
       (λ k h. let e = sort-member t k (and-fst (isMember t k) (eqb (owner t k) (owner t n)) h) in
-        (e, scope-member t k e ∙ eqb-true _ _ (and-snd (isMember t k) (eqb (owner t k) (owner t n)) h)))
+      (e, scope-member t k e ∙ eqb-true _ _ (and-snd (isMember t k) (eqb (owner t k) (owner t n)) h)))
 
   -- the items of one enumeration
   pub item-once : (y s : ℕ) → meaning (itemsOf t y s) ≢ several
@@ -126,15 +126,15 @@ module _ (t : Table) (stage9 : Passes (nodes t) (repeated t)) where
   item-once y s =
       spelled-once s (λ k. is t enumeration-item k && eqb (owner t k) y) 3 y (λ (e : 3 ≡ 0). omega arith)
       (λ k h. let e = sort-item t k (and-fst (is t enumeration-item k) (eqb (owner t k) y) h) in
-        (e, scope-item t k e ∙ eqb-true _ _ (and-snd (is t enumeration-item k) (eqb (owner t k) y) h)))
+      (e, scope-item t k e ∙ eqb-true _ _ (and-snd (is t enumeration-item k) (eqb (owner t k) y) h)))
 
   -- two meanings: of a name in an expression, with no own meaning; two inherited attributes, or none and no declaration, and two items
   pub record Several (n : ℕ) : Type 0 where
     pub in-an-expression : isName t in-expression n ≡ true
     pub no-own : own t n (symbol t n) ≡ []
     pub from :
-      (meaning (inherited t n (symbol t n)) ≡ several)
-      ⊎ ((inherited t n (symbol t n) ≡ []) × (declared t n (symbol t n) ≡ []) × (meaning (items t n (symbol t n)) ≡ several))
+        (meaning (inherited t n (symbol t n)) ≡ several)
+        ⊎ ((inherited t n (symbol t n) ≡ []) × (declared t n (symbol t n) ≡ []) × (meaning (items t n (symbol t n)) ≡ several))
 
   candidates-several : (n : ℕ) → isName t in-expression n ≡ true → meaning (candidates t n (symbol t n)) ≡ several → Several n
   unfolding candidates

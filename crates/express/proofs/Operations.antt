@@ -18,7 +18,7 @@ use Rattle.express.specs.Integer as int
 use Rattle.express.specs.Bits.{join}
 use Rattle.express.specs.Relation.{Relation}
 use Rattle.express.specs.Declared.{Declared, INTEGER, BOOLEAN, LOGICAL, BINARY, enumeration, other}
-use Rattle.express.specs.Shape.{Arithmetic, minus, times, divide, modulo, power, Connective, and, Operator, plus, arithmetic, relation, connective, Sign, positive, negative, not}
+use Rattle.express.specs.Shape.{Arithmetic, minus, times, divide, modulo, power, and, Operator, plus, arithmetic, relation, connective, Sign, positive, negative, not}
 use Rattle.express.specs.Operate.{Kind, integers, logicals, binaries, items, undetermined, untyped, Of, of-?, of-end, of-integer, of-logical, of-binary, of-item, integral, truthful, summable, comparable, takes, takes-one, end-in, given, computed, operated, combined, signed, between}
 use Rattle.express.specs.Rule.{Member, an-integer, is-false, is-true, a-logical, a-binary, an-item, Holds, no-value, an-end, a-member}
 use Rattle.express.specs.Kind.{number, same, common, kind-of-type, result, result-of-one}
@@ -140,6 +140,26 @@ end-held BINARY e = refl
 end-held (enumeration y) e = refl
 end-held other e = refl
 
+-- what fits a declared type is of its kind
+common-left : (j k : Kind) → same j undetermined ≡ false → comparable (common j k) ≡ true → common j k ≡ j
+common-left j k e c = by (same k undetermined) (same j k) refl refl
+  where
+    by : (p q : Bool) → same k undetermined ≡ p → same j k ≡ q → common j k ≡ j
+    by true q f g = rw (e, f)
+    by false true f g = rw (e, f, g)
+    by false false f g = absurd (false≢true (rw (e, f, g) at c))
+
+determined : (d : Declared) → same (kind-of-type d) undetermined ≡ false
+determined INTEGER = refl
+determined BOOLEAN = refl
+determined LOGICAL = refl
+determined BINARY = refl
+determined (enumeration y) = ne-eqb (y + 5) 1 (λ e. omega arith)
+determined other = refl
+
+pub common-typed : (d : Declared) (k : Kind) → comparable (common (kind-of-type d) k) ≡ true → comparable (kind-of-type d) ≡ true
+common-typed d k c = ap comparable (sym (common-left (kind-of-type d) k (determined d) c)) ∙ c
+
 module _ {t : Table} where
   pub good-of : {k : Kind} {a : Answer} → Good t k a → Of t k a
   good-of good-? = of-?
@@ -154,17 +174,17 @@ module _ {t : Table} where
   of-undetermined k good-? = good-?
   of-undetermined k (good-end h) = good-end h
 
-  recast : {j k : Kind} {a : Answer} → j ≡ k → Good t j a → Good t k a
+  pub recast : {j k : Kind} {a : Answer} → j ≡ k → Good t j a → Good t k a
   recast {a} e g = subst (λ (k : Kind). Good t k a) e g
 
   pub common-good :
-    (j k : Kind) {x y : Answer} → comparable (common j k) ≡ true → (comparable j ≡ true → Good t j x) → (comparable k ≡ true → Good t k y) →
-    Common t j k (common j k) x y
+      (j k : Kind) {x y : Answer} → comparable (common j k) ≡ true → (comparable j ≡ true → Good t j x) → (comparable k ≡ true → Good t k y) →
+      Common t j k (common j k) x y
   common-good j k {x} {y} e g h = by (same j undetermined) (same k undetermined) (same j k) refl refl refl e
     where
       by :
-        (p q r : Bool) → same j undetermined ≡ p → same k undetermined ≡ q → same j k ≡ r →
-        comparable (cond p k (cond q j (cond r j untyped))) ≡ true → Common t j k (cond p k (cond q j (cond r j untyped))) x y
+          (p q r : Bool) → same j undetermined ≡ p → same k undetermined ≡ q → same j k ≡ r →
+          comparable (cond p k (cond q j (cond r j untyped))) ≡ true → Common t j k (cond p k (cond q j (cond r j untyped))) x y
       by true q r i _ _ c =
           let u : j ≡ undetermined = same-kinds j undetermined i in
           let l : comparable j ≡ true = ap comparable u in
@@ -245,8 +265,8 @@ module _ {t : Table} where
   combined-good o g h = unless-end g (unless-end h (operated-good o g h))
 
   pub between-good :
-    (o p : Relation) {j k : Kind} {x y z : Answer} → Good t j x → Good t j y → Good t k y → Good t k z →
-    Good t logicals (between o p x y z)
+      (o p : Relation) {j k : Kind} {x y z : Answer} → Good t j x → Good t j y → Good t k y → Good t k z →
+      Good t logicals (between o p x y z)
   between-good o p g h i j = combined-good (connective and) (combined-good (relation o) g h) (combined-good (relation p) i j)
 
   pub signed-good : (o : Sign) {k : Kind} {x : Answer} → takes-one o k ≡ true → Good t k x → Good t (result-of-one o) (signed o x)
@@ -275,21 +295,33 @@ module _ {t : Table} where
 
   pub held-good : (d : Declared) {a : Answer} → comparable (kind-of-type d) ≡ true → Good t (kind-of-type d) a → Result t d a (held d a)
   held-good INTEGER e good-? = kept good-? no-value
-  held-good INTEGER e (good-end h) = kept (good-end h) an-end
+  held-good INTEGER e (good-end h) = kept (good-end h) (an-end (h .least) (h .most))
   held-good INTEGER e (good-integer l) = kept (good-integer l) (a-member (an-integer l))
   held-good BOOLEAN e good-? = kept good-? no-value
-  held-good BOOLEAN e (good-end h) = kept (good-end h) an-end
+  held-good BOOLEAN e (good-end h) = kept (good-end h) (an-end (h .least) (h .most))
   held-good BOOLEAN e (good-logical {l}) = held-logical l
   held-good LOGICAL e good-? = kept good-? no-value
-  held-good LOGICAL e (good-end h) = kept (good-end h) an-end
+  held-good LOGICAL e (good-end h) = kept (good-end h) (an-end (h .least) (h .most))
   held-good LOGICAL e good-logical = kept good-logical (a-member a-logical)
   held-good BINARY e good-? = kept good-? no-value
-  held-good BINARY e (good-end h) = kept (good-end h) an-end
+  held-good BINARY e (good-end h) = kept (good-end h) (an-end (h .least) (h .most))
   held-good BINARY e (good-binary l m) = kept (good-binary l m) (a-member (a-binary l m))
   held-good (enumeration y) e good-? = kept good-? no-value
-  held-good (enumeration y) e (good-end h) = kept (good-end h) an-end
+  held-good (enumeration y) e (good-end h) = kept (good-end h) (an-end (h .least) (h .most))
   held-good (enumeration y) e (good-item i o) = kept (good-item i o) (a-member (an-item i o))
   held-good other e g = absurd (false≢true e)
+
+  pub result-holds : {d : Declared} {x a : Answer} → Kept t d x a → Holds t d a
+  result-holds (itself h) = h
+  result-holds (unknown e) = an-end (nineteen .least) (nineteen .most)
+
+  pub declared-good :
+      (d : Declared) (k : Kind) {a : Answer} → comparable (common (kind-of-type d) k) ≡ true → (comparable k ≡ true → Good t k a) →
+      Common t (kind-of-type d) k (kind-of-type d) a a
+  declared-good d k {a} c g =
+      let r : Common t (kind-of-type d) k (common (kind-of-type d) k) indeterminate a = common-good (kind-of-type d) k c (λ e. good-?) g in
+      let m = recast (common-left (kind-of-type d) k (determined d) c) (r .second) in
+      record { left = r .left; right = r .right; first = m; second = m }
 
   -- and it is the only answer that the rules for a constant can give
   member-held : {d : Declared} {a : Answer} → Member t d a → a ≡ held d a
@@ -302,5 +334,5 @@ module _ {t : Table} where
 
   pub holds-held : {d : Declared} {a : Answer} → Holds t d a → a ≡ held d a
   holds-held {d} no-value = no-value-held d
-  holds-held {d} (an-end {e}) = end-held d e
+  holds-held {d} (an-end {e} l m) = end-held d e
   holds-held (a-member m) = member-held m

@@ -1,19 +1,19 @@
 -- Where the readers of tokens stop: a reading step from inside the text gives a place inside it, and a token has a byte at least.
 use mathlib.Core.Path.{_≡_, refl, sym, ap, _∙_}
-use mathlib.Core.Bool.{Bool, true, false, cond, _&&_, _||_}
+use mathlib.Core.Bool.{Bool, true, false, cond, _&&_}
 use mathlib.Core.List.{List, [], _∷_}
 use Prim.Native.Nat.{ℕ, zero, suc, _+_, _-_, _≤_, _<_}
 use native.Mathlib.Omega.{arith}
 use native.Mathlib.Nat.{le-refl, le-trans}
 use native.Mathlib.Numerals.{add-one}
 use native.Mathlib.Decide.{decLt}
-use lib.ListN.{length, take, drop, getD, length-drop, drop-of-length-le, List·getD-eq-default}
+use lib.ListN.{length, drop, getD, length-drop, List·getD-eq-default}
 use lib.Seq.{drop-cons}
-use lib.Dec.{eqb, leb, ltb}
+use lib.Dec.{eqb, leb}
 use borrow.Author.Needs.{needs}
-use borrow.Author.Tests.{eq-eqb, ne-eqb, eqb-true, leb-true, ltb-true}
+use borrow.Author.Tests.{eq-eqb, eqb-true}
 use Rattle.express.specs.Bytes.{within, letter, digit, wordByte, space}
-use Rattle.express.specs.Lexis.{Reading, at, refused, part, runEnd, run, pair, opens, dashes, inLine, remarkEnd, andThen, skipIn, skipped, numeral, integerEnd, either, exponentDigits, exponentEnd, realEnd, stringEnd, binaryEnd, lone, symbolSize, symbolEnd, kindAt, tokenEnd}
+use Rattle.express.specs.Lexis.{Reading, at, refused, part, runEnd, run, pair, opens, dashes, inLine, remarkEnd, andThen, skipIn, skipped, numeral, integerEnd, either, exponentDigits, exponentEnd, realEnd, stringEnd, binaryEnd, symbolSize, symbolEnd, kindAt, tokenEnd}
 
 -- a step that goes on gives a place from lo to hi
 abbrev pub From : ℕ → ℕ → Reading → Type 0
@@ -48,7 +48,7 @@ pub cond-ge : (t : Bool) {a b n : ℕ} → n ≤ a → n ≤ b → n ≤ cond t 
 cond-ge true p q = p
 cond-ge false p q = q
 
-and-false : (t : Bool) → (t && false) ≡ false
+pub and-false : (t : Bool) → (t && false) ≡ false
 and-false true = refl
 and-false false = refl
 
@@ -62,6 +62,7 @@ in-text f z s i e = go (decLt i (length s))
   where
     never : false ≡ true → ⊥
     never q = mathlib.Core.Bool.false≢true q
+
     go : Dec (i < length s) → i < length s
     go (yes l) = l
     go (no n) = absurd (never (sym z ∙ ap f (sym (past s i (omega arith))) ∙ e))
@@ -108,6 +109,10 @@ remark-inside-of o d p (b ∷ c ∷ t) =
     (inside-weaken (remarkEnd o (d - 1) (p + 2) t) (omega arith) (omega arith) (remark-inside-of o (d - 1) (p + 2) t)))
     (inside-weaken (remarkEnd o d (p + 1) (c ∷ t)) (omega arith) (omega arith) (remark-inside-of o d (p + 1) (c ∷ t))))
 
+-- wherever it starts, it does not go back
+pub remark-low : (o d p : ℕ) (s : List ℕ) → Inside p (p + length (drop p s)) (remarkEnd o d p (drop p s))
+remark-low o d p s = remark-inside-of o d p (drop p s)
+
 pub remark-inside : (o d p : ℕ) (s : List ℕ) → p ≤ length s → Inside p (length s) (remarkEnd o d p (drop p s))
 remark-inside o d p s h = inside-weaken (remarkEnd o d p (drop p s)) (le-refl p) (omega (arith, length-drop p s)) (remark-inside-of o d p (drop p s))
 
@@ -148,6 +153,7 @@ module _ (s : List ℕ) (p : ℕ) where
       right : (a b : Bool) → (a && b) ≡ true → b ≡ true
       right true b e = e
       right false b e = absurd (mathlib.Core.Bool.false≢true e)
+
       go : (t : Bool) → (either 101 69 (getD s p 0) && within 48 57 (getD s (exponentDigits s p) 0)) ≡ t → cond t (run (within 48 57) s (exponentDigits s p)) p ≤ length s
       go true e =
           let l : exponentDigits s p < length s = in-text (within 48 57) refl s (exponentDigits s p) (right (either 101 69 (getD s p 0)) _ e) in
@@ -207,6 +213,9 @@ size-one b d e = search (cond-le, needs) depth 12
 module _ (s : List ℕ) (p : ℕ) where
   abbrev size : ℕ
   size = symbolSize (getD s p 0) (getD s (p + 1) 0) (getD s (p + 2) 0) (getD s (p + 3) 0)
+
+  pub size-is : (r c d e : ℕ) → c ≡ getD s (p + 1) 0 → d ≡ getD s (p + 2) 0 → e ≡ getD s (p + 3) 0 → r ≡ symbolSize (getD s p 0) c d e → r ≡ size
+  size-is r c d e c-is d-is e-is r-is = rw (← c-is, ← d-is, ← e-is) r-is
 
   pub size-inside : p < length s → p + size ≤ length s
   size-inside h = go (decLt (p + 1) (length s)) (decLt (p + 2) (length s)) (decLt (p + 3) (length s))

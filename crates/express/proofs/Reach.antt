@@ -80,9 +80,9 @@ source-mem : (c : List Edge) (a s : ℕ) → List·Memᴰ a (sources c s) → (a
 source-mem c a s m =
     ⊎-elim (λ q. inl q)
     (λ l.
-      let r = Memᴰ·of-map (λ (e : Edge). e .from) (keep (λ e. eqb (e .to) s) c) l in
-      let k = keep-mem (λ (e : Edge). eqb (e .to) s) c (r .1) in
-      inr (Memᴰ·cast (ap₂ edge (sym (r .2)) (sym (eqb-true (r .0 .to) s (k .1)))) (k .0)))
+    let r = Memᴰ·of-map (λ (e : Edge). e .from) (keep (λ e. eqb (e .to) s) c) l in
+    let k = keep-mem (λ (e : Edge). eqb (e .to) s) c (r .1) in
+    inr (Memᴰ·cast (ap₂ edge (sym (r .2)) (sym (eqb-true (r .0 .to) s (k .1)))) (k .0)))
     (List·Memᴰ·cases-cons m)
 
 mem-source : (c : List Edge) (a s : ℕ) → (a ≡ s) ⊎ Joins c a s → List·Memᴰ a (sources c s)
@@ -93,9 +93,9 @@ target-mem : (c : List Edge) (b t : ℕ) → List·Memᴰ b (targets c t) → (b
 target-mem c b t m =
     ⊎-elim (λ q. inl q)
     (λ l.
-      let r = Memᴰ·of-map (λ (e : Edge). e .to) (keep (λ e. eqb (e .from) t) c) l in
-      let k = keep-mem (λ (e : Edge). eqb (e .from) t) c (r .1) in
-      inr (Memᴰ·cast (ap₂ edge (sym (eqb-true (r .0 .from) t (k .1))) (sym (r .2))) (k .0)))
+    let r = Memᴰ·of-map (λ (e : Edge). e .to) (keep (λ e. eqb (e .from) t) c) l in
+    let k = keep-mem (λ (e : Edge). eqb (e .from) t) c (r .1) in
+    inr (Memᴰ·cast (ap₂ edge (sym (eqb-true (r .0 .from) t (k .1))) (sym (r .2))) (k .0)))
     (List·Memᴰ·cases-cons m)
 
 mem-target : (c : List Edge) (b t : ℕ) → (b ≡ t) ⊎ Joins c t b → List·Memᴰ b (targets c t)
@@ -111,8 +111,8 @@ unfolding closure
 closure-cases e es a b m =
     ⊎-elim (λ l. inl l)
     (λ l.
-      let r = pairs-mem (λ x. targets (closure es) (e .to)) (sources (closure es) (e .from)) (edge a b) l in
-      inr (source-mem (closure es) a (e .from) (r .0), target-mem (closure es) b (e .to) (r .1)))
+    let r = pairs-mem (λ x. targets (closure es) (e .to)) (sources (closure es) (e .from)) (edge a b) l in
+    inr (source-mem (closure es) a (e .from) (r .0), target-mem (closure es) b (e .to) (r .1)))
     (added-mem (closure es) _ (edge a b) m)
 
 closure-add : (e : Edge) (es : List Edge) (a b : ℕ) → Joins (closure es) a b ⊎ Added (closure es) e a b → Joins (closure (e ∷ es)) a b

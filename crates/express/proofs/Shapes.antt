@@ -1,16 +1,15 @@
 -- What the shape of a node tells of its row.
 use mathlib.Core.Path.{_≡_, refl}
-use mathlib.Core.Bool.{Bool, true, false, cond, not, _&&_, _||_}
+use mathlib.Core.Bool.{Bool, true, false, cond, not, _||_}
 use mathlib.Core.Option.{Option, none, some}
 use mathlib.Core.List.{List}
 use Prim.Native.Nat.{ℕ}
-use borrow.Author.Tests.{eqb-true, eq-eqb}
+use borrow.Author.Tests.{eqb-true}
 use lib.Dec.{eqb}
 use lib.ListN.{getD}
 use Rattle.express.specs.Lexis.{integerValue, binaryBits}
 use Rattle.express.specs.NodeKind as node
-use Rattle.express.specs.Tree.{Table, kind, terminal, is}
-use Rattle.express.specs.Formed.{left, lower, upper}
+use Rattle.express.specs.Tree.{Table, kind, terminal, is, left}
 use Rattle.express.specs.Declared.{declaration, bound, declared}
 use Rattle.express.specs.Shape.{Operator, Shape, integer-literal, logical-literal, binary-literal, question, item, name, unary, operator, interval, interval-operator, type, constant, unevaluated, text, operator-of, evaluated, named, shape}
 use Rattle.express.proofs.Select.{and-snd}

@@ -1,16 +1,14 @@
 -- The nodes of an expression and of a constant: where children stand, and that the nodes of a node hold those of each of them.
-use mathlib.Core.Path.{_≡_, refl, sym, ap, _∙_}
+use mathlib.Core.Path.{_≡_, refl}
 use mathlib.Core.Logic.{_⊎_, inl, inr}
-use mathlib.Core.Bool.{Bool, true, false, _&&_, _||_}
+use mathlib.Core.Bool.{Bool, true, false, _||_}
 use Prim.Native.Nat.{ℕ, zero, suc, _+_, _-_, _≤_, _<_}
 use native.Mathlib.Decide.{ℕ-discrete, decLt}
 use native.Mathlib.Omega.{arith}
-use borrow.Author.Tests.{leb-true, leb-false, eqb-true, le-leb, eq-eqb}
+use borrow.Author.Tests.{leb-true, leb-false, eqb-true, le-leb}
 use lib.Dec.{eqb, leb}
-use lib.ListN.{length}
-use Rattle.express.specs.NodeKind as node
-use Rattle.express.specs.Tree.{Table, count, kind, size, last, before, first}
-use Rattle.express.specs.Formed.{left, upper, middle, lower, low, expression, childless, One, Two, Five, Pair, Formed}
+use Rattle.express.specs.Tree.{Table, count, kind, size, last, first, left, upper, middle, lower, low}
+use Rattle.express.proofs.Formed.{expression, childless, Formed}
 use Rattle.express.proofs.Select.{and-fst, and-snd, or-cases}
 
 -- The kinds of nodes that lie in a constant
@@ -71,7 +69,7 @@ no-tree : {t : Table} {lo hi : ℕ} → lo ≡ hi → Forest t lo hi
 no-tree e = empty e
 
 a-tree :
-  {t : Table} {lo hi : ℕ} (mid c : ℕ) → Part (kind t c) → hi ≡ c + 1 → mid + size t c ≡ hi → lo ≤ mid → Forest t lo mid → Forest t lo hi
+    {t : Table} {lo hi : ℕ} (mid c : ℕ) → Part (kind t c) → hi ≡ c + 1 → mid + size t c ≡ hi → lo ≤ mid → Forest t lo mid → Forest t lo hi
 a-tree mid c p e z l more = tree mid c e z l p more
 
 -- Node m lies in the tree of node c.
@@ -118,8 +116,8 @@ record Places (n h u m o l sh su sm so sl : ℕ) : Type 0 where
   leaves : (su ≡ 1) × (so ≡ 1)
 
 places :
-  (n h u m o l sh su sm so sl sn : ℕ) → h ≡ n - 1 → u ≡ h - sh → m ≡ u - su → o ≡ m - sm → l ≡ o - so →
-  sn ≡ sl + 1 + sm + 1 + sh + 1 → su ≡ 1 → so ≡ 1 → sn ≤ n + 1 → 1 ≤ sl → Places n h u m o l sh su sm so sl
+    (n h u m o l sh su sm so sl sn : ℕ) → h ≡ n - 1 → u ≡ h - sh → m ≡ u - su → o ≡ m - sm → l ≡ o - so →
+    sn ≡ sl + 1 + sm + 1 + sh + 1 → su ≡ 1 → so ≡ 1 → sn ≤ n + 1 → 1 ≤ sl → Places n h u m o l sh su sm so sl
 places n h u m o l sh su sm so sl sn a b c d e z p q i w =
     let v : n ≡ h + 1 = omega arith in
     record { parent = v; high = omega arith; upper-at = omega arith; item = omega arith; lower-at = omega arith; leaves = (p, q) }
@@ -167,9 +165,9 @@ module _ (t : Table) (f : Formed t) where
   leaf-size n l e = f .leaf n l (rw e)
 
   five-places :
-    (n : ℕ) → n < count t → kind t n ≡ 11 →
-    Places n (last n) (upper t n) (middle t n) (lower t n) (low t n)
-    (size t (last n)) (size t (upper t n)) (size t (middle t n)) (size t (lower t n)) (size t (low t n))
+      (n : ℕ) → n < count t → kind t n ≡ 11 →
+      Places n (last n) (upper t n) (middle t n) (lower t n) (low t n)
+      (size t (last n)) (size t (upper t n)) (size t (middle t n)) (size t (lower t n)) (size t (low t n))
   five-places n l e =
       let c = f .interval n l e in
       places n _ _ _ _ _ _ _ _ _ _ _ refl refl refl refl refl (c .all) (leaf-size (upper t n) (omega arith) (c .upper-operator))
@@ -199,9 +197,9 @@ module _ (t : Table) (f : Formed t) where
       (twelve-part _ (c .lower-operator)) (expression-part _ (c .low-operand))
     where
       five :
-        (h u m o w : ℕ) → size t n ≡ size t w + 1 + size t m + 1 + size t h + 1 → size t n ≤ n + 1 →
-        Places n h u m o w (size t h) (size t u) (size t m) (size t o) (size t w) →
-        Part (kind t h) → Part (kind t u) → Part (kind t m) → Part (kind t o) → Part (kind t w) → Trees n
+          (h u m o w : ℕ) → size t n ≡ size t w + 1 + size t m + 1 + size t h + 1 → size t n ≤ n + 1 →
+          Places n h u m o w (size t h) (size t u) (size t m) (size t o) (size t w) →
+          Part (kind t h) → Part (kind t u) → Part (kind t m) → Part (kind t o) → Part (kind t w) → Trees n
       five h u m o w z i p a b c d g =
           a-tree (u + 1) h a (omega arith) (omega arith) (omega arith)
           (a-tree (m + 1) u b refl (omega arith) (omega arith)

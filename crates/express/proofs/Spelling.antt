@@ -8,10 +8,12 @@ use native.Mathlib.Omega.{arith}
 use borrow.Author.Tests.{eqb-true, eq-eqb}
 use lib.Dec.{eqb}
 use lib.ListN.{length, getD}
+use Rattle.express.specs.Tree.{Table, token}
+use Rattle.express.specs.Tree as tree
 use Rattle.express.specs.Spelling.{spelling, same, symbolOf, symbolsOf}
 use Rattle.express.proofs.Select.{and-fst, and-snd, and-both, column-at, First, first-is}
 
-same-true : (xs ys : List ℕ) → same xs ys ≡ true → xs ≡ ys
+pub same-true : (xs ys : List ℕ) → same xs ys ≡ true → xs ≡ ys
 unfolding same
 same-true [] [] e = refl
 same-true [] (y ∷ ys) e = absurd (false≢true e)
@@ -19,7 +21,7 @@ same-true (x ∷ xs) [] e = absurd (false≢true e)
 same-true (x ∷ xs) (y ∷ ys) e =
     ap₂ {C = List ℕ} (λ z zs. z ∷ zs) (eqb-true x y (and-fst (eqb x y) (same xs ys) e)) (same-true xs ys (and-snd (eqb x y) (same xs ys) e))
 
-same-refl : (xs : List ℕ) → same xs xs ≡ true
+pub same-refl : (xs : List ℕ) → same xs xs ≡ true
 unfolding same
 same-refl [] = refl
 same-refl (x ∷ xs) = and-both (eqb x x) (same xs xs) (eq-eqb x x refl) (same-refl xs)
@@ -58,9 +60,22 @@ module _ (bytes starts lengths : List ℕ) where
   pub symbol-iff : (i j : ℕ) → (symbol i ≡ symbol j) ↔ (spelt i ≡ spelt j)
   symbol-iff i j = (
     λ e. sym (symbol-spelled i) ∙ ap (λ k. spelt k) e ∙ symbol-spelled j,
-    λ e. let a = symbol-least i (symbol j) (symbol-spelled j ∙ sym e) in let b = symbol-least j (symbol i) (symbol-spelled i ∙ e) in omega arith)
+    λ e. let a = symbol-least i (symbol j) (symbol-spelled j ∙ sym e) in let b = symbol-least j (symbol i) (symbol-spelled i ∙ e) in omega arith,
+  )
 
   -- the column of them
   pub symbols-at : (i : ℕ) → i < length starts → getD (symbolsOf bytes starts lengths) i 0 ≡ symbol i
   unfolding symbolsOf
   symbols-at i h = column-at symbol (length starts) i h
+
+-- In a table with these symbols, names are alike exactly when they are spelled alike, letters without case.
+pub alike-iff :
+    (t : Table) → t .symbols ≡ symbolsOf (t .bytes) (t .starts) (t .lengths) → (n k : ℕ) → token t n < length (t .starts) → token t k < length (t .starts)
+    → (tree.symbol t n ≡ tree.symbol t k) ↔ (spelling (t .bytes) (t .starts) (t .lengths) (token t n) ≡ spelling (t .bytes) (t .starts) (t .lengths) (token t k))
+alike-iff t e n k a b = (λ q. iff .0 (sym (at n a) ∙ q ∙ at k b), λ q. at n a ∙ iff .1 q ∙ sym (at k b))
+  where
+    iff : (symbolOf (t .bytes) (t .starts) (t .lengths) (token t n) ≡ symbolOf (t .bytes) (t .starts) (t .lengths) (token t k)) ↔ (spelling (t .bytes) (t .starts) (t .lengths) (token t n) ≡ spelling (t .bytes) (t .starts) (t .lengths) (token t k))
+    iff = symbol-iff (t .bytes) (t .starts) (t .lengths) (token t n) (token t k)
+
+    at : (m : ℕ) → token t m < length (t .starts) → tree.symbol t m ≡ symbolOf (t .bytes) (t .starts) (t .lengths) (token t m)
+    at m l = ap (λ (c : List ℕ). getD c (token t m) 0) e ∙ symbols-at (t .bytes) (t .starts) (t .lengths) (token t m) l

@@ -62,7 +62,7 @@ module _ (x : Nonterminal) where
   parsed-iff ts o = limit.outcome-iff express in-rows x opening closing nesting refl ts o
 
   -- the value of a text is its rows: nothing is named beyond them
-  whole-value : (ts : List ℕ) (r : Rows) → Text in-rows rules x ts r → r ≡ whole (r .rows)
+  pub whole-value : (ts : List ℕ) (r : Rows) → Text in-rows rules x ts r → r ≡ whole (r .rows)
   whole-value ts r (rule d) = refl
 
   -- A TABLE WITH THE ROWS that the parse gives holds the rows of its terminals

@@ -9,7 +9,6 @@ use Rattle.ebnf.specs.Depth.{first-deep, good, unexpected, too-deep}
 use Rattle.express.specs.Terminal.{identifier, integer, question, dot, comma, semicolon, colon, minus, equal, less, greater, lbrace, rbrace, lparen, rparen, less-equal, unequal, becomes, power, CONSTANT, DERIVE, END-CONSTANT, END-ENTITY, END-SCHEMA, ENTITY, INTEGER, OPTIONAL, REAL, SCHEMA, SELF, WHERE}
 use Rattle.express.specs.Grammar.{file, expression}
 use Rattle.express.specs.Syntax.{whole, parsed}
-use Rattle.express.specs.Tree.{kind, token, size, role}
 
 -- SCHEMA s; CONSTANT c : INTEGER := e; END_CONSTANT; END_SCHEMA;     (e begins at token 8)
 abbrev with-constant : List ℕ → List ℕ

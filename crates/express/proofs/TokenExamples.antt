@@ -4,8 +4,9 @@ use mathlib.Core.List.{List, [], _∷_}
 use Prim.Native.Nat.{ℕ}
 use Prim.Native.String.{String}
 use Rattle.express.specs.Bytes.{upper, wordByte, space}
-use Rattle.express.specs.Lexis.{Row, Lexed, Reading, at, refused, runEnd, remarkEnd, skipIn, skipped, numeral, integerEnd, exponentEnd, realEnd, stringEnd, binaryEnd, lone, symbolSize, symbolEnd, kindAt, tokenEnd, lexIn, lexed}
-use Rattle.express.specs.Terminal.{bytes, the, identifier, END-SCHEMA, CONST-E, instance-unequal, terminalOf, among, same}
+use Rattle.express.specs.Lexis.{Row, Reading, at, refused, runEnd, remarkEnd, skipIn, skipped, numeral, integerEnd, exponentEnd, realEnd, stringEnd, binaryEnd, lone, symbolSize, symbolEnd, kindAt, tokenEnd, lexIn, lexed}
+use Rattle.express.specs.Terminal.{bytes, the, identifier, END-SCHEMA, CONST-E, instance-unequal, terminalOf, among}
+use Rattle.express.specs.Spelling.{same}
 
 reserved-in-any-case : terminalOf 1 (bytes "end_Schema") ≡ the END-SCHEMA
 unfolding terminalOf among same upper

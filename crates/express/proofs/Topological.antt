@@ -19,8 +19,7 @@ pub data Sorted (E : ℕ → ℕ → Type 0) : List ℕ → List ℕ → Type 0 
   next : {passed ds : List ℕ} {d : ℕ} → ((c : ℕ) → E d c → List·Memᴰ c passed) → Sorted E (d ∷ passed) ds → Sorted E passed (d ∷ ds)
 
 -- a sorted list of some vertices
-pub record Arranged (E : ℕ → ℕ → Type 0) (vs : List ℕ) : Type 0 where
-  pub order : List ℕ
+pub record Arranged (E : ℕ → ℕ → Type 0) (vs order : List ℕ) : Type 0 where
   pub sorted : Sorted E [] order
   pub complete : (v : ℕ) → List·Memᴰ v vs → List·Memᴰ v order
   pub among : (v : ℕ) → List·Memᴰ v order → List·Memᴰ v vs
@@ -36,9 +35,9 @@ module _ (E : ℕ → ℕ → Type 0) (vs : List ℕ) (rank : ℕ → ℕ) (fall
 
   -- those of rank i, of which bs are left
   one-rank :
-    (i : ℕ) (bs rest passed : List ℕ) → ((d : ℕ) → List·Memᴰ d bs → List·Memᴰ d vs × (rank d ≡ i)) → Below i passed
-    → ((v : ℕ) → List·Memᴰ v vs → rank v ≡ i → List·Memᴰ v passed ⊎ List·Memᴰ v bs)
-    → ((p : List ℕ) → Below (suc i) p → Sorted E p rest) → Sorted E passed (bs ++ rest)
+      (i : ℕ) (bs rest passed : List ℕ) → ((d : ℕ) → List·Memᴰ d bs → List·Memᴰ d vs × (rank d ≡ i)) → Below i passed
+      → ((v : ℕ) → List·Memᴰ v vs → rank v ≡ i → List·Memᴰ v passed ⊎ List·Memᴰ v bs)
+      → ((p : List ℕ) → Below (suc i) p → Sorted E p rest) → Sorted E passed (bs ++ rest)
   one-rank i [] rest passed has low here more = more passed (λ v m l. by v m l (rank v - i) (i - rank v) refl refl)
     where
       by : (v : ℕ) → List·Memᴰ v vs → rank v < suc i → (a b : ℕ) → rank v - i ≡ a → i - rank v ≡ b → List·Memᴰ v passed
@@ -49,7 +48,7 @@ module _ (E : ℕ → ℕ → Type 0) (vs : List ℕ) (rank : ℕ → ℕ) (fall
       let h = has d (List·Memᴰ·head refl) in
       next (λ c e. let f = falls d c (h .0) e in low c (f .0) (omega arith))
       (one-rank i bs rest (d ∷ passed) (λ x m. has x (List·Memᴰ·tail m)) (λ v m l. List·Memᴰ·tail (low v m l))
-        (λ v m q. ⊎-elim (λ x. inl (List·Memᴰ·tail x)) (λ x. ⊎-elim (λ y. inl (List·Memᴰ·head y)) (λ y. inr y) (List·Memᴰ·cases-cons x)) (here v m q)) more)
+      (λ v m q. ⊎-elim (λ x. inl (List·Memᴰ·tail x)) (λ x. ⊎-elim (λ y. inl (List·Memᴰ·head y)) (λ y. inr y) (List·Memᴰ·cases-cons x)) (here v m q)) more)
 
   from-rank : (i d : ℕ) (passed : List ℕ) → Below i passed → Sorted E passed (flatMap ranked (span i d))
   unfolding flatMap span
@@ -59,16 +58,17 @@ module _ (E : ℕ → ℕ → Type 0) (vs : List ℕ) (rank : ℕ → ℕ) (fall
       (λ x m. let r = keep-mem (λ v. eqb (rank v) i) vs m in (r .0, eqb-true (rank x) i (r .1))) low
       (λ v m q. inr (mem-keep (λ v. eqb (rank v) i) vs m (eq-eqb (rank v) i q))) (λ p b. from-rank (suc i) d p b)
 
-  pub arranged : (n : ℕ) → ((v : ℕ) → List·Memᴰ v vs → rank v < n) → Arranged E vs
+  pub arranged : (n : ℕ) → ((v : ℕ) → List·Memᴰ v vs → rank v < n) → Arranged E vs (flatMap ranked (span 0 n))
   arranged n bound = record {
-      order = flatMap ranked (span 0 n);
-      sorted = from-rank 0 n [] (λ v m l. absurd (omega arith));
-      complete = λ v m. mem-flat ranked (span 0 n) (mem-upto n (rank v) (bound v m)) (mem-keep (λ x. eqb (rank x) (rank v)) vs m (eq-eqb (rank v) (rank v) refl));
-      among = λ v m. let r = flat-mem ranked (span 0 n) m in keep-mem (λ x. eqb (rank x) (r .0)) vs (r .2) .0 }
+    sorted = from-rank 0 n [] (λ v m l. absurd (omega arith));
+    complete = λ v m. mem-flat ranked (span 0 n) (mem-upto n (rank v) (bound v m)) (mem-keep (λ x. eqb (rank x) (rank v)) vs m (eq-eqb (rank v) (rank v) refl));
+    among = λ v m. let r = flat-mem ranked (span 0 n) m in keep-mem (λ x. eqb (rank x) (r .0)) vs (r .2) .0;
+  }
 
--- "a finite acyclic relation has a topological order"
+-- vertices on no cycle, by how many vertices each reaches
 pub acyclic-arranged :
-  (es : List Edge) (vs : List ℕ) → ((a b : ℕ) → Joins es a b → List·Memᴰ a vs → List·Memᴰ b vs) → ((v : ℕ) → List·Memᴰ v vs → Reaches (Joins es) v v → ⊥) → Arranged (Joins es) vs
+    (es : List Edge) (vs : List ℕ) → ((a b : ℕ) → Joins es a b → List·Memᴰ a vs → List·Memᴰ b vs) → ((v : ℕ) → List·Memᴰ v vs → Reaches (Joins es) v v → ⊥)
+    → Arranged (Joins es) vs (flatMap (λ i. keep (λ v. eqb (length (keep (reaches es v) vs)) i) vs) (span 0 (suc (length vs))))
 acyclic-arranged es vs closed acyclic =
     arranged (Joins es) vs rank falls (suc (length vs)) (λ v m. let l = keep-short (reaches es v) vs in omega arith)
   where
@@ -77,6 +77,8 @@ acyclic-arranged es vs closed acyclic =
 
     falls : (d c : ℕ) → List·Memᴰ d vs → Joins es d c → List·Memᴰ c vs × (rank c < rank d)
     falls d c m e =
-        let l = closed d c e m in
-        (l, keep-lt (reaches es c) (reaches es d) vs (λ x n h. reaches-iff es d x .1 (onward e (reaches-iff es c x .0 h))) l
-          (untrue (reaches es c c) (λ h. acyclic c l (reaches-iff es c c .0 h))) (reaches-iff es d c .1 (direct e)))
+        let l = closed d c e m in (
+          l,
+          keep-lt (reaches es c) (reaches es d) vs (λ x n h. reaches-iff es d x .1 (onward e (reaches-iff es c x .0 h))) l
+              (untrue (reaches es c c) (λ h. acyclic c l (reaches-iff es c c .0 h))) (reaches-iff es d c .1 (direct e)),
+        )

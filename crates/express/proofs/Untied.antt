@@ -1,22 +1,32 @@
 -- No two faults of a stage have one place and two numbers, where names stand at different places, as they do in a file: so the fault that a
 -- stage gives is the only one.
-use mathlib.Core.Path.{_≡_, refl, sym, ap, _∙_}
+use mathlib.Core.Path.{_≡_, refl, sym, ap, subst, _∙_}
 use mathlib.Core.Logic.{_≢_, _⊎_, inl, inr, ⊎-elim}
 use mathlib.Core.Bool.{Bool, true, false, cond, not, _&&_, _||_, false≢true}
 use mathlib.Core.List.{List, [], _∷_, List·Memᴰ, List·Memᴰ·cases-cons, List·Memᴰ·not-nil}
-use Prim.Native.Nat.{ℕ, zero, suc}
+use Prim.Native.Nat.{ℕ, zero, suc, _-_, _≤_, _<_}
 use native.Mathlib.Omega.{arith}
+use borrow.Author.Tests.{eqb-true}
 use lib.Dec.{eqb}
-use Rattle.express.specs.NodeKind.{name, qualified-item, self, in-expression}
+use lib.ListN.{length, List·getD-eq-default}
+use Rattle.express.specs.NodeKind.{name, qualified-item, self, attribute-name, derived-attribute, rule, labelled, in-expression}
 use Rattle.express.specs.Select.{span, any}
-use Rattle.express.specs.Tree.{Table, role, symbol, place, placeAt, nodes, is, isName, isDeclaration, isMember}
+use Rattle.express.specs.Tree.{Table, count, kind, token, role, place, placeAt, nodes, is, isName, isDeclaration, isMember}
 use Rattle.express.specs.Reach.{Edge, reaches}
 use Rattle.express.specs.Scope.{Meaning, none, one, several, means, typeToken, typeMeant, typeEdges}
 use Rattle.express.specs.Fault.{Fault, fault, fine, orElse, sort, alike, repeated, judged, suits, typeName, cyclic, isValue, isEnumeration, qualified, clashes, inConstant, expression, constantEdges}
 use Rattle.express.specs.Names.{Stage, stages, names, Refused}
-use Rattle.express.proofs.Select.{and-fst, or-left, or-right}
+use Rattle.express.proofs.Select.{and-fst, or-left, or-right, le-or}
 use Rattle.express.proofs.Names.{Untied, names-only}
-use Rattle.express.proofs.NameCases.{lost}
+use Rattle.ebnf.proofs.Parts.{Behind}
+use Rattle.ebnf.proofs.PostOrder.{row-at}
+use Rattle.ebnf.proofs.Naming.{claims-once, Claims, named, two-before, Claimed, text-claims}
+use Rattle.express.specs.Terminal.{dot, identifier}
+use Rattle.express.specs.Grammar.{Nonterminal, rules}
+use Rattle.express.specs.Grammar as grammar
+use Rattle.express.specs.Syntax.{whole, Read}
+use Rattle.express.proofs.FormedRows.{kind-is, role-is, token-is, count-is}
+use Rattle.express.proofs.Within.{item-behind}
 
 -- the nodes at which names are declared or used
 abbrev pub speaks : Table → ℕ → Bool
@@ -128,25 +138,94 @@ untied t A s m =
 pub refused-once : (t : Table) → Apart t → (f : Fault) → Refused (nodes t) f (stages t) → f ≡ names t
 refused-once t A f r = names-only t (untied t A) f r
 
--- a table whose names stand apart: `CONSTANT a : INTEGER := q;` has one
-speaks-one : (n : ℕ) → speaks lost n ≡ true → n ≡ 1
-speaks-one zero h = absurd (false≢true h)
-speaks-one (suc zero) h = refl
-speaks-one (suc (suc zero)) h = absurd (false≢true h)
-speaks-one (suc (suc (suc zero))) h = absurd (false≢true h)
-speaks-one (suc (suc (suc (suc zero)))) h = absurd (false≢true h)
-speaks-one (suc (suc (suc (suc (suc n))))) h = absurd (false≢true h)
+-- ---- a file that the grammar derives
 
-no-item : (n : ℕ) → is lost qualified-item n ≡ true → ⊥
-no-item zero h = false≢true h
-no-item (suc zero) h = false≢true h
-no-item (suc (suc zero)) h = false≢true h
-no-item (suc (suc (suc zero))) h = false≢true h
-no-item (suc (suc (suc (suc zero)))) h = false≢true h
-no-item (suc (suc (suc (suc (suc n))))) h = false≢true h
+-- "Token table: kind, start, length, in text order"
+abbrev pub Rising : Table → Type 0
+Rising t = (i j : ℕ) → i < j → j < length (t .terminals) → placeAt t i < placeAt t j
 
-pub lost-apart : Apart lost
-lost-apart = record {
-    names = λ n k a b e. speaks-one n a ∙ sym (speaks-one k b);
-    types = λ n k a b e. absurd (no-item n a);
-    between = λ n k a b e. no-item n a }
+-- the sorts of nodes that speak, and those with a type's name two tokens before
+abbrev speaking : ℕ → ℕ → Bool
+speaking k o = eqb k name || eqb k qualified-item || eqb k self || ((eqb k attribute-name || eqb k derived-attribute) || eqb k rule && eqb o labelled)
+
+abbrev prefixed : ℕ → ℕ → Bool
+prefixed k o = eqb k qualified-item
+
+-- the grammar names them by different tokens
+once-each : (x : Nonterminal) → claims-once speaking prefixed (rules x) 0 ≡ true
+once-each grammar.file = refl
+once-each grammar.schema = refl
+once-each grammar.constants = refl
+once-each grammar.constant = refl
+once-each grammar.base = refl
+once-each grammar.type-declaration = refl
+once-each grammar.underlying = refl
+once-each grammar.where-clause = refl
+once-each grammar.domain-rule = refl
+once-each grammar.entity = refl
+once-each grammar.attributes = refl
+once-each grammar.derived = refl
+once-each grammar.expression = refl
+once-each grammar.sum = refl
+once-each grammar.term = refl
+once-each grammar.factor = refl
+once-each grammar.operand = refl
+once-each grammar.atom = refl
+once-each grammar.interval = refl
+
+behind-two : (ts c e : List ℕ) (i : ℕ) → Behind ts i (c ∷ e ∷ []) → 2 ≤ i
+behind-two ts c e zero h = absurd h
+behind-two ts c e (suc zero) h = absurd (h .1)
+behind-two ts c e (suc (suc i)) h = omega arith
+
+module _ {x : Nonterminal} {t : Table} (d : Read x t) (rise : Rising t) where
+  claimed : Claimed speaking prefixed 0 (length (t .terminals)) (d .rows)
+  claimed = text-claims speaking prefixed rules once-each (t .terminals) x (whole (d .rows)) (d .parses)
+
+  -- a token at a place is one
+  token-one : (i j : ℕ) → i < length (t .terminals) → j < length (t .terminals) → placeAt t i ≡ placeAt t j → i ≡ j
+  token-one i j a b e = ⊎-elim (λ l. ⊎-elim (λ m. omega arith) (λ m. let z = rise j i m a in absurd (omega arith)) (le-or i j)) (λ l. let z = rise i j l b in absurd (omega arith)) (le-or j i)
+
+  speaks-within : (n : ℕ) → speaks t n ≡ true → n < count t
+  speaks-within n h = ⊎-elim (λ l. let k : kind t n ≡ 0 = List·getD-eq-default (t .kinds) 0 l in absurd (false≢true (rw k at h))) (λ l. l) (le-or (count t) n)
+
+  item-within : (n : ℕ) → is t qualified-item n ≡ true → n < count t
+  item-within n h = speaks-within n (is-item t n h)
+
+  known : (n : ℕ) → n < count t → n < length (d .rows)
+  known n l = rw (count-is d) at l
+
+  by-name : (n : ℕ) → speaks t n ≡ true → Claims speaking prefixed (row-at (d .rows) n) (token t n)
+  by-name n h = named (rw (kind-is d n, role-is d n) at h) (sym (token-is d n))
+
+  two-back : (n : ℕ) → is t qualified-item n ≡ true → 2 ≤ token t n
+  two-back n h = behind-two (t .terminals) dot identifier (token t n) (item-behind d n (item-within n h) (eqb-true (kind t n) qualified-item h))
+
+  by-type : (n : ℕ) → is t qualified-item n ≡ true → Claims speaking prefixed (row-at (d .rows) n) (typeToken t n)
+  by-type n h = two-before (rw (kind-is d n) at h) (let a = two-back n h in let b = token-is d n in omega arith)
+
+  -- NAMES STAND APART
+  pub read-apart : Apart t
+  read-apart = record {
+    names = λ n k a b e.
+        let l = known n (speaks-within n a) in
+        let m = known k (speaks-within k b) in
+        let q = token-one (token t n) (token t k) (claimed .inside n (token t n) l (by-name n a) .1) (claimed .inside k (token t k) m (by-name k b) .1) e in
+        claimed .apart n k (token t n) l m (by-name n a) (rw (sym q) at (by-name k b));
+    types = λ n k a b e.
+        let l = known n (item-within n a) in
+        let m = known k (item-within k b) in
+        let q = token-one (typeToken t n) (typeToken t k) (claimed .inside n (typeToken t n) l (by-type n a) .1) (claimed .inside k (typeToken t k) m (by-type k b) .1) e in
+        claimed .apart n k (typeToken t n) l m (by-type n a) (subst (λ (y : ℕ). Claims speaking prefixed (row-at (d .rows) k) y) (sym q) (by-type k b));
+    between = λ n k a b e.
+        let l = known n (item-within n a) in
+        let m = known k (speaks-within k b) in
+        let q = token-one (typeToken t n) (token t k) (claimed .inside n (typeToken t n) l (by-type n a) .1) (claimed .inside k (token t k) m (by-name k b) .1) e in
+        let z = claimed .apart n k (typeToken t n) l m (by-type n a) (subst (λ (y : ℕ). Claims speaking prefixed (row-at (d .rows) k) y) (sym q) (by-name k b)) in
+        let y = ap (token t) z in
+        let u = two-back n a in omega arith;
+  }
+
+  -- so in a file that the grammar derives the fault is one
+  pub fault-once : (f : Fault) → Refused (nodes t) f (stages t) → f ≡ names t
+  fault-once f r = refused-once t read-apart f r

@@ -1,7 +1,7 @@
 -- What lies within a node of a table that holds the rows of a derived text: nodes of an expression, the declaration and the schema that a
 -- node lies in, and the file.
-use mathlib.Core.Bool.{Bool, true, false, _&&_, false≢true, not, _||_}
-use mathlib.Core.List.{[], _∷_}
+use mathlib.Core.Bool.{Bool, true, _&&_, not, _||_}
+use mathlib.Core.List.{[], _∷_, _++_}
 use mathlib.Core.Logic.{⊎-elim}
 use mathlib.Core.Path.{_≡_, refl, sym, _∙_, subst}
 use Prim.Native.Nat.{ℕ, suc, _-_, _≤_, _<_}
@@ -10,27 +10,55 @@ use lib.Dec.{leb, eqb}
 use lib.ListN.{length}
 use borrow.Author.Tests.{leb-true, eqb-true, not-true, le-leb}
 use Rattle.ebnf.specs.Set.{mem}
-use Rattle.ebnf.specs.Grammar.{node}
-use Rattle.ebnf.specs.Parse.{at}
-use Rattle.ebnf.proofs.Sets.{and-split, lt-or-le}
+use Rattle.ebnf.proofs.Sets.{and-split, lt-or-le, mem-one}
+use Rattle.ebnf.proofs.Lookahead.{inside}
 use Rattle.ebnf.proofs.Sorts.{sort, every, every-of}
 use Rattle.ebnf.proofs.Parts.{Behind}
-use Rattle.ebnf.proofs.PostOrder.{row-at, size-at, token-named, tokens-behind, last-one, no-more, every-part, below, child-of}
-use Rattle.express.specs.Terminal.{identifier, dot}
+use Rattle.ebnf.proofs.PostOrder.{row-at, size-at, token-named, tokens-behind}
+use Rattle.ebnf.proofs.Children.{last-one, no-more}
+use Rattle.ebnf.proofs.Below.{every-part, below, child-of}
+use Rattle.express.specs.Terminal.{identifier, integer, binary, dot, power, the}
 use Rattle.express.specs.Tree.{Table, count, kind, token, size, role, terminal, first, isDeclaration, owner, schemaOf}
-use Rattle.express.specs.Grammar.{Nonterminal, file, schema, constant, entity, expression}
+use Rattle.express.specs.Grammar.{Nonterminal, file, simple-types, relations, additions, multiplications, signs, comparisons, logicals}
 use Rattle.express.specs.Syntax.{Read}
 use Rattle.express.specs.Select.{firstFrom}
-use Rattle.express.proofs.Nodes.{kinds, all-rows, all-below, children-have, children-pass}
+use Rattle.express.proofs.Syntax.{express}
+use Rattle.express.proofs.Nodes.{kinds, all-rows, all-below, children-have, children-pass, named-by-some}
 use Rattle.express.proofs.FormedRows.{kind-is, role-is, size-is, token-is, count-is, node-at}
 use Rattle.express.proofs.Select.{first-of}
 use Rattle.express.specs.NodeKind as node
-use Rattle.express.specs.Formed as form
+use Rattle.express.proofs.Formed as form
 
 module _ {x : Nonterminal} {t : Table} (d : Read x t) where
   -- THE NAMING TOKEN of a node is one of those that name its kind
   pub named-at : (n : ℕ) → n < count t → mem (terminal t n) (kinds .named-by (kind t n) (role t n)) ≡ true
   named-at n l = rw (kind-is d n, role-is d n, token-is d n) (token-named kinds (t .terminals) (d .rows) n (node-at d n l) _ _ refl refl)
+
+  -- so, kind by kind: an integer, a binary and a logical literal, a sign, an operator, an interval's operator and a simple type
+  pub integer-named : (n : ℕ) → n < count t → kind t n ≡ node.integer-literal → terminal t n ≡ the integer
+  integer-named n l e = mem-one (terminal t n) (the integer) (rw e at (named-at n l))
+
+  pub binary-named : (n : ℕ) → n < count t → kind t n ≡ node.binary-literal → terminal t n ≡ the binary
+  binary-named n l e = mem-one (terminal t n) (the binary) (rw e at (named-at n l))
+
+  pub logical-named : (n : ℕ) → n < count t → kind t n ≡ node.logical-literal → mem (terminal t n) logicals ≡ true
+  logical-named n l e = rw e at (named-at n l)
+
+  pub sign-named : (n : ℕ) → n < count t → kind t n ≡ node.unary → mem (terminal t n) signs ≡ true
+  sign-named n l e = rw e at (named-at n l)
+
+  pub operator-named : (n : ℕ) → n < count t → kind t n ≡ node.two-operand → mem (terminal t n) (relations ++ additions ++ multiplications ++ power) ≡ true
+  operator-named n l e = rw e at (named-at n l)
+
+  pub comparison-named : (n : ℕ) → n < count t → kind t n ≡ node.interval-operator → mem (terminal t n) comparisons ≡ true
+  comparison-named n l e = rw e at (named-at n l)
+
+  pub simple-named : (n : ℕ) → n < count t → kind t n ≡ node.simple-type → mem (terminal t n) simple-types ≡ true
+  simple-named n l e = rw e at (named-at n l)
+
+  -- it stands in the text
+  pub token-inside : (n : ℕ) → n < count t → token t n < length (t .terminals)
+  token-inside n l = inside express (t .terminals) _ (token t n) (named-by-some (kind t n) (role t n)) (named-at n l)
 
   -- and behind an item's stand a dot and the name of its type
   pub item-behind : (n : ℕ) → n < count t → kind t n ≡ node.qualified-item → Behind (t .terminals) (token t n) (dot ∷ identifier ∷ [])

@@ -30,12 +30,13 @@ simple w =
     (cond (eqb w (the word.LOGICAL)) LOGICAL
     (cond (eqb w (the word.BINARY)) BINARY other)))
 
--- `TYPE id '=' base`: the base of a type stands two tokens after its name; the names of a select list stand further on
+-- `TYPE id '=' base`: the base of a type stands two tokens after its name; the names of a select list stand further on (`renames-is` of
+-- proofs/Renaming)
 abbrev pub renames : Table → ℕ → Bool
 renames t d = eqb (token t (first t d)) (token t d + 2)
 
 -- The type that node n is or names. Each turn passes a type, and "cycle of renamings" is refused earlier, so as many turns as there are
--- nodes are enough.
+-- nodes are enough: `declared-denotes` of proofs/Denotes says the same by rules, without a number of turns.
 unfoldable pub declared-in : ℕ → Table → List ℕ → ℕ → Declared
 declared-in zero t b n = other
 declared-in (suc f) t b n =

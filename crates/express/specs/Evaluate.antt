@@ -4,8 +4,7 @@ use Prim.Native.Nat.{ℕ}
 use lib.ListN.{getD, set, replicate}
 use lib.IntN.{pos}
 use Rattle.express.specs.Answer.{Logical, FALSE, UNKNOWN, TRUE, Answer, indeterminate, integer, logical, binary, item, end}
-use Rattle.express.specs.Tree.{Table, count, last}
-use Rattle.express.specs.Formed.{left, middle, low}
+use Rattle.express.specs.Tree.{Table, count, last, left, middle, low}
 use Rattle.express.specs.Declared.{Declared, INTEGER, BOOLEAN, LOGICAL, BINARY, enumeration, other}
 use Rattle.express.specs.Shape.{Shape, integer-literal, logical-literal, binary-literal, question, name, unary, operator, interval, interval-operator, type, constant, unevaluated, shape}
 use Rattle.express.specs.Shape as shapes

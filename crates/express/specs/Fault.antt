@@ -35,7 +35,7 @@ scope t n = cond (leb (sort t n) 1) 0 (cond (eqb (sort t n) 2) (schemaOf t n) (o
 abbrev pub alike : Table → ℕ → ℕ → Bool
 alike t n k = eqb (symbol t k) (symbol t n) && eqb (sort t k) (sort t n) && eqb (scope t k) (scope t n)
 
--- "the later name"
+-- "the later name": of two nodes of one sort the later stands later in the text (`repeated-iff` of proofs/Later)
 unfoldable pub repeated : Table → ℕ → Fault
 repeated t n = cond (not (eqb (sort t n) 0) && any (alike t n) (span 0 n)) (fault 9 (place t n)) fine
 
@@ -60,7 +60,8 @@ cyclic t es n = cond (isDeclaration t n && reaches es n n) (fault 13 (place t n)
 abbrev pub isValue : Table → ℕ → Bool
 isValue t k = isAttribute t k || is t constant k || is t enumeration-item k
 
--- "`type.item` needs a type declared as an enumeration": the first node of one is an item
+-- "`type.item` needs a type declared as an enumeration": the first node of one is an item, and of no other type (`enumeration-iff` of
+-- proofs/Enumeration)
 abbrev pub isEnumeration : Table → ℕ → Bool
 isEnumeration t y = is t type y && is t enumeration-item (first t y)
 

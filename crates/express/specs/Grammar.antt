@@ -1,7 +1,7 @@
 -- The grammar: the rules of annex A as the scope narrows them, each with its number there and with the node that it leaves.
 use mathlib.Core.List.{List, _++_}
 use Prim.Native.Nat.{ℕ}
-use Rattle.ebnf.specs.Grammar.{silent, here, node, leaf, Ebnf, none, mark, step, seq, alt, star, fork, nt, rule}
+use Rattle.ebnf.specs.Grammar.{silent, here, node, leaf, Ebnf, none, mark, step, seq, alt, star, fork, nt}
 use Rattle.express.specs.Terminal.{identifier, integer, real, string, binary, question, dot, comma, semicolon, colon, times, plus, minus, equal, slash, less, greater, lbrace, rbrace, lparen, rparen, less-equal, unequal, greater-equal, becomes, power, instance-equal, instance-unequal, AND, BINARY, BOOLEAN, CONSTANT, CONST-E, DERIVE, DIV, END-CONSTANT, END-ENTITY, END-SCHEMA, END-TYPE, ENTITY, ENUMERATION, FALSE, INTEGER, LOGICAL, MOD, NOT, NUMBER, OF, OPTIONAL, OR, PI, REAL, SCHEMA, SELECT, SELF, STRING, SUBTYPE, TRUE, TYPE, UNKNOWN, WHERE, XOR}
 use Rattle.express.specs.NodeKind as kind
 

@@ -1,13 +1,14 @@
 -- Typing: a kind for each node of a constant, in node order, or the first fault, 14 or 15.
-use mathlib.Core.Bool.{Bool, true, false, cond, _&&_}
+use mathlib.Core.Path.{_≡_}
+use mathlib.Core.Bool.{Bool, cond, _&&_}
 use mathlib.Core.List.{List, [], _∷_, flatMap}
-use Prim.Native.Nat.{ℕ, _+_}
+use Prim.Native.Nat.{ℕ, _+_, _≤_, _<_}
 use lib.Dec.{eqb}
 use lib.ListN.{getD, set, replicate}
 use Rattle.express.specs.NodeKind as node
 use Rattle.express.specs.Select.{span, keep}
-use Rattle.express.specs.Tree.{Table, count, size, first, last, nodes, is, owner}
-use Rattle.express.specs.Formed.{left, middle, low}
+use Rattle.express.specs.Tree.{Table, count, size, first, last, nodes, is, owner, left, middle, low}
+use Rattle.express.specs.Tree as tree
 use Rattle.express.specs.Declared.{Declared, INTEGER, BOOLEAN, LOGICAL, BINARY, enumeration, other, declared}
 use Rattle.express.specs.Shape.{Operator, plus, arithmetic, relation, connective, Sign, positive, negative, not, Shape, integer-literal, logical-literal, binary-literal, question, item, name, unary, operator, interval, interval-operator, type, constant, unevaluated, shape}
 use Rattle.express.specs.Operate.{Kind, integers, logicals, binaries, items, undetermined, untyped, takes, takes-one, comparable}
@@ -56,8 +57,7 @@ pub data Finding : Type 0 where
 
 -- "15: operand or declared type does not fit"
 abbrev pub if-fits : Bool → Kind → Finding
-if-fits true k = kind k
-if-fits false k = fault 15
+if-fits p k = cond p (kind k) (fault 15)
 
 -- "14: not evaluated: other declared type (at its own node), the name of a constant so declared"
 abbrev pub if-evaluated : Declared → Kind → Finding
@@ -110,3 +110,28 @@ constants t = keep (is t node.constant) (nodes t)
 -- "Only constants are typed and evaluated"; "14 and 15 by node order, 14 first at one node"
 unfoldable pub typing : Table → List ℕ → Typing
 typing t b = type-nodes t b (all-within t (constants t)) (replicate (count t) untyped)
+
+-- ---- what the typing says, without the order in which it goes
+
+-- node n lies in a constant
+pub record Constant (t : Table) (n : ℕ) : Type 0 where
+  pub node-of : ℕ
+  pub among : node-of < count t
+  pub is-one : tree.kind t node-of ≡ node.constant
+  pub from : first t node-of ≤ n
+  pub upto : n ≤ node-of
+
+abbrev pub Fits : Table → List ℕ → (ℕ → Kind) → ℕ → Type 0
+Fits t b k n = finding t b k n (shape t b n) ≡ kind (k n)
+
+-- accepted: kinds that fit at every node of a constant
+pub record WellTyped (t : Table) (b : List ℕ) : Type 0 where
+  pub kinds : ℕ → Kind
+  pub fits : (n : ℕ) → Constant t n → Fits t b kinds n
+
+-- refused: f is found at node n, and kinds fit at every node of a constant before it
+pub record FirstFault (t : Table) (b : List ℕ) (f n : ℕ) : Type 0 where
+  pub kinds : ℕ → Kind
+  pub there : Constant t n
+  pub is : finding t b kinds n (shape t b n) ≡ fault f
+  pub fits : (m : ℕ) → m < n → Constant t m → Fits t b kinds m

@@ -49,7 +49,8 @@ unfoldable pub inherited : Table → ℕ → ℕ → List ℕ
 inherited t n s = spelled t s (λ k. isAttribute t k && reaches (superEdges t) (owner t n) (owner t k))
 
 -- "A name in an entity means its own attribute or label; failing these, an inherited attribute; failing these, the schema's constant, type or
--- entity; failing these, an enumeration item." In a type's WHERE nothing is inherited, in a constant nothing is own either.
+-- entity; failing these, an enumeration item." In a type's WHERE nothing is inherited, in a constant nothing is own either (`nothing-inherited`,
+-- `nothing-own` of proofs/Owned).
 unfoldable pub candidates : Table → ℕ → ℕ → List ℕ
 candidates t n s = nearest (own t n s) (nearest (inherited t n s) (nearest (declared t n s) (items t n s)))
 

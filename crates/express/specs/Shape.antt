@@ -12,8 +12,7 @@ use Rattle.express.specs.Lexis.{integerValue, binaryBits}
 use Rattle.express.specs.Terminal.{the}
 use Rattle.express.specs.Terminal as word
 use Rattle.express.specs.NodeKind as node
-use Rattle.express.specs.Tree.{Table, kind, token, terminal, is}
-use Rattle.express.specs.Formed.{left, lower, upper}
+use Rattle.express.specs.Tree.{Table, kind, token, terminal, is, left, lower, upper}
 use Rattle.express.specs.Declared.{Declared, declaration, bound, declared}
 
 -- the operators that take integers alone

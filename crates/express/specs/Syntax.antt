@@ -6,9 +6,9 @@ use Prim.Native.Nat.{ℕ}
 use Rattle.ebnf.specs.Grammar.{Text}
 use Rattle.ebnf.specs.Rows.{Row, Rows, in-rows}
 use Rattle.ebnf.specs.Depth.{Outcome, outcome, Says}
-use Rattle.express.specs.Terminal.{lbrace, rbrace, lparen, rparen, bytes, symbols}
+use Rattle.express.specs.Terminal.{lbrace, rbrace, lparen, rparen}
 use Rattle.express.specs.Tree.{Table}
-use Rattle.express.specs.Grammar.{Nonterminal, name, rules}
+use Rattle.express.specs.Grammar.{Nonterminal, rules}
 use Rattle.express.specs.Lookahead.{tables}
 
 -- the rows of a whole text

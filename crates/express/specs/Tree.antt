@@ -65,6 +65,23 @@ before t n = n - size t n
 abbrev pub first : Table → ℕ → ℕ
 first t n = n + 1 - size t n
 
+-- The children of a node, from the right: an operator's right (or only) operand is `last`, and an interval's high side.
+abbrev pub left : Table → ℕ → ℕ
+left t n = before t (last n)
+
+-- "interval (low, operator, item, operator, high)": its operators are `lower` and `upper`
+abbrev pub upper : Table → ℕ → ℕ
+upper t n = left t n
+
+abbrev pub middle : Table → ℕ → ℕ
+middle t n = before t (upper t n)
+
+abbrev pub lower : Table → ℕ → ℕ
+lower t n = before t (middle t n)
+
+abbrev pub low : Table → ℕ → ℕ
+low t n = before t (lower t n)
+
 abbrev pub nodes : Table → List ℕ
 nodes t = span 0 (count t)
 

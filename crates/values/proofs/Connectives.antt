@@ -1,20 +1,13 @@
 -- Laws of logicals and orders, in the form that `search` takes.
-use mathlib.Core.Path.{_≡_, refl, sym, ap, _∙_}
-use mathlib.Core.Bool.{true, false}
+use mathlib.Core.Path.{_≡_, refl, sym, _∙_}
 use Prim.Native.Nat.{ℕ, _<_, _≤_, compare, Ordering, Ordering·lt, Ordering·eq, Ordering·gt}
 use native.Mathlib.Omega.{arith}
 use borrow.Author.Tests.{le-leb, lt-leb}
-use lib.IntN.{ℤ}
-use lib.Signed.{ltZ}
-use mir.Syntax.{w64}
-use mir.Val.{SFits, toZ, ofZ}
-use mir.Facts.{toZ-ofZ}
 use Rattle.express.specs.Answer as answer
 use Rattle.express.specs.Answer.{FALSE, UNKNOWN, TRUE}
 use Rattle.express.specs.Logic.{rank, AND, OR, NOT, XOR}
-use Rattle.express.specs.Integer.{compareℤ}
 use Rattle.express.specs.Relation.{related}
-use Rattle.express.proofs.Order.{compare-lt, compare-gt, compare-eq, less-integer, more-integer, same-integer}
+use Rattle.express.proofs.Order.{compare-lt, compare-gt, compare-eq}
 use Rattle.values.specs.Meaning.{logicalOf, relationOf}
 use Rattle.values.specs.declared.logical.Logical.{Logical}
 use Rattle.values.specs.declared.logical.Logical.the-variants.{False, Unknown, True}
@@ -50,19 +43,6 @@ module _ {m n j k : ℕ} (e : m ≡ j) (f : n ≡ k) where
   same g h = sym (compare-eq j k (omega arith))
 
 pub ruleset logicals = (and-first, and-second, or-first, or-second, less, more, same)
-
--- ---- the order of two integers that are read back from their bits
-module _ {a b : ℤ} (f : SFits w64 a) (g : SFits w64 b) where
-  pub less-own : ltZ (toZ w64 (ofZ w64 a)) (toZ w64 (ofZ w64 b)) ≡ true → Ordering·lt ≡ compareℤ a b
-  less-own e = sym (less-integer a b (rw (toZ-ofZ f, toZ-ofZ g) at e))
-
-  pub more-own : ltZ (toZ w64 (ofZ w64 b)) (toZ w64 (ofZ w64 a)) ≡ true → Ordering·gt ≡ compareℤ a b
-  more-own e = sym (more-integer a b (rw (toZ-ofZ f, toZ-ofZ g) at e))
-
-  pub same-own : ltZ (toZ w64 (ofZ w64 a)) (toZ w64 (ofZ w64 b)) ≡ false → ltZ (toZ w64 (ofZ w64 b)) (toZ w64 (ofZ w64 a)) ≡ false → Ordering·eq ≡ compareℤ a b
-  same-own e h = sym (same-integer a b (rw (toZ-ofZ f, toZ-ofZ g) at e) (rw (toZ-ofZ f, toZ-ofZ g) at h))
-
-pub ruleset orders = (less-own, more-own, same-own)
 
 -- ---- XOR by its first operand
 xor-false-is : (b : answer.Logical) → XOR FALSE b ≡ b

@@ -1,4 +1,1 @@
-pub mod Arithmetic
 pub mod Connectives
-pub mod Machine
-pub mod Powers

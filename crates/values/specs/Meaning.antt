@@ -1,13 +1,11 @@
 -- What the types of the code stand for: the paper's number and value for each of their cases.
 use Prim.Native.Nat.{ℕ, Ordering, Ordering·lt, Ordering·eq, Ordering·gt}
-use Rattle.express.specs.Answer.{Answer, integer, end, FALSE, UNKNOWN, TRUE}
+use Rattle.express.specs.Answer.{FALSE, UNKNOWN, TRUE}
 use Rattle.express.specs.Answer as answer
 use Rattle.express.specs.Relation.{less-than, greater-than, at-most, at-least, unequal, equal, instance-unequal, instance-equal}
 use Rattle.express.specs.Relation as relation
 use Rattle.values.specs.declared.End.{End}
 use Rattle.values.specs.declared.End.the-variants.{OutOfRange, ZeroDivisor, NegativePower, UnknownBoolean}
-use Rattle.values.specs.declared.integer.Outcome.{Outcome}
-use Rattle.values.specs.declared.integer.Outcome.the-variants.{Value, Ended}
 use Rattle.values.specs.declared.logical.Logical.{Logical}
 use Rattle.values.specs.declared.logical.Logical.the-variants.{False, Unknown, True}
 use Rattle.values.specs.declared.order.Order.{Order}
@@ -21,10 +19,6 @@ endNumber OutOfRange = 16
 endNumber ZeroDivisor = 17
 endNumber NegativePower = 18
 endNumber UnknownBoolean = 19
-
-abbrev pub answerOf : Outcome → Answer
-answerOf (Value z) = integer z
-answerOf (Ended e) = end (endNumber e)
 
 abbrev pub logicalOf : Logical → answer.Logical
 logicalOf False = FALSE

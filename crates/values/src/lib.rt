@@ -1,5 +1,4 @@
-// The values of constants, and the operations on them: integers of 64 bits, logicals, and the orders that relations go by.
-pub mod integer;
+// Logicals, the orders that relations go by, and the ends of an evaluation.
 pub mod logical;
 pub mod order;
 

@@ -1,4 +1,4 @@
-//! Times each stage on generated files of nearly 64 KiB that press one stage or another.
+//! Times each stage on generated files of nearly 64 KiB that press one stage or another; an argument chooses by name.
 use std::hint::black_box;
 use std::time::Instant;
 
@@ -145,7 +145,9 @@ fn main() {
         "{:42}{:>7}{:>7}{:>6}{:>9}{:>9}{:>9}{:>9}",
         "", "tokens", "nodes", "reply", "read", "classify", "parse", "check"
     );
-    for (name, file) in declarations().into_iter().chain(expressions()) {
+    let only = std::env::args().nth(1).unwrap_or_default();
+    let files = declarations().into_iter().chain(expressions());
+    for (name, file) in files.filter(|(name, _)| name.contains(&only)) {
         let Ok(found) = tokens::read(&file) else { continue };
         let words = terminals::classify(&file, &found);
         let Ok(nodes) = parser::read(&words) else { continue };

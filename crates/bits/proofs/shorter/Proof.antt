@@ -1,4 +1,3 @@
-use borrow.Author.Needs.{needs}
 use Rattle.bits.proofs.Strings.{shorter-left, shorter-right}
 use Rattle.bits.proofs.shorter.Statement.{statement}
 use Rattle.bits.proofs.shorter.Tie as tie

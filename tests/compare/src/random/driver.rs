@@ -86,33 +86,40 @@ where
     L: Fn(&[u8], [usize; 3]) -> Checked,
     R: Fn(&[u8], [usize; 3]) -> Checked,
 {
-    let reply = |outcome: &Outcome| outcome.as_ref().ok().map(|checked| checked.report.reply);
     let replies = [reply(&difference.left), reply(&difference.right)];
     // Each panic is printed too, so only a few are tried.
-    let mut tries = if replies.contains(&None) { 200 } else { 20_000 };
-    let mut differs = |file: &[u8]| {
-        tries -= i32::from(tries > 0);
-        let now = (run(left, file, difference.lengths), run(right, file, difference.lengths));
-        let same = tries > 0 && [reply(&now.0), reply(&now.1)] == replies && (now.0 != now.1 || now.0.is_err());
-        same.then_some(now)
-    };
+    let mut tries = if replies.contains(&None) { 200 } else { 8_000 };
     for ends_unit in [|byte: &u8| *byte == b';', |_: &u8| true] {
-        let mut units: Vec<Vec<u8>> = difference.file.split_inclusive(ends_unit).map(<[u8]>::to_vec).collect();
-        for run in [64, 32, 16, 8, 7, 6, 5, 4, 3, 2, 1] {
-            let mut at = 0;
-            while at + run <= units.len() {
-                let file = [units[..at].concat(), units[at + run..].concat()].concat();
-                if let Some(now) = differs(&file) {
-                    units.drain(at..at + run);
-                    (difference.left, difference.right) = now;
-                    difference.file = file;
-                } else {
-                    at += 1;
-                }
+        let units = difference.file.split_inclusive(ends_unit).map(<[u8]>::to_vec).collect();
+        drop_units(units, &mut tries, |file| {
+            let (l, r) = (run(left, &file, difference.lengths), run(right, &file, difference.lengths));
+            let stays = [reply(&l), reply(&r)] == replies && (l != r || l.is_err());
+            if stays {
+                (difference.left, difference.right, difference.file) = (l, r, file);
+            }
+            stays
+        });
+    }
+    difference
+}
+
+fn reply(outcome: &Outcome) -> Option<u32> {
+    outcome.as_ref().ok().map(|checked| checked.report.reply)
+}
+
+/// Drops runs of units, long ones first, wherever the rest is wanted still.
+fn drop_units(mut units: Vec<Vec<u8>>, tries: &mut usize, mut wanted: impl FnMut(Vec<u8>) -> bool) {
+    for run in [64, 32, 16, 8, 7, 6, 5, 4, 3, 2, 1] {
+        let mut at = 0;
+        while at + run <= units.len() && *tries > 0 {
+            *tries -= 1;
+            if wanted([&units[..at], &units[at + run..]].concat().concat()) {
+                units.drain(at..at + run);
+            } else {
+                at += 1;
             }
         }
     }
-    difference
 }
 
 impl fmt::Display for Difference {

@@ -183,21 +183,17 @@ impl<'a> Writer<'a> {
         signed
     }
 
-    /// The kind of the item joins the others; where it is `?`, they need not agree.
+    /// Low, item and high of one kind; but where the item is `?`, low and high need not agree.
     fn interval(&mut self, scope: &Scope, fuel: usize) {
-        let kind = self.any_kind(scope);
-        let open = self.source.rng.one_in(8);
+        let low = self.any_kind(scope);
+        let unknown = self.source.rng.one_in(8);
+        let high = if unknown { self.any_kind(scope) } else { low };
         self.open += 1;
         self.put("{");
-        for (i, after) in ["<", "<", "}"].into_iter().enumerate() {
-            let bent = self.bend(scope, kind);
-            match i {
-                1 if open => self.put("?"),
-                2 if open => {
-                    let other = self.any_kind(scope);
-                    self.sum(scope, other, fuel / 3);
-                }
-                _ => self.sum(scope, bent, fuel / 3),
+        for (kind, after) in [(Some(low), "<"), ((!unknown).then_some(low), "<"), (Some(high), "}")] {
+            match kind.map(|kind| self.bend(scope, kind)) {
+                Some(kind) => self.sum(scope, kind, fuel / 3),
+                None => self.put("?"),
             }
             let wide = after == "<" && self.source.rng.one_in(2);
             self.put(if wide { "<=" } else { after });

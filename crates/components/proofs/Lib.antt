@@ -1,0 +1,11 @@
+pub mod Line
+pub mod Keep
+pub mod Entering
+pub mod Turn
+pub mod Closing
+pub mod End
+pub mod Following
+pub mod Shutting
+pub mod Running
+pub mod Scan
+pub mod Tested

@@ -1,0 +1,4 @@
+pub mod Component
+pub mod Search
+pub mod Step
+pub mod Answer

@@ -1,0 +1,26 @@
+-- A reading step as two numbers: its reply, and the number beside it.
+use Prim.Native.Nat.{ℕ, min}
+use mathlib.Core.Path.{_≡_}
+use mathlib.Core.List.{List}
+use lib.ListN.{length}
+use lib.Seq.{sets}
+use Rattle.express.specs.Lexis as Lexis
+use Rattle.express.specs.Lexis.{Reading, at, refused, lexed, tokens}
+
+-- 0 for a new place or a count, else the number of the refusal
+abbrev pub reply : Reading → ℕ
+reply (at p) = 0
+reply (refused k p) = k
+
+-- the new place or the count; the place of the refusal, or the entries needed
+abbrev pub number : Reading → ℕ
+number (at p) = p
+number (refused k p) = p
+
+-- what `woffulent_scan` answers and leaves: the promise of `scan`, its step as two numbers
+pub record Scans (src k₀ s₀ z₀ : List ℕ) (r n : ℕ) (k s z : List ℕ) : Type 0 where
+  pub replies : r ≡ reply (tokens (lexed src) (min (length k₀) (min (length s₀) (length z₀))))
+  pub counts : n ≡ number (tokens (lexed src) (min (length k₀) (min (length s₀) (length z₀))))
+  pub kinds : k ≡ sets k₀ 0 (Lexis.kinds (lexed src))
+  pub starts : s ≡ sets s₀ 0 (Lexis.starts (lexed src))
+  pub lengths : z ≡ sets z₀ 0 (Lexis.sizes (lexed src))

@@ -1,0 +1,70 @@
+// The proved functions under the names by which Rust and C call them. A number passes as itself, a slice as a pointer and a
+// length; a reading step as its reply, returned, and its number, written to a place of the caller's.
+ghost use mathlib.Core.Path.{_≡_};
+ghost use lib.ListN.{length, take, drop};
+ghost use lib.Seq.{sets};
+ghost use Rattle.express.specs.Lexis.{integerValue, binaryValue};
+ghost use Rattle.express.specs.Terminal.{terminals};
+ghost use Rattle.literals.specs.Literal.{capped};
+ghost use Rattle.scan.specs.Scan.{reading};
+ghost use Rattle.exports.specs.Reply.{reply, number, Scans};
+
+fn reply_of(step: scan::Step) -> u8
+    ensures { λ r. ⌜ r ≡ reply (reading step) ⌝ }
+{
+    match step {
+        scan::Step::At(_) => 0,
+        scan::Step::Refused(k, _) => k,
+    }
+}
+
+fn number_of(step: scan::Step) -> usize
+    ensures { λ r. ⌜ r ≡ number (reading step) ⌝ }
+{
+    match step {
+        scan::Step::At(p) => p,
+        scan::Step::Refused(_, p) => p,
+    }
+}
+
+#[no_mangle]
+pub extern "C" fn woffulent_scan(
+    src: &[u8],
+    kinds: &mut [u8],
+    starts: &mut [u32],
+    lengths: &mut [u32],
+    count: &mut usize,
+) -> u8
+    ensures { λ r. ⌜ Scans (now (src .entry)) (now (kinds .entry)) (now (starts .entry)) (now (lengths .entry)) r (now (count .exit)) (now (kinds .exit)) (now (starts .exit)) (now (lengths .exit)) ⌝ }
+{
+    let step = scan::scan(src, kinds, starts, lengths);
+    *count = number_of(step);
+    reply_of(step)
+}
+
+#[no_mangle]
+pub extern "C" fn woffulent_integer(s: &[u8], start: usize, length: usize) -> u64
+    ensures { λ r. ⌜ r ≡ capped (integerValue (take length (drop start (now (s .entry))))) ⌝ }
+{
+    literals::integer(s, start, length)
+}
+
+#[no_mangle]
+pub extern "C" fn woffulent_binary(s: &[u8], start: usize, length: usize) -> u64
+    ensures { λ r. ⌜ r ≡ capped (binaryValue (take length (drop start (now (s .entry))))) ⌝ }
+{
+    literals::binary(s, start, length)
+}
+
+#[no_mangle]
+pub extern "C" fn woffulent_terminals(
+    src: &[u8],
+    kinds: &[u8],
+    starts: &[u32],
+    lengths: &[u32],
+    out: &mut [u8],
+)
+    ensures { λ _. ⌜ now (out .exit) ≡ sets (now (out .entry)) 0 (terminals (now (src .entry)) (now (kinds .entry)) (now (starts .entry)) (now (lengths .entry))) ⌝ }
+{
+    words::terminals(src, kinds, starts, lengths, out);
+}

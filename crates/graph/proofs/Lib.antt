@@ -1,0 +1,5 @@
+pub mod Store
+pub mod Busy
+pub mod Arcs
+pub mod Test
+pub mod Mark

@@ -1,0 +1,69 @@
+use Rattle.graph.proofs.inside.Statement.{statement}
+use Rattle.graph.proofs.inside.Tie as tie
+use Rattle.graph.proofs.inside.Reads as reads
+use Rattle.graph.proofs.inside.Lts as lts
+use Rattle.columns.proofs.index.Reads as index-reads
+use borrow.Author.Needs.{needs}
+use Rattle.graph.proofs.Test.{tells-no, tells-yes, inside-more}
+use lib.ListN.{length, getD}
+use Prim.Native.Nat.{ℕ, _+_, _-_, _≤_, _<_}
+use mathlib.Core.Path.{_≡_, refl}
+use native.Mathlib.Omega.{arith}
+
+abbrev Inv-loop : tie.InvT-loop
+Inv-loop to from end n e₀ e = (from ≤ e) × ((k : ℕ) → from ≤ k → k < e → getD to k 0 < n)
+
+abbrev μ-loop : tie.MeasureT-loop
+μ-loop to from end n e₀ e = end - e
+
+-- src/lib.rt:36:5
+loop-holds : tie.Need-loop-holds Inv-loop μ-loop
+loop-holds c = (omega arith, λ k f l. absurd (omega arith))
+
+-- src/lib.rt:37:32
+mul-index : tie.Need-mul-index Inv-loop μ-loop
+mul-index c = omega arith
+
+-- src/lib.rt:37:32
+shared-slice-read-index : tie.Need-shared-slice-read-index Inv-loop μ-loop
+shared-slice-read-index c = omega arith
+
+-- src/lib.rt:37:17
+index-requires : tie.Need-index-requires Inv-loop μ-loop
+index-requires c κs = search needs
+
+-- src/lib.rt:38:13
+returns : tie.Need-returns Inv-loop μ-loop
+returns c = tells-no refl (λ h. omega (arith, h (c .before .before .before .before .loop .e) (c .before .before .before .before .loop .inv .0) (c .before .before .before .loop-test .taken), c .before .index .ensures, c .if1 .taken))
+
+-- src/lib.rt:40:9
+add-e : tie.Need-add-e Inv-loop μ-loop
+add-e c = omega arith
+
+-- src/lib.rt:36:5
+loop-less : tie.Need-loop-less Inv-loop μ-loop
+loop-less c = omega arith
+
+-- src/lib.rt:36:5
+loop-again : tie.Need-loop-again Inv-loop μ-loop
+loop-again c = (omega arith, inside-more (c .before .before .before .before .before .before .args .to .now) (c .before .before .before .before .before .before .args .from) (c .before .before .before .before .loop .e) (c .before .before .before .before .before .before .args .n) _ (c .before .before .before .before .loop .inv .1) (c .before .index .ensures) (omega (arith, c .if1 .left)))
+
+-- src/lib.rt:31:1
+returns-2 : tie.Need-returns-2 Inv-loop μ-loop
+returns-2 c = tells-yes refl (λ k f l. c .before .loop .inv .1 k f (omega arith))
+
+pub inside-spec : {M : Type 1} → statement M
+inside-spec =
+    tie.close
+    (tie.spec
+    Inv-loop
+    μ-loop
+    loop-holds
+    mul-index
+    shared-slice-read-index
+    index-requires
+    returns
+    add-e
+    loop-less
+    loop-again
+    returns-2)

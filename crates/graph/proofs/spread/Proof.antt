@@ -1,0 +1,94 @@
+use Rattle.graph.proofs.spread.Statement.{statement}
+use Rattle.graph.proofs.spread.Tie as tie
+use Rattle.graph.proofs.spread.Reads as reads
+use Rattle.graph.proofs.spread.Lts as lts
+use Rattle.columns.proofs.clear32.Reads as clear32-reads
+use Rattle.columns.proofs.index.Reads as index-reads
+use Rattle.graph.proofs.expand.Reads as expand-reads
+use borrow.Author.Needs.{needs}
+use Rattle.graph.proofs.Store.{zeros}
+use Rattle.graph.proofs.Mark.{Front, markable-set, spread-start, front-start, front-ask, front-step, front-end, tail-low}
+use Rattle.graph.specs.Graph.{vertices}
+use Rattle.express.specs.Reach.{direct}
+use lib.ListN.{length, getD, length-set}
+use Prim.Native.Nat.{_+_, _-_, _*_}
+use mathlib.Core.Path.{_≡_, refl, sym, _∙_}
+use native.Mathlib.Omega.{arith}
+
+abbrev Inv-loop : tie.InvT-loop
+Inv-loop first to from mark₀ queue₀ tail₀ head₀ mark queue tail head = Front first to from mark₀ queue₀ mark queue tail head
+
+abbrev μ-loop : tie.MeasureT-loop
+μ-loop first to from mark₀ queue₀ tail₀ head₀ mark queue tail head = vertices first - head
+
+-- src/lib.rt:101:5
+clear32-requires : tie.Need-clear32-requires Inv-loop μ-loop
+clear32-requires c κs = search needs
+
+-- src/lib.rt:102:9
+expand-requires : tie.Need-expand-requires Inv-loop μ-loop
+expand-requires c κs = (spread-start (markable-set (c .before .before .before .before .before .before .before .before .before .before .pre) _ _ (c .before .before .before .before .clear32 .kept .0) refl) (zeros (c .before .before .before .before .before .before .before .before .before .before .args .mark .now) _ (c .before .before .before .before .clear32 .ensures)), (c .before .before .before .before .before .before .before .before .before .before .pre .source, λ w e. direct e))
+
+-- src/lib.rt:104:5
+loop-holds : tie.Need-loop-holds Inv-loop μ-loop
+loop-holds c = front-start (c .before .before .before .before .expand .ensures)
+
+-- src/lib.rt:105:32
+mul-index : tie.Need-mul-index Inv-loop μ-loop
+mul-index c = omega (arith, c .loop-test .taken, tail-low (c .before .loop .inv .spread), c .before .loop .inv .spread .markable .graph .small)
+
+-- src/lib.rt:105:32
+slice-read-index : tie.Need-slice-read-index Inv-loop μ-loop
+slice-read-index c = omega (arith, c .before .loop-test .taken, tail-low (c .before .before .loop .inv .spread), c .before .before .loop .inv .spread .markable .queue-room)
+
+-- src/lib.rt:105:13
+index-requires : tie.Need-index-requires Inv-loop μ-loop
+index-requires c κs = search needs
+
+-- src/lib.rt:106:9
+expand-requires-2 : tie.Need-expand-requires-2 Inv-loop μ-loop
+expand-requires-2 c κs = (c .before .before .before .before .before .loop .inv .spread, front-ask (c .before .before .before .before .before .loop .inv) _ (c .before .before .before .before .loop-test .taken) (c .before .before .index .ensures))
+
+-- src/lib.rt:107:9
+add-head : tie.Need-add-head Inv-loop μ-loop
+add-head c = omega (arith, c .before .before .before .before .before .before .before .before .before .loop-test .taken, tail-low (c .before .before .before .before .before .before .before .before .before .before .loop .inv .spread), c .before .before .before .before .before .before .before .before .before .before .loop .inv .spread .markable .graph .small)
+
+-- src/lib.rt:104:5
+loop-less : tie.Need-loop-less Inv-loop μ-loop
+loop-less c = omega (arith, c .before .before .before .before .before .before .before .before .before .loop-test .taken, tail-low (c .before .before .before .before .before .before .before .before .before .before .loop .inv .spread))
+
+-- src/lib.rt:104:5
+loop-again : tie.Need-loop-again Inv-loop μ-loop
+loop-again c = front-step (c .before .before .before .before .before .before .before .before .before .before .loop .inv) _ (c .before .before .before .before .before .before .before .before .before .loop-test .taken) (c .before .before .before .before .before .before .before .index .ensures) (c .before .before .before .before .expand2 .ensures) (c .before .before .before .before .expand2 .kept .1 .1 .1 .1 .0) (c .before .before .before .before .expand2 .kept .1 .1 .1 .1 .1 .0)
+
+-- src/lib.rt:97:1
+same-length : tie.Need-same-length Inv-loop μ-loop
+same-length c = omega (arith, c .before .loop .inv .mark-long, c .before .before .before .before .before .before .expand .kept .1 .1 .1 .1 .0, c .before .before .before .before .before .before .before .before .before .before .before .clear32 .kept .0)
+
+-- src/lib.rt:97:1
+same-length-2 : tie.Need-same-length-2 Inv-loop μ-loop
+same-length-2 c = omega (arith, c .before .loop .inv .queue-long, c .before .before .before .before .before .before .expand .kept .1 .1 .1 .1 .1 .0)
+
+-- src/lib.rt:97:1
+returns : tie.Need-returns Inv-loop μ-loop
+returns c = front-end (c .before .loop .inv) (c .loop-test .left)
+
+pub spread-spec : {M : Type 1} → statement M
+spread-spec =
+    tie.close
+    (tie.spec
+    Inv-loop
+    μ-loop
+    clear32-requires
+    expand-requires
+    loop-holds
+    mul-index
+    slice-read-index
+    index-requires
+    expand-requires-2
+    add-head
+    loop-less
+    loop-again
+    same-length
+    same-length-2
+    returns)

@@ -1,0 +1,133 @@
+// Directed graphs whose arcs stand grouped by source: the test of the two columns, and all that a vertex reaches.
+ghost use mathlib.Core.Path.{_≡_};
+ghost use mathlib.Core.Bool.{true, false};
+ghost use Prim.Native.Nat.{ℕ, _+_, _-_, _≤_, _<_};
+ghost use lib.ListN.{length, getD};
+ghost use Rattle.express.specs.Reach.{Reaches};
+ghost use Rattle.graph.specs.Graph.{vertices, Graph, Arc, Tells};
+ghost use Rattle.graph.specs.Mark.{Markable, Marks, Answers, Spread, Expanded};
+
+pub enum Marking {
+    Marked,
+    Malformed,
+}
+
+// Do the offsets never fall? (There are n + 1 of them.)
+fn rising(first: &[u32], n: usize) -> bool
+    requires { ⌜ length (now first) ≡ n + 1 ⌝ }
+    ensures { λ r. ⌜ Tells ((v : ℕ) → v < n → getD (now (first .entry)) v 0 ≤ getD (now (first .entry)) (v + 1) 0) r ⌝ }
+{
+    let mut v = 0;
+    while v < n {
+        if first[v + 1] < first[v] {
+            return false;
+        }
+        v += 1;
+    }
+    true
+}
+
+// Are the targets from one place up to another below n?
+fn inside(to: &[u32], from: usize, end: usize, n: usize) -> bool
+    requires { ⌜ end ≤ length (now to) ⌝ }
+    ensures { λ r. ⌜ Tells ((e : ℕ) → from ≤ e → e < end → getD (now (to .entry)) e 0 < n) r ⌝ }
+{
+    let mut e = from;
+    while e < end {
+        if n <= columns::index(to[e]) {
+            return false;
+        }
+        e += 1;
+    }
+    true
+}
+
+// Are the two columns a graph?
+pub fn valid(first: &[u32], to: &[u32]) -> bool
+    ensures { λ r. ⌜ Tells (Graph (now (first .entry)) (now (to .entry))) r ⌝ }
+{
+    if first.len() == 0 {
+        return false;
+    }
+    let n = first.len() - 1;
+    if 65536 < n {
+        return false;
+    }
+    if !rising(first, n) {
+        return false;
+    }
+    let end = columns::index(first[n]);
+    if to.len() < end {
+        return false;
+    }
+    inside(to, columns::index(first[0]), end, n)
+}
+
+// Marks the targets of u's arcs, and puts those that are new into the queue.
+// (The vertex that the search goes from is there for the contract.)
+fn expand(
+    first: &[u32],
+    to: &[u32],
+    from: usize,
+    u: usize,
+    mark: &mut [u32],
+    queue: &mut [u32],
+    tail: usize,
+) -> usize
+    requires { ⌜ Spread (now first) (now to) from (now mark) (now queue) tail ⌝ }
+    requires { ⌜ (u < vertices (now first)) × ((w : ℕ) → Arc (now first) (now to) u w → Reaches (Arc (now first) (now to)) from w) ⌝ }
+    ensures { λ r. ⌜ Expanded (now (first .entry)) (now (to .entry)) from u (now (mark .entry)) (now (queue .entry)) tail (now (mark .exit)) (now (queue .exit)) r ⌝ }
+{
+    let mut e = columns::index(first[u]);
+    let end = columns::index(first[u + 1]);
+    let mut t = tail;
+    while e < end {
+        let w = columns::index(to[e]);
+        if mark[w] == 0 {
+            mark[w] = 1;
+            queue[t] = w as u32;
+            t += 1;
+        }
+        e += 1;
+    }
+    t
+}
+
+// Marks all that is reached, where there is room.
+fn spread(first: &[u32], to: &[u32], from: usize, mark: &mut [u32], queue: &mut [u32])
+    requires { ⌜ Markable (now first) (now to) from (now mark) (now queue) ⌝ }
+    ensures { λ _. ⌜ Marks (now (first .entry)) (now (to .entry)) from (now (mark .exit)) ⌝ }
+{
+    columns::clear32(mark, 0);
+    let mut tail = expand(first, to, from, from, mark, queue, 0);
+    let mut head = 0;
+    while head < tail {
+        let u = columns::index(queue[head]);
+        tail = expand(first, to, from, u, mark, queue, tail);
+        head += 1;
+    }
+}
+
+// Marks all that a vertex reaches over one or more arcs.
+pub fn reachable(
+    first: &[u32],
+    to: &[u32],
+    from: usize,
+    mark: &mut [u32],
+    queue: &mut [u32],
+) -> Marking
+    ensures { λ r. ⌜ Answers (now (first .entry)) (now (to .entry)) from (now (mark .entry)) (now (queue .entry)) (now (mark .exit)) (now (queue .exit)) r ⌝ }
+{
+    if !valid(first, to) {
+        return Marking::Malformed;
+    }
+    let n = first.len() - 1;
+    if n <= from {
+        return Marking::Malformed;
+    }
+    if columns::shorter(mark.len(), queue.len()) < n {
+        return Marking::Malformed;
+    }
+    spread(first, to, from, mark, queue);
+    Marking::Marked
+}

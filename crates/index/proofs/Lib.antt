@@ -1,0 +1,4 @@
+pub mod Search
+pub mod Entries
+pub mod Spellings
+pub mod Interning

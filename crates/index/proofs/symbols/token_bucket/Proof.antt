@@ -1,0 +1,45 @@
+-- `index::symbols::token_bucket` meets its contract: the part of the bytes is the token's spelling. Assumes nothing.
+use borrow.Author.Needs.{needs}
+use Rattle.index.proofs.symbols.token_bucket.Statement.{statement}
+use Rattle.index.proofs.symbols.token_bucket.Tie as tie
+use Rattle.index.proofs.Interning.{in-bucket}
+use Rattle.index.proofs.Spellings.{part-spelling}
+use Rattle.index.specs.Bucket.{hashFrom}
+use mathlib.Core.Path.{_∙_, ap}
+
+begin-requires : tie.Need-begin-requires
+begin-requires c κs = search needs
+
+end-requires : tie.Need-end-requires
+end-requires c κs = search needs
+
+sub-hash : tie.Need-sub-hash
+sub-hash c = search needs
+
+part-hash-start : tie.Need-part-hash-start
+part-hash-start c = search needs
+
+part-hash-end : tie.Need-part-hash-end
+part-hash-end c = search needs
+
+hash-requires : tie.Need-hash-requires
+hash-requires c κs = search needs
+
+bucket-requires : tie.Need-bucket-requires
+bucket-requires c κs = search needs
+
+returns : tie.Need-returns
+returns c = let s = c .before .before .before .before .before .before .before .before in in-bucket (c .bucket .ensures) (c .before .hash .ensures ∙ ap (hashFrom 0) (part-spelling (s .args .bytes .now) (s .args .starts .now) (s .args .lengths .now) (s .args .i) _ _ (c .before .before .before .before .begin .ensures) (c .before .before .before .end .ensures)))
+
+pub token-bucket-spec : {M : Type 1} → statement M
+token-bucket-spec =
+    tie.close
+    (tie.spec
+    begin-requires
+    end-requires
+    sub-hash
+    part-hash-start
+    part-hash-end
+    hash-requires
+    bucket-requires
+    returns)

@@ -1,0 +1,53 @@
+// Names as numbers, in expected linear time: interning of spellings, and a dictionary over keys. Both keep chains in
+// lent scratch: a number falls into one of the buckets, as many as `heads` is long; `heads` holds where a bucket's chain
+// begins, `next` how it goes on; a link is an entry plus one, and 0 ends a chain.
+pub mod dictionary;
+pub mod symbols;
+
+ghost use mathlib.Core.Path.{_≡_};
+ghost use Prim.Native.Nat.{_<_};
+ghost use Rattle.index.specs.Bucket.{mixed, InBucket};
+ghost use Rattle.index.specs.Room.{fits};
+
+// Whether the scratch and the columns had room for the work.
+pub enum Outcome {
+    Done,
+    Short,
+}
+
+// Does the scratch have room for chains of so many entries?
+fn scratch(count: usize, heads: usize, next: usize) -> bool
+    ensures { λ r. ⌜ r ≡ fits count heads next ⌝ }
+{
+    if heads == 0 {
+        return false;
+    }
+    if next < count {
+        return false;
+    }
+    count < 4294967295
+}
+
+// An entry, or a link, as it is stored.
+fn number(x: usize) -> u32
+    requires { ⌜ x < 4294967296 ⌝ }
+    ensures { λ r. ⌜ r ≡ x ⌝ }
+{
+    x as u32
+}
+
+// A number of 32 bits, in each of which all of x has a say.
+fn mix(x: u64) -> u64
+    ensures { λ r. ⌜ r ≡ mixed x ⌝ }
+{
+    let once = (x % 4294967296 + x / 4294967296) % 4294967296 * 2654435761 % 4294967296;
+    (once + once / 32768) % 4294967296 * 2246822519 % 4294967296
+}
+
+// The bucket that a number falls into.
+fn bucket(x: u64, buckets: usize) -> usize
+    requires { ⌜ 0 < buckets ⌝ }
+    ensures { λ r. ⌜ InBucket buckets x r ⌝ }
+{
+    (mix(x) % (buckets as u64)) as usize
+}

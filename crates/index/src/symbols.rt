@@ -1,0 +1,185 @@
+// Interning: for each token the least token that is spelled alike, letters without case.
+ghost use mathlib.Core.Path.{_≡_};
+ghost use mathlib.Core.List.{map};
+ghost use Prim.Native.Nat.{_+_, _<_, _≤_, min};
+ghost use lib.ListN.{length, getD};
+ghost use Rattle.express.specs.Bytes.{lower};
+ghost use Rattle.express.specs.Spelling.{same, spelling, symbolOf};
+ghost use Rattle.index.specs.Bucket.{InBucket, hashFrom};
+ghost use Rattle.index.specs.Room.{enough};
+ghost use Rattle.index.specs.Interning.{Linked, Fills, Readied, Interns};
+use crate::Outcome;
+use crate::bucket;
+use crate::number;
+use crate::scratch;
+use columns::clear32;
+use columns::index;
+use columns::shorter;
+
+// A letter in lower case.
+fn lower_case(b: u8) -> u8
+    ensures { λ r. ⌜ r ≡ lower b ⌝ }
+{
+    if b < 65 {
+        return b;
+    }
+    if 90 < b {
+        return b;
+    }
+    b + 32
+}
+
+fn wide(b: u8) -> u64
+    ensures { λ r. ⌜ r ≡ b ⌝ }
+{
+    b as u64
+}
+
+// A number for a spelling.
+fn hash(word: &[u8]) -> u64
+    ensures { λ r. ⌜ r ≡ hashFrom 0 (map lower (now (word .entry))) ⌝ }
+{
+    let mut h: u64 = 0;
+    let mut i = 0;
+    while i < word.len() {
+        h = (h * 31 + wide(lower_case(word[i]))) % 4294967296;
+        i += 1;
+    }
+    h
+}
+
+// Are two words spelled alike?
+fn alike(a: &[u8], b: &[u8]) -> bool
+    ensures { λ r. ⌜ r ≡ same (map lower (now (a .entry))) (map lower (now (b .entry))) ⌝ }
+{
+    if a.len() != b.len() {
+        return false;
+    }
+    let mut i = 0;
+    while i < a.len() {
+        if lower_case(a[i]) != lower_case(b[i]) {
+            return false;
+        }
+        i += 1;
+    }
+    true
+}
+
+// Where a token begins and ends, as far as it lies in the bytes.
+fn begin(bytes: &[u8], starts: &[u32], i: usize) -> usize
+    requires { ⌜ i < length (now starts) ⌝ }
+    ensures { λ r. ⌜ r ≡ min (getD (now (starts .entry)) i 0) (length (now (bytes .entry))) ⌝ }
+{
+    shorter(index(starts[i]), bytes.len())
+}
+
+fn end(bytes: &[u8], starts: &[u32], lengths: &[u32], i: usize) -> usize
+    requires { ⌜ (i < length (now starts)) × (i < length (now lengths)) ⌝ }
+    ensures { λ r. ⌜ r ≡ min (getD (now (starts .entry)) i 0 + getD (now (lengths .entry)) i 0) (length (now (bytes .entry))) ⌝ }
+{
+    shorter(index(starts[i]) + index(lengths[i]), bytes.len())
+}
+
+// The bucket of a token's spelling.
+fn token_bucket(bytes: &[u8], starts: &[u32], lengths: &[u32], i: usize, buckets: usize) -> usize
+    requires { ⌜ (i < length (now starts)) × (i < length (now lengths)) × (0 < buckets) ⌝ }
+    ensures { λ r. ⌜ InBucket buckets (hashFrom 0 (spelling (now (bytes .entry)) (now (starts .entry)) (now (lengths .entry)) i)) r ⌝ }
+{
+    let from = begin(bytes, starts, i);
+    let to = end(bytes, starts, lengths, i);
+    bucket(hash(&bytes[from..to]), buckets)
+}
+
+// Is token k spelled like a word?
+fn spelled(bytes: &[u8], starts: &[u32], lengths: &[u32], k: usize, word: &[u8]) -> bool
+    requires { ⌜ (k < length (now starts)) × (k < length (now lengths)) ⌝ }
+    ensures { λ r. ⌜ r ≡ same (spelling (now (bytes .entry)) (now (starts .entry)) (now (lengths .entry)) k) (map lower (now (word .entry))) ⌝ }
+{
+    let from = begin(bytes, starts, k);
+    let to = end(bytes, starts, lengths, k);
+    alike(&bytes[from..to], word)
+}
+
+// The least token that is spelled like token i, among those on its bucket's chain; i, where there is none.
+fn least(bytes: &[u8], starts: &[u32], lengths: &[u32], next: &[u32], head: u32, i: usize) -> usize
+    requires { ⌜ Linked (now bytes) (now starts) (now lengths) (now next) head i ⌝ }
+    ensures { λ r. ⌜ r ≡ symbolOf (now (bytes .entry)) (now (starts .entry)) (now (lengths .entry)) i ⌝ }
+{
+    let from = begin(bytes, starts, i);
+    let to = end(bytes, starts, lengths, i);
+    let word = &bytes[from..to];
+    let mut link = index(head);
+    while 0 < link {
+        let k = link - 1;
+        if spelled(bytes, starts, lengths, k, word) {
+            return k;
+        }
+        link = index(next[k]);
+    }
+    i
+}
+
+// The symbol of each token, in text order. Only the first token of a spelling goes on a chain, so that a chain is as
+// long as the spellings of its bucket.
+fn fill(
+    bytes: &[u8],
+    starts: &[u32],
+    lengths: &[u32],
+    symbols: &mut [u32],
+    heads: &mut [u32],
+    next: &mut [u32],
+)
+    requires { ⌜ Readied (now starts) (now lengths) (now symbols) (now heads) (now next) ⌝ }
+    ensures { λ _. ⌜ Fills (now (bytes .entry)) (now (starts .entry)) (now (lengths .entry)) (now (symbols .entry)) (now (symbols .exit)) ⌝ }
+{
+    let mut i = 0;
+    while i < starts.len() {
+        let b = token_bucket(bytes, starts, lengths, i, heads.len());
+        let head = heads[b];
+        let symbol = least(bytes, starts, lengths, next, head, i);
+        symbols[i] = number(symbol);
+        next[i] = head;
+        if symbol == i {
+            heads[b] = number(i + 1);
+        }
+        i += 1;
+    }
+}
+
+// Is there room for so many symbols?
+fn room(starts: usize, lengths: usize, symbols: usize, heads: usize, next: usize) -> bool
+    ensures { λ r. ⌜ r ≡ enough starts lengths symbols heads next ⌝ }
+{
+    if lengths < starts {
+        return false;
+    }
+    if symbols < starts {
+        return false;
+    }
+    scratch(starts, heads, next)
+}
+
+// Stores each token's symbol. What `heads` and `next` then hold is left free.
+pub fn intern(
+    bytes: &[u8],
+    starts: &[u32],
+    lengths: &[u32],
+    symbols: &mut [u32],
+    heads: &mut [u32],
+    next: &mut [u32],
+) -> Outcome
+    ensures { λ r. ⌜ Interns (now (bytes .entry)) (now (starts .entry)) (now (lengths .entry)) (now (symbols .entry)) (now (heads .entry)) (now (next .entry)) r (now (symbols .exit)) ⌝ }
+{
+    if !room(
+        starts.len(),
+        lengths.len(),
+        symbols.len(),
+        heads.len(),
+        next.len(),
+    ) {
+        return Outcome::Short;
+    }
+    clear32(heads, 0);
+    fill(bytes, starts, lengths, symbols, heads, next);
+    Outcome::Done
+}

@@ -1,0 +1,5 @@
+pub mod Arithmetic
+pub mod Calls
+pub mod Machine
+pub mod Powers
+pub mod Sums

@@ -1,0 +1,91 @@
+-- Numerals: what one digit more does, and the bound of 63 bits. Assumes nothing.
+use mathlib.Core.Path.{_≡_, refl, ap, _∙_}
+use mathlib.Core.List.{List, [], _∷_}
+use Prim.Native.Nat.{ℕ, suc, _+_, _-_, _*_, _/_, _≤_, _<_}
+use native.Mathlib.Omega.{arith}
+use native.Mathlib.Nat.{le-refl, le-trans, le-div-iff-mul-le, le-mul-of-pos-right}
+use native.Mathlib.Decide.{decLt}
+use lib.ListN.{length, take, drop, getD}
+use lib.Seq.{take-nil}
+use Rattle.express.specs.Lexis.{numeral, integerValue, binaryValue}
+use Rattle.literals.specs.Literal.{capped}
+use lib.Seq.{drop-cons}
+use lib.ListN.{drop-of-length-le}
+use native.Mathlib.Numerals.{add-one}
+
+abbrev pub most : ℕ
+most = 9223372036854775807
+
+at-cons : (s : List ℕ) (i : ℕ) → i < length s → drop i s ≡ getD s i 0 ∷ drop (i + 1) s
+at-cons s i h = rw (add-one, drop-cons s i 0)
+
+-- a part, one byte shorter
+pub part-more : (s : List ℕ) (i left : ℕ) → i < length s → (left ≡ 0 → ⊥) → take left (drop i s) ≡ getD s i 0 ∷ take (left - 1) (drop (i + 1) s)
+part-more s i left h n =
+    let one : left ≡ suc (left - 1) = omega (arith, n) in
+    ap (λ (k : ℕ). take k (drop i s)) one ∙ ap (take (suc (left - 1))) (at-cons s i h)
+
+pub part-over : (s : List ℕ) (i left : ℕ) → length s ≤ i → take left (drop i s) ≡ []
+part-over s i left h = ap (take left) (drop-of-length-le s h) ∙ take-nil left
+
+module _ (base : ℕ) (pos : 0 < base) where
+  -- the test for one digit more is exact
+  pub digit-over : (v d : ℕ) → d ≤ 255 → (most - d) / base < v → most < v * base + d
+  digit-over v d small h = go (decLt most (v * base + d))
+    where
+      go : Dec (most < v * base + d) → most < v * base + d
+      go (yes l) = l
+      go (no n) =
+          let fits : v * base ≤ most - d = omega (arith, n, small) in
+          let back : v ≤ (most - d) / base = le-div-iff-mul-le pos .1 fits in
+          absurd (omega (arith, back, h))
+
+  pub digit-fits : (v d : ℕ) → d ≤ 255 → v ≤ (most - d) / base → v * base + d ≤ most
+  digit-fits v d small h = let fits : v * base ≤ most - d = le-div-iff-mul-le pos .0 h in omega (arith, fits, small)
+
+  -- a numeral only grows
+  numeral-grows : (v : ℕ) (t : List ℕ) → v ≤ numeral base v t
+  unfolding numeral
+  numeral-grows v [] = le-refl v
+  numeral-grows v (b ∷ t) = le-trans (omega (arith, le-mul-of-pos-right v pos)) (numeral-grows (v * base + (b - 48)) t)
+
+  pub capped-over : (v : ℕ) (t : List ℕ) → most < v → 9223372036854775808 ≡ capped (numeral base v t)
+  capped-over v t h = omega (arith, h, numeral-grows v t)
+
+pub capped-fits : (v : ℕ) → v ≤ most → v ≡ capped v
+capped-fits v h = omega (arith, h)
+
+-- what is still to come of a part, after digits that stand for v
+abbrev pub coming : ℕ → List ℕ → ℕ → ℕ → ℕ → ℕ
+coming base s i left v = numeral base v (take left (drop i s))
+
+module _ (base : ℕ) (s : List ℕ) (i left v : ℕ) where
+  pub numeral-none : left ≡ 0 → coming base s i left v ≡ v
+  unfolding numeral
+  numeral-none h = rw h
+
+  pub numeral-over : length s ≤ i → coming base s i left v ≡ v
+  unfolding numeral
+  numeral-over h = rw (part-over s i left h)
+
+  pub numeral-more : (d : ℕ) → i < length s → (left ≡ 0 → ⊥) → d ≡ getD s i 0 - 48 → coming base s i left v ≡ coming base s (i + 1) (left - 1) (v * base + d)
+  unfolding numeral
+  numeral-more d h n e = rw (part-more s i left h n, e)
+
+-- a literal's token, its first byte passed over
+module _ (s : List ℕ) (i n : ℕ) where
+  pub integer-is : capped (coming 10 s i n 0) ≡ capped (integerValue (take n (drop i s)))
+  unfolding integerValue
+  integer-is = refl
+
+  pub binary-over : length s ≤ i → 0 ≡ capped (binaryValue (take n (drop i s)))
+  unfolding binaryValue numeral
+  binary-over h = rw (part-over s i n h)
+
+  pub binary-none : n ≡ 0 → 0 ≡ capped (binaryValue (take n (drop i s)))
+  unfolding binaryValue numeral
+  binary-none h = rw h
+
+  pub binary-is : i < length s → (n ≡ 0 → ⊥) → capped (coming 2 s (i + 1) (n - 1) 0) ≡ capped (binaryValue (take n (drop i s)))
+  unfolding binaryValue
+  binary-is h k = rw (part-more s i n h k)

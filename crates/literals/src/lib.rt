@@ -1,0 +1,58 @@
+// The values of integer and binary literals, from the bytes of their tokens.
+ghost use mathlib.Core.Path.{_≡_};
+ghost use Prim.Native.Nat.{_-_, _≤_, _<_};
+ghost use lib.ListN.{take, drop};
+ghost use Rattle.express.specs.Lexis.{numeral, integerValue, binaryValue};
+ghost use Rattle.literals.specs.Literal.{capped};
+
+fn digit(b: u8) -> u64
+    ensures { λ r. ⌜ (r ≡ b - 48) × (r ≤ 255) ⌝ }
+{
+    if b < 48 {
+        return 0;
+    }
+    (b - 48) as u64
+}
+
+// The number that bytes stand for in a base, as far as 2 to the 63.
+fn numeral_of(s: &[u8], start: usize, length: usize, base: u64) -> u64
+    requires { ⌜ (0 < base) × (base ≤ 10) ⌝ }
+    ensures { λ r. ⌜ r ≡ capped (numeral base 0 (take length (drop start (now (s .entry))))) ⌝ }
+{
+    let mut i = start;
+    let mut left = length;
+    let mut v: u64 = 0;
+    while i < s.len() {
+        if left == 0 {
+            return v;
+        }
+        let d = digit(s[i]);
+        if v > (9223372036854775807 - d) / base {
+            return 9223372036854775808;
+        }
+        v = v * base + d;
+        i += 1;
+        left -= 1;
+    }
+    v
+}
+
+// The value of the integer literal that lies from a start on, as far as 2 to the 63, which no literal of the language reaches.
+pub fn integer(s: &[u8], start: usize, length: usize) -> u64
+    ensures { λ r. ⌜ r ≡ capped (integerValue (take length (drop start (now (s .entry))))) ⌝ }
+{
+    numeral_of(s, start, length, 10)
+}
+
+// The bits of a binary literal as a number, its `%` passed over; there are as many as the token has bytes after that.
+pub fn binary(s: &[u8], start: usize, length: usize) -> u64
+    ensures { λ r. ⌜ r ≡ capped (binaryValue (take length (drop start (now (s .entry))))) ⌝ }
+{
+    if start >= s.len() {
+        return 0;
+    }
+    if length == 0 {
+        return 0;
+    }
+    numeral_of(s, start + 1, length - 1, 2)
+}

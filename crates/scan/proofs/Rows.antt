@@ -1,0 +1,160 @@
+-- The loop over tokens: the rows that are still to come, over the columns as they stand, give what all the rows give over the columns as they were.
+use mathlib.Core.Path.{_≡_, refl, sym, ap, ap₂, _∙_, subst}
+use mathlib.Core.Bool.{cond}
+use lib.Dec.{leb}
+use mathlib.Core.List.{List}
+use Prim.Native.Nat.{ℕ, suc, _+_, _-_, _<_, _≤_, min}
+use native.Mathlib.Omega.{arith}
+use native.Mathlib.Numerals.{add-one}
+use native.Mathlib.Nat.{add-zero}
+use lib.ListN.{length, set, length-set}
+use lib.Seq.{sets}
+use borrow.Author.Tests.{lt-ltb, le-ltb, le-leb, lt-leb}
+use Rattle.express.specs.Lexis.{Reading, at, refused, skipped, kindAt, tokenEnd, Lexed, stopped, cons, afterSkip, afterToken, lexIn, lexed, kinds, starts, sizes, counted, tokens}
+use Rattle.express.proofs.Places.{inside-at, skip-inside, token-inside}
+use Rattle.scan.specs.Scan.{reading, ended, Filled, Scanned}
+use Rattle.scan.specs.declared.Step.{Step}
+use Rattle.scan.specs.declared.Step.the-variants.{At, Refused}
+
+-- n rows are written and p is reached; what is left from there, in enough turns, completes them
+pub record Progress (src k₀ s₀ z₀ k s z : List ℕ) (n p : ℕ) : Type 0 where
+  pub inside : p ≤ length src
+  pub fewer : n ≤ p
+  pub kept-kinds : length k ≡ length k₀
+  pub kept-starts : length s ≡ length s₀
+  pub kept-lengths : length z ≡ length z₀
+  pub left : Lexed
+  pub is : lexIn (suc (length src - n)) src p ≡ left
+  pub stop : left .stop ≡ lexed src .stop
+  pub count : n + length (left .rows) ≡ length (lexed src .rows)
+  pub kinds-are : sets k n (kinds left) ≡ sets k₀ 0 (kinds (lexed src))
+  pub starts-are : sets s n (starts left) ≡ sets s₀ 0 (starts (lexed src))
+  pub sizes-are : sets z n (sizes left) ≡ sets z₀ 0 (sizes (lexed src))
+
+-- a longer text is refused at once
+pub too-long : (src k s z : List ℕ) → 65536 < length src → Filled (lexed src) k s z (Refused 1 65536) k s z
+unfolding lexed
+too-long src k s z h = rw (lt-leb _ _ h) (record { is = refl; kinds = refl; starts = refl; lengths = refl })
+
+pub progress-first : (src k s z : List ℕ) → length src ≤ 65536 → Progress src k s z k s z 0 0
+unfolding lexed
+progress-first src k s z h = record {
+  inside = omega arith;
+  fewer = omega arith;
+  kept-kinds = refl;
+  kept-starts = refl;
+  kept-lengths = refl;
+  left = lexed src;
+  is = rw (le-leb _ _ h) (ap (λ (f : ℕ). lexIn f src 0) (omega arith));
+  stop = refl;
+  count = omega arith;
+  kinds-are = refl;
+  starts-are = refl;
+  sizes-are = refl;
+}
+
+module _ {src k₀ s₀ z₀ k s z : List ℕ} {n p : ℕ} (c : Progress src k₀ s₀ z₀ k s z n p) where
+  -- nothing is left but the stop
+  ends : (e : Reading) (r : Step) → lexIn (suc (length src - n)) src p ≡ stopped e → reading r ≡ ended e n → Filled (lexed src) k₀ s₀ z₀ r k s z
+  ends e r l r-is =
+      let l-is : c .left ≡ stopped e = sym (c .is) ∙ l in
+      record {
+        is = r-is ∙ ap₂ ended (ap (λ (x : Lexed). x .stop) (sym l-is) ∙ c .stop) (sym (add-zero n) ∙ ap (λ (x : Lexed). n + length (x .rows)) (sym l-is) ∙ c .count);
+        kinds = ap (λ (x : Lexed). sets k n (kinds x)) (sym l-is) ∙ c .kinds-are;
+        starts = ap (λ (x : Lexed). sets s n (starts x)) (sym l-is) ∙ c .starts-are;
+        lengths = ap (λ (x : Lexed). sets z n (sizes x)) (sym l-is) ∙ c .sizes-are;
+      }
+
+  module _ (step : Step) (is : reading step ≡ skipped src p) where
+    pub skip-refused : {m o : ℕ} → step ≡ Refused m o → Filled (lexed src) k₀ s₀ z₀ step k s z
+    unfolding lexIn
+    skip-refused {m} {o} e =
+        ends (refused m o) step
+        (ap (λ (x : Reading). afterSkip src x (λ q. lexIn (length src - n) src q)) (sym is ∙ ap reading e))
+        (ap reading e)
+
+    module _ {q : ℕ} (at-q : step ≡ At q) where
+      after : lexIn (suc (length src - n)) src p ≡ afterSkip src (at q) (λ r. lexIn (length src - n) src r)
+      unfolding lexIn
+      after = ap (λ (x : Reading). afterSkip src x (λ r. lexIn (length src - n) src r)) (sym is ∙ ap reading at-q)
+
+      pub all-read : length src ≤ q → Filled (lexed src) k₀ s₀ z₀ (At n) k s z
+      all-read h = ends (at q) (At n) (after ∙ rw (le-ltb q (length src) h)) refl
+
+      module _ (h : q < length src) {kind : ℕ} (kind-is : kind ≡ kindAt src q) (end : Step) (end-is : reading end ≡ tokenEnd src q kind) where
+        token-of : lexIn (suc (length src - n)) src p ≡ afterToken kind q (reading end) (λ r. lexIn (length src - n) src r)
+        token-of = after ∙ rw (lt-ltb q (length src) h, ← kind-is, end-is)
+
+        pub token-refused : {m o : ℕ} → end ≡ Refused m o → Filled (lexed src) k₀ s₀ z₀ end k s z
+        token-refused {m} {o} e =
+            ends (refused m o) end
+            (token-of ∙ ap (λ (x : Step). afterToken kind q (reading x) (λ r. lexIn (length src - n) src r)) e)
+            (ap reading e)
+
+        module _ {e : ℕ} (at-e : end ≡ At e) where
+          -- where the token lies
+          pub places : (n ≤ q) × (p ≤ q) × (q < e) × (e ≤ length src)
+          places =
+              let a = inside-at (sym is ∙ ap reading at-q) (skip-inside src p (c .inside)) in
+              let t = inside-at (sym (end-is ∙ ap (tokenEnd src q) kind-is) ∙ ap reading at-e) (token-inside src q h) in
+              (omega (arith, a .0, c .fewer), a .0, omega (arith, t .0), t .1)
+
+          pub row-read : {k′ s′ z′ : List ℕ} → k′ ≡ set k n kind → s′ ≡ set s n q → z′ ≡ set z n (e - q) → Progress src k₀ s₀ z₀ k′ s′ z′ (n + 1) e
+          row-read k-is s-is z-is = rw (k-is, s-is, z-is) row
+            where
+              rest : Lexed
+              rest = lexIn (length src - n) src e
+
+              l-is : c .left ≡ cons (record { kind = kind; start = q; size = e - q }) rest
+              l-is = sym (c .is) ∙ token-of ∙ ap (λ (x : Step). afterToken kind q (reading x) (λ r. lexIn (length src - n) src r)) at-e
+
+              row : Progress src k₀ s₀ z₀ (set k n kind) (set s n q) (set z n (e - q)) (n + 1) e
+              row = record {
+                inside = places .3;
+                fewer = omega (arith, places .0, places .2);
+                kept-kinds = length-set k n kind ∙ c .kept-kinds;
+                kept-starts = length-set s n q ∙ c .kept-starts;
+                kept-lengths = length-set z n (e - q) ∙ c .kept-lengths;
+                left = rest;
+                is = ap (λ (f : ℕ). lexIn f src e) (omega (arith, places .0, places .2, places .3));
+                stop = ap (λ (x : Lexed). x .stop) (sym l-is) ∙ c .stop;
+                count = omega (arith, ap (λ (x : Lexed). length (x .rows)) l-is, c .count);
+                kinds-are = rw add-one (ap (λ (x : Lexed). sets k n (kinds x)) (sym l-is) ∙ c .kinds-are);
+                starts-are = rw add-one (ap (λ (x : Lexed). sets s n (starts x)) (sym l-is) ∙ c .starts-are);
+                sizes-are = rw add-one (ap (λ (x : Lexed). sets z n (sizes x)) (sym l-is) ∙ c .sizes-are);
+              }
+
+-- ---- the whole call: the room there is
+
+abbrev came : Reading → Type 0
+came (at q) = Unit {0}
+came (refused m o) = ⊥
+
+abbrev place-of : Reading → ℕ
+place-of (at q) = q
+place-of (refused m o) = 0
+
+refused-kept : (e : Reading) (m o n room : ℕ) → refused m o ≡ ended e n → refused m o ≡ counted e n room
+refused-kept (at q) m o n room h = absurd (subst came (sym h) tt)
+refused-kept (refused k p) m o n room h = h
+
+at-counted : (e : Reading) (m n room : ℕ) → at m ≡ ended e n → cond (leb m room) (at m) (refused 6 m) ≡ counted e n room
+at-counted (at q) m n room h = ap (λ (i : ℕ). cond (leb i room) (at i) (refused 6 i)) (ap place-of h)
+at-counted (refused k p) m n room h = absurd (subst came h tt)
+
+module _ {src k₀ s₀ z₀ k s z : List ℕ} {r : Step} (f : Filled (lexed src) k₀ s₀ z₀ r k s z) where
+  with-answer : (a : Step) → reading a ≡ tokens (lexed src) (min (length k₀) (min (length s₀) (length z₀))) → Scanned src k₀ s₀ z₀ a k s z
+  with-answer a e = record { is = e; kinds = f .kinds; starts = f .starts; lengths = f .lengths }
+
+  pub scan-refused : {m o : ℕ} → r ≡ Refused m o → Scanned src k₀ s₀ z₀ r k s z
+  unfolding tokens
+  scan-refused {m} {o} e = with-answer r (ap reading e ∙ refused-kept (lexed src .stop) m o (length (lexed src .rows)) _ (sym (ap reading e) ∙ f .is))
+
+  module _ {n room : ℕ} (e : r ≡ At n) (room-is : room ≡ min (length k₀) (min (length s₀) (length z₀))) where
+    pub scan-short : room < n → Scanned src k₀ s₀ z₀ (Refused 6 n) k s z
+    unfolding tokens
+    scan-short h = with-answer (Refused 6 n) (rw (← room-is) (sym (rw (lt-leb n room h)) ∙ at-counted (lexed src .stop) n (length (lexed src .rows)) room (sym (ap reading e) ∙ f .is)))
+
+    pub scan-fits : n ≤ room → Scanned src k₀ s₀ z₀ (At n) k s z
+    unfolding tokens
+    scan-fits h = with-answer (At n) (rw (← room-is) (sym (rw (le-leb n room h)) ∙ at-counted (lexed src .stop) n (length (lexed src .rows)) room (sym (ap reading e) ∙ f .is)))

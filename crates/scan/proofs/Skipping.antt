@@ -1,0 +1,73 @@
+-- Spaces and remarks: what one turn of the loop of `skip` does.
+use mathlib.Core.Path.{_≡_, sym, ap, _∙_}
+use mathlib.Core.Bool.{true, false}
+use mathlib.Core.List.{List}
+use Prim.Native.Nat.{ℕ, suc, _+_, _-_, _<_, _≤_}
+use native.Mathlib.Omega.{arith}
+use lib.ListN.{length, drop, getD}
+use Rattle.express.specs.Bytes.{space}
+use Rattle.express.specs.Lexis.{Reading, at, run, opens, dashes, inLine, remarkEnd, andThen, skipIn, skipped}
+use Rattle.express.proofs.Places.{past, inside-at, remark-low}
+use Rattle.scan.specs.Scan.{reading}
+use Rattle.scan.specs.declared.Step.{Step}
+use Rattle.scan.specs.declared.Step.the-variants.{At, Refused}
+
+-- what is still to come, from i on, is what is wanted; f turns are enough
+pub record Left (s : List ℕ) (i : ℕ) (want : Reading) : Type 0 where
+  pub turns : ℕ
+  pub enough : length s ≤ turns + i
+  pub is : skipIn (suc turns) s i ≡ want
+
+pub left-first : (s : List ℕ) (i : ℕ) → Left s i (skipped s i)
+unfolding skipped
+left-first s i = record { turns = length s; enough = omega arith; is = ap (λ (g : ℕ). skipIn g s i) (omega arith) }
+
+module _ (s : List ℕ) (i : ℕ) (want : Reading) (h : i < length s) (left : Left s i want) where
+  -- a turn that goes on at q
+  go-on : (q : ℕ) → i < q → ((f : ℕ) → skipIn (suc f) s i ≡ skipIn f s q) → Left s q want
+  go-on q l e =
+      let f : ℕ = left .turns in
+      let le : length s ≤ f + i = left .enough in
+      record { turns = f - 1; enough = omega arith; is = ap (λ (g : ℕ). skipIn g s q) (omega arith) ∙ sym (e f) ∙ left .is }
+
+  module _ (c : ℕ) (c-is : c ≡ getD s (i + 1) 0) where
+    abbrev b : ℕ
+    b = getD s i 0
+
+    pub left-space : space b ≡ true → Left s (i + 1) want
+    unfolding skipIn
+    left-space e = go-on (i + 1) (omega arith) (λ f. rw e)
+
+    pub left-line : space b ≡ false → dashes b c ≡ true → (q : ℕ) → q ≡ run inLine s (i + 2) → i < q → Left s q want
+    unfolding skipIn
+    left-line n d q is l = go-on q l (λ f. rw (← c-is, n, d, is))
+
+    module _ (n : space b ≡ false) (m : dashes b c ≡ false) where
+      pub left-stop : opens b c ≡ false → at i ≡ want
+      unfolding skipIn
+      left-stop o = sym (stops (left .turns)) ∙ left .is
+        where
+          stops : (f : ℕ) → skipIn (suc f) s i ≡ at i
+          stops f = rw (← c-is, n, m, o)
+
+      module _ (o : opens b c ≡ true) (r : Step) (is : reading r ≡ remarkEnd i 1 (i + 2) (drop (i + 2) s)) where
+        turn : (f : ℕ) → skipIn (suc f) s i ≡ andThen (reading r) (λ q. skipIn f s q)
+        unfolding skipIn
+        turn f = rw (← c-is, n, m, o, is)
+
+        pub left-refused : (k p : ℕ) → r ≡ Refused k p → reading r ≡ want
+        left-refused k p e = ap reading e ∙ sym (ap (λ (x : Step). andThen (reading x) (λ q. skipIn (left .turns) s q)) e) ∙ sym (turn (left .turns)) ∙ left .is
+
+        pub left-remark : (q : ℕ) → r ≡ At q → i < q → Left s q want
+        left-remark q e l = go-on q l (λ f. turn f ∙ ap (λ (x : Step). andThen (reading x) (λ q. skipIn f s q)) e)
+
+pub left-over : (s : List ℕ) (i : ℕ) (want : Reading) → length s ≤ i → Left s i want → at i ≡ want
+unfolding skipIn space
+left-over s i want h left = sym (over (left .turns)) ∙ left .is
+  where
+    over : (f : ℕ) → skipIn (suc f) s i ≡ at i
+    over f = rw (past s i h)
+
+-- a remark ends past its start
+pub remark-passes : (s : List ℕ) (i : ℕ) (r : Step) (q : ℕ) → reading r ≡ remarkEnd i 1 (i + 2) (drop (i + 2) s) → r ≡ At q → i < q
+remark-passes s i r q is e = omega (arith, inside-at (sym is ∙ ap reading e) (remark-low i 1 (i + 2) s) .0)

@@ -1,0 +1,117 @@
+-- What one turn of each reader's loop does to what the definition gives from there on.
+use mathlib.Core.Path.{_≡_, refl, ap, _∙_}
+use mathlib.Core.Bool.{Bool, true, false}
+use mathlib.Core.List.{List, [], _∷_}
+use Prim.Native.Nat.{ℕ, _+_, _<_, _-_, _≤_}
+use native.Mathlib.Numerals.{add-one}
+use native.Mathlib.Omega.{arith}
+use native.Mathlib.Decide.{decLt}
+use lib.ListN.{length, drop, getD, drop-of-length-le}
+use lib.Seq.{drop-cons}
+use borrow.Author.Tests.{eq-eqb, ne-eqb}
+use Rattle.express.specs.Bytes.{printable}
+use Rattle.express.specs.Lexis.{Reading, at, refused, runEnd, run, opens, closes, remarkEnd, stringEnd}
+
+module _ (s : List ℕ) (i : ℕ) where
+  pub at-cons : i < length s → drop i s ≡ getD s i 0 ∷ drop (i + 1) s
+  at-cons h = rw (add-one, drop-cons s i 0)
+
+  pub at-nil : length s ≤ i → drop i s ≡ []
+  at-nil h = drop-of-length-le s h
+
+pub at-two : (s : List ℕ) (i : ℕ) → i + 1 < length s → drop i s ≡ getD s i 0 ∷ getD s (i + 1) 0 ∷ drop (i + 2) s
+at-two s i h =
+    let two : i + 2 ≡ i + 1 + 1 = omega arith in
+    rw (two, at-cons s i (omega arith), at-cons s (i + 1) h)
+
+-- ---- runs
+
+module _ (f : ℕ → Bool) (s : List ℕ) (i : ℕ) where
+  pub run-more : i < length s → f (getD s i 0) ≡ true → run f s i ≡ run f s (i + 1)
+  unfolding runEnd
+  run-more h e = rw (at-cons s i h, e)
+
+  pub run-stop : i < length s → f (getD s i 0) ≡ false → run f s i ≡ i
+  unfolding runEnd
+  run-stop h e = rw (at-cons s i h, e)
+
+  pub run-over : length s ≤ i → run f s i ≡ i
+  unfolding runEnd
+  run-over h = rw (at-nil s i h)
+
+-- ---- remarks
+
+module _ (s : List ℕ) (i : ℕ) where
+  -- one byte at most is left
+  at-one : {A : Type 0} (f : List ℕ → A) (a : A) → f [] ≡ a → ((b : ℕ) → f (b ∷ []) ≡ a) → length s ≤ i + 1 → f (drop i s) ≡ a
+  at-one f a none one h = go (decLt i (length s))
+    where
+      go : Dec (i < length s) → f (drop i s) ≡ a
+      go (yes l) = ap f (at-cons s i l) ∙ ap (λ (t : List ℕ). f (getD s i 0 ∷ t)) (at-nil s (i + 1) h) ∙ one (getD s i 0)
+      go (no n) = ap f (at-nil s i (omega arith)) ∙ none
+
+  module _ (o d : ℕ) where
+    abbrev inside : ℕ → ℕ → Reading
+    inside k j = remarkEnd o k j (drop j s)
+
+    pub remark-over : length s ≤ i + 1 → inside d i ≡ refused 2 o
+    unfolding remarkEnd
+    remark-over h = at-one (remarkEnd o d i) (refused 2 o) refl (λ b. refl) h
+
+    module _ (h : i + 1 < length s) where
+      abbrev b : ℕ
+      b = getD s i 0
+
+      abbrev c : ℕ
+      c = getD s (i + 1) 0
+
+      pub remark-deeper : opens b c ≡ true → inside d i ≡ inside (d + 1) (i + 2)
+      unfolding remarkEnd
+      remark-deeper e = rw (at-two s i h, e)
+
+      pub remark-out : opens b c ≡ false → closes b c ≡ true → (d ≡ 1 → ⊥) → inside d i ≡ inside (d - 1) (i + 2)
+      unfolding remarkEnd
+      remark-out e f n = rw (at-two s i h, e, f, ne-eqb _ _ n)
+
+      pub remark-done : opens b c ≡ false → closes b c ≡ true → d ≡ 1 → inside d i ≡ at (i + 2)
+      unfolding remarkEnd
+      remark-done e f n = rw (at-two s i h, e, f, eq-eqb _ _ n)
+
+      pub remark-on : opens b c ≡ false → closes b c ≡ false → inside d i ≡ inside d (i + 1)
+      unfolding remarkEnd
+      remark-on e f = rw (at-cons s i (omega arith), at-cons s (i + 1) h, e, f)
+
+-- ---- strings
+
+module _ (s : List ℕ) (i o : ℕ) where
+  abbrev within-string : Bool → ℕ → Reading
+  within-string q k = stringEnd o q k (drop k s)
+
+  module _ (h : i < length s) where
+    pub string-shut : (getD s i 0 ≡ 39 → ⊥) → within-string true i ≡ at i
+    unfolding stringEnd
+    string-shut n = rw (at-cons s i h, ne-eqb _ _ n)
+
+    pub string-doubled : getD s i 0 ≡ 39 → within-string true i ≡ within-string false (i + 1)
+    unfolding stringEnd
+    string-doubled e = rw (at-cons s i h, eq-eqb _ _ e)
+
+    pub string-quote : getD s i 0 ≡ 39 → within-string false i ≡ within-string true (i + 1)
+    unfolding stringEnd
+    string-quote e = rw (at-cons s i h, eq-eqb _ _ e)
+
+    pub string-on : (getD s i 0 ≡ 39 → ⊥) → printable (getD s i 0) ≡ true → within-string false i ≡ within-string false (i + 1)
+    unfolding stringEnd
+    string-on n e = rw (at-cons s i h, ne-eqb _ _ n, e)
+
+    pub string-bad : (getD s i 0 ≡ 39 → ⊥) → printable (getD s i 0) ≡ false → within-string false i ≡ refused 2 o
+    unfolding stringEnd
+    string-bad n e = rw (at-cons s i h, ne-eqb _ _ n, e)
+
+  pub string-end : length s ≤ i → within-string true i ≡ at i
+  unfolding stringEnd
+  string-end h = rw (at-nil s i h)
+
+  pub string-open : length s ≤ i → within-string false i ≡ refused 2 o
+  unfolding stringEnd
+  string-open h = rw (at-nil s i h)

@@ -1,0 +1,22 @@
+use borrow.Author.Needs.{needs}
+use Rattle.scan.proofs.byte.Statement.{statement}
+use Rattle.scan.proofs.byte.Tie as tie
+use Rattle.scan.proofs.byte.Reads as reads
+use Rattle.scan.proofs.byte.Lts as lts
+use mathlib.Core.Path.{sym}
+use lib.ListN.{List·getD-eq-default}
+
+-- src/lib.rt:29:16
+shared-slice-read-result : tie.Need-shared-slice-read-result
+shared-slice-read-result c = search needs
+
+-- src/lib.rt:29:9
+returns : tie.Need-returns
+returns c = search needs
+
+-- src/lib.rt:25:1
+returns-2 : tie.Need-returns-2
+returns-2 c = sym (List·getD-eq-default (c .before .args .s .now) 0 (c .if1 .left))
+
+pub byte-spec : {M : Type 1} → statement M
+byte-spec = tie.close (tie.spec shared-slice-read-result returns returns-2)

@@ -1,0 +1,43 @@
+use borrow.Author.Needs.{needs}
+use Rattle.scan.proofs.exponent_digits.Statement.{statement}
+use Rattle.scan.proofs.exponent_digits.Tie as tie
+use Rattle.scan.proofs.exponent_digits.Reads as reads
+use Rattle.scan.proofs.exponent_digits.Lts as lts
+use Rattle.scan.proofs.byte.Reads as byte-reads
+use Rattle.scan.proofs.is_either.Reads as is-either-reads
+use mathlib.Core.Path.{sym, _∙_, ap}
+use lib.ListN.{getD}
+use Rattle.express.specs.Lexis.{either}
+
+-- src/lib.rt:214:34
+add-byte : tie.Need-add-byte
+add-byte c = search needs
+
+-- src/lib.rt:214:26
+byte-requires : tie.Need-byte-requires
+byte-requires c κs = search needs
+
+-- src/lib.rt:214:8
+is-either-requires : tie.Need-is-either-requires
+is-either-requires c κs = search needs
+
+-- src/lib.rt:215:16
+add-result : tie.Need-add-result
+add-result c = search needs
+
+-- src/lib.rt:215:9
+returns : tie.Need-returns
+returns c = rw (sym (c .before .is-either .ensures ∙ ap (either 43 45) (c .before .before .byte .ensures)) ∙ c .if1 .taken)
+
+-- src/lib.rt:217:5
+add-result-2 : tie.Need-add-result-2
+add-result-2 c = search needs
+
+-- src/lib.rt:210:1
+returns-2 : tie.Need-returns-2
+returns-2 c = rw (sym (c .before .is-either .ensures ∙ ap (either 43 45) (c .before .before .byte .ensures)) ∙ c .if1 .left)
+
+pub exponent-digits-spec : {M : Type 1} → statement M
+exponent-digits-spec =
+    tie.close
+    (tie.spec add-byte byte-requires is-either-requires add-result returns add-result-2 returns-2)

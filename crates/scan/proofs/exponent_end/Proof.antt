@@ -1,0 +1,73 @@
+use borrow.Author.Needs.{needs}
+use Rattle.scan.proofs.exponent_end.Statement.{statement}
+use Rattle.scan.proofs.exponent_end.Tie as tie
+use Rattle.scan.proofs.exponent_end.Reads as reads
+use Rattle.scan.proofs.exponent_end.Lts as lts
+use Rattle.scan.proofs.byte.Reads as byte-reads
+use Rattle.scan.proofs.exponent_digits.Reads as exponent-digits-reads
+use Rattle.scan.proofs.is_either.Reads as is-either-reads
+use Rattle.scan.proofs.is_within.Reads as is-within-reads
+use Rattle.scan.proofs.run_end.Reads as run-end-reads
+use mathlib.Core.Path.{_≡_, sym, _∙_, ap}
+use lib.ListN.{getD}
+use borrow.Author.Tests.{not-true, not-false}
+use Rattle.express.specs.Bytes.{within}
+use Rattle.express.specs.Lexis.{exponentEnd, exponentDigits, run}
+use Rattle.scan.proofs.Numbers.{exponent-over, exponent-none, exponent-bare, exponent-is}
+use Rattle.scan.specs.Scan.{member}
+use Rattle.scan.specs.declared.Class.the-variants.{Digit}
+
+-- src/lib.rt:225:9
+returns : tie.Need-returns
+returns c = sym (exponent-over _ _ (c .if1 .taken))
+
+-- src/lib.rt:227:28
+shared-slice-read-is-either : tie.Need-shared-slice-read-is-either
+shared-slice-read-is-either c = search needs
+
+-- src/lib.rt:227:9
+is-either-requires : tie.Need-is-either-requires
+is-either-requires c κs = search needs
+
+-- src/lib.rt:228:9
+returns-2 : tie.Need-returns-2
+returns-2 c = sym (exponent-none _ _ (sym (c .before .is-either .ensures) ∙ not-true _ (c .if2 .taken)))
+
+-- src/lib.rt:230:9
+exponent-digits-requires : tie.Need-exponent-digits-requires
+exponent-digits-requires c κs = search needs
+
+-- src/lib.rt:231:27
+byte-requires : tie.Need-byte-requires
+byte-requires c κs = search needs
+
+-- src/lib.rt:231:9
+is-within-requires : tie.Need-is-within-requires
+is-within-requires c κs = search needs
+
+-- src/lib.rt:232:9
+returns-3 : tie.Need-returns-3
+returns-3 c = sym (exponent-bare _ _ (sym (c .before .is-within .ensures ∙ ap (within 48 57) (c .before .before .byte .ensures ∙ ap (λ g. getD (c .before .before .before .before .before .before .before .before .before .args .s .now) g 0) (c .before .before .before .exponent-digits .ensures))) ∙ not-true _ (c .if3 .taken)))
+
+-- src/lib.rt:234:5
+run-end-requires : tie.Need-run-end-requires
+run-end-requires c κs = search needs
+
+-- src/lib.rt:221:1
+returns-4 : tie.Need-returns-4
+returns-4 c = c .run-end .ensures ∙ ap (λ g. run (member Digit) (c .before .before .before .before .before .before .before .before .before .before .args .s .now) g) (c .before .before .before .before .exponent-digits .ensures) ∙ sym (exponent-is _ _ (sym (c .before .before .before .before .before .before .is-either .ensures) ∙ not-false _ (c .before .before .before .before .before .if2 .left)) (sym (c .before .before .is-within .ensures ∙ ap (within 48 57) (c .before .before .before .byte .ensures ∙ ap (λ g. getD (c .before .before .before .before .before .before .before .before .before .before .args .s .now) g 0) (c .before .before .before .before .exponent-digits .ensures))) ∙ not-false _ (c .before .if3 .left)))
+
+pub exponent-end-spec : {M : Type 1} → statement M
+exponent-end-spec =
+    tie.close
+    (tie.spec
+    returns
+    shared-slice-read-is-either
+    is-either-requires
+    returns-2
+    exponent-digits-requires
+    byte-requires
+    is-within-requires
+    returns-3
+    run-end-requires
+    returns-4)

@@ -1,0 +1,36 @@
+use borrow.Author.Needs.{needs}
+use Rattle.scan.proofs.integer_end.Statement.{statement}
+use Rattle.scan.proofs.integer_end.Tie as tie
+use Rattle.scan.proofs.integer_end.Reads as reads
+use Rattle.scan.proofs.integer_end.Lts as lts
+use Rattle.literals.proofs.integer.Reads as integer-reads
+use Rattle.scan.proofs.run_end.Reads as run-end-reads
+use Rattle.scan.specs.Scan.{member}
+use Rattle.scan.specs.declared.Class.the-variants.{Digit}
+use Rattle.express.proofs.Places.{run-low}
+use Rattle.scan.proofs.Numbers.{integer-fits, integer-large}
+use native.Mathlib.Omega.{arith}
+
+-- src/lib.rt:171:9
+run-end-requires : tie.Need-run-end-requires
+run-end-requires c κs = search needs
+
+-- src/lib.rt:172:33
+sub-integer : tie.Need-sub-integer
+sub-integer c = omega (arith, c .run-end .ensures, run-low (member Digit) (c .before .before .args .s .now) (c .before .before .args .at))
+
+-- src/lib.rt:172:8
+integer-requires : tie.Need-integer-requires
+integer-requires c κs = search needs
+
+-- src/lib.rt:173:9
+returns : tie.Need-returns
+returns c = integer-large _ _ _ _ (c .before .before .run-end .ensures) (c .before .integer .ensures) (c .if1 .taken)
+
+-- src/lib.rt:168:1
+returns-2 : tie.Need-returns-2
+returns-2 c = integer-fits _ _ _ _ (c .before .before .run-end .ensures) (c .before .integer .ensures) (c .if1 .left)
+
+pub integer-end-spec : {M : Type 1} → statement M
+integer-end-spec =
+    tie.close (tie.spec run-end-requires sub-integer integer-requires returns returns-2)

@@ -1,0 +1,134 @@
+use Rattle.scan.proofs.remark_end.Statement.{statement}
+use Rattle.scan.proofs.remark_end.Tie as tie
+use Rattle.scan.proofs.remark_end.Reads as reads
+use Rattle.scan.proofs.remark_end.Lts as lts
+use Rattle.scan.proofs.is_pair.Reads as is-pair-reads
+use mathlib.Core.Path.{_≡_, refl, sym, _∙_}
+use Prim.Native.Nat.{_≤_, _-_, _+_}
+use lib.ListN.{length, drop}
+use Rattle.express.specs.Lexis.{remarkEnd}
+use Rattle.scan.proofs.Turns.{remark-over, remark-deeper, remark-out, remark-done, remark-on}
+use native.Mathlib.Omega.{arith}
+
+abbrev Inv-loop : tie.InvT-loop
+Inv-loop s from i₀ depth₀ i depth = (i ≤ length s) × (1 ≤ depth) × (depth ≤ i) × (remarkEnd from depth i (drop i s) ≡ remarkEnd from 1 (from + 2) (drop (from + 2) s))
+
+abbrev μ-loop : tie.MeasureT-loop
+μ-loop s from i₀ depth₀ i depth = length s - i
+
+-- src/lib.rt:122:17
+add-i : tie.Need-add-i Inv-loop μ-loop
+add-i c = omega arith
+
+-- src/lib.rt:124:5
+loop-holds : tie.Need-loop-holds Inv-loop μ-loop
+loop-holds c = (omega arith, omega arith, omega arith, refl)
+
+-- src/lib.rt:124:11
+add-loop : tie.Need-add-loop Inv-loop μ-loop
+add-loop c = omega arith
+
+-- src/lib.rt:125:17
+shared-slice-read-b : tie.Need-shared-slice-read-b Inv-loop μ-loop
+shared-slice-read-b c = omega arith
+
+-- src/lib.rt:126:19
+add-c : tie.Need-add-c Inv-loop μ-loop
+add-c c = omega arith
+
+-- src/lib.rt:126:17
+shared-slice-read-c : tie.Need-shared-slice-read-c Inv-loop μ-loop
+shared-slice-read-c c = omega arith
+
+-- src/lib.rt:127:12
+is-pair-requires : tie.Need-is-pair-requires Inv-loop μ-loop
+is-pair-requires c κs = tt
+
+-- src/lib.rt:128:13
+add-depth : tie.Need-add-depth Inv-loop μ-loop
+add-depth c = omega arith
+
+-- src/lib.rt:129:13
+add-i-2 : tie.Need-add-i-2 Inv-loop μ-loop
+add-i-2 c = omega arith
+
+-- src/lib.rt:124:5
+loop-less : tie.Need-loop-less Inv-loop μ-loop
+loop-less c = omega arith
+
+-- src/lib.rt:124:5
+loop-again : tie.Need-loop-again Inv-loop μ-loop
+loop-again c = (omega arith, omega arith, omega arith, sym (remark-deeper _ _ _ _ (c .before .before .before .before .loop-test .taken) (sym (c .before .is-pair .ensures) ∙ c .if1 .taken)) ∙ c .before .before .before .before .before .loop .inv .3)
+
+-- src/lib.rt:130:19
+is-pair-requires-2 : tie.Need-is-pair-requires-2 Inv-loop μ-loop
+is-pair-requires-2 c κs = tt
+
+-- src/lib.rt:132:33
+add-t16 : tie.Need-add-t16 Inv-loop μ-loop
+add-t16 c = omega arith
+
+-- src/lib.rt:132:17
+returns : tie.Need-returns Inv-loop μ-loop
+returns c = sym (remark-done _ _ _ _ (c .before .before .before .before .before .before .before .loop-test .taken) (sym (c .before .before .before .before .is-pair .ensures) ∙ c .before .before .before .if1 .left) (sym (c .before .before .is-pair2 .ensures) ∙ c .before .if2 .taken) (c .if3 .taken)) ∙ c .before .before .before .before .before .before .before .before .loop .inv .3
+
+-- src/lib.rt:134:13
+sub-depth : tie.Need-sub-depth Inv-loop μ-loop
+sub-depth c = omega arith
+
+-- src/lib.rt:135:13
+add-i-3 : tie.Need-add-i-3 Inv-loop μ-loop
+add-i-3 c = omega arith
+
+-- src/lib.rt:124:5
+loop-less-2 : tie.Need-loop-less-2 Inv-loop μ-loop
+loop-less-2 c = omega arith
+
+-- src/lib.rt:124:5
+loop-again-2 : tie.Need-loop-again-2 Inv-loop μ-loop
+loop-again-2 c = (omega arith, omega arith, omega arith, sym (remark-out _ _ _ _ (c .before .before .before .before .before .before .before .loop-test .taken) (sym (c .before .before .before .before .is-pair .ensures) ∙ c .before .before .before .if1 .left) (sym (c .before .before .is-pair2 .ensures) ∙ c .before .if2 .taken) (c .if3 .left)) ∙ c .before .before .before .before .before .before .before .before .loop .inv .3)
+
+-- src/lib.rt:137:13
+add-i-4 : tie.Need-add-i-4 Inv-loop μ-loop
+add-i-4 c = omega arith
+
+-- src/lib.rt:124:5
+loop-less-3 : tie.Need-loop-less-3 Inv-loop μ-loop
+loop-less-3 c = omega arith
+
+-- src/lib.rt:124:5
+loop-again-3 : tie.Need-loop-again-3 Inv-loop μ-loop
+loop-again-3 c = (omega arith, omega arith, omega arith, sym (remark-on _ _ _ _ (c .before .before .before .before .before .before .loop-test .taken) (sym (c .before .before .before .is-pair .ensures) ∙ c .before .before .if1 .left) (sym (c .before .is-pair2 .ensures) ∙ c .if2 .left)) ∙ c .before .before .before .before .before .before .before .loop .inv .3)
+
+-- src/lib.rt:118:1
+returns-2 : tie.Need-returns-2 Inv-loop μ-loop
+returns-2 c = sym (remark-over _ _ _ _ (c .loop-test .left)) ∙ c .before .loop .inv .3
+
+pub remark-end-spec : {M : Type 1} → statement M
+remark-end-spec =
+    tie.close
+    (tie.spec
+    Inv-loop
+    μ-loop
+    add-i
+    loop-holds
+    add-loop
+    shared-slice-read-b
+    add-c
+    shared-slice-read-c
+    is-pair-requires
+    add-depth
+    add-i-2
+    loop-less
+    loop-again
+    is-pair-requires-2
+    add-t16
+    returns
+    sub-depth
+    add-i-3
+    loop-less-2
+    loop-again-2
+    add-i-4
+    loop-less-3
+    loop-again-3
+    returns-2)

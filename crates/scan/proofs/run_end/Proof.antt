@@ -1,0 +1,66 @@
+use Rattle.scan.proofs.run_end.Statement.{statement}
+use Rattle.scan.proofs.run_end.Tie as tie
+use Rattle.scan.proofs.run_end.Reads as reads
+use Rattle.scan.proofs.run_end.Lts as lts
+use Rattle.scan.proofs.is_member.Reads as is-member-reads
+use mathlib.Core.Path.{_≡_, refl, sym, _∙_}
+use Prim.Native.Nat.{_≤_, _-_}
+use borrow.Author.Tests.{not-true, not-false}
+use lib.ListN.{length}
+use Rattle.express.specs.Lexis.{run}
+use Rattle.scan.specs.Scan.{member}
+use Rattle.scan.proofs.Turns.{run-more, run-stop, run-over}
+use native.Mathlib.Omega.{arith}
+
+abbrev Inv-loop : tie.InvT-loop
+Inv-loop s at class i₀ i = run (member class) s i ≡ run (member class) s at
+
+abbrev μ-loop : tie.MeasureT-loop
+μ-loop s at class i₀ i = length s - i
+
+-- src/lib.rt:107:5
+loop-holds : tie.Need-loop-holds Inv-loop μ-loop
+loop-holds c = refl
+
+-- src/lib.rt:108:17
+shared-slice-read-b : tie.Need-shared-slice-read-b Inv-loop μ-loop
+shared-slice-read-b c = omega arith
+
+-- src/lib.rt:109:13
+is-member-requires : tie.Need-is-member-requires Inv-loop μ-loop
+is-member-requires c κs = tt
+
+-- src/lib.rt:110:13
+returns : tie.Need-returns Inv-loop μ-loop
+returns c = sym (run-stop _ _ _ (c .before .before .before .loop-test .taken) (sym (c .before .is-member .ensures) ∙ not-true _ (c .if1 .taken))) ∙ c .before .before .before .before .loop .inv
+
+-- src/lib.rt:112:9
+add-i : tie.Need-add-i Inv-loop μ-loop
+add-i c = omega arith
+
+-- src/lib.rt:107:5
+loop-less : tie.Need-loop-less Inv-loop μ-loop
+loop-less c = omega arith
+
+-- src/lib.rt:107:5
+loop-again : tie.Need-loop-again Inv-loop μ-loop
+loop-again c = sym (run-more _ _ _ (c .before .before .before .loop-test .taken) (sym (c .before .is-member .ensures) ∙ not-false _ (c .if1 .left))) ∙ c .before .before .before .before .loop .inv
+
+-- src/lib.rt:103:1
+returns-2 : tie.Need-returns-2 Inv-loop μ-loop
+returns-2 c = sym (run-over _ _ _ (c .loop-test .left)) ∙ c .before .loop .inv
+
+pub run-end-spec : {M : Type 1} → statement M
+run-end-spec =
+    tie.close
+    (tie.spec
+    Inv-loop
+    μ-loop
+    loop-holds
+    shared-slice-read-b
+    is-member-requires
+    returns
+    add-i
+    loop-less
+    loop-again
+    returns-2)

@@ -1,0 +1,101 @@
+use borrow.Author.Needs.{needs}
+use Rattle.scan.proofs.scan.Statement.{statement}
+use Rattle.scan.proofs.scan.Tie as tie
+use Rattle.scan.proofs.scan.Reads as reads
+use Rattle.scan.proofs.scan.Lts as lts
+use Rattle.columns.proofs.shorter.Reads as shorter-reads
+use Rattle.scan.proofs.fill.Reads as fill-reads
+use mathlib.Core.Path.{_∙_, ap}
+use lib.ListN.{length}
+use Prim.Native.Nat.{min}
+use Rattle.scan.proofs.Rows.{scan-refused, scan-short, scan-fits}
+
+-- src/lib.rt:469:46
+shorter-requires : tie.Need-shorter-requires
+shorter-requires c κs = search needs
+
+-- src/lib.rt:469:9
+shorter-requires-2 : tie.Need-shorter-requires-2
+shorter-requires-2 c κs = search needs
+
+-- src/lib.rt:470:9
+fill-requires : tie.Need-fill-requires
+fill-requires c κs = search needs
+
+-- src/lib.rt:471:18
+enum-known-step : tie.Need-enum-known-step
+enum-known-step c = search needs
+
+-- src/lib.rt:472:9
+enum-told : tie.Need-enum-told
+enum-told c = search needs
+
+-- src/lib.rt:472:9
+same-length : tie.Need-same-length
+same-length c = search needs
+
+-- src/lib.rt:472:9
+same-length-2 : tie.Need-same-length-2
+same-length-2 c = search needs
+
+-- src/lib.rt:472:9
+same-length-3 : tie.Need-same-length-3
+same-length-3 c = search needs
+
+-- src/lib.rt:472:9
+returns : tie.Need-returns
+returns c = scan-refused (c .before .before .before .before .before .before .before .before .fill .ensures) (c .enum-told .given .1)
+
+-- src/lib.rt:475:9
+same-length-4 : tie.Need-same-length-4
+same-length-4 c = search needs
+
+-- src/lib.rt:475:9
+same-length-5 : tie.Need-same-length-5
+same-length-5 c = search needs
+
+-- src/lib.rt:475:9
+same-length-6 : tie.Need-same-length-6
+same-length-6 c = search needs
+
+-- src/lib.rt:475:9
+returns-2 : tie.Need-returns-2
+returns-2 c = scan-short (c .before .before .before .before .before .before .before .before .before .before .fill .ensures) (c .before .before .step .given .1) (c .before .before .before .before .before .before .before .before .before .before .before .before .before .before .shorter2 .ensures ∙ ap (min (length (c .before .before .before .before .before .before .before .before .before .before .before .before .before .before .before .before .before .before .before .before .args .kinds .now))) (c .before .before .before .before .before .before .before .before .before .before .before .before .before .before .before .shorter .ensures)) (c .if1 .taken)
+
+-- src/lib.rt:466:1
+same-length-7 : tie.Need-same-length-7
+same-length-7 c = search needs
+
+-- src/lib.rt:466:1
+same-length-8 : tie.Need-same-length-8
+same-length-8 c = search needs
+
+-- src/lib.rt:466:1
+same-length-9 : tie.Need-same-length-9
+same-length-9 c = search needs
+
+-- src/lib.rt:466:1
+returns-3 : tie.Need-returns-3
+returns-3 c = scan-fits (c .before .before .before .before .before .before .before .before .before .before .fill .ensures) (c .before .before .step .given .1) (c .before .before .before .before .before .before .before .before .before .before .before .before .before .before .shorter2 .ensures ∙ ap (min (length (c .before .before .before .before .before .before .before .before .before .before .before .before .before .before .before .before .before .before .before .before .args .kinds .now))) (c .before .before .before .before .before .before .before .before .before .before .before .before .before .before .before .shorter .ensures)) (c .if1 .left)
+
+pub scan-spec : {M : Type 1} → statement M
+scan-spec =
+    tie.close
+    (tie.spec
+    shorter-requires
+    shorter-requires-2
+    fill-requires
+    enum-known-step
+    enum-told
+    same-length
+    same-length-2
+    same-length-3
+    returns
+    same-length-4
+    same-length-5
+    same-length-6
+    returns-2
+    same-length-7
+    same-length-8
+    same-length-9
+    returns-3)

@@ -1,0 +1,42 @@
+-- What the steps of the token reader mean, and what its calls promise.
+use Prim.Native.Nat.{ℕ, min}
+use mathlib.Core.Bool.{Bool}
+use mathlib.Core.Path.{_≡_}
+use mathlib.Core.List.{List}
+use lib.ListN.{length}
+use lib.Seq.{sets}
+use Rattle.express.specs.Bytes.{digit, wordByte}
+use Rattle.express.specs.Lexis as Lexis
+use Rattle.express.specs.Lexis.{Reading, at, refused, Lexed, inLine, bit, lexed, tokens}
+use Rattle.scan.specs.declared.Step.{Step}
+use Rattle.scan.specs.declared.Step.the-variants.{At, Refused}
+use Rattle.scan.specs.declared.Class.{Class}
+use Rattle.scan.specs.declared.Class.the-variants.{Word, Digit, Bit, Line}
+
+abbrev pub reading : Step → Reading
+reading (At p) = at p
+reading (Refused n p) = refused n p
+
+abbrev pub member : Class → ℕ → Bool
+member Word = wordByte
+member Digit = digit
+member Bit = bit
+member Line = inLine
+
+-- what `fill` answers and leaves: the number of rows or the refusal, and the rows over what the columns held, as far as they go
+abbrev pub ended : Reading → ℕ → Reading
+ended (at q) n = at n
+ended (refused k o) n = refused k o
+
+pub record Filled (l : Lexed) (k₀ s₀ z₀ : List ℕ) (r : Step) (k s z : List ℕ) : Type 0 where
+  pub is : reading r ≡ ended (l .stop) (length (l .rows))
+  pub kinds : k ≡ sets k₀ 0 (Lexis.kinds l)
+  pub starts : s ≡ sets s₀ 0 (Lexis.starts l)
+  pub lengths : z ≡ sets z₀ 0 (Lexis.sizes l)
+
+-- what `scan` answers and leaves, for any bytes and columns: "a table lent as columns is as long as its shortest column"
+pub record Scanned (src k₀ s₀ z₀ : List ℕ) (r : Step) (k s z : List ℕ) : Type 0 where
+  pub is : reading r ≡ tokens (lexed src) (min (length k₀) (min (length s₀) (length z₀)))
+  pub kinds : k ≡ sets k₀ 0 (Lexis.kinds (lexed src))
+  pub starts : s ≡ sets s₀ 0 (Lexis.starts (lexed src))
+  pub lengths : z ≡ sets z₀ 0 (Lexis.sizes (lexed src))

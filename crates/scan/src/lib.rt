@@ -1,0 +1,454 @@
+// The token reader: bytes to a table of tokens, lent as three columns.
+ghost use mathlib.Core.Path.{_≡_};
+ghost use mathlib.Core.Bool.{false};
+ghost use Prim.Native.Nat.{_+_, _≤_, _<_};
+ghost use lib.ListN.{length, drop, getD, set};
+ghost use Rattle.express.specs.Bytes.{within, letter, wordByte, space};
+ghost use Rattle.express.specs.Lexis.{pair, either, run, remarkEnd, skipped, integerEnd, exponentDigits, exponentEnd, realEnd, stringEnd, binaryEnd, lone, symbolSize, symbolEnd, kindAt, tokenEnd, lexed};
+ghost use Rattle.scan.specs.Scan.{reading, member, Filled, Scanned};
+
+// A reading step gives a new place, or a located refusal: its number and its place.
+pub enum Step {
+    At(usize),
+    Refused(u8, usize),
+}
+
+// The classes of bytes that a run is made of.
+enum Class {
+    Word,
+    Digit,
+    Bit,
+    Line,
+}
+
+// The byte at a place, and 0 past the end.
+fn byte(s: &[u8], i: usize) -> u8
+    ensures { λ r. ⌜ r ≡ getD (now (s .entry)) i 0 ⌝ }
+{
+    if i < s.len() {
+        return s[i];
+    }
+    0
+}
+
+fn is_within(lo: u8, hi: u8, b: u8) -> bool
+    ensures { λ r. ⌜ r ≡ within lo hi b ⌝ }
+{
+    if b < lo {
+        return false;
+    }
+    b <= hi
+}
+
+fn is_either(x: u8, y: u8, b: u8) -> bool
+    ensures { λ r. ⌜ r ≡ either x y b ⌝ }
+{
+    if b == x {
+        return true;
+    }
+    b == y
+}
+
+fn is_pair(x: u8, y: u8, b: u8, c: u8) -> bool
+    ensures { λ r. ⌜ r ≡ pair x y b c ⌝ }
+{
+    if b != x {
+        return false;
+    }
+    c == y
+}
+
+fn is_letter(b: u8) -> bool
+    ensures { λ r. ⌜ r ≡ letter b ⌝ }
+{
+    if is_within(65, 90, b) {
+        return true;
+    }
+    is_within(97, 122, b)
+}
+
+fn is_word(b: u8) -> bool
+    ensures { λ r. ⌜ r ≡ wordByte b ⌝ }
+{
+    if is_letter(b) {
+        return true;
+    }
+    if is_within(48, 57, b) {
+        return true;
+    }
+    b == 95
+}
+
+fn is_space(b: u8) -> bool
+    ensures { λ r. ⌜ r ≡ space b ⌝ }
+{
+    if is_within(9, 13, b) {
+        return true;
+    }
+    b == 32
+}
+
+fn is_member(class: Class, b: u8) -> bool
+    ensures { λ r. ⌜ r ≡ member class b ⌝ }
+{
+    match class {
+        Class::Word => is_word(b),
+        Class::Digit => is_within(48, 57, b),
+        Class::Bit => is_within(48, 49, b),
+        Class::Line => b != 10,
+    }
+}
+
+// The end of the run of a class that stands at a place.
+fn run_end(s: &[u8], at: usize, class: Class) -> usize
+    ensures { λ r. ⌜ r ≡ run (member class) (now (s .entry)) at ⌝ }
+{
+    let mut i = at;
+    while i < s.len() {
+        let b = s[i];
+        if !is_member(class, b) {
+            return i;
+        }
+        i += 1;
+    }
+    i
+}
+
+// The end of the remark that opens at a place.
+fn remark_end(s: &[u8], from: usize) -> Step
+    requires { ⌜ from + 2 ≤ length (now s) ⌝ }
+    ensures { λ r. ⌜ reading r ≡ remarkEnd from 1 (from + 2) (drop (from + 2) (now (s .entry))) ⌝ }
+{
+    let mut i = from + 2;
+    let mut depth: usize = 1;
+    while i + 1 < s.len() {
+        let b = s[i];
+        let c = s[i + 1];
+        if is_pair(40, 42, b, c) {
+            depth += 1;
+            i += 2;
+        } else if is_pair(42, 41, b, c) {
+            if depth == 1 {
+                return Step::At(i + 2);
+            }
+            depth -= 1;
+            i += 2;
+        } else {
+            i += 1;
+        }
+    }
+    Step::Refused(2, from)
+}
+
+// The first place from `at` on that is no space and in no remark.
+fn skip(s: &[u8], at: usize) -> Step
+    ensures { λ r. ⌜ reading r ≡ skipped (now (s .entry)) at ⌝ }
+{
+    let mut i = at;
+    while i < s.len() {
+        let b = s[i];
+        let c = byte(s, i + 1);
+        if is_space(b) {
+            i += 1;
+        } else if is_pair(45, 45, b, c) {
+            i = run_end(s, i + 2, Class::Line);
+        } else if is_pair(40, 42, b, c) {
+            let step = remark_end(s, i);
+            let Step::At(q) = step else {
+                return step;
+            };
+            i = q;
+        } else {
+            return Step::At(i);
+        }
+    }
+    Step::At(i)
+}
+
+fn integer_end(s: &[u8], at: usize) -> Step
+    ensures { λ r. ⌜ reading r ≡ integerEnd (now (s .entry)) at ⌝ }
+{
+    let end = run_end(s, at, Class::Digit);
+    if literals::integer(s, at, end - at) > 9223372036854775807 {
+        return Step::Refused(3, at);
+    }
+    Step::At(end)
+}
+
+fn exponent_digits(s: &[u8], at: usize) -> usize
+    requires { ⌜ at < length (now s) ⌝ }
+    ensures { λ r. ⌜ r ≡ exponentDigits (now (s .entry)) at ⌝ }
+{
+    if is_either(43, 45, byte(s, at + 1)) {
+        return at + 2;
+    }
+    at + 1
+}
+
+// The end of the exponent at a place, which is that place if there is none.
+fn exponent_end(s: &[u8], at: usize) -> usize
+    ensures { λ r. ⌜ r ≡ exponentEnd (now (s .entry)) at ⌝ }
+{
+    if at >= s.len() {
+        return at;
+    }
+    if !is_either(101, 69, s[at]) {
+        return at;
+    }
+    let digits = exponent_digits(s, at);
+    if !is_within(48, 57, byte(s, digits)) {
+        return at;
+    }
+    run_end(s, digits, Class::Digit)
+}
+
+fn real_end(s: &[u8], at: usize) -> usize
+    requires { ⌜ at ≤ length (now s) ⌝ }
+    ensures { λ r. ⌜ r ≡ realEnd (now (s .entry)) at ⌝ }
+{
+    let point = run_end(s, at, Class::Digit);
+    exponent_end(s, run_end(s, point + 1, Class::Digit))
+}
+
+fn string_end(s: &[u8], at: usize) -> Step
+    requires { ⌜ at < length (now s) ⌝ }
+    ensures { λ r. ⌜ reading r ≡ stringEnd at false (at + 1) (drop (at + 1) (now (s .entry))) ⌝ }
+{
+    let mut i = at + 1;
+    let mut quote = false;
+    while i < s.len() {
+        let b = s[i];
+        if quote {
+            if b != 39 {
+                return Step::At(i);
+            }
+            quote = false;
+            i += 1;
+        } else if b == 39 {
+            quote = true;
+            i += 1;
+        } else {
+            if !is_within(32, 126, b) {
+                return Step::Refused(2, at);
+            }
+            i += 1;
+        }
+    }
+    if quote {
+        return Step::At(i);
+    }
+    Step::Refused(2, at)
+}
+
+fn binary_end(s: &[u8], at: usize) -> Step
+    requires { ⌜ at < length (now s) ⌝ }
+    ensures { λ r. ⌜ reading r ≡ binaryEnd (now (s .entry)) at ⌝ }
+{
+    let end = run_end(s, at + 1, Class::Bit);
+    let bits = end - (at + 1);
+    if bits == 0 {
+        return Step::Refused(2, at);
+    }
+    if bits > 63 {
+        return Step::Refused(3, at);
+    }
+    Step::At(end)
+}
+
+fn is_lone(b: u8) -> bool
+    ensures { λ r. ⌜ r ≡ lone b ⌝ }
+{
+    if b == 63 {
+        return true;
+    }
+    if is_within(40, 41, b) {
+        return true;
+    }
+    if is_within(43, 47, b) {
+        return true;
+    }
+    if b == 59 {
+        return true;
+    }
+    if b == 61 {
+        return true;
+    }
+    if is_within(91, 93, b) {
+        return true;
+    }
+    is_either(123, 125, b)
+}
+
+// How many of the four bytes are a symbol that starts with a colon, which b is.
+fn colon_size(c: u8, d: u8, e: u8) -> usize
+    ensures { λ r. ⌜ r ≡ symbolSize 58 c d e ⌝ }
+{
+    if c == 61 {
+        if d == 58 {
+            return 3;
+        }
+        return 2;
+    }
+    if is_pair(60, 62, c, d) {
+        if e == 58 {
+            return 4;
+        }
+    }
+    1
+}
+
+fn symbol_size(b: u8, c: u8, d: u8, e: u8) -> usize
+    ensures { λ r. ⌜ r ≡ symbolSize b c d e ⌝ }
+{
+    if is_lone(b) {
+        return 1;
+    }
+    if b == 58 {
+        return colon_size(c, d, e);
+    }
+    if b == 60 {
+        if c == 61 {
+            return 2;
+        }
+        if is_either(62, 42, c) {
+            return 2;
+        }
+        return 1;
+    }
+    if b == 62 {
+        if c == 61 {
+            return 2;
+        }
+        return 1;
+    }
+    if b == 42 {
+        if c == 42 {
+            return 2;
+        }
+        return 1;
+    }
+    if b == 124 {
+        if c == 124 {
+            return 2;
+        }
+        return 1;
+    }
+    0
+}
+
+fn symbol_end(s: &[u8], at: usize) -> Step
+    requires { ⌜ at < length (now s) ⌝ }
+    ensures { λ r. ⌜ reading r ≡ symbolEnd (now (s .entry)) at ⌝ }
+{
+    let size = symbol_size(s[at], byte(s, at + 1), byte(s, at + 2), byte(s, at + 3));
+    if size == 0 {
+        return Step::Refused(2, at);
+    }
+    Step::At(at + size)
+}
+
+// The kind of the token at a place.
+fn kind_at(s: &[u8], at: usize) -> u8
+    ensures { λ r. ⌜ r ≡ kindAt (now (s .entry)) at ⌝ }
+{
+    let b = byte(s, at);
+    if is_letter(b) {
+        return 1;
+    }
+    if is_within(48, 57, b) {
+        let end = run_end(s, at, Class::Digit);
+        if byte(s, end) == 46 {
+            return 3;
+        }
+        return 2;
+    }
+    if b == 39 {
+        return 4;
+    }
+    if b == 37 {
+        return 5;
+    }
+    6
+}
+
+fn token_end(s: &[u8], at: usize, kind: u8) -> Step
+    requires { ⌜ at < length (now s) ⌝ }
+    ensures { λ r. ⌜ reading r ≡ tokenEnd (now (s .entry)) at kind ⌝ }
+{
+    if kind == 1 {
+        return Step::At(run_end(s, at, Class::Word));
+    }
+    if kind == 2 {
+        return integer_end(s, at);
+    }
+    if kind == 3 {
+        return Step::At(real_end(s, at));
+    }
+    if kind == 4 {
+        return string_end(s, at);
+    }
+    if kind == 5 {
+        return binary_end(s, at);
+    }
+    symbol_end(s, at)
+}
+
+// One row, as far as the columns go.
+fn push(
+    kinds: &mut [u8],
+    starts: &mut [u32],
+    lengths: &mut [u32],
+    n: usize,
+    kind: u8,
+    start: u32,
+    size: u32,
+)
+    ensures { λ _. ⌜ (now (kinds .exit) ≡ set (now (kinds .entry)) n kind) × (now (starts .exit) ≡ set (now (starts .entry)) n start) × (now (lengths .exit) ≡ set (now (lengths .entry)) n size) ⌝ }
+{
+    columns::put8(kinds, n, kind);
+    columns::put32(starts, n, start);
+    columns::put32(lengths, n, size);
+}
+
+// One row for each token, as far as the columns go; the number of tokens, or the first refusal.
+fn fill(src: &[u8], kinds: &mut [u8], starts: &mut [u32], lengths: &mut [u32]) -> Step
+    ensures { λ r. ⌜ Filled (lexed (now (src .entry))) (now (kinds .entry)) (now (starts .entry)) (now (lengths .entry)) r (now (kinds .exit)) (now (starts .exit)) (now (lengths .exit)) ⌝ }
+{
+    if src.len() > 65536 {
+        return Step::Refused(1, 65536);
+    }
+    let mut n: usize = 0;
+    let mut at: usize = 0;
+    loop {
+        let step = skip(src, at);
+        let Step::At(p) = step else {
+            return step;
+        };
+        if p >= src.len() {
+            return Step::At(n);
+        }
+        let kind = kind_at(src, p);
+        let end = token_end(src, p, kind);
+        let Step::At(e) = end else {
+            return end;
+        };
+        push(kinds, starts, lengths, n, kind, p as u32, (e - p) as u32);
+        n += 1;
+        at = e;
+    }
+}
+
+// The tokens of a text, a row for each: its kind, its start and its length.
+pub fn scan(src: &[u8], kinds: &mut [u8], starts: &mut [u32], lengths: &mut [u32]) -> Step
+    ensures { λ r. ⌜ Scanned (now (src .entry)) (now (kinds .entry)) (now (starts .entry)) (now (lengths .entry)) r (now (kinds .exit)) (now (starts .exit)) (now (lengths .exit)) ⌝ }
+{
+    let room = columns::shorter(kinds.len(), columns::shorter(starts.len(), lengths.len()));
+    let step = fill(src, kinds, starts, lengths);
+    let Step::At(n) = step else {
+        return step;
+    };
+    if n > room {
+        return Step::Refused(6, n);
+    }
+    Step::At(n)
+}

@@ -1,0 +1,39 @@
+use borrow.Author.Needs.{needs}
+use Rattle.words.proofs.letter.Statement.{statement}
+use Rattle.words.proofs.letter.Tie as tie
+use Rattle.words.proofs.letter.Reads as reads
+use Rattle.words.proofs.letter.Lts as lts
+use Rattle.words.proofs.upper.Reads as upper-reads
+use mathlib.Core.Path.{sym, _∙_, ap}
+use lib.ListN.{getD, take, drop}
+use Rattle.words.specs.Lookup.{folded}
+use Rattle.words.proofs.Parts.{letter-over, letter-plain, letter-upper}
+use native.Mathlib.Omega.{arith}
+
+-- src/lib.rt:53:9
+returns : tie.Need-returns
+returns c = sym (letter-over (c .before .before .args .s .now) (c .before .before .args .start) (c .before .before .args .n) (c .before .before .pre) (c .before .before .args .fold) (c .before .before .args .i) (c .if1 .taken))
+
+-- src/lib.rt:55:15
+add-b : tie.Need-add-b
+add-b c = omega arith
+
+-- src/lib.rt:55:13
+shared-slice-read-b : tie.Need-shared-slice-read-b
+shared-slice-read-b c = omega arith
+
+-- src/lib.rt:57:9
+upper-requires : tie.Need-upper-requires
+upper-requires c κs = tt
+
+-- src/lib.rt:57:9
+returns-2 : tie.Need-returns-2
+returns-2 c = rw (c .before .if2 .taken) (c .upper .ensures ∙ sym (letter-upper (c .before .before .before .before .before .args .s .now) (c .before .before .before .before .before .args .start) (c .before .before .before .before .before .args .n) (c .before .before .before .before .before .pre) (c .before .before .before .before .before .args .i) (c .before .before .before .if1 .left)))
+
+-- src/lib.rt:48:1
+returns-3 : tie.Need-returns-3
+returns-3 c = rw (c .if2 .left) (sym (letter-plain (c .before .before .before .before .args .s .now) (c .before .before .before .before .args .start) (c .before .before .before .before .args .n) (c .before .before .before .before .pre) (c .before .before .before .before .args .i) (c .before .before .if1 .left)))
+
+pub letter-spec : {M : Type 1} → statement M
+letter-spec =
+    tie.close (tie.spec returns add-b shared-slice-read-b upper-requires returns-2 returns-3)

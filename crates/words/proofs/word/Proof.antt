@@ -1,0 +1,32 @@
+use borrow.Author.Needs.{needs}
+use Rattle.words.proofs.word.Statement.{statement}
+use Rattle.words.proofs.word.Tie as tie
+use Rattle.words.proofs.word.Reads as reads
+use Rattle.words.proofs.word.Lts as lts
+use Rattle.words.proofs.number.Reads as number-reads
+use lib.ListN.{take, drop}
+use Rattle.words.proofs.Entries.{word-low, word-high, named-few}
+use native.Mathlib.Omega.{arith}
+
+-- src/lib.rt:116:9
+number-requires : tie.Need-number-requires
+number-requires c κs = search needs
+
+-- src/lib.rt:118:9
+returns : tie.Need-returns
+returns c = word-low (take (c .before .before .before .args .n) (drop (c .before .before .before .args .start) (c .before .before .before .args .s .now))) _ (c .before .number .ensures) (c .if1 .taken)
+
+-- src/lib.rt:120:6
+add-result : tie.Need-add-result
+add-result c = omega (arith, named-few _ _ (c .before .number .ensures))
+
+-- src/lib.rt:120:5
+cast-result : tie.Need-cast-result
+cast-result c = omega (arith, named-few _ _ (c .before .number .ensures))
+
+-- src/lib.rt:112:1
+returns-2 : tie.Need-returns-2
+returns-2 c = word-high (take (c .before .before .before .args .n) (drop (c .before .before .before .args .start) (c .before .before .before .args .s .now))) _ (c .before .number .ensures) (c .if1 .left)
+
+pub word-spec : {M : Type 1} → statement M
+word-spec = tie.close (tie.spec number-requires returns add-result cast-result returns-2)
