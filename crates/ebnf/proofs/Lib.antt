@@ -13,6 +13,7 @@ pub mod Trees
 pub mod Sorts
 pub mod Parts
 pub mod PostOrder
+pub mod Count
 pub mod Children
 pub mod Below
 pub mod Naming

@@ -5,6 +5,7 @@ pub mod Cases
 pub mod ConstantOrder
 pub mod Denotes
 pub mod Descent
+pub mod Count
 pub mod Divide
 pub mod Enumeration
 pub mod Exactness

@@ -1,0 +1,2167 @@
+use Prim.Native.Nat.{ℕ, _<_, _+_, _-_, _*_, _≤_}
+use borrow.Fn.Kinds.{In}
+use borrow.Fn.PlainCycle.{Measures, is, falls, and}
+use Rattle.phrases.proofs.atom.Reads as atom
+use Rattle.phrases.proofs.atom.Kinds as atom-kinds
+use Rattle.phrases.proofs.+atom+compared+expression+factor+interval+operand+sum+term.Lts-atom as atom-lts
+use Rattle.phrases.proofs.compared.Reads as compared
+use Rattle.phrases.proofs.compared.Kinds as compared-kinds
+use Rattle.phrases.proofs.+atom+compared+expression+factor+interval+operand+sum+term.Lts-compared as compared-lts
+use Rattle.phrases.proofs.expression.Reads as expression
+use Rattle.phrases.proofs.expression.Kinds as expression-kinds
+use Rattle.phrases.proofs.+atom+compared+expression+factor+interval+operand+sum+term.Lts-expression as expression-lts
+use Rattle.phrases.proofs.factor.Reads as factor
+use Rattle.phrases.proofs.factor.Kinds as factor-kinds
+use Rattle.phrases.proofs.+atom+compared+expression+factor+interval+operand+sum+term.Lts-factor as factor-lts
+use Rattle.phrases.proofs.interval.Reads as interval
+use Rattle.phrases.proofs.interval.Kinds as interval-kinds
+use Rattle.phrases.proofs.+atom+compared+expression+factor+interval+operand+sum+term.Lts-interval as interval-lts
+use Rattle.phrases.proofs.operand.Reads as operand
+use Rattle.phrases.proofs.operand.Kinds as operand-kinds
+use Rattle.phrases.proofs.+atom+compared+expression+factor+interval+operand+sum+term.Lts-operand as operand-lts
+use Rattle.phrases.proofs.sum.Reads as sum
+use Rattle.phrases.proofs.sum.Kinds as sum-kinds
+use Rattle.phrases.proofs.+atom+compared+expression+factor+interval+operand+sum+term.Lts-sum as sum-lts
+use Rattle.phrases.proofs.term.Reads as term
+use Rattle.phrases.proofs.term.Kinds as term-kinds
+use Rattle.phrases.proofs.+atom+compared+expression+factor+interval+operand+sum+term.Lts-term as term-lts
+use Rattle.phrases.proofs.atom_label.Reads as atom-label-reads
+use Rattle.phrases.proofs.expect.Reads as expect-reads
+use Rattle.phrases.proofs.is_addition.Reads as is-addition-reads
+use Rattle.phrases.proofs.is_comparison.Reads as is-comparison-reads
+use Rattle.phrases.proofs.is_multiplication.Reads as is-multiplication-reads
+use Rattle.phrases.proofs.is_qualified.Reads as is-qualified-reads
+use Rattle.phrases.proofs.is_relation.Reads as is-relation-reads
+use Rattle.phrases.proofs.is_sign.Reads as is-sign-reads
+use Rattle.phrases.proofs.leaf.Reads as leaf-reads
+use Rattle.phrases.proofs.node.Reads as node-reads
+use Rattle.phrases.proofs.packed.Reads as packed-reads
+use Rattle.phrases.proofs.put.Reads as put-reads
+use Rattle.phrases.proofs.token.Reads as token-reads
+use Rattle.phrases.proofs.+atom+compared+expression+factor+interval+operand+sum+term.{
+  statement,
+}
+use Rattle.phrases.proofs.+atom+compared+expression+factor+interval+operand+sum+term.Tie.{
+  close,
+}
+use mathlib.Core.List.{[], _∷_}
+use mathlib.Core.Path.{_≡_, refl, sym, _∙_}
+use lib.ListN.{length, getD}
+use Rattle.ebnf.specs.Set.{mem}
+use Rattle.express.specs.Terminal.{power}
+use Rattle.express.specs.Grammar.{expression as expression′, sum as sum′, term as term′, factor as factor′, operand as operand′, relations, additions, multiplications, signs, comparisons}
+use Rattle.express.proofs.Syntax.{express}
+use Rattle.phrases.proofs.Terminals.{inside, seen, seen-one, seen-other}
+use Rattle.phrases.proofs.Steps.{onward, onward-row, one-inside}
+use Rattle.phrases.proofs.Laws.{reads-at, compares-at, ready-of, sound-of, counts-of, counts-sound}
+use Rattle.phrases.proofs.Operators.{once-refused, once-alone, once-both, Turns, turns-begin, turns-more, turn-onward, often-refused, often-begins, often-ends, often-stops}
+use Rattle.phrases.proofs.Atoms.{label-small}
+use Rattle.phrases.proofs.Operands.{atom-nested, atom-row, atom-none, item-ready, operand-item, operand-interval, sign-ready, operand-signed, operand-plain, comparison-inside, compared-there, compared-not, brace-inside, low-refused, item-refused, interval-whole}
+use borrow.Author.Needs.{needs}
+use native.Mathlib.Omega.{arith}
+
+abbrev μ-atom : Measures 2 atom-kinds.ps ℕ
+μ-atom κs a = 8 * (length (a .0 .now) - a .1 .1 .0) + 0
+
+abbrev μ-compared : Measures 2 compared-kinds.ps ℕ
+μ-compared κs a = 8 * (length (a .0 .now) - a .1 .1 .0) + 0
+
+abbrev μ-expression : Measures 2 expression-kinds.ps ℕ
+μ-expression κs a = 8 * (length (a .0 .now) - a .1 .1 .0) + 5
+
+abbrev μ-factor : Measures 2 factor-kinds.ps ℕ
+μ-factor κs a = 8 * (length (a .0 .now) - a .1 .1 .0) + 2
+
+abbrev μ-interval : Measures 2 interval-kinds.ps ℕ
+μ-interval κs a = 8 * (length (a .0 .now) - a .1 .1 .0) + 0
+
+abbrev μ-operand : Measures 2 operand-kinds.ps ℕ
+μ-operand κs a = 8 * (length (a .0 .now) - a .1 .1 .0) + 1
+
+abbrev μ-sum : Measures 2 sum-kinds.ps ℕ
+μ-sum κs a = 8 * (length (a .0 .now) - a .1 .1 .0) + 4
+
+abbrev μ-term : Measures 2 term-kinds.ps ℕ
+μ-term κs a = 8 * (length (a .0 .now) - a .1 .1 .0) + 3
+
+abbrev atom-at : ℕ → In 2 atom-kinds.ps
+atom-at t = and 2 atom-kinds.ps (is 2 atom-kinds.ps μ-atom t) atom.Pre
+
+abbrev atom-below : ℕ → In 2 atom-kinds.ps
+atom-below t = and 2 atom-kinds.ps (falls 2 atom-kinds.ps _<_ μ-atom t) atom.Pre
+
+abbrev compared-at : ℕ → In 2 compared-kinds.ps
+compared-at t = and 2 compared-kinds.ps (is 2 compared-kinds.ps μ-compared t) compared.Pre
+
+abbrev compared-below : ℕ → In 2 compared-kinds.ps
+compared-below t =
+    and 2 compared-kinds.ps (falls 2 compared-kinds.ps _<_ μ-compared t) compared.Pre
+
+abbrev expression-at : ℕ → In 2 expression-kinds.ps
+expression-at t =
+    and 2 expression-kinds.ps (is 2 expression-kinds.ps μ-expression t) expression.Pre
+
+abbrev expression-below : ℕ → In 2 expression-kinds.ps
+expression-below t =
+    and 2 expression-kinds.ps (falls 2 expression-kinds.ps _<_ μ-expression t) expression.Pre
+
+abbrev factor-at : ℕ → In 2 factor-kinds.ps
+factor-at t = and 2 factor-kinds.ps (is 2 factor-kinds.ps μ-factor t) factor.Pre
+
+abbrev factor-below : ℕ → In 2 factor-kinds.ps
+factor-below t = and 2 factor-kinds.ps (falls 2 factor-kinds.ps _<_ μ-factor t) factor.Pre
+
+abbrev interval-at : ℕ → In 2 interval-kinds.ps
+interval-at t = and 2 interval-kinds.ps (is 2 interval-kinds.ps μ-interval t) interval.Pre
+
+abbrev interval-below : ℕ → In 2 interval-kinds.ps
+interval-below t =
+    and 2 interval-kinds.ps (falls 2 interval-kinds.ps _<_ μ-interval t) interval.Pre
+
+abbrev operand-at : ℕ → In 2 operand-kinds.ps
+operand-at t = and 2 operand-kinds.ps (is 2 operand-kinds.ps μ-operand t) operand.Pre
+
+abbrev operand-below : ℕ → In 2 operand-kinds.ps
+operand-below t = and 2 operand-kinds.ps (falls 2 operand-kinds.ps _<_ μ-operand t) operand.Pre
+
+abbrev sum-at : ℕ → In 2 sum-kinds.ps
+sum-at t = and 2 sum-kinds.ps (is 2 sum-kinds.ps μ-sum t) sum.Pre
+
+abbrev sum-below : ℕ → In 2 sum-kinds.ps
+sum-below t = and 2 sum-kinds.ps (falls 2 sum-kinds.ps _<_ μ-sum t) sum.Pre
+
+abbrev term-at : ℕ → In 2 term-kinds.ps
+term-at t = and 2 term-kinds.ps (is 2 term-kinds.ps μ-term t) term.Pre
+
+abbrev term-below : ℕ → In 2 term-kinds.ps
+term-below t = and 2 term-kinds.ps (falls 2 term-kinds.ps _<_ μ-term t) term.Pre
+
+-- src/lib.rt:273:9
+atom-token-requires : (t : ℕ) → atom-lts.Need-token-requires (
+  token-reads.Asked,
+  token-reads.Learnt,
+  expression-below t,
+  expression.Post,
+  expect-reads.Asked,
+  expect-reads.Learnt,
+  atom-label-reads.Asked,
+  atom-label-reads.Learnt,
+  packed-reads.Asked,
+  packed-reads.Learnt,
+  put-reads.Asked,
+  put-reads.Learnt,
+) (atom-at t) atom.Post
+atom-token-requires t c κs = search needs
+
+-- src/lib.rt:275:45
+atom-add-expression : (t : ℕ) → atom-lts.Need-add-expression (
+  token-reads.Asked,
+  token-reads.Learnt,
+  expression-below t,
+  expression.Post,
+  expect-reads.Asked,
+  expect-reads.Learnt,
+  atom-label-reads.Asked,
+  atom-label-reads.Learnt,
+  packed-reads.Asked,
+  packed-reads.Learnt,
+  put-reads.Asked,
+  put-reads.Learnt,
+) (atom-at t) atom.Post
+atom-add-expression t c = omega (arith, c .before .before .before .before .before .pre .1 .small, c .before .before .before .before .before .pre .1 .within)
+
+-- src/lib.rt:275:13
+atom-expression-requires : (t : ℕ) → atom-lts.Need-expression-requires (
+  token-reads.Asked,
+  token-reads.Learnt,
+  expression-below t,
+  expression.Post,
+  expect-reads.Asked,
+  expect-reads.Learnt,
+  atom-label-reads.Asked,
+  atom-label-reads.Learnt,
+  packed-reads.Asked,
+  packed-reads.Learnt,
+  put-reads.Asked,
+  put-reads.Learnt,
+) (atom-at t) atom.Post
+atom-expression-requires t c κs = (omega (arith, c .before .before .before .before .before .pre .0, (one-inside (c .before .before .before .before .before .args .codes .now) (c .before .before .before .before .before .args .p) (c .before .before .token .result) 24 (c .before .before .token .ensures) (c .before .if1 .taken) (omega arith))), onward (c .before .before .before .before .before .pre .1) (one-inside (c .before .before .before .before .before .args .codes .now) (c .before .before .before .before .before .args .p) (c .before .before .token .result) 24 (c .before .before .token .ensures) (c .before .if1 .taken) (omega arith)))
+
+-- src/lib.rt:276:9
+atom-expect-requires : (t : ℕ) → atom-lts.Need-expect-requires (
+  token-reads.Asked,
+  token-reads.Learnt,
+  expression-below t,
+  expression.Post,
+  expect-reads.Asked,
+  expect-reads.Learnt,
+  atom-label-reads.Asked,
+  atom-label-reads.Learnt,
+  packed-reads.Asked,
+  packed-reads.Learnt,
+  put-reads.Asked,
+  put-reads.Learnt,
+) (atom-at t) atom.Post
+atom-expect-requires t c κs = (sound-of (c .before .before .expression .result) (onward (c .before .before .before .before .before .before .before .before .pre .1) (one-inside (c .before .before .before .before .before .before .before .before .args .codes .now) (c .before .before .before .before .before .before .before .before .args .p) (c .before .before .before .before .before .token .result) 24 (c .before .before .before .before .before .token .ensures) (c .before .before .before .before .if1 .taken) (omega arith))) (c .before .before .expression .ensures .ahead), omega arith)
+
+-- src/lib.rt:276:9
+atom-same-length : (t : ℕ) → atom-lts.Need-same-length (
+  token-reads.Asked,
+  token-reads.Learnt,
+  expression-below t,
+  expression.Post,
+  expect-reads.Asked,
+  expect-reads.Learnt,
+  atom-label-reads.Asked,
+  atom-label-reads.Learnt,
+  packed-reads.Asked,
+  packed-reads.Learnt,
+  put-reads.Asked,
+  put-reads.Learnt,
+) (atom-at t) atom.Post
+atom-same-length t c = search needs
+
+-- src/lib.rt:276:9
+atom-returns : (t : ℕ) → atom-lts.Need-returns (
+  token-reads.Asked,
+  token-reads.Learnt,
+  expression-below t,
+  expression.Post,
+  expect-reads.Asked,
+  expect-reads.Learnt,
+  atom-label-reads.Asked,
+  atom-label-reads.Learnt,
+  packed-reads.Asked,
+  packed-reads.Learnt,
+  put-reads.Asked,
+  put-reads.Learnt,
+) (atom-at t) atom.Post
+atom-returns t c = atom-nested (c .before .before .before .before .before .before .before .before .before .pre .1) (c .before .before .before .before .before .before .token .result) (c .before .before .before .before .before .before .token .ensures) (c .before .before .before .before .before .if1 .taken) (c .before .before .before .expression .ensures) (c .expect .ensures)
+
+-- src/lib.rt:278:9
+atom-atom-label-requires : (t : ℕ) → atom-lts.Need-atom-label-requires (
+  token-reads.Asked,
+  token-reads.Learnt,
+  expression-below t,
+  expression.Post,
+  expect-reads.Asked,
+  expect-reads.Learnt,
+  atom-label-reads.Asked,
+  atom-label-reads.Learnt,
+  packed-reads.Asked,
+  packed-reads.Learnt,
+  put-reads.Asked,
+  put-reads.Learnt,
+) (atom-at t) atom.Post
+atom-atom-label-requires t c κs = search needs
+
+-- src/lib.rt:280:9
+atom-returns-2 : (t : ℕ) → atom-lts.Need-returns-2 (
+  token-reads.Asked,
+  token-reads.Learnt,
+  expression-below t,
+  expression.Post,
+  expect-reads.Asked,
+  expect-reads.Learnt,
+  atom-label-reads.Asked,
+  atom-label-reads.Learnt,
+  packed-reads.Asked,
+  packed-reads.Learnt,
+  put-reads.Asked,
+  put-reads.Learnt,
+) (atom-at t) atom.Post
+atom-returns-2 t c = atom-none (c .before .before .before .before .before .before .pre .1) (c .before .before .before .token .result) (c .before .before .before .token .ensures) (c .before .atom-label .result) (c .before .before .if1 .left) (c .before .atom-label .ensures) (c .if2 .taken)
+
+-- src/lib.rt:282:18
+atom-packed-requires : (t : ℕ) → atom-lts.Need-packed-requires (
+  token-reads.Asked,
+  token-reads.Learnt,
+  expression-below t,
+  expression.Post,
+  expect-reads.Asked,
+  expect-reads.Learnt,
+  atom-label-reads.Asked,
+  atom-label-reads.Learnt,
+  packed-reads.Asked,
+  packed-reads.Learnt,
+  put-reads.Asked,
+  put-reads.Learnt,
+) (atom-at t) atom.Post
+atom-packed-requires t c κs = (label-small (c .before .before .atom-label .result) (c .before .before .before .before .token .result) (c .before .before .atom-label .ensures), omega (arith, c .before .before .before .before .before .before .before .pre .1 .small, c .before .before .before .before .before .before .before .pre .1 .within), omega arith)
+
+-- src/lib.rt:282:5
+atom-put-requires : (t : ℕ) → atom-lts.Need-put-requires (
+  token-reads.Asked,
+  token-reads.Learnt,
+  expression-below t,
+  expression.Post,
+  expect-reads.Asked,
+  expect-reads.Learnt,
+  atom-label-reads.Asked,
+  atom-label-reads.Learnt,
+  packed-reads.Asked,
+  packed-reads.Learnt,
+  put-reads.Asked,
+  put-reads.Learnt,
+) (atom-at t) atom.Post
+atom-put-requires t c κs = search needs
+
+-- src/lib.rt:283:14
+atom-add-t16 : (t : ℕ) → atom-lts.Need-add-t16 (
+  token-reads.Asked,
+  token-reads.Learnt,
+  expression-below t,
+  expression.Post,
+  expect-reads.Asked,
+  expect-reads.Learnt,
+  atom-label-reads.Asked,
+  atom-label-reads.Learnt,
+  packed-reads.Asked,
+  packed-reads.Learnt,
+  put-reads.Asked,
+  put-reads.Learnt,
+) (atom-at t) atom.Post
+atom-add-t16 t c = omega (arith, c .before .before .before .before .before .before .before .before .before .before .before .pre .1 .small, c .before .before .before .before .before .before .before .before .before .before .before .pre .1 .within, c .before .before .before .before .before .before .before .before .before .before .before .pre .1 .behind)
+
+-- src/lib.rt:283:21
+atom-add-t17 : (t : ℕ) → atom-lts.Need-add-t17 (
+  token-reads.Asked,
+  token-reads.Learnt,
+  expression-below t,
+  expression.Post,
+  expect-reads.Asked,
+  expect-reads.Learnt,
+  atom-label-reads.Asked,
+  atom-label-reads.Learnt,
+  packed-reads.Asked,
+  packed-reads.Learnt,
+  put-reads.Asked,
+  put-reads.Learnt,
+) (atom-at t) atom.Post
+atom-add-t17 t c = omega (arith, c .before .before .before .before .before .before .before .before .before .before .before .pre .1 .small, c .before .before .before .before .before .before .before .before .before .before .before .pre .1 .within, c .before .before .before .before .before .before .before .before .before .before .before .pre .1 .behind)
+
+-- src/lib.rt:269:1
+atom-same-length-2 : (t : ℕ) → atom-lts.Need-same-length-2 (
+  token-reads.Asked,
+  token-reads.Learnt,
+  expression-below t,
+  expression.Post,
+  expect-reads.Asked,
+  expect-reads.Learnt,
+  atom-label-reads.Asked,
+  atom-label-reads.Learnt,
+  packed-reads.Asked,
+  packed-reads.Learnt,
+  put-reads.Asked,
+  put-reads.Learnt,
+) (atom-at t) atom.Post
+atom-same-length-2 t c = search needs
+
+-- src/lib.rt:269:1
+atom-returns-3 : (t : ℕ) → atom-lts.Need-returns-3 (
+  token-reads.Asked,
+  token-reads.Learnt,
+  expression-below t,
+  expression.Post,
+  expect-reads.Asked,
+  expect-reads.Learnt,
+  atom-label-reads.Asked,
+  atom-label-reads.Learnt,
+  packed-reads.Asked,
+  packed-reads.Learnt,
+  put-reads.Asked,
+  put-reads.Learnt,
+) (atom-at t) atom.Post
+atom-returns-3 t c = atom-row (c .before .before .before .before .before .before .before .before .before .before .before .pre .1) (c .before .before .before .before .before .before .before .before .token .result) (c .before .before .before .before .before .before .before .before .token .ensures) (c .before .before .before .before .before .before .atom-label .result) (c .before .before .before .packed .result) (c .before .before .before .before .before .before .before .if1 .left) (c .before .before .before .before .before .before .atom-label .ensures) (c .before .before .before .before .before .if2 .left) (c .before .before .before .packed .ensures) (c .before .before .put .ensures)
+
+-- src/lib.rt:309:22
+compared-token-requires : (t : ℕ) → compared-lts.Need-token-requires (
+  token-reads.Asked,
+  token-reads.Learnt,
+  is-comparison-reads.Asked,
+  is-comparison-reads.Learnt,
+  packed-reads.Asked,
+  packed-reads.Learnt,
+  put-reads.Asked,
+  put-reads.Learnt,
+  sum-below t,
+  sum.Post,
+) (compared-at t) compared.Post
+compared-token-requires t c κs = search needs
+
+-- src/lib.rt:309:8
+compared-is-comparison-requires : (t : ℕ) → compared-lts.Need-is-comparison-requires (
+  token-reads.Asked,
+  token-reads.Learnt,
+  is-comparison-reads.Asked,
+  is-comparison-reads.Learnt,
+  packed-reads.Asked,
+  packed-reads.Learnt,
+  put-reads.Asked,
+  put-reads.Learnt,
+  sum-below t,
+  sum.Post,
+) (compared-at t) compared.Post
+compared-is-comparison-requires t c κs = search needs
+
+-- src/lib.rt:310:22
+compared-packed-requires : (t : ℕ) → compared-lts.Need-packed-requires (
+  token-reads.Asked,
+  token-reads.Learnt,
+  is-comparison-reads.Asked,
+  is-comparison-reads.Learnt,
+  packed-reads.Asked,
+  packed-reads.Learnt,
+  put-reads.Asked,
+  put-reads.Learnt,
+  sum-below t,
+  sum.Post,
+) (compared-at t) compared.Post
+compared-packed-requires t c κs = (omega arith, omega (arith, c .before .before .before .before .before .before .pre .1 .small, c .before .before .before .before .before .before .pre .1 .within), omega arith)
+
+-- src/lib.rt:310:9
+compared-put-requires : (t : ℕ) → compared-lts.Need-put-requires (
+  token-reads.Asked,
+  token-reads.Learnt,
+  is-comparison-reads.Asked,
+  is-comparison-reads.Learnt,
+  packed-reads.Asked,
+  packed-reads.Learnt,
+  put-reads.Asked,
+  put-reads.Learnt,
+  sum-below t,
+  sum.Post,
+) (compared-at t) compared.Post
+compared-put-requires t c κs = search needs
+
+-- src/lib.rt:311:33
+compared-add-sum : (t : ℕ) → compared-lts.Need-add-sum (
+  token-reads.Asked,
+  token-reads.Learnt,
+  is-comparison-reads.Asked,
+  is-comparison-reads.Learnt,
+  packed-reads.Asked,
+  packed-reads.Learnt,
+  put-reads.Asked,
+  put-reads.Learnt,
+  sum-below t,
+  sum.Post,
+) (compared-at t) compared.Post
+compared-add-sum t c = omega (arith, c .before .before .before .before .before .before .before .before .before .before .before .pre .1 .small, c .before .before .before .before .before .before .before .before .before .before .before .pre .1 .within, c .before .before .before .before .before .before .before .before .before .before .before .pre .1 .behind)
+
+-- src/lib.rt:311:40
+compared-add-sum-2 : (t : ℕ) → compared-lts.Need-add-sum-2 (
+  token-reads.Asked,
+  token-reads.Learnt,
+  is-comparison-reads.Asked,
+  is-comparison-reads.Learnt,
+  packed-reads.Asked,
+  packed-reads.Learnt,
+  put-reads.Asked,
+  put-reads.Learnt,
+  sum-below t,
+  sum.Post,
+) (compared-at t) compared.Post
+compared-add-sum-2 t c = omega (arith, c .before .before .before .before .before .before .before .before .before .before .before .pre .1 .small, c .before .before .before .before .before .before .before .before .before .before .before .pre .1 .within, c .before .before .before .before .before .before .before .before .before .before .before .pre .1 .behind)
+
+-- src/lib.rt:311:9
+compared-sum-requires : (t : ℕ) → compared-lts.Need-sum-requires (
+  token-reads.Asked,
+  token-reads.Learnt,
+  is-comparison-reads.Asked,
+  is-comparison-reads.Learnt,
+  packed-reads.Asked,
+  packed-reads.Learnt,
+  put-reads.Asked,
+  put-reads.Learnt,
+  sum-below t,
+  sum.Post,
+) (compared-at t) compared.Post
+compared-sum-requires t c κs = (omega (arith, c .before .before .before .before .before .before .before .before .before .before .before .pre .0, (comparison-inside (c .before .before .before .before .before .before .before .before .before .before .before .pre .1) (c .before .before .before .before .before .before .before .is-comparison .result) (c .before .before .before .before .before .before .before .before .token .result) (c .before .before .before .before .before .before .before .before .token .ensures) (c .before .before .before .before .before .before .before .is-comparison .ensures) (c .before .before .before .before .before .before .if1 .taken))), onward-row (c .before .before .before .before .before .before .before .before .before .before .before .pre .1) (comparison-inside (c .before .before .before .before .before .before .before .before .before .before .before .pre .1) (c .before .before .before .before .before .before .before .is-comparison .result) (c .before .before .before .before .before .before .before .before .token .result) (c .before .before .before .before .before .before .before .before .token .ensures) (c .before .before .before .before .before .before .before .is-comparison .ensures) (c .before .before .before .before .before .before .if1 .taken)))
+
+-- src/lib.rt:311:9
+compared-same-length : (t : ℕ) → compared-lts.Need-same-length (
+  token-reads.Asked,
+  token-reads.Learnt,
+  is-comparison-reads.Asked,
+  is-comparison-reads.Learnt,
+  packed-reads.Asked,
+  packed-reads.Learnt,
+  put-reads.Asked,
+  put-reads.Learnt,
+  sum-below t,
+  sum.Post,
+) (compared-at t) compared.Post
+compared-same-length t c = search needs
+
+-- src/lib.rt:311:9
+compared-returns : (t : ℕ) → compared-lts.Need-returns (
+  token-reads.Asked,
+  token-reads.Learnt,
+  is-comparison-reads.Asked,
+  is-comparison-reads.Learnt,
+  packed-reads.Asked,
+  packed-reads.Learnt,
+  put-reads.Asked,
+  put-reads.Learnt,
+  sum-below t,
+  sum.Post,
+) (compared-at t) compared.Post
+compared-returns t c = compared-there (c .before .before .before .before .before .before .before .before .before .before .before .before .before .before .pre .1) (c .before .before .before .before .before .before .before .before .before .before .is-comparison .result) (c .before .before .before .before .before .before .before .before .before .before .before .token .result) (c .before .before .before .before .before .before .before .before .before .before .before .token .ensures) (c .before .before .before .before .before .before .before .before .before .before .is-comparison .ensures) (c .before .before .before .before .before .before .before .packed .result) (c .before .before .before .before .before .before .before .before .before .if1 .taken) (c .before .before .before .before .before .before .before .packed .ensures) (c .before .before .before .before .before .before .put .ensures) (c .before .before .sum .ensures)
+
+-- src/lib.rt:305:1
+compared-returns-2 : (t : ℕ) → compared-lts.Need-returns-2 (
+  token-reads.Asked,
+  token-reads.Learnt,
+  is-comparison-reads.Asked,
+  is-comparison-reads.Learnt,
+  packed-reads.Asked,
+  packed-reads.Learnt,
+  put-reads.Asked,
+  put-reads.Learnt,
+  sum-below t,
+  sum.Post,
+) (compared-at t) compared.Post
+compared-returns-2 t c = compared-not (c .before .before .before .before .before .pre .1) (c .before .is-comparison .result) (c .before .before .token .result) (c .before .before .token .ensures) (c .before .is-comparison .ensures) (c .if1 .left)
+
+-- src/lib.rt:169:9
+expression-sum-requires : (t : ℕ) → expression-lts.Need-sum-requires (
+  sum-below t,
+  sum.Post,
+  token-reads.Asked,
+  token-reads.Learnt,
+  is-relation-reads.Asked,
+  is-relation-reads.Learnt,
+  node-reads.Asked,
+  node-reads.Learnt,
+) (expression-at t) expression.Post
+expression-sum-requires t c κs = (omega (arith, c .before .before .before .pre .0), c .before .before .before .pre .1)
+
+-- src/lib.rt:170:18
+expression-enum-known-left : (t : ℕ) → expression-lts.Need-enum-known-left (
+  sum-below t,
+  sum.Post,
+  token-reads.Asked,
+  token-reads.Learnt,
+  is-relation-reads.Asked,
+  is-relation-reads.Learnt,
+  node-reads.Asked,
+  node-reads.Learnt,
+) (expression-at t) expression.Post
+expression-enum-known-left t c = search needs
+
+-- src/lib.rt:171:9
+expression-enum-told : (t : ℕ) → expression-lts.Need-enum-told (
+  sum-below t,
+  sum.Post,
+  token-reads.Asked,
+  token-reads.Learnt,
+  is-relation-reads.Asked,
+  is-relation-reads.Learnt,
+  node-reads.Asked,
+  node-reads.Learnt,
+) (expression-at t) expression.Post
+expression-enum-told t c = search needs
+
+-- src/lib.rt:171:9
+expression-same-length : (t : ℕ) → expression-lts.Need-same-length (
+  sum-below t,
+  sum.Post,
+  token-reads.Asked,
+  token-reads.Learnt,
+  is-relation-reads.Asked,
+  is-relation-reads.Learnt,
+  node-reads.Asked,
+  node-reads.Learnt,
+) (expression-at t) expression.Post
+expression-same-length t c = search needs
+
+-- src/lib.rt:171:9
+expression-returns : (t : ℕ) → expression-lts.Need-returns (
+  sum-below t,
+  sum.Post,
+  token-reads.Asked,
+  token-reads.Learnt,
+  is-relation-reads.Asked,
+  is-relation-reads.Learnt,
+  node-reads.Asked,
+  node-reads.Learnt,
+) (expression-at t) expression.Post
+expression-returns t c = once-refused expression′ sum′ relations refl (c .before .before .before .before .before .before .before .before .pre .1) (c .before .before .before .before .sum .ensures) (c .enum-told .given .1)
+
+-- src/lib.rt:173:20
+expression-token-requires : (t : ℕ) → expression-lts.Need-token-requires (
+  sum-below t,
+  sum.Post,
+  token-reads.Asked,
+  token-reads.Learnt,
+  is-relation-reads.Asked,
+  is-relation-reads.Learnt,
+  node-reads.Asked,
+  node-reads.Learnt,
+) (expression-at t) expression.Post
+expression-token-requires t c κs = search needs
+
+-- src/lib.rt:173:8
+expression-is-relation-requires : (t : ℕ) → expression-lts.Need-is-relation-requires (
+  sum-below t,
+  sum.Post,
+  token-reads.Asked,
+  token-reads.Learnt,
+  is-relation-reads.Asked,
+  is-relation-reads.Learnt,
+  node-reads.Asked,
+  node-reads.Learnt,
+) (expression-at t) expression.Post
+expression-is-relation-requires t c κs = search needs
+
+-- src/lib.rt:174:38
+expression-add-sum : (t : ℕ) → expression-lts.Need-add-sum (
+  sum-below t,
+  sum.Post,
+  token-reads.Asked,
+  token-reads.Learnt,
+  is-relation-reads.Asked,
+  is-relation-reads.Learnt,
+  node-reads.Asked,
+  node-reads.Learnt,
+) (expression-at t) expression.Post
+expression-add-sum t c = omega (arith, c .before .before .before .before .before .before .before .before .before .before .before .before .before .pre .1 .small, reads-at (c .before .before .before .before .before .before .before .before .before .sum .ensures) (c .before .before .before .before .before .left .given .1))
+
+-- src/lib.rt:174:13
+expression-sum-requires-2 : (t : ℕ) → expression-lts.Need-sum-requires-2 (
+  sum-below t,
+  sum.Post,
+  token-reads.Asked,
+  token-reads.Learnt,
+  is-relation-reads.Asked,
+  is-relation-reads.Learnt,
+  node-reads.Asked,
+  node-reads.Learnt,
+) (expression-at t) expression.Post
+unfolding mem
+expression-sum-requires-2 t c κs = (omega (arith, c .before .before .before .before .before .before .before .before .before .before .before .before .before .pre .0, reads-at (c .before .before .before .before .before .before .before .before .before .sum .ensures) (c .before .before .before .before .before .left .given .1), (inside (c .before .before .before .before .before .before .before .before .before .before .before .before .before .args .codes .now) relations (c .before .before .before .before .before .left .given .0 .0) refl (seen (c .before .before .before .before .before .before .before .before .before .before .before .before .before .args .codes .now) (c .before .before .before .before .before .left .given .0 .0) relations (c .before .before .before .token .ensures) (c .before .before .is-relation .ensures) (c .before .if1 .taken)))), onward (ready-of (c .before .before .before .before .before .before .before .before .before .before .before .before .before .pre .1) (c .before .before .before .before .before .before .before .before .before .sum .ensures .ahead) (c .before .before .before .before .before .left .given .1)) (inside (c .before .before .before .before .before .before .before .before .before .before .before .before .before .args .codes .now) relations (c .before .before .before .before .before .left .given .0 .0) refl (seen (c .before .before .before .before .before .before .before .before .before .before .before .before .before .args .codes .now) (c .before .before .before .before .before .left .given .0 .0) relations (c .before .before .before .token .ensures) (c .before .before .is-relation .ensures) (c .before .if1 .taken))))
+
+-- src/lib.rt:175:9
+expression-node-requires : (t : ℕ) → expression-lts.Need-node-requires (
+  sum-below t,
+  sum.Post,
+  token-reads.Asked,
+  token-reads.Learnt,
+  is-relation-reads.Asked,
+  is-relation-reads.Learnt,
+  node-reads.Asked,
+  node-reads.Learnt,
+) (expression-at t) expression.Post
+unfolding mem
+expression-node-requires t c κs = (counts-of (c .before .before .before .sum2 .result) (onward (ready-of (c .before .before .before .before .before .before .before .before .before .before .before .before .before .before .before .before .before .pre .1) (c .before .before .before .before .before .before .before .before .before .before .before .before .before .sum .ensures .ahead) (c .before .before .before .before .before .before .before .before .before .left .given .1)) (inside (c .before .before .before .before .before .before .before .before .before .before .before .before .before .before .before .before .before .args .codes .now) relations (c .before .before .before .before .before .before .before .before .before .left .given .0 .0) refl (seen (c .before .before .before .before .before .before .before .before .before .before .before .before .before .before .before .before .before .args .codes .now) (c .before .before .before .before .before .before .before .before .before .left .given .0 .0) relations (c .before .before .before .before .before .before .before .token .ensures) (c .before .before .before .before .before .before .is-relation .ensures) (c .before .before .before .before .before .if1 .taken)))) (c .before .before .before .sum2 .ensures .ahead), omega arith, omega (arith, c .before .before .before .before .before .before .before .before .before .before .before .before .before .before .before .before .before .pre .1 .small, reads-at (c .before .before .before .before .before .before .before .before .before .before .before .before .before .sum .ensures) (c .before .before .before .before .before .before .before .before .before .left .given .1)))
+
+-- src/lib.rt:175:9
+expression-same-length-2 : (t : ℕ) → expression-lts.Need-same-length-2 (
+  sum-below t,
+  sum.Post,
+  token-reads.Asked,
+  token-reads.Learnt,
+  is-relation-reads.Asked,
+  is-relation-reads.Learnt,
+  node-reads.Asked,
+  node-reads.Learnt,
+) (expression-at t) expression.Post
+expression-same-length-2 t c = search needs
+
+-- src/lib.rt:175:9
+expression-returns-2 : (t : ℕ) → expression-lts.Need-returns-2 (
+  sum-below t,
+  sum.Post,
+  token-reads.Asked,
+  token-reads.Learnt,
+  is-relation-reads.Asked,
+  is-relation-reads.Learnt,
+  node-reads.Asked,
+  node-reads.Learnt,
+) (expression-at t) expression.Post
+unfolding mem
+expression-returns-2 t c = once-both expression′ sum′ relations refl (c .before .before .before .before .before .before .before .before .before .before .before .before .before .before .before .before .before .before .before .before .pre .1) (c .before .before .before .before .before .before .before .before .before .before .before .before .before .before .before .before .sum .ensures) (c .before .before .before .before .before .before .before .before .before .before .before .before .left .given .1) (seen (c .before .before .before .before .before .before .before .before .before .before .before .before .before .before .before .before .before .before .before .before .args .codes .now) (c .before .before .before .before .before .before .before .before .before .before .before .before .left .given .0 .0) relations (c .before .before .before .before .before .before .before .before .before .before .token .ensures) (c .before .before .before .before .before .before .before .before .before .is-relation .ensures) (c .before .before .before .before .before .before .before .before .if1 .taken)) (omega (arith, (inside (c .before .before .before .before .before .before .before .before .before .before .before .before .before .before .before .before .before .before .before .before .args .codes .now) relations (c .before .before .before .before .before .before .before .before .before .before .before .before .left .given .0 .0) refl (seen (c .before .before .before .before .before .before .before .before .before .before .before .before .before .before .before .before .before .before .before .before .args .codes .now) (c .before .before .before .before .before .before .before .before .before .before .before .before .left .given .0 .0) relations (c .before .before .before .before .before .before .before .before .before .before .token .ensures) (c .before .before .before .before .before .before .before .before .before .is-relation .ensures) (c .before .before .before .before .before .before .before .before .if1 .taken))))) (c .before .before .before .before .before .before .sum2 .ensures) (c .before .before .node .ensures)
+
+-- src/lib.rt:165:1
+expression-same-length-3 : (t : ℕ) → expression-lts.Need-same-length-3 (
+  sum-below t,
+  sum.Post,
+  token-reads.Asked,
+  token-reads.Learnt,
+  is-relation-reads.Asked,
+  is-relation-reads.Learnt,
+  node-reads.Asked,
+  node-reads.Learnt,
+) (expression-at t) expression.Post
+expression-same-length-3 t c = search needs
+
+-- src/lib.rt:165:1
+expression-returns-3 : (t : ℕ) → expression-lts.Need-returns-3 (
+  sum-below t,
+  sum.Post,
+  token-reads.Asked,
+  token-reads.Learnt,
+  is-relation-reads.Asked,
+  is-relation-reads.Learnt,
+  node-reads.Asked,
+  node-reads.Learnt,
+) (expression-at t) expression.Post
+expression-returns-3 t c = once-alone expression′ sum′ relations refl (c .before .before .before .before .before .before .before .before .before .before .before .before .pre .1) (c .before .before .before .before .before .before .before .before .sum .ensures) (c .before .before .before .before .left .given .1) (seen (c .before .before .before .before .before .before .before .before .before .before .before .before .args .codes .now) (c .before .before .before .before .left .given .0 .0) relations (c .before .before .token .ensures) (c .before .is-relation .ensures) (c .if1 .left))
+
+-- src/lib.rt:227:9
+factor-operand-requires : (t : ℕ) → factor-lts.Need-operand-requires (
+  operand-below t,
+  operand.Post,
+  token-reads.Asked,
+  token-reads.Learnt,
+  node-reads.Asked,
+  node-reads.Learnt,
+) (factor-at t) factor.Post
+factor-operand-requires t c κs = (omega (arith, c .before .before .before .pre .0), c .before .before .before .pre .1)
+
+-- src/lib.rt:228:18
+factor-enum-known-left : (t : ℕ) → factor-lts.Need-enum-known-left (
+  operand-below t,
+  operand.Post,
+  token-reads.Asked,
+  token-reads.Learnt,
+  node-reads.Asked,
+  node-reads.Learnt,
+) (factor-at t) factor.Post
+factor-enum-known-left t c = search needs
+
+-- src/lib.rt:229:9
+factor-enum-told : (t : ℕ) → factor-lts.Need-enum-told (
+  operand-below t,
+  operand.Post,
+  token-reads.Asked,
+  token-reads.Learnt,
+  node-reads.Asked,
+  node-reads.Learnt,
+) (factor-at t) factor.Post
+factor-enum-told t c = search needs
+
+-- src/lib.rt:229:9
+factor-same-length : (t : ℕ) → factor-lts.Need-same-length (
+  operand-below t,
+  operand.Post,
+  token-reads.Asked,
+  token-reads.Learnt,
+  node-reads.Asked,
+  node-reads.Learnt,
+) (factor-at t) factor.Post
+factor-same-length t c = search needs
+
+-- src/lib.rt:229:9
+factor-returns : (t : ℕ) → factor-lts.Need-returns (
+  operand-below t,
+  operand.Post,
+  token-reads.Asked,
+  token-reads.Learnt,
+  node-reads.Asked,
+  node-reads.Learnt,
+) (factor-at t) factor.Post
+factor-returns t c = once-refused factor′ operand′ power refl (c .before .before .before .before .before .before .before .before .pre .1) (c .before .before .before .before .operand .ensures) (c .enum-told .given .1)
+
+-- src/lib.rt:231:8
+factor-token-requires : (t : ℕ) → factor-lts.Need-token-requires (
+  operand-below t,
+  operand.Post,
+  token-reads.Asked,
+  token-reads.Learnt,
+  node-reads.Asked,
+  node-reads.Learnt,
+) (factor-at t) factor.Post
+factor-token-requires t c κs = search needs
+
+-- src/lib.rt:232:42
+factor-add-operand : (t : ℕ) → factor-lts.Need-add-operand (
+  operand-below t,
+  operand.Post,
+  token-reads.Asked,
+  token-reads.Learnt,
+  node-reads.Asked,
+  node-reads.Learnt,
+) (factor-at t) factor.Post
+factor-add-operand t c = omega (arith, c .before .before .before .before .before .before .before .before .before .before .before .before .pre .1 .small, reads-at (c .before .before .before .before .before .before .before .before .operand .ensures) (c .before .before .before .before .left .given .1))
+
+-- src/lib.rt:232:13
+factor-operand-requires-2 : (t : ℕ) → factor-lts.Need-operand-requires-2 (
+  operand-below t,
+  operand.Post,
+  token-reads.Asked,
+  token-reads.Learnt,
+  node-reads.Asked,
+  node-reads.Learnt,
+) (factor-at t) factor.Post
+unfolding mem
+factor-operand-requires-2 t c κs = (omega (arith, c .before .before .before .before .before .before .before .before .before .before .before .before .pre .0, reads-at (c .before .before .before .before .before .before .before .before .operand .ensures) (c .before .before .before .before .left .given .1), (one-inside (c .before .before .before .before .before .before .before .before .before .before .before .before .args .codes .now) (c .before .before .before .before .left .given .0 .0) (c .before .before .token .result) 32 (c .before .before .token .ensures) (c .before .if1 .taken) (omega arith))), onward (ready-of (c .before .before .before .before .before .before .before .before .before .before .before .before .pre .1) (c .before .before .before .before .before .before .before .before .operand .ensures .ahead) (c .before .before .before .before .left .given .1)) (one-inside (c .before .before .before .before .before .before .before .before .before .before .before .before .args .codes .now) (c .before .before .before .before .left .given .0 .0) (c .before .before .token .result) 32 (c .before .before .token .ensures) (c .before .if1 .taken) (omega arith)))
+
+-- src/lib.rt:233:9
+factor-node-requires : (t : ℕ) → factor-lts.Need-node-requires (
+  operand-below t,
+  operand.Post,
+  token-reads.Asked,
+  token-reads.Learnt,
+  node-reads.Asked,
+  node-reads.Learnt,
+) (factor-at t) factor.Post
+unfolding mem
+factor-node-requires t c κs = (counts-of (c .before .before .before .operand2 .result) (onward (ready-of (c .before .before .before .before .before .before .before .before .before .before .before .before .before .before .before .before .pre .1) (c .before .before .before .before .before .before .before .before .before .before .before .before .operand .ensures .ahead) (c .before .before .before .before .before .before .before .before .left .given .1)) (one-inside (c .before .before .before .before .before .before .before .before .before .before .before .before .before .before .before .before .args .codes .now) (c .before .before .before .before .before .before .before .before .left .given .0 .0) (c .before .before .before .before .before .before .token .result) 32 (c .before .before .before .before .before .before .token .ensures) (c .before .before .before .before .before .if1 .taken) (omega arith))) (c .before .before .before .operand2 .ensures .ahead), omega arith, omega (arith, c .before .before .before .before .before .before .before .before .before .before .before .before .before .before .before .before .pre .1 .small, reads-at (c .before .before .before .before .before .before .before .before .before .before .before .before .operand .ensures) (c .before .before .before .before .before .before .before .before .left .given .1)))
+
+-- src/lib.rt:233:9
+factor-same-length-2 : (t : ℕ) → factor-lts.Need-same-length-2 (
+  operand-below t,
+  operand.Post,
+  token-reads.Asked,
+  token-reads.Learnt,
+  node-reads.Asked,
+  node-reads.Learnt,
+) (factor-at t) factor.Post
+factor-same-length-2 t c = search needs
+
+-- src/lib.rt:233:9
+factor-returns-2 : (t : ℕ) → factor-lts.Need-returns-2 (
+  operand-below t,
+  operand.Post,
+  token-reads.Asked,
+  token-reads.Learnt,
+  node-reads.Asked,
+  node-reads.Learnt,
+) (factor-at t) factor.Post
+unfolding mem
+factor-returns-2 t c = once-both factor′ operand′ power refl (c .before .before .before .before .before .before .before .before .before .before .before .before .before .before .before .before .before .before .before .pre .1) (c .before .before .before .before .before .before .before .before .before .before .before .before .before .before .before .operand .ensures) (c .before .before .before .before .before .before .before .before .before .before .before .left .given .1) (seen-one (c .before .before .before .before .before .before .before .before .before .before .before .before .before .before .before .before .before .before .before .args .codes .now) (c .before .before .before .before .before .before .before .before .before .before .before .left .given .0 .0) 32 (c .before .before .before .before .before .before .before .before .before .token .ensures) (c .before .before .before .before .before .before .before .before .if1 .taken)) (omega (arith, (one-inside (c .before .before .before .before .before .before .before .before .before .before .before .before .before .before .before .before .before .before .before .args .codes .now) (c .before .before .before .before .before .before .before .before .before .before .before .left .given .0 .0) (c .before .before .before .before .before .before .before .before .before .token .result) 32 (c .before .before .before .before .before .before .before .before .before .token .ensures) (c .before .before .before .before .before .before .before .before .if1 .taken) (omega arith)))) (c .before .before .before .before .before .before .operand2 .ensures) (c .before .before .node .ensures)
+
+-- src/lib.rt:223:1
+factor-same-length-3 : (t : ℕ) → factor-lts.Need-same-length-3 (
+  operand-below t,
+  operand.Post,
+  token-reads.Asked,
+  token-reads.Learnt,
+  node-reads.Asked,
+  node-reads.Learnt,
+) (factor-at t) factor.Post
+factor-same-length-3 t c = search needs
+
+-- src/lib.rt:223:1
+factor-returns-3 : (t : ℕ) → factor-lts.Need-returns-3 (
+  operand-below t,
+  operand.Post,
+  token-reads.Asked,
+  token-reads.Learnt,
+  node-reads.Asked,
+  node-reads.Learnt,
+) (factor-at t) factor.Post
+factor-returns-3 t c = once-alone factor′ operand′ power refl (c .before .before .before .before .before .before .before .before .before .before .before .pre .1) (c .before .before .before .before .before .before .before .operand .ensures) (c .before .before .before .left .given .1) (seen-other (c .before .before .before .before .before .before .before .before .before .before .before .args .codes .now) (c .before .before .before .left .given .0 .0) 32 (c .before .token .ensures) (c .if1 .left))
+
+-- src/lib.rt:291:32
+interval-add-sum : (t : ℕ) → interval-lts.Need-add-sum (
+  sum-below t,
+  sum.Post,
+  compared-below t,
+  compared.Post,
+  expect-reads.Asked,
+  expect-reads.Learnt,
+  node-reads.Asked,
+  node-reads.Learnt,
+) (interval-at t) interval.Post
+interval-add-sum t c = omega (arith, c .before .before .before .pre .1 .0 .small, c .before .before .before .pre .1 .0 .within)
+
+-- src/lib.rt:291:9
+interval-sum-requires : (t : ℕ) → interval-lts.Need-sum-requires (
+  sum-below t,
+  sum.Post,
+  compared-below t,
+  compared.Post,
+  expect-reads.Asked,
+  expect-reads.Learnt,
+  node-reads.Asked,
+  node-reads.Learnt,
+) (interval-at t) interval.Post
+interval-sum-requires t c κs = (omega (arith, c .before .before .before .pre .0, (one-inside (c .before .before .before .args .codes .now) (c .before .before .before .args .p) (getD (c .before .before .before .args .codes .now) (c .before .before .before .args .p) 0) 21 refl (c .before .before .before .pre .1 .1) (omega arith))), onward (c .before .before .before .pre .1 .0) (one-inside (c .before .before .before .args .codes .now) (c .before .before .before .args .p) (getD (c .before .before .before .args .codes .now) (c .before .before .before .args .p) 0) 21 refl (c .before .before .before .pre .1 .1) (omega arith)))
+
+-- src/lib.rt:292:18
+interval-enum-known-low : (t : ℕ) → interval-lts.Need-enum-known-low (
+  sum-below t,
+  sum.Post,
+  compared-below t,
+  compared.Post,
+  expect-reads.Asked,
+  expect-reads.Learnt,
+  node-reads.Asked,
+  node-reads.Learnt,
+) (interval-at t) interval.Post
+interval-enum-known-low t c = search needs
+
+-- src/lib.rt:293:9
+interval-enum-told : (t : ℕ) → interval-lts.Need-enum-told (
+  sum-below t,
+  sum.Post,
+  compared-below t,
+  compared.Post,
+  expect-reads.Asked,
+  expect-reads.Learnt,
+  node-reads.Asked,
+  node-reads.Learnt,
+) (interval-at t) interval.Post
+interval-enum-told t c = search needs
+
+-- src/lib.rt:293:9
+interval-same-length : (t : ℕ) → interval-lts.Need-same-length (
+  sum-below t,
+  sum.Post,
+  compared-below t,
+  compared.Post,
+  expect-reads.Asked,
+  expect-reads.Learnt,
+  node-reads.Asked,
+  node-reads.Learnt,
+) (interval-at t) interval.Post
+interval-same-length t c = search needs
+
+-- src/lib.rt:293:9
+interval-returns : (t : ℕ) → interval-lts.Need-returns (
+  sum-below t,
+  sum.Post,
+  compared-below t,
+  compared.Post,
+  expect-reads.Asked,
+  expect-reads.Learnt,
+  node-reads.Asked,
+  node-reads.Learnt,
+) (interval-at t) interval.Post
+interval-returns t c = low-refused (c .before .before .before .before .before .before .before .before .pre .1 .0) (c .before .before .before .before .before .before .before .before .pre .1 .1) (c .before .before .before .before .sum .ensures) (c .enum-told .given .1)
+
+-- src/lib.rt:295:9
+interval-compared-requires : (t : ℕ) → interval-lts.Need-compared-requires (
+  sum-below t,
+  sum.Post,
+  compared-below t,
+  compared.Post,
+  expect-reads.Asked,
+  expect-reads.Learnt,
+  node-reads.Asked,
+  node-reads.Learnt,
+) (interval-at t) interval.Post
+interval-compared-requires t c κs = (omega (arith, c .before .before .before .before .before .before .before .before .before .before .pre .0, reads-at (c .before .before .before .before .before .before .sum .ensures) (c .before .before .low .given .1)), (ready-of (onward (c .before .before .before .before .before .before .before .before .before .before .pre .1 .0) (one-inside (c .before .before .before .before .before .before .before .before .before .before .args .codes .now) (c .before .before .before .before .before .before .before .before .before .before .args .p) (getD (c .before .before .before .before .before .before .before .before .before .before .args .codes .now) (c .before .before .before .before .before .before .before .before .before .before .args .p) 0) 21 refl (c .before .before .before .before .before .before .before .before .before .before .pre .1 .1) (omega arith))) (c .before .before .before .before .before .before .sum .ensures .ahead) (c .before .before .low .given .1)))
+
+-- src/lib.rt:296:18
+interval-enum-known-item : (t : ℕ) → interval-lts.Need-enum-known-item (
+  sum-below t,
+  sum.Post,
+  compared-below t,
+  compared.Post,
+  expect-reads.Asked,
+  expect-reads.Learnt,
+  node-reads.Asked,
+  node-reads.Learnt,
+) (interval-at t) interval.Post
+interval-enum-known-item t c = search needs
+
+-- src/lib.rt:297:9
+interval-enum-told-2 : (t : ℕ) → interval-lts.Need-enum-told-2 (
+  sum-below t,
+  sum.Post,
+  compared-below t,
+  compared.Post,
+  expect-reads.Asked,
+  expect-reads.Learnt,
+  node-reads.Asked,
+  node-reads.Learnt,
+) (interval-at t) interval.Post
+interval-enum-told-2 t c = search needs
+
+-- src/lib.rt:297:9
+interval-same-length-2 : (t : ℕ) → interval-lts.Need-same-length-2 (
+  sum-below t,
+  sum.Post,
+  compared-below t,
+  compared.Post,
+  expect-reads.Asked,
+  expect-reads.Learnt,
+  node-reads.Asked,
+  node-reads.Learnt,
+) (interval-at t) interval.Post
+interval-same-length-2 t c = search needs
+
+-- src/lib.rt:297:9
+interval-returns-2 : (t : ℕ) → interval-lts.Need-returns-2 (
+  sum-below t,
+  sum.Post,
+  compared-below t,
+  compared.Post,
+  expect-reads.Asked,
+  expect-reads.Learnt,
+  node-reads.Asked,
+  node-reads.Learnt,
+) (interval-at t) interval.Post
+interval-returns-2 t c = item-refused (c .before .before .before .before .before .before .before .before .before .before .before .before .before .before .before .pre .1 .0) (c .before .before .before .before .before .before .before .before .before .before .before .before .before .before .before .pre .1 .1) (c .before .before .before .before .before .before .before .before .before .before .before .sum .ensures) (c .before .before .before .before .before .before .before .low .given .1) (c .before .before .before .before .compared .ensures) (c .enum-told2 .given .1)
+
+-- src/lib.rt:299:9
+interval-compared-requires-2 : (t : ℕ) → interval-lts.Need-compared-requires-2 (
+  sum-below t,
+  sum.Post,
+  compared-below t,
+  compared.Post,
+  expect-reads.Asked,
+  expect-reads.Learnt,
+  node-reads.Asked,
+  node-reads.Learnt,
+) (interval-at t) interval.Post
+interval-compared-requires-2 t c κs = (omega (arith, c .before .before .before .before .before .before .before .before .before .before .before .before .before .before .before .before .before .pre .0, reads-at (c .before .before .before .before .before .before .before .before .before .before .before .before .before .sum .ensures) (c .before .before .before .before .before .before .before .before .before .low .given .1), compares-at (c .before .before .before .before .before .before .compared .ensures) (c .before .before .item .given .1)), (ready-of (ready-of (onward (c .before .before .before .before .before .before .before .before .before .before .before .before .before .before .before .before .before .pre .1 .0) (one-inside (c .before .before .before .before .before .before .before .before .before .before .before .before .before .before .before .before .before .args .codes .now) (c .before .before .before .before .before .before .before .before .before .before .before .before .before .before .before .before .before .args .p) (getD (c .before .before .before .before .before .before .before .before .before .before .before .before .before .before .before .before .before .args .codes .now) (c .before .before .before .before .before .before .before .before .before .before .before .before .before .before .before .before .before .args .p) 0) 21 refl (c .before .before .before .before .before .before .before .before .before .before .before .before .before .before .before .before .before .pre .1 .1) (omega arith))) (c .before .before .before .before .before .before .before .before .before .before .before .before .before .sum .ensures .ahead) (c .before .before .before .before .before .before .before .before .before .low .given .1)) (c .before .before .before .before .before .before .compared .ensures .ahead) (c .before .before .item .given .1)))
+
+-- src/lib.rt:300:9
+interval-expect-requires : (t : ℕ) → interval-lts.Need-expect-requires (
+  sum-below t,
+  sum.Post,
+  compared-below t,
+  compared.Post,
+  expect-reads.Asked,
+  expect-reads.Learnt,
+  node-reads.Asked,
+  node-reads.Learnt,
+) (interval-at t) interval.Post
+interval-expect-requires t c κs = (sound-of (c .before .before .compared2 .result) (ready-of (ready-of (onward (c .before .before .before .before .before .before .before .before .before .before .before .before .before .before .before .before .before .before .before .before .pre .1 .0) (one-inside (c .before .before .before .before .before .before .before .before .before .before .before .before .before .before .before .before .before .before .before .before .args .codes .now) (c .before .before .before .before .before .before .before .before .before .before .before .before .before .before .before .before .before .before .before .before .args .p) (getD (c .before .before .before .before .before .before .before .before .before .before .before .before .before .before .before .before .before .before .before .before .args .codes .now) (c .before .before .before .before .before .before .before .before .before .before .before .before .before .before .before .before .before .before .before .before .args .p) 0) 21 refl (c .before .before .before .before .before .before .before .before .before .before .before .before .before .before .before .before .before .before .before .before .pre .1 .1) (omega arith))) (c .before .before .before .before .before .before .before .before .before .before .before .before .before .before .before .before .sum .ensures .ahead) (c .before .before .before .before .before .before .before .before .before .before .before .before .low .given .1)) (c .before .before .before .before .before .before .before .before .before .compared .ensures .ahead) (c .before .before .before .before .before .item .given .1)) (c .before .before .compared2 .ensures .ahead), omega arith)
+
+-- src/lib.rt:301:5
+interval-node-requires : (t : ℕ) → interval-lts.Need-node-requires (
+  sum-below t,
+  sum.Post,
+  compared-below t,
+  compared.Post,
+  expect-reads.Asked,
+  expect-reads.Learnt,
+  node-reads.Asked,
+  node-reads.Learnt,
+) (interval-at t) interval.Post
+interval-node-requires t c κs = (counts-sound (c .before .before .before .before .before .before .before .before .before .before .before .before .before .before .before .before .before .before .before .before .before .before .args .codes .now) (c .before .expect .result) (c .before .expect .ensures .sound), omega arith, omega (arith, c .before .before .before .before .before .before .before .before .before .before .before .before .before .before .before .before .before .before .before .before .before .before .pre .1 .0 .small, c .before .before .before .before .before .before .before .before .before .before .before .before .before .before .before .before .before .before .before .before .before .before .pre .1 .0 .within))
+
+-- src/lib.rt:287:1
+interval-same-length-3 : (t : ℕ) → interval-lts.Need-same-length-3 (
+  sum-below t,
+  sum.Post,
+  compared-below t,
+  compared.Post,
+  expect-reads.Asked,
+  expect-reads.Learnt,
+  node-reads.Asked,
+  node-reads.Learnt,
+) (interval-at t) interval.Post
+interval-same-length-3 t c = search needs
+
+-- src/lib.rt:287:1
+interval-returns-3 : (t : ℕ) → interval-lts.Need-returns-3 (
+  sum-below t,
+  sum.Post,
+  compared-below t,
+  compared.Post,
+  expect-reads.Asked,
+  expect-reads.Learnt,
+  node-reads.Asked,
+  node-reads.Learnt,
+) (interval-at t) interval.Post
+interval-returns-3 t c = interval-whole (c .before .before .before .before .before .before .before .before .before .before .before .before .before .before .before .before .before .before .before .before .before .before .before .before .before .pre .1 .0) (c .before .before .before .before .before .before .before .before .before .before .before .before .before .before .before .before .before .before .before .before .before .before .before .before .before .pre .1 .1) (c .before .before .before .before .before .before .before .before .before .before .before .before .before .before .before .before .before .before .before .before .before .sum .ensures) (c .before .before .before .before .before .before .before .before .before .before .before .before .before .before .before .before .before .low .given .1) (c .before .before .before .before .before .before .before .before .before .before .before .before .before .before .compared .ensures) (c .before .before .before .before .before .before .before .before .before .before .item .given .1) (c .before .before .before .before .before .before .before .compared2 .ensures) (c .before .before .before .before .expect .ensures) (c .before .before .node .ensures) (counts-sound (c .before .before .before .before .before .before .before .before .before .before .before .before .before .before .before .before .before .before .before .before .before .before .before .before .before .args .codes .now) (c .before .before .before .before .expect .result) (c .before .before .before .before .expect .ensures .sound))
+
+-- src/lib.rt:243:9
+operand-token-requires : (t : ℕ) → operand-lts.Need-token-requires (
+  token-reads.Asked,
+  token-reads.Learnt,
+  is-qualified-reads.Asked,
+  is-qualified-reads.Learnt,
+  leaf-reads.Asked,
+  leaf-reads.Learnt,
+  interval-below t,
+  interval.Post,
+  is-sign-reads.Asked,
+  is-sign-reads.Learnt,
+  atom-below t,
+  atom.Post,
+  node-reads.Asked,
+  node-reads.Learnt,
+) (operand-at t) operand.Post
+operand-token-requires t c κs = search needs
+
+-- src/lib.rt:244:8
+operand-is-qualified-requires : (t : ℕ) → operand-lts.Need-is-qualified-requires (
+  token-reads.Asked,
+  token-reads.Learnt,
+  is-qualified-reads.Asked,
+  is-qualified-reads.Learnt,
+  leaf-reads.Asked,
+  leaf-reads.Learnt,
+  interval-below t,
+  interval.Post,
+  is-sign-reads.Asked,
+  is-sign-reads.Learnt,
+  atom-below t,
+  atom.Post,
+  node-reads.Asked,
+  node-reads.Learnt,
+) (operand-at t) operand.Post
+operand-is-qualified-requires t c κs = omega (arith, c .before .before .before .pre .1 .small, c .before .before .before .pre .1 .within)
+
+-- src/lib.rt:245:43
+operand-add-t10 : (t : ℕ) → operand-lts.Need-add-t10 (
+  token-reads.Asked,
+  token-reads.Learnt,
+  is-qualified-reads.Asked,
+  is-qualified-reads.Learnt,
+  leaf-reads.Asked,
+  leaf-reads.Learnt,
+  interval-below t,
+  interval.Post,
+  is-sign-reads.Asked,
+  is-sign-reads.Learnt,
+  atom-below t,
+  atom.Post,
+  node-reads.Asked,
+  node-reads.Learnt,
+) (operand-at t) operand.Post
+operand-add-t10 t c = omega (arith, c .before .before .before .before .before .before .pre .1 .small, c .before .before .before .before .before .before .pre .1 .within)
+
+-- src/lib.rt:245:9
+operand-leaf-requires : (t : ℕ) → operand-lts.Need-leaf-requires (
+  token-reads.Asked,
+  token-reads.Learnt,
+  is-qualified-reads.Asked,
+  is-qualified-reads.Learnt,
+  leaf-reads.Asked,
+  leaf-reads.Learnt,
+  interval-below t,
+  interval.Post,
+  is-sign-reads.Asked,
+  is-sign-reads.Learnt,
+  atom-below t,
+  atom.Post,
+  node-reads.Asked,
+  node-reads.Learnt,
+) (operand-at t) operand.Post
+operand-leaf-requires t c κs = (item-ready (c .before .before .before .before .before .before .pre .1) (c .before .before .is-qualified .result) (c .before .before .is-qualified .ensures) (c .before .if1 .taken), omega arith)
+
+-- src/lib.rt:245:9
+operand-same-length : (t : ℕ) → operand-lts.Need-same-length (
+  token-reads.Asked,
+  token-reads.Learnt,
+  is-qualified-reads.Asked,
+  is-qualified-reads.Learnt,
+  leaf-reads.Asked,
+  leaf-reads.Learnt,
+  interval-below t,
+  interval.Post,
+  is-sign-reads.Asked,
+  is-sign-reads.Learnt,
+  atom-below t,
+  atom.Post,
+  node-reads.Asked,
+  node-reads.Learnt,
+) (operand-at t) operand.Post
+operand-same-length t c = search needs
+
+-- src/lib.rt:245:9
+operand-returns : (t : ℕ) → operand-lts.Need-returns (
+  token-reads.Asked,
+  token-reads.Learnt,
+  is-qualified-reads.Asked,
+  is-qualified-reads.Learnt,
+  leaf-reads.Asked,
+  leaf-reads.Learnt,
+  interval-below t,
+  interval.Post,
+  is-sign-reads.Asked,
+  is-sign-reads.Learnt,
+  atom-below t,
+  atom.Post,
+  node-reads.Asked,
+  node-reads.Learnt,
+) (operand-at t) operand.Post
+operand-returns t c = operand-item (c .before .before .before .before .before .before .before .before .before .pre .1) (c .before .before .before .before .before .is-qualified .result) (c .before .before .before .before .before .is-qualified .ensures) (c .before .before .before .before .if1 .taken) (c .before .before .leaf .ensures)
+
+-- src/lib.rt:248:9
+operand-interval-requires : (t : ℕ) → operand-lts.Need-interval-requires (
+  token-reads.Asked,
+  token-reads.Learnt,
+  is-qualified-reads.Asked,
+  is-qualified-reads.Learnt,
+  leaf-reads.Asked,
+  leaf-reads.Learnt,
+  interval-below t,
+  interval.Post,
+  is-sign-reads.Asked,
+  is-sign-reads.Learnt,
+  atom-below t,
+  atom.Post,
+  node-reads.Asked,
+  node-reads.Learnt,
+) (operand-at t) operand.Post
+operand-interval-requires t c κs = (omega (arith, c .before .before .before .before .before .before .before .pre .0), (c .before .before .before .before .before .before .before .pre .1, sym (c .before .before .before .before .token .ensures) ∙ c .before .if2 .taken))
+
+-- src/lib.rt:248:9
+operand-same-length-2 : (t : ℕ) → operand-lts.Need-same-length-2 (
+  token-reads.Asked,
+  token-reads.Learnt,
+  is-qualified-reads.Asked,
+  is-qualified-reads.Learnt,
+  leaf-reads.Asked,
+  leaf-reads.Learnt,
+  interval-below t,
+  interval.Post,
+  is-sign-reads.Asked,
+  is-sign-reads.Learnt,
+  atom-below t,
+  atom.Post,
+  node-reads.Asked,
+  node-reads.Learnt,
+) (operand-at t) operand.Post
+operand-same-length-2 t c = search needs
+
+-- src/lib.rt:248:9
+operand-returns-2 : (t : ℕ) → operand-lts.Need-returns-2 (
+  token-reads.Asked,
+  token-reads.Learnt,
+  is-qualified-reads.Asked,
+  is-qualified-reads.Learnt,
+  leaf-reads.Asked,
+  leaf-reads.Learnt,
+  interval-below t,
+  interval.Post,
+  is-sign-reads.Asked,
+  is-sign-reads.Learnt,
+  atom-below t,
+  atom.Post,
+  node-reads.Asked,
+  node-reads.Learnt,
+) (operand-at t) operand.Post
+operand-returns-2 t c = operand-interval (c .before .before .before .before .before .before .before .before .before .before .pre .1) (c .before .before .before .before .before .before .is-qualified .result) (c .before .before .before .before .before .before .is-qualified .ensures) (c .before .before .before .before .before .if1 .left) (c .before .before .before .before .before .before .before .token .result) (c .before .before .before .before .before .before .before .token .ensures) (c .before .before .before .before .if2 .taken) (c .before .before .interval .ensures)
+
+-- src/lib.rt:250:8
+operand-is-sign-requires : (t : ℕ) → operand-lts.Need-is-sign-requires (
+  token-reads.Asked,
+  token-reads.Learnt,
+  is-qualified-reads.Asked,
+  is-qualified-reads.Learnt,
+  leaf-reads.Asked,
+  leaf-reads.Learnt,
+  interval-below t,
+  interval.Post,
+  is-sign-reads.Asked,
+  is-sign-reads.Learnt,
+  atom-below t,
+  atom.Post,
+  node-reads.Asked,
+  node-reads.Learnt,
+) (operand-at t) operand.Post
+operand-is-sign-requires t c κs = search needs
+
+-- src/lib.rt:251:39
+operand-add-atom : (t : ℕ) → operand-lts.Need-add-atom (
+  token-reads.Asked,
+  token-reads.Learnt,
+  is-qualified-reads.Asked,
+  is-qualified-reads.Learnt,
+  leaf-reads.Asked,
+  leaf-reads.Learnt,
+  interval-below t,
+  interval.Post,
+  is-sign-reads.Asked,
+  is-sign-reads.Learnt,
+  atom-below t,
+  atom.Post,
+  node-reads.Asked,
+  node-reads.Learnt,
+) (operand-at t) operand.Post
+operand-add-atom t c = omega (arith, c .before .before .before .before .before .before .before .before .before .pre .1 .small, c .before .before .before .before .before .before .before .before .before .pre .1 .within)
+
+-- src/lib.rt:251:13
+operand-atom-requires : (t : ℕ) → operand-lts.Need-atom-requires (
+  token-reads.Asked,
+  token-reads.Learnt,
+  is-qualified-reads.Asked,
+  is-qualified-reads.Learnt,
+  leaf-reads.Asked,
+  leaf-reads.Learnt,
+  interval-below t,
+  interval.Post,
+  is-sign-reads.Asked,
+  is-sign-reads.Learnt,
+  atom-below t,
+  atom.Post,
+  node-reads.Asked,
+  node-reads.Learnt,
+) (operand-at t) operand.Post
+operand-atom-requires t c κs = (omega (arith, c .before .before .before .before .before .before .before .before .before .pre .0, (sign-ready (c .before .before .before .before .before .before .before .before .before .pre .1) (c .before .before .before .before .before .is-qualified .result) (c .before .before .before .before .before .is-qualified .ensures) (c .before .before .before .before .if1 .left) (c .before .before .before .before .before .before .token .result) (c .before .before .before .before .before .before .token .ensures) (c .before .before .before .if2 .left) (c .before .before .is-sign .result) (c .before .before .is-sign .ensures) (c .before .if3 .taken)) .within), sign-ready (c .before .before .before .before .before .before .before .before .before .pre .1) (c .before .before .before .before .before .is-qualified .result) (c .before .before .before .before .before .is-qualified .ensures) (c .before .before .before .before .if1 .left) (c .before .before .before .before .before .before .token .result) (c .before .before .before .before .before .before .token .ensures) (c .before .before .before .if2 .left) (c .before .before .is-sign .result) (c .before .before .is-sign .ensures) (c .before .if3 .taken))
+
+-- src/lib.rt:252:9
+operand-node-requires : (t : ℕ) → operand-lts.Need-node-requires (
+  token-reads.Asked,
+  token-reads.Learnt,
+  is-qualified-reads.Asked,
+  is-qualified-reads.Learnt,
+  leaf-reads.Asked,
+  leaf-reads.Learnt,
+  interval-below t,
+  interval.Post,
+  is-sign-reads.Asked,
+  is-sign-reads.Learnt,
+  atom-below t,
+  atom.Post,
+  node-reads.Asked,
+  node-reads.Learnt,
+) (operand-at t) operand.Post
+operand-node-requires t c κs = (counts-of (c .before .before .before .atom .result) (sign-ready (c .before .before .before .before .before .before .before .before .before .before .before .before .before .pre .1) (c .before .before .before .before .before .before .before .before .before .is-qualified .result) (c .before .before .before .before .before .before .before .before .before .is-qualified .ensures) (c .before .before .before .before .before .before .before .before .if1 .left) (c .before .before .before .before .before .before .before .before .before .before .token .result) (c .before .before .before .before .before .before .before .before .before .before .token .ensures) (c .before .before .before .before .before .before .before .if2 .left) (c .before .before .before .before .before .before .is-sign .result) (c .before .before .before .before .before .before .is-sign .ensures) (c .before .before .before .before .before .if3 .taken)) (c .before .before .before .atom .ensures .ahead), omega arith, omega (arith, c .before .before .before .before .before .before .before .before .before .before .before .before .before .pre .1 .small, c .before .before .before .before .before .before .before .before .before .before .before .before .before .pre .1 .within))
+
+-- src/lib.rt:252:9
+operand-same-length-3 : (t : ℕ) → operand-lts.Need-same-length-3 (
+  token-reads.Asked,
+  token-reads.Learnt,
+  is-qualified-reads.Asked,
+  is-qualified-reads.Learnt,
+  leaf-reads.Asked,
+  leaf-reads.Learnt,
+  interval-below t,
+  interval.Post,
+  is-sign-reads.Asked,
+  is-sign-reads.Learnt,
+  atom-below t,
+  atom.Post,
+  node-reads.Asked,
+  node-reads.Learnt,
+) (operand-at t) operand.Post
+operand-same-length-3 t c = search needs
+
+-- src/lib.rt:252:9
+operand-returns-3 : (t : ℕ) → operand-lts.Need-returns-3 (
+  token-reads.Asked,
+  token-reads.Learnt,
+  is-qualified-reads.Asked,
+  is-qualified-reads.Learnt,
+  leaf-reads.Asked,
+  leaf-reads.Learnt,
+  interval-below t,
+  interval.Post,
+  is-sign-reads.Asked,
+  is-sign-reads.Learnt,
+  atom-below t,
+  atom.Post,
+  node-reads.Asked,
+  node-reads.Learnt,
+) (operand-at t) operand.Post
+operand-returns-3 t c = operand-signed (c .before .before .before .before .before .before .before .before .before .before .before .before .before .before .before .before .pre .1) (c .before .before .before .before .before .before .before .before .before .before .before .before .is-qualified .result) (c .before .before .before .before .before .before .before .before .before .before .before .before .is-qualified .ensures) (c .before .before .before .before .before .before .before .before .before .before .before .if1 .left) (c .before .before .before .before .before .before .before .before .before .before .before .before .before .token .result) (c .before .before .before .before .before .before .before .before .before .before .before .before .before .token .ensures) (c .before .before .before .before .before .before .before .before .before .before .if2 .left) (c .before .before .before .before .before .before .before .before .before .is-sign .result) (c .before .before .before .before .before .before .before .before .before .is-sign .ensures) (c .before .before .before .before .before .before .before .before .if3 .taken) (c .before .before .before .before .before .before .atom .ensures) (c .before .before .node .ensures)
+
+-- src/lib.rt:254:5
+operand-atom-requires-2 : (t : ℕ) → operand-lts.Need-atom-requires-2 (
+  token-reads.Asked,
+  token-reads.Learnt,
+  is-qualified-reads.Asked,
+  is-qualified-reads.Learnt,
+  leaf-reads.Asked,
+  leaf-reads.Learnt,
+  interval-below t,
+  interval.Post,
+  is-sign-reads.Asked,
+  is-sign-reads.Learnt,
+  atom-below t,
+  atom.Post,
+  node-reads.Asked,
+  node-reads.Learnt,
+) (operand-at t) operand.Post
+operand-atom-requires-2 t c κs = (omega (arith, c .before .before .before .before .before .before .before .before .before .pre .0), c .before .before .before .before .before .before .before .before .before .pre .1)
+
+-- src/lib.rt:239:1
+operand-same-length-4 : (t : ℕ) → operand-lts.Need-same-length-4 (
+  token-reads.Asked,
+  token-reads.Learnt,
+  is-qualified-reads.Asked,
+  is-qualified-reads.Learnt,
+  leaf-reads.Asked,
+  leaf-reads.Learnt,
+  interval-below t,
+  interval.Post,
+  is-sign-reads.Asked,
+  is-sign-reads.Learnt,
+  atom-below t,
+  atom.Post,
+  node-reads.Asked,
+  node-reads.Learnt,
+) (operand-at t) operand.Post
+operand-same-length-4 t c = search needs
+
+-- src/lib.rt:239:1
+operand-returns-4 : (t : ℕ) → operand-lts.Need-returns-4 (
+  token-reads.Asked,
+  token-reads.Learnt,
+  is-qualified-reads.Asked,
+  is-qualified-reads.Learnt,
+  leaf-reads.Asked,
+  leaf-reads.Learnt,
+  interval-below t,
+  interval.Post,
+  is-sign-reads.Asked,
+  is-sign-reads.Learnt,
+  atom-below t,
+  atom.Post,
+  node-reads.Asked,
+  node-reads.Learnt,
+) (operand-at t) operand.Post
+operand-returns-4 t c = operand-plain (c .before .before .before .before .before .before .before .before .before .before .before .before .pre .1) (c .before .before .before .before .before .before .before .before .is-qualified .result) (c .before .before .before .before .before .before .before .before .is-qualified .ensures) (c .before .before .before .before .before .before .before .if1 .left) (c .before .before .before .before .before .before .before .before .before .token .result) (c .before .before .before .before .before .before .before .before .before .token .ensures) (c .before .before .before .before .before .before .if2 .left) (c .before .before .before .before .before .is-sign .result) (c .before .before .before .before .before .is-sign .ensures) (c .before .before .before .before .if3 .left) (c .before .before .atom2 .ensures)
+
+abbrev sum-Inv-loop : sum-lts.InvT-loop
+sum-Inv-loop codes rows₀ p n q₀ m₀ rows q m = (length rows ≡ length rows₀) × Turns sum′ term′ additions codes p n q₀ m₀ rows₀ q m rows
+
+abbrev sum-μ-loop : sum-lts.MeasureT-loop
+sum-μ-loop codes rows₀ p n q₀ m₀ rows q m = length codes - q
+
+-- src/lib.rt:185:9
+sum-term-requires : (t : ℕ) → sum-lts.Need-term-requires (
+  term-below t,
+  term.Post,
+  token-reads.Asked,
+  token-reads.Learnt,
+  is-addition-reads.Asked,
+  is-addition-reads.Learnt,
+  node-reads.Asked,
+  node-reads.Learnt,
+) (sum-at t) sum.Post sum-Inv-loop sum-μ-loop
+sum-term-requires t c κs = (omega (arith, c .before .before .before .pre .0), c .before .before .before .pre .1)
+
+-- src/lib.rt:186:18
+sum-enum-known-first : (t : ℕ) → sum-lts.Need-enum-known-first (
+  term-below t,
+  term.Post,
+  token-reads.Asked,
+  token-reads.Learnt,
+  is-addition-reads.Asked,
+  is-addition-reads.Learnt,
+  node-reads.Asked,
+  node-reads.Learnt,
+) (sum-at t) sum.Post sum-Inv-loop sum-μ-loop
+sum-enum-known-first t c = search needs
+
+-- src/lib.rt:187:9
+sum-enum-told : (t : ℕ) → sum-lts.Need-enum-told (
+  term-below t,
+  term.Post,
+  token-reads.Asked,
+  token-reads.Learnt,
+  is-addition-reads.Asked,
+  is-addition-reads.Learnt,
+  node-reads.Asked,
+  node-reads.Learnt,
+) (sum-at t) sum.Post sum-Inv-loop sum-μ-loop
+sum-enum-told t c = search needs
+
+-- src/lib.rt:187:9
+sum-same-length : (t : ℕ) → sum-lts.Need-same-length (
+  term-below t,
+  term.Post,
+  token-reads.Asked,
+  token-reads.Learnt,
+  is-addition-reads.Asked,
+  is-addition-reads.Learnt,
+  node-reads.Asked,
+  node-reads.Learnt,
+) (sum-at t) sum.Post sum-Inv-loop sum-μ-loop
+sum-same-length t c = search needs
+
+-- src/lib.rt:187:9
+sum-returns : (t : ℕ) → sum-lts.Need-returns (
+  term-below t,
+  term.Post,
+  token-reads.Asked,
+  token-reads.Learnt,
+  is-addition-reads.Asked,
+  is-addition-reads.Learnt,
+  node-reads.Asked,
+  node-reads.Learnt,
+) (sum-at t) sum.Post sum-Inv-loop sum-μ-loop
+sum-returns t c = often-refused sum′ term′ additions refl (express .ok sum′ .1) (c .before .before .before .before .before .before .before .before .pre .1) (c .before .before .before .before .term .ensures) (c .enum-told .given .1)
+
+-- src/lib.rt:189:5
+sum-loop-holds : (t : ℕ) → sum-lts.Need-loop-holds (
+  term-below t,
+  term.Post,
+  token-reads.Asked,
+  token-reads.Learnt,
+  is-addition-reads.Asked,
+  is-addition-reads.Learnt,
+  node-reads.Asked,
+  node-reads.Learnt,
+) (sum-at t) sum.Post sum-Inv-loop sum-μ-loop
+sum-loop-holds t c = (refl, turns-begin (c .before .before .before .before .before .term .ensures) (c .before .first .given .1))
+
+-- src/lib.rt:189:23
+sum-token-requires : (t : ℕ) → sum-lts.Need-token-requires (
+  term-below t,
+  term.Post,
+  token-reads.Asked,
+  token-reads.Learnt,
+  is-addition-reads.Asked,
+  is-addition-reads.Learnt,
+  node-reads.Asked,
+  node-reads.Learnt,
+) (sum-at t) sum.Post sum-Inv-loop sum-μ-loop
+sum-token-requires t c κs = search needs
+
+-- src/lib.rt:189:11
+sum-is-addition-requires : (t : ℕ) → sum-lts.Need-is-addition-requires (
+  term-below t,
+  term.Post,
+  token-reads.Asked,
+  token-reads.Learnt,
+  is-addition-reads.Asked,
+  is-addition-reads.Learnt,
+  node-reads.Asked,
+  node-reads.Learnt,
+) (sum-at t) sum.Post sum-Inv-loop sum-μ-loop
+sum-is-addition-requires t c κs = search needs
+
+-- src/lib.rt:190:39
+sum-add-term : (t : ℕ) → sum-lts.Need-add-term (
+  term-below t,
+  term.Post,
+  token-reads.Asked,
+  token-reads.Learnt,
+  is-addition-reads.Asked,
+  is-addition-reads.Learnt,
+  node-reads.Asked,
+  node-reads.Learnt,
+) (sum-at t) sum.Post sum-Inv-loop sum-μ-loop
+sum-add-term t c = omega (arith, c .before .before .before .before .before .before .before .before .before .before .before .before .before .before .pre .1 .small, c .before .before .before .before .loop .inv .1 .lies .1)
+
+-- src/lib.rt:190:13
+sum-term-requires-2 : (t : ℕ) → sum-lts.Need-term-requires-2 (
+  term-below t,
+  term.Post,
+  token-reads.Asked,
+  token-reads.Learnt,
+  is-addition-reads.Asked,
+  is-addition-reads.Learnt,
+  node-reads.Asked,
+  node-reads.Learnt,
+) (sum-at t) sum.Post sum-Inv-loop sum-μ-loop
+unfolding mem
+sum-term-requires-2 t c κs = (omega (arith, c .before .before .before .before .before .before .before .before .before .before .before .before .before .before .pre .0, c .before .before .before .before .loop .inv .1 .lies, (inside (c .before .before .before .before .before .before .before .before .before .before .before .before .before .before .args .codes .now) additions (c .before .before .before .before .loop .q) refl (seen (c .before .before .before .before .before .before .before .before .before .before .before .before .before .before .args .codes .now) (c .before .before .before .before .loop .q) additions (c .before .before .before .token .ensures) (c .before .before .is-addition .ensures) (c .before .if1 .taken)))), onward (record { small = c .before .before .before .before .before .before .before .before .before .before .before .before .before .before .pre .1 .small; within = c .before .before .before .before .loop .inv .1 .lies .1; behind = omega (arith, c .before .before .before .before .loop .inv .1 .lies, c .before .before .before .before .before .before .before .before .before .before .before .before .before .before .pre .1 .behind) }) (inside (c .before .before .before .before .before .before .before .before .before .before .before .before .before .before .args .codes .now) additions (c .before .before .before .before .loop .q) refl (seen (c .before .before .before .before .before .before .before .before .before .before .before .before .before .before .args .codes .now) (c .before .before .before .before .loop .q) additions (c .before .before .before .token .ensures) (c .before .before .is-addition .ensures) (c .before .if1 .taken))))
+
+-- src/lib.rt:191:13
+sum-node-requires : (t : ℕ) → sum-lts.Need-node-requires (
+  term-below t,
+  term.Post,
+  token-reads.Asked,
+  token-reads.Learnt,
+  is-addition-reads.Asked,
+  is-addition-reads.Learnt,
+  node-reads.Asked,
+  node-reads.Learnt,
+) (sum-at t) sum.Post sum-Inv-loop sum-μ-loop
+unfolding mem
+sum-node-requires t c κs = (counts-of (c .before .before .before .term2 .result) (onward (record { small = c .before .before .before .before .before .before .before .before .before .before .before .before .before .before .before .before .before .before .pre .1 .small; within = c .before .before .before .before .before .before .before .before .loop .inv .1 .lies .1; behind = omega (arith, c .before .before .before .before .before .before .before .before .loop .inv .1 .lies, c .before .before .before .before .before .before .before .before .before .before .before .before .before .before .before .before .before .before .pre .1 .behind) }) (inside (c .before .before .before .before .before .before .before .before .before .before .before .before .before .before .before .before .before .before .args .codes .now) additions (c .before .before .before .before .before .before .before .before .loop .q) refl (seen (c .before .before .before .before .before .before .before .before .before .before .before .before .before .before .before .before .before .before .args .codes .now) (c .before .before .before .before .before .before .before .before .loop .q) additions (c .before .before .before .before .before .before .before .token .ensures) (c .before .before .before .before .before .before .is-addition .ensures) (c .before .before .before .before .before .if1 .taken)))) (c .before .before .before .term2 .ensures .ahead), omega arith, omega (arith, c .before .before .before .before .before .before .before .before .before .before .before .before .before .before .before .before .before .before .pre .1 .small, c .before .before .before .before .before .before .before .before .loop .inv .1 .lies .1))
+
+-- src/lib.rt:192:22
+sum-enum-known-whole : (t : ℕ) → sum-lts.Need-enum-known-whole (
+  term-below t,
+  term.Post,
+  token-reads.Asked,
+  token-reads.Learnt,
+  is-addition-reads.Asked,
+  is-addition-reads.Learnt,
+  node-reads.Asked,
+  node-reads.Learnt,
+) (sum-at t) sum.Post sum-Inv-loop sum-μ-loop
+sum-enum-known-whole t c = search needs
+
+-- src/lib.rt:193:13
+sum-enum-told-2 : (t : ℕ) → sum-lts.Need-enum-told-2 (
+  term-below t,
+  term.Post,
+  token-reads.Asked,
+  token-reads.Learnt,
+  is-addition-reads.Asked,
+  is-addition-reads.Learnt,
+  node-reads.Asked,
+  node-reads.Learnt,
+) (sum-at t) sum.Post sum-Inv-loop sum-μ-loop
+sum-enum-told-2 t c = search needs
+
+-- src/lib.rt:193:13
+sum-same-length-2 : (t : ℕ) → sum-lts.Need-same-length-2 (
+  term-below t,
+  term.Post,
+  token-reads.Asked,
+  token-reads.Learnt,
+  is-addition-reads.Asked,
+  is-addition-reads.Learnt,
+  node-reads.Asked,
+  node-reads.Learnt,
+) (sum-at t) sum.Post sum-Inv-loop sum-μ-loop
+sum-same-length-2 t c = search needs
+
+-- src/lib.rt:193:13
+sum-returns-2 : (t : ℕ) → sum-lts.Need-returns-2 (
+  term-below t,
+  term.Post,
+  token-reads.Asked,
+  token-reads.Learnt,
+  is-addition-reads.Asked,
+  is-addition-reads.Learnt,
+  node-reads.Asked,
+  node-reads.Learnt,
+) (sum-at t) sum.Post sum-Inv-loop sum-μ-loop
+unfolding mem
+sum-returns-2 t c = often-stops sum′ term′ additions refl (express .ok sum′ .1) (c .before .before .before .before .before .before .before .before .before .before .before .before .before .before .before .before .before .before .before .before .before .before .before .pre .1) (c .before .before .before .before .before .before .before .before .before .before .before .before .before .loop .inv .1 .turns _ (often-begins sum′ term′ additions refl (express .ok sum′ .1) (c .before .before .before .before .before .before .before .before .before .before .before .before .before .before .before .before .before .before .before .before .before .before .before .pre .1) (c .before .before .before .before .before .before .before .before .before .before .before .before .before .before .before .before .before .before .before .term .ensures) (c .before .before .before .before .before .before .before .before .before .before .before .before .before .before .before .first .given .1))) (seen (c .before .before .before .before .before .before .before .before .before .before .before .before .before .before .before .before .before .before .before .before .before .before .before .args .codes .now) (c .before .before .before .before .before .before .before .before .before .before .before .before .before .loop .q) additions (c .before .before .before .before .before .before .before .before .before .before .before .before .token .ensures) (c .before .before .before .before .before .before .before .before .before .before .before .is-addition .ensures) (c .before .before .before .before .before .before .before .before .before .before .if1 .taken)) (omega (arith, (inside (c .before .before .before .before .before .before .before .before .before .before .before .before .before .before .before .before .before .before .before .before .before .before .before .args .codes .now) additions (c .before .before .before .before .before .before .before .before .before .before .before .before .before .loop .q) refl (seen (c .before .before .before .before .before .before .before .before .before .before .before .before .before .before .before .before .before .before .before .before .before .before .before .args .codes .now) (c .before .before .before .before .before .before .before .before .before .before .before .before .before .loop .q) additions (c .before .before .before .before .before .before .before .before .before .before .before .before .token .ensures) (c .before .before .before .before .before .before .before .before .before .before .before .is-addition .ensures) (c .before .before .before .before .before .before .before .before .before .before .if1 .taken))))) (c .before .before .before .before .before .before .before .before .term2 .ensures) (c .before .before .before .before .node .ensures) (c .enum-told2 .given .1)
+
+-- src/lib.rt:189:5
+sum-loop-less : (t : ℕ) → sum-lts.Need-loop-less (
+  term-below t,
+  term.Post,
+  token-reads.Asked,
+  token-reads.Learnt,
+  is-addition-reads.Asked,
+  is-addition-reads.Learnt,
+  node-reads.Asked,
+  node-reads.Learnt,
+) (sum-at t) sum.Post sum-Inv-loop sum-μ-loop
+unfolding mem
+sum-loop-less t c = omega (arith, (turns-more sum′ term′ additions refl (express .ok sum′ .1) (c .before .before .before .before .before .before .before .before .before .before .before .before .before .before .before .before .before .before .before .before .before .before .before .before .pre .1) (c .before .before .before .before .before .before .before .before .before .before .before .before .before .before .loop .inv .1) (seen (c .before .before .before .before .before .before .before .before .before .before .before .before .before .before .before .before .before .before .before .before .before .before .before .before .args .codes .now) (c .before .before .before .before .before .before .before .before .before .before .before .before .before .before .loop .q) additions (c .before .before .before .before .before .before .before .before .before .before .before .before .before .token .ensures) (c .before .before .before .before .before .before .before .before .before .before .before .before .is-addition .ensures) (c .before .before .before .before .before .before .before .before .before .before .before .if1 .taken)) (omega (arith, (inside (c .before .before .before .before .before .before .before .before .before .before .before .before .before .before .before .before .before .before .before .before .before .before .before .before .args .codes .now) additions (c .before .before .before .before .before .before .before .before .before .before .before .before .before .before .loop .q) refl (seen (c .before .before .before .before .before .before .before .before .before .before .before .before .before .before .before .before .before .before .before .before .before .before .before .before .args .codes .now) (c .before .before .before .before .before .before .before .before .before .before .before .before .before .before .loop .q) additions (c .before .before .before .before .before .before .before .before .before .before .before .before .before .token .ensures) (c .before .before .before .before .before .before .before .before .before .before .before .before .is-addition .ensures) (c .before .before .before .before .before .before .before .before .before .before .before .if1 .taken))))) (c .before .before .before .before .before .before .before .before .before .term2 .ensures) (c .before .before .before .before .before .node .ensures) (c .before .whole .given .1)) .lies, c .before .before .before .before .before .before .before .before .before .before .before .before .before .before .loop .inv .1 .lies, turn-onward (c .before .before .before .before .before .before .before .before .before .before .before .before .before .before .before .before .before .before .before .before .before .before .before .before .args .n) _ (c .before .before .before .before .before .node .result) (c .before .before .before .before .before .before .before .before .before .term2 .ensures) (c .before .before .before .before .before .node .ensures) (c .before .whole .given .1))
+
+-- src/lib.rt:189:5
+sum-loop-again : (t : ℕ) → sum-lts.Need-loop-again (
+  term-below t,
+  term.Post,
+  token-reads.Asked,
+  token-reads.Learnt,
+  is-addition-reads.Asked,
+  is-addition-reads.Learnt,
+  node-reads.Asked,
+  node-reads.Learnt,
+) (sum-at t) sum.Post sum-Inv-loop sum-μ-loop
+unfolding mem
+sum-loop-again t c = (search needs, turns-more sum′ term′ additions refl (express .ok sum′ .1) (c .before .before .before .before .before .before .before .before .before .before .before .before .before .before .before .before .before .before .before .before .before .before .before .before .pre .1) (c .before .before .before .before .before .before .before .before .before .before .before .before .before .before .loop .inv .1) (seen (c .before .before .before .before .before .before .before .before .before .before .before .before .before .before .before .before .before .before .before .before .before .before .before .before .args .codes .now) (c .before .before .before .before .before .before .before .before .before .before .before .before .before .before .loop .q) additions (c .before .before .before .before .before .before .before .before .before .before .before .before .before .token .ensures) (c .before .before .before .before .before .before .before .before .before .before .before .before .is-addition .ensures) (c .before .before .before .before .before .before .before .before .before .before .before .if1 .taken)) (omega (arith, (inside (c .before .before .before .before .before .before .before .before .before .before .before .before .before .before .before .before .before .before .before .before .before .before .before .before .args .codes .now) additions (c .before .before .before .before .before .before .before .before .before .before .before .before .before .before .loop .q) refl (seen (c .before .before .before .before .before .before .before .before .before .before .before .before .before .before .before .before .before .before .before .before .before .before .before .before .args .codes .now) (c .before .before .before .before .before .before .before .before .before .before .before .before .before .before .loop .q) additions (c .before .before .before .before .before .before .before .before .before .before .before .before .before .token .ensures) (c .before .before .before .before .before .before .before .before .before .before .before .before .is-addition .ensures) (c .before .before .before .before .before .before .before .before .before .before .before .if1 .taken))))) (c .before .before .before .before .before .before .before .before .before .term2 .ensures) (c .before .before .before .before .before .node .ensures) (c .before .whole .given .1))
+
+-- src/lib.rt:181:1
+sum-same-length-3 : (t : ℕ) → sum-lts.Need-same-length-3 (
+  term-below t,
+  term.Post,
+  token-reads.Asked,
+  token-reads.Learnt,
+  is-addition-reads.Asked,
+  is-addition-reads.Learnt,
+  node-reads.Asked,
+  node-reads.Learnt,
+) (sum-at t) sum.Post sum-Inv-loop sum-μ-loop
+sum-same-length-3 t c = search needs
+
+-- src/lib.rt:181:1
+sum-returns-3 : (t : ℕ) → sum-lts.Need-returns-3 (
+  term-below t,
+  term.Post,
+  token-reads.Asked,
+  token-reads.Learnt,
+  is-addition-reads.Asked,
+  is-addition-reads.Learnt,
+  node-reads.Asked,
+  node-reads.Learnt,
+) (sum-at t) sum.Post sum-Inv-loop sum-μ-loop
+sum-returns-3 t c = often-ends sum′ term′ additions refl (express .ok sum′ .1) (c .before .before .before .before .before .before .before .before .before .before .before .before .before .pre .1) (c .before .before .before .loop .inv .1 .turns _ (often-begins sum′ term′ additions refl (express .ok sum′ .1) (c .before .before .before .before .before .before .before .before .before .before .before .before .before .pre .1) (c .before .before .before .before .before .before .before .before .before .term .ensures) (c .before .before .before .before .before .first .given .1))) (seen (c .before .before .before .before .before .before .before .before .before .before .before .before .before .args .codes .now) (c .before .before .before .loop .q) additions (c .before .before .token .ensures) (c .before .is-addition .ensures) (c .if1 .left))
+
+abbrev term-Inv-loop : term-lts.InvT-loop
+term-Inv-loop codes rows₀ p n q₀ m₀ rows q m = (length rows ≡ length rows₀) × Turns term′ factor′ multiplications codes p n q₀ m₀ rows₀ q m rows
+
+abbrev term-μ-loop : term-lts.MeasureT-loop
+term-μ-loop codes rows₀ p n q₀ m₀ rows q m = length codes - q
+
+-- src/lib.rt:206:9
+term-factor-requires : (t : ℕ) → term-lts.Need-factor-requires (
+  factor-below t,
+  factor.Post,
+  token-reads.Asked,
+  token-reads.Learnt,
+  is-multiplication-reads.Asked,
+  is-multiplication-reads.Learnt,
+  node-reads.Asked,
+  node-reads.Learnt,
+) (term-at t) term.Post term-Inv-loop term-μ-loop
+term-factor-requires t c κs = (omega (arith, c .before .before .before .pre .0), c .before .before .before .pre .1)
+
+-- src/lib.rt:207:18
+term-enum-known-first : (t : ℕ) → term-lts.Need-enum-known-first (
+  factor-below t,
+  factor.Post,
+  token-reads.Asked,
+  token-reads.Learnt,
+  is-multiplication-reads.Asked,
+  is-multiplication-reads.Learnt,
+  node-reads.Asked,
+  node-reads.Learnt,
+) (term-at t) term.Post term-Inv-loop term-μ-loop
+term-enum-known-first t c = search needs
+
+-- src/lib.rt:208:9
+term-enum-told : (t : ℕ) → term-lts.Need-enum-told (
+  factor-below t,
+  factor.Post,
+  token-reads.Asked,
+  token-reads.Learnt,
+  is-multiplication-reads.Asked,
+  is-multiplication-reads.Learnt,
+  node-reads.Asked,
+  node-reads.Learnt,
+) (term-at t) term.Post term-Inv-loop term-μ-loop
+term-enum-told t c = search needs
+
+-- src/lib.rt:208:9
+term-same-length : (t : ℕ) → term-lts.Need-same-length (
+  factor-below t,
+  factor.Post,
+  token-reads.Asked,
+  token-reads.Learnt,
+  is-multiplication-reads.Asked,
+  is-multiplication-reads.Learnt,
+  node-reads.Asked,
+  node-reads.Learnt,
+) (term-at t) term.Post term-Inv-loop term-μ-loop
+term-same-length t c = search needs
+
+-- src/lib.rt:208:9
+term-returns : (t : ℕ) → term-lts.Need-returns (
+  factor-below t,
+  factor.Post,
+  token-reads.Asked,
+  token-reads.Learnt,
+  is-multiplication-reads.Asked,
+  is-multiplication-reads.Learnt,
+  node-reads.Asked,
+  node-reads.Learnt,
+) (term-at t) term.Post term-Inv-loop term-μ-loop
+term-returns t c = often-refused term′ factor′ multiplications refl (express .ok term′ .1) (c .before .before .before .before .before .before .before .before .pre .1) (c .before .before .before .before .factor .ensures) (c .enum-told .given .1)
+
+-- src/lib.rt:210:5
+term-loop-holds : (t : ℕ) → term-lts.Need-loop-holds (
+  factor-below t,
+  factor.Post,
+  token-reads.Asked,
+  token-reads.Learnt,
+  is-multiplication-reads.Asked,
+  is-multiplication-reads.Learnt,
+  node-reads.Asked,
+  node-reads.Learnt,
+) (term-at t) term.Post term-Inv-loop term-μ-loop
+term-loop-holds t c = (refl, turns-begin (c .before .before .before .before .before .factor .ensures) (c .before .first .given .1))
+
+-- src/lib.rt:210:29
+term-token-requires : (t : ℕ) → term-lts.Need-token-requires (
+  factor-below t,
+  factor.Post,
+  token-reads.Asked,
+  token-reads.Learnt,
+  is-multiplication-reads.Asked,
+  is-multiplication-reads.Learnt,
+  node-reads.Asked,
+  node-reads.Learnt,
+) (term-at t) term.Post term-Inv-loop term-μ-loop
+term-token-requires t c κs = search needs
+
+-- src/lib.rt:210:11
+term-is-multiplication-requires : (t : ℕ) → term-lts.Need-is-multiplication-requires (
+  factor-below t,
+  factor.Post,
+  token-reads.Asked,
+  token-reads.Learnt,
+  is-multiplication-reads.Asked,
+  is-multiplication-reads.Learnt,
+  node-reads.Asked,
+  node-reads.Learnt,
+) (term-at t) term.Post term-Inv-loop term-μ-loop
+term-is-multiplication-requires t c κs = search needs
+
+-- src/lib.rt:211:41
+term-add-factor : (t : ℕ) → term-lts.Need-add-factor (
+  factor-below t,
+  factor.Post,
+  token-reads.Asked,
+  token-reads.Learnt,
+  is-multiplication-reads.Asked,
+  is-multiplication-reads.Learnt,
+  node-reads.Asked,
+  node-reads.Learnt,
+) (term-at t) term.Post term-Inv-loop term-μ-loop
+term-add-factor t c = omega (arith, c .before .before .before .before .before .before .before .before .before .before .before .before .before .before .pre .1 .small, c .before .before .before .before .loop .inv .1 .lies .1)
+
+-- src/lib.rt:211:13
+term-factor-requires-2 : (t : ℕ) → term-lts.Need-factor-requires-2 (
+  factor-below t,
+  factor.Post,
+  token-reads.Asked,
+  token-reads.Learnt,
+  is-multiplication-reads.Asked,
+  is-multiplication-reads.Learnt,
+  node-reads.Asked,
+  node-reads.Learnt,
+) (term-at t) term.Post term-Inv-loop term-μ-loop
+unfolding mem
+term-factor-requires-2 t c κs = (omega (arith, c .before .before .before .before .before .before .before .before .before .before .before .before .before .before .pre .0, c .before .before .before .before .loop .inv .1 .lies, (inside (c .before .before .before .before .before .before .before .before .before .before .before .before .before .before .args .codes .now) multiplications (c .before .before .before .before .loop .q) refl (seen (c .before .before .before .before .before .before .before .before .before .before .before .before .before .before .args .codes .now) (c .before .before .before .before .loop .q) multiplications (c .before .before .before .token .ensures) (c .before .before .is-multiplication .ensures) (c .before .if1 .taken)))), onward (record { small = c .before .before .before .before .before .before .before .before .before .before .before .before .before .before .pre .1 .small; within = c .before .before .before .before .loop .inv .1 .lies .1; behind = omega (arith, c .before .before .before .before .loop .inv .1 .lies, c .before .before .before .before .before .before .before .before .before .before .before .before .before .before .pre .1 .behind) }) (inside (c .before .before .before .before .before .before .before .before .before .before .before .before .before .before .args .codes .now) multiplications (c .before .before .before .before .loop .q) refl (seen (c .before .before .before .before .before .before .before .before .before .before .before .before .before .before .args .codes .now) (c .before .before .before .before .loop .q) multiplications (c .before .before .before .token .ensures) (c .before .before .is-multiplication .ensures) (c .before .if1 .taken))))
+
+-- src/lib.rt:212:13
+term-node-requires : (t : ℕ) → term-lts.Need-node-requires (
+  factor-below t,
+  factor.Post,
+  token-reads.Asked,
+  token-reads.Learnt,
+  is-multiplication-reads.Asked,
+  is-multiplication-reads.Learnt,
+  node-reads.Asked,
+  node-reads.Learnt,
+) (term-at t) term.Post term-Inv-loop term-μ-loop
+unfolding mem
+term-node-requires t c κs = (counts-of (c .before .before .before .factor2 .result) (onward (record { small = c .before .before .before .before .before .before .before .before .before .before .before .before .before .before .before .before .before .before .pre .1 .small; within = c .before .before .before .before .before .before .before .before .loop .inv .1 .lies .1; behind = omega (arith, c .before .before .before .before .before .before .before .before .loop .inv .1 .lies, c .before .before .before .before .before .before .before .before .before .before .before .before .before .before .before .before .before .before .pre .1 .behind) }) (inside (c .before .before .before .before .before .before .before .before .before .before .before .before .before .before .before .before .before .before .args .codes .now) multiplications (c .before .before .before .before .before .before .before .before .loop .q) refl (seen (c .before .before .before .before .before .before .before .before .before .before .before .before .before .before .before .before .before .before .args .codes .now) (c .before .before .before .before .before .before .before .before .loop .q) multiplications (c .before .before .before .before .before .before .before .token .ensures) (c .before .before .before .before .before .before .is-multiplication .ensures) (c .before .before .before .before .before .if1 .taken)))) (c .before .before .before .factor2 .ensures .ahead), omega arith, omega (arith, c .before .before .before .before .before .before .before .before .before .before .before .before .before .before .before .before .before .before .pre .1 .small, c .before .before .before .before .before .before .before .before .loop .inv .1 .lies .1))
+
+-- src/lib.rt:213:22
+term-enum-known-whole : (t : ℕ) → term-lts.Need-enum-known-whole (
+  factor-below t,
+  factor.Post,
+  token-reads.Asked,
+  token-reads.Learnt,
+  is-multiplication-reads.Asked,
+  is-multiplication-reads.Learnt,
+  node-reads.Asked,
+  node-reads.Learnt,
+) (term-at t) term.Post term-Inv-loop term-μ-loop
+term-enum-known-whole t c = search needs
+
+-- src/lib.rt:214:13
+term-enum-told-2 : (t : ℕ) → term-lts.Need-enum-told-2 (
+  factor-below t,
+  factor.Post,
+  token-reads.Asked,
+  token-reads.Learnt,
+  is-multiplication-reads.Asked,
+  is-multiplication-reads.Learnt,
+  node-reads.Asked,
+  node-reads.Learnt,
+) (term-at t) term.Post term-Inv-loop term-μ-loop
+term-enum-told-2 t c = search needs
+
+-- src/lib.rt:214:13
+term-same-length-2 : (t : ℕ) → term-lts.Need-same-length-2 (
+  factor-below t,
+  factor.Post,
+  token-reads.Asked,
+  token-reads.Learnt,
+  is-multiplication-reads.Asked,
+  is-multiplication-reads.Learnt,
+  node-reads.Asked,
+  node-reads.Learnt,
+) (term-at t) term.Post term-Inv-loop term-μ-loop
+term-same-length-2 t c = search needs
+
+-- src/lib.rt:214:13
+term-returns-2 : (t : ℕ) → term-lts.Need-returns-2 (
+  factor-below t,
+  factor.Post,
+  token-reads.Asked,
+  token-reads.Learnt,
+  is-multiplication-reads.Asked,
+  is-multiplication-reads.Learnt,
+  node-reads.Asked,
+  node-reads.Learnt,
+) (term-at t) term.Post term-Inv-loop term-μ-loop
+unfolding mem
+term-returns-2 t c = often-stops term′ factor′ multiplications refl (express .ok term′ .1) (c .before .before .before .before .before .before .before .before .before .before .before .before .before .before .before .before .before .before .before .before .before .before .before .pre .1) (c .before .before .before .before .before .before .before .before .before .before .before .before .before .loop .inv .1 .turns _ (often-begins term′ factor′ multiplications refl (express .ok term′ .1) (c .before .before .before .before .before .before .before .before .before .before .before .before .before .before .before .before .before .before .before .before .before .before .before .pre .1) (c .before .before .before .before .before .before .before .before .before .before .before .before .before .before .before .before .before .before .before .factor .ensures) (c .before .before .before .before .before .before .before .before .before .before .before .before .before .before .before .first .given .1))) (seen (c .before .before .before .before .before .before .before .before .before .before .before .before .before .before .before .before .before .before .before .before .before .before .before .args .codes .now) (c .before .before .before .before .before .before .before .before .before .before .before .before .before .loop .q) multiplications (c .before .before .before .before .before .before .before .before .before .before .before .before .token .ensures) (c .before .before .before .before .before .before .before .before .before .before .before .is-multiplication .ensures) (c .before .before .before .before .before .before .before .before .before .before .if1 .taken)) (omega (arith, (inside (c .before .before .before .before .before .before .before .before .before .before .before .before .before .before .before .before .before .before .before .before .before .before .before .args .codes .now) multiplications (c .before .before .before .before .before .before .before .before .before .before .before .before .before .loop .q) refl (seen (c .before .before .before .before .before .before .before .before .before .before .before .before .before .before .before .before .before .before .before .before .before .before .before .args .codes .now) (c .before .before .before .before .before .before .before .before .before .before .before .before .before .loop .q) multiplications (c .before .before .before .before .before .before .before .before .before .before .before .before .token .ensures) (c .before .before .before .before .before .before .before .before .before .before .before .is-multiplication .ensures) (c .before .before .before .before .before .before .before .before .before .before .if1 .taken))))) (c .before .before .before .before .before .before .before .before .factor2 .ensures) (c .before .before .before .before .node .ensures) (c .enum-told2 .given .1)
+
+-- src/lib.rt:210:5
+term-loop-less : (t : ℕ) → term-lts.Need-loop-less (
+  factor-below t,
+  factor.Post,
+  token-reads.Asked,
+  token-reads.Learnt,
+  is-multiplication-reads.Asked,
+  is-multiplication-reads.Learnt,
+  node-reads.Asked,
+  node-reads.Learnt,
+) (term-at t) term.Post term-Inv-loop term-μ-loop
+unfolding mem
+term-loop-less t c = omega (arith, (turns-more term′ factor′ multiplications refl (express .ok term′ .1) (c .before .before .before .before .before .before .before .before .before .before .before .before .before .before .before .before .before .before .before .before .before .before .before .before .pre .1) (c .before .before .before .before .before .before .before .before .before .before .before .before .before .before .loop .inv .1) (seen (c .before .before .before .before .before .before .before .before .before .before .before .before .before .before .before .before .before .before .before .before .before .before .before .before .args .codes .now) (c .before .before .before .before .before .before .before .before .before .before .before .before .before .before .loop .q) multiplications (c .before .before .before .before .before .before .before .before .before .before .before .before .before .token .ensures) (c .before .before .before .before .before .before .before .before .before .before .before .before .is-multiplication .ensures) (c .before .before .before .before .before .before .before .before .before .before .before .if1 .taken)) (omega (arith, (inside (c .before .before .before .before .before .before .before .before .before .before .before .before .before .before .before .before .before .before .before .before .before .before .before .before .args .codes .now) multiplications (c .before .before .before .before .before .before .before .before .before .before .before .before .before .before .loop .q) refl (seen (c .before .before .before .before .before .before .before .before .before .before .before .before .before .before .before .before .before .before .before .before .before .before .before .before .args .codes .now) (c .before .before .before .before .before .before .before .before .before .before .before .before .before .before .loop .q) multiplications (c .before .before .before .before .before .before .before .before .before .before .before .before .before .token .ensures) (c .before .before .before .before .before .before .before .before .before .before .before .before .is-multiplication .ensures) (c .before .before .before .before .before .before .before .before .before .before .before .if1 .taken))))) (c .before .before .before .before .before .before .before .before .before .factor2 .ensures) (c .before .before .before .before .before .node .ensures) (c .before .whole .given .1)) .lies, c .before .before .before .before .before .before .before .before .before .before .before .before .before .before .loop .inv .1 .lies, turn-onward (c .before .before .before .before .before .before .before .before .before .before .before .before .before .before .before .before .before .before .before .before .before .before .before .before .args .n) _ (c .before .before .before .before .before .node .result) (c .before .before .before .before .before .before .before .before .before .factor2 .ensures) (c .before .before .before .before .before .node .ensures) (c .before .whole .given .1))
+
+-- src/lib.rt:210:5
+term-loop-again : (t : ℕ) → term-lts.Need-loop-again (
+  factor-below t,
+  factor.Post,
+  token-reads.Asked,
+  token-reads.Learnt,
+  is-multiplication-reads.Asked,
+  is-multiplication-reads.Learnt,
+  node-reads.Asked,
+  node-reads.Learnt,
+) (term-at t) term.Post term-Inv-loop term-μ-loop
+unfolding mem
+term-loop-again t c = (search needs, turns-more term′ factor′ multiplications refl (express .ok term′ .1) (c .before .before .before .before .before .before .before .before .before .before .before .before .before .before .before .before .before .before .before .before .before .before .before .before .pre .1) (c .before .before .before .before .before .before .before .before .before .before .before .before .before .before .loop .inv .1) (seen (c .before .before .before .before .before .before .before .before .before .before .before .before .before .before .before .before .before .before .before .before .before .before .before .before .args .codes .now) (c .before .before .before .before .before .before .before .before .before .before .before .before .before .before .loop .q) multiplications (c .before .before .before .before .before .before .before .before .before .before .before .before .before .token .ensures) (c .before .before .before .before .before .before .before .before .before .before .before .before .is-multiplication .ensures) (c .before .before .before .before .before .before .before .before .before .before .before .if1 .taken)) (omega (arith, (inside (c .before .before .before .before .before .before .before .before .before .before .before .before .before .before .before .before .before .before .before .before .before .before .before .before .args .codes .now) multiplications (c .before .before .before .before .before .before .before .before .before .before .before .before .before .before .loop .q) refl (seen (c .before .before .before .before .before .before .before .before .before .before .before .before .before .before .before .before .before .before .before .before .before .before .before .before .args .codes .now) (c .before .before .before .before .before .before .before .before .before .before .before .before .before .before .loop .q) multiplications (c .before .before .before .before .before .before .before .before .before .before .before .before .before .token .ensures) (c .before .before .before .before .before .before .before .before .before .before .before .before .is-multiplication .ensures) (c .before .before .before .before .before .before .before .before .before .before .before .if1 .taken))))) (c .before .before .before .before .before .before .before .before .before .factor2 .ensures) (c .before .before .before .before .before .node .ensures) (c .before .whole .given .1))
+
+-- src/lib.rt:202:1
+term-same-length-3 : (t : ℕ) → term-lts.Need-same-length-3 (
+  factor-below t,
+  factor.Post,
+  token-reads.Asked,
+  token-reads.Learnt,
+  is-multiplication-reads.Asked,
+  is-multiplication-reads.Learnt,
+  node-reads.Asked,
+  node-reads.Learnt,
+) (term-at t) term.Post term-Inv-loop term-μ-loop
+term-same-length-3 t c = search needs
+
+-- src/lib.rt:202:1
+term-returns-3 : (t : ℕ) → term-lts.Need-returns-3 (
+  factor-below t,
+  factor.Post,
+  token-reads.Asked,
+  token-reads.Learnt,
+  is-multiplication-reads.Asked,
+  is-multiplication-reads.Learnt,
+  node-reads.Asked,
+  node-reads.Learnt,
+) (term-at t) term.Post term-Inv-loop term-μ-loop
+term-returns-3 t c = often-ends term′ factor′ multiplications refl (express .ok term′ .1) (c .before .before .before .before .before .before .before .before .before .before .before .before .before .pre .1) (c .before .before .before .loop .inv .1 .turns _ (often-begins term′ factor′ multiplications refl (express .ok term′ .1) (c .before .before .before .before .before .before .before .before .before .before .before .before .before .pre .1) (c .before .before .before .before .before .before .before .before .before .factor .ensures) (c .before .before .before .before .before .first .given .1))) (seen (c .before .before .before .before .before .before .before .before .before .before .before .before .before .args .codes .now) (c .before .before .before .loop .q) multiplications (c .before .before .token .ensures) (c .before .is-multiplication .ensures) (c .if1 .left))
+
+pub +atom+compared+expression+factor+interval+operand+sum+term-spec : {M : Type 1} → statement M
++atom+compared+expression+factor+interval+operand+sum+term-spec =
+    close
+    μ-atom
+    μ-compared
+    μ-expression
+    μ-factor
+    μ-interval
+    μ-operand
+    μ-sum
+    μ-term
+    (λ t. atom-lts.spec (
+      token-reads.Asked,
+      token-reads.Learnt,
+      expression-below t,
+      expression.Post,
+      expect-reads.Asked,
+      expect-reads.Learnt,
+      atom-label-reads.Asked,
+      atom-label-reads.Learnt,
+      packed-reads.Asked,
+      packed-reads.Learnt,
+      put-reads.Asked,
+      put-reads.Learnt,
+    )
+    (atom-at t)
+    atom.Post
+    (atom-token-requires t)
+    (atom-add-expression t)
+    (atom-expression-requires t)
+    (atom-expect-requires t)
+    (atom-same-length t)
+    (atom-returns t)
+    (atom-atom-label-requires t)
+    (atom-returns-2 t)
+    (atom-packed-requires t)
+    (atom-put-requires t)
+    (atom-add-t16 t)
+    (atom-add-t17 t)
+    (atom-same-length-2 t)
+    (atom-returns-3 t))
+    (λ t. compared-lts.spec (
+      token-reads.Asked,
+      token-reads.Learnt,
+      is-comparison-reads.Asked,
+      is-comparison-reads.Learnt,
+      packed-reads.Asked,
+      packed-reads.Learnt,
+      put-reads.Asked,
+      put-reads.Learnt,
+      sum-below t,
+      sum.Post,
+    )
+    (compared-at t)
+    compared.Post
+    (compared-token-requires t)
+    (compared-is-comparison-requires t)
+    (compared-packed-requires t)
+    (compared-put-requires t)
+    (compared-add-sum t)
+    (compared-add-sum-2 t)
+    (compared-sum-requires t)
+    (compared-same-length t)
+    (compared-returns t)
+    (compared-returns-2 t))
+    (λ t. expression-lts.spec (
+      sum-below t,
+      sum.Post,
+      token-reads.Asked,
+      token-reads.Learnt,
+      is-relation-reads.Asked,
+      is-relation-reads.Learnt,
+      node-reads.Asked,
+      node-reads.Learnt,
+    )
+    (expression-at t)
+    expression.Post
+    (expression-sum-requires t)
+    (expression-enum-known-left t)
+    (expression-enum-told t)
+    (expression-same-length t)
+    (expression-returns t)
+    (expression-token-requires t)
+    (expression-is-relation-requires t)
+    (expression-add-sum t)
+    (expression-sum-requires-2 t)
+    (expression-node-requires t)
+    (expression-same-length-2 t)
+    (expression-returns-2 t)
+    (expression-same-length-3 t)
+    (expression-returns-3 t))
+    (λ t. factor-lts.spec (
+      operand-below t,
+      operand.Post,
+      token-reads.Asked,
+      token-reads.Learnt,
+      node-reads.Asked,
+      node-reads.Learnt,
+    )
+    (factor-at t)
+    factor.Post
+    (factor-operand-requires t)
+    (factor-enum-known-left t)
+    (factor-enum-told t)
+    (factor-same-length t)
+    (factor-returns t)
+    (factor-token-requires t)
+    (factor-add-operand t)
+    (factor-operand-requires-2 t)
+    (factor-node-requires t)
+    (factor-same-length-2 t)
+    (factor-returns-2 t)
+    (factor-same-length-3 t)
+    (factor-returns-3 t))
+    (λ t. interval-lts.spec (
+      sum-below t,
+      sum.Post,
+      compared-below t,
+      compared.Post,
+      expect-reads.Asked,
+      expect-reads.Learnt,
+      node-reads.Asked,
+      node-reads.Learnt,
+    )
+    (interval-at t)
+    interval.Post
+    (interval-add-sum t)
+    (interval-sum-requires t)
+    (interval-enum-known-low t)
+    (interval-enum-told t)
+    (interval-same-length t)
+    (interval-returns t)
+    (interval-compared-requires t)
+    (interval-enum-known-item t)
+    (interval-enum-told-2 t)
+    (interval-same-length-2 t)
+    (interval-returns-2 t)
+    (interval-compared-requires-2 t)
+    (interval-expect-requires t)
+    (interval-node-requires t)
+    (interval-same-length-3 t)
+    (interval-returns-3 t))
+    (λ t. operand-lts.spec (
+      token-reads.Asked,
+      token-reads.Learnt,
+      is-qualified-reads.Asked,
+      is-qualified-reads.Learnt,
+      leaf-reads.Asked,
+      leaf-reads.Learnt,
+      interval-below t,
+      interval.Post,
+      is-sign-reads.Asked,
+      is-sign-reads.Learnt,
+      atom-below t,
+      atom.Post,
+      node-reads.Asked,
+      node-reads.Learnt,
+    )
+    (operand-at t)
+    operand.Post
+    (operand-token-requires t)
+    (operand-is-qualified-requires t)
+    (operand-add-t10 t)
+    (operand-leaf-requires t)
+    (operand-same-length t)
+    (operand-returns t)
+    (operand-interval-requires t)
+    (operand-same-length-2 t)
+    (operand-returns-2 t)
+    (operand-is-sign-requires t)
+    (operand-add-atom t)
+    (operand-atom-requires t)
+    (operand-node-requires t)
+    (operand-same-length-3 t)
+    (operand-returns-3 t)
+    (operand-atom-requires-2 t)
+    (operand-same-length-4 t)
+    (operand-returns-4 t))
+    (λ t. sum-lts.spec (
+      term-below t,
+      term.Post,
+      token-reads.Asked,
+      token-reads.Learnt,
+      is-addition-reads.Asked,
+      is-addition-reads.Learnt,
+      node-reads.Asked,
+      node-reads.Learnt,
+    )
+    (sum-at t)
+    sum.Post
+    sum-Inv-loop
+    sum-μ-loop
+    (sum-term-requires t)
+    (sum-enum-known-first t)
+    (sum-enum-told t)
+    (sum-same-length t)
+    (sum-returns t)
+    (sum-loop-holds t)
+    (sum-token-requires t)
+    (sum-is-addition-requires t)
+    (sum-add-term t)
+    (sum-term-requires-2 t)
+    (sum-node-requires t)
+    (sum-enum-known-whole t)
+    (sum-enum-told-2 t)
+    (sum-same-length-2 t)
+    (sum-returns-2 t)
+    (sum-loop-less t)
+    (sum-loop-again t)
+    (sum-same-length-3 t)
+    (sum-returns-3 t))
+    λ t. term-lts.spec (
+      factor-below t,
+      factor.Post,
+      token-reads.Asked,
+      token-reads.Learnt,
+      is-multiplication-reads.Asked,
+      is-multiplication-reads.Learnt,
+      node-reads.Asked,
+      node-reads.Learnt,
+    )
+    (term-at t)
+    term.Post
+    term-Inv-loop
+    term-μ-loop
+    (term-factor-requires t)
+    (term-enum-known-first t)
+    (term-enum-told t)
+    (term-same-length t)
+    (term-returns t)
+    (term-loop-holds t)
+    (term-token-requires t)
+    (term-is-multiplication-requires t)
+    (term-add-factor t)
+    (term-factor-requires-2 t)
+    (term-node-requires t)
+    (term-enum-known-whole t)
+    (term-enum-told-2 t)
+    (term-same-length-2 t)
+    (term-returns-2 t)
+    (term-loop-less t)
+    (term-loop-again t)
+    (term-same-length-3 t)
+    (term-returns-3 t)

@@ -1,0 +1,54 @@
+use borrow.Author.Needs.{needs}
+use Rattle.phrases.proofs.whole.Statement.{statement}
+use Rattle.phrases.proofs.whole.Tie as tie
+use Rattle.phrases.proofs.whole.Reads as reads
+use Rattle.phrases.proofs.whole.Lts as lts
+use Rattle.phrases.proofs.end_of.Reads as end-of-reads
+use Rattle.phrases.proofs.expression.Reads as expression-reads
+use Rattle.phrases.proofs.first_deep.Reads as first-deep-reads
+use Rattle.phrases.proofs.judged.Reads as judged-reads
+use Rattle.express.specs.Grammar.{expression as expression′}
+use Rattle.phrases.proofs.Limit.{end-within, whole-ready, judges}
+use mathlib.Core.Path.{sym}
+use lib.Seq.{length-take-le}
+use Rattle.phrases.proofs.Columns.{judged-few}
+
+-- src/lib.rt:426:9
+first-deep-requires : tie.Need-first-deep-requires
+first-deep-requires c κs = search needs
+
+-- src/lib.rt:427:9
+end-of-requires : tie.Need-end-of-requires
+end-of-requires c κs = search needs
+
+-- src/lib.rt:428:27
+slice-aggregate-expression : tie.Need-slice-aggregate-expression
+slice-aggregate-expression c = sym (length-take-le (c .before .end-of .result) (c .before .before .before .before .before .args .codes .now) (end-within (c .before .before .before .before .before .args .codes .now) (c .before .before .first-deep .result) (c .before .end-of .result) (c .before .end-of .ensures)))
+
+-- src/lib.rt:428:9
+expression-requires : tie.Need-expression-requires
+expression-requires c κs = whole-ready (c .before .before .before .before .before .before .args .codes .now) (c .before .before .end-of .result) (end-within (c .before .before .before .before .before .before .args .codes .now) (c .before .before .before .first-deep .result) (c .before .before .end-of .result) (c .before .before .end-of .ensures)) (c .before .before .before .before .before .before .pre)
+
+-- src/lib.rt:429:5
+judged-requires : tie.Need-judged-requires
+judged-requires c κs = search needs
+
+-- src/lib.rt:422:1
+same-length : tie.Need-same-length
+same-length c = search needs
+
+-- src/lib.rt:422:1
+returns : tie.Need-returns
+returns c = record { judges = judges (c .before .before .before .before .before .before .before .before .before .before .args .codes .now) expression′ (c .before .before .before .expression .result) _ _ (c .before .before .before .before .before .before .before .first-deep .result) (c .before .before .before .before .before .before .end-of .result) (c .judged .result) (c .before .before .before .before .before .before .before .first-deep .ensures) (c .before .before .before .before .before .before .end-of .ensures) (c .before .before .before .expression .ensures) (c .judged .ensures); few = judged-few (c .before .before .before .before .before .before .before .before .before .before .args .codes .now) (c .before .before .before .expression .result) (c .before .before .before .before .before .before .before .first-deep .result) (c .before .before .before .before .before .before .end-of .result) (c .judged .result) (end-within (c .before .before .before .before .before .before .before .before .before .before .args .codes .now) (c .before .before .before .before .before .before .before .first-deep .result) (c .before .before .before .before .before .before .end-of .result) (c .before .before .before .before .before .before .end-of .ensures)) (c .judged .ensures) (c .before .before .before .expression .ensures .ahead) }
+
+pub whole-spec : {M : Type 1} → statement M
+whole-spec =
+    tie.close
+    (tie.spec
+    first-deep-requires
+    end-of-requires
+    slice-aggregate-expression
+    expression-requires
+    judged-requires
+    same-length
+    returns)

@@ -1,0 +1,57 @@
+use borrow.Author.Needs.{needs}
+use Rattle.syntax.proofs.assigned.Statement.{statement}
+use Rattle.syntax.proofs.assigned.Tie as tie
+use Rattle.syntax.proofs.assigned.Reads as reads
+use Rattle.syntax.proofs.assigned.Lts as lts
+use Rattle.phrases.proofs.expect.Reads as expect-reads
+use Rattle.syntax.proofs.base.Reads as base-reads
+use Rattle.syntax.proofs.closed.Reads as closed-reads
+use Rattle.syntax.proofs.value.Reads as value-reads
+use mathlib.Core.Logic.{⊎-elim}
+use Rattle.syntax.proofs.Clauses.{assigned-reads}
+use native.Mathlib.Omega.{arith}
+
+-- src/lib.rt:113:9
+expect-requires : tie.Need-expect-requires
+expect-requires c κs = search needs
+
+-- src/lib.rt:114:9
+expect-requires-2 : tie.Need-expect-requires-2
+expect-requires-2 c κs = search needs
+
+-- src/lib.rt:115:9
+base-requires : tie.Need-base-requires
+base-requires c κs = search needs
+
+-- src/lib.rt:116:9
+expect-requires-3 : tie.Need-expect-requires-3
+expect-requires-3 c κs = search needs
+
+-- src/lib.rt:117:9
+value-requires : tie.Need-value-requires
+value-requires c κs = search needs
+
+-- src/lib.rt:118:5
+closed-requires : tie.Need-closed-requires
+closed-requires c κs = (c .before .before .before .value .ensures .sound, ⊎-elim (λ e. omega arith) (λ e. omega arith) (c .before .before .before .before .before .before .before .before .before .before .before .before .before .before .pre .1), omega (arith, c .before .before .before .before .before .before .before .before .before .before .before .before .before .before .pre .0 .small, c .before .before .before .before .before .before .before .before .before .before .before .before .before .before .pre .0 .within))
+
+-- src/lib.rt:109:1
+same-length : tie.Need-same-length
+same-length c = search needs
+
+-- src/lib.rt:109:1
+returns : tie.Need-returns
+returns c = assigned-reads (c .before .before .before .before .before .before .before .before .before .before .before .before .before .before .before .before .before .pre .0) (c .before .before .before .before .before .before .before .before .before .before .before .before .before .before .before .before .before .args .label) (c .before .before .before .before .before .before .before .before .before .before .before .before .before .before .before .before .before .pre .1) (c .before .before .before .before .before .before .before .before .before .before .before .before .before .before .expect .ensures) (c .before .before .before .before .before .before .before .before .before .before .before .before .before .expect2 .ensures) (c .before .before .before .before .before .before .before .before .before .before .before .base .ensures) (c .before .before .before .before .before .before .before .before .expect3 .ensures) (c .before .before .before .before .before .before .value .ensures) (c .before .before .closed .ensures)
+
+pub assigned-spec : {M : Type 1} → statement M
+assigned-spec =
+    tie.close
+    (tie.spec
+    expect-requires
+    expect-requires-2
+    base-requires
+    expect-requires-3
+    value-requires
+    closed-requires
+    same-length
+    returns)

@@ -1,0 +1,73 @@
+use borrow.Author.Needs.{needs}
+use Rattle.syntax.proofs.entity.Statement.{statement}
+use Rattle.syntax.proofs.entity.Tie as tie
+use Rattle.syntax.proofs.entity.Reads as reads
+use Rattle.syntax.proofs.entity.Lts as lts
+use Rattle.phrases.proofs.expect.Reads as expect-reads
+use Rattle.syntax.proofs.closed.Reads as closed-reads
+use Rattle.syntax.proofs.derivations.Reads as derivations-reads
+use Rattle.syntax.proofs.groups.Reads as groups-reads
+use Rattle.syntax.proofs.headed.Reads as headed-reads
+use Rattle.syntax.proofs.rules.Reads as rules-reads
+use Rattle.syntax.proofs.supertypes.Reads as supertypes-reads
+use Rattle.syntax.proofs.Clauses.{entity-reads}
+
+-- src/lib.rt:341:9
+headed-requires : tie.Need-headed-requires
+headed-requires c κs = search needs
+
+-- src/lib.rt:342:9
+supertypes-requires : tie.Need-supertypes-requires
+supertypes-requires c κs = search needs
+
+-- src/lib.rt:343:9
+expect-requires : tie.Need-expect-requires
+expect-requires c κs = search needs
+
+-- src/lib.rt:344:9
+groups-requires : tie.Need-groups-requires
+groups-requires c κs = search needs
+
+-- src/lib.rt:345:9
+derivations-requires : tie.Need-derivations-requires
+derivations-requires c κs = search needs
+
+-- src/lib.rt:346:9
+rules-requires : tie.Need-rules-requires
+rules-requires c κs = search needs
+
+-- src/lib.rt:347:9
+expect-requires-2 : tie.Need-expect-requires-2
+expect-requires-2 c κs = search needs
+
+-- src/lib.rt:348:37
+add-closed : tie.Need-add-closed
+add-closed c = search needs
+
+-- src/lib.rt:348:5
+closed-requires : tie.Need-closed-requires
+closed-requires c κs = search needs
+
+-- src/lib.rt:337:1
+same-length : tie.Need-same-length
+same-length c = search needs
+
+-- src/lib.rt:337:1
+returns : tie.Need-returns
+returns c = entity-reads (c .before .before .before .before .before .before .before .before .before .before .before .before .before .before .before .before .before .before .before .before .before .before .before .before .before .pre) (c .before .before .before .before .before .before .before .before .before .before .before .before .before .before .before .before .before .before .before .before .before .before .headed .ensures) (c .before .before .before .before .before .before .before .before .before .before .before .before .before .before .before .before .before .before .before .before .supertypes .ensures) (c .before .before .before .before .before .before .before .before .before .before .before .before .before .before .before .before .before .expect .ensures) (c .before .before .before .before .before .before .before .before .before .before .before .before .before .before .before .groups .ensures) (c .before .before .before .before .before .before .before .before .before .before .before .derivations .ensures) (c .before .before .before .before .before .before .before .rules .ensures) (c .before .before .before .before .expect2 .ensures) (c .before .before .closed .ensures)
+
+pub entity-spec : {M : Type 1} → statement M
+entity-spec =
+    tie.close
+    (tie.spec
+    headed-requires
+    supertypes-requires
+    expect-requires
+    groups-requires
+    derivations-requires
+    rules-requires
+    expect-requires-2
+    add-closed
+    closed-requires
+    same-length
+    returns)

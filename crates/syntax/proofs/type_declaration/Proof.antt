@@ -1,0 +1,66 @@
+use borrow.Author.Needs.{needs}
+use Rattle.syntax.proofs.type_declaration.Statement.{statement}
+use Rattle.syntax.proofs.type_declaration.Tie as tie
+use Rattle.syntax.proofs.type_declaration.Reads as reads
+use Rattle.syntax.proofs.type_declaration.Lts as lts
+use Rattle.phrases.proofs.expect.Reads as expect-reads
+use Rattle.syntax.proofs.closed.Reads as closed-reads
+use Rattle.syntax.proofs.headed.Reads as headed-reads
+use Rattle.syntax.proofs.rules.Reads as rules-reads
+use Rattle.syntax.proofs.underlying.Reads as underlying-reads
+use Rattle.syntax.proofs.Clauses.{type-reads}
+
+-- src/lib.rt:275:9
+headed-requires : tie.Need-headed-requires
+headed-requires c κs = search needs
+
+-- src/lib.rt:276:9
+expect-requires : tie.Need-expect-requires
+expect-requires c κs = search needs
+
+-- src/lib.rt:277:9
+underlying-requires : tie.Need-underlying-requires
+underlying-requires c κs = search needs
+
+-- src/lib.rt:278:9
+expect-requires-2 : tie.Need-expect-requires-2
+expect-requires-2 c κs = search needs
+
+-- src/lib.rt:279:9
+rules-requires : tie.Need-rules-requires
+rules-requires c κs = search needs
+
+-- src/lib.rt:280:9
+expect-requires-3 : tie.Need-expect-requires-3
+expect-requires-3 c κs = search needs
+
+-- src/lib.rt:281:37
+add-closed : tie.Need-add-closed
+add-closed c = search needs
+
+-- src/lib.rt:281:5
+closed-requires : tie.Need-closed-requires
+closed-requires c κs = search needs
+
+-- src/lib.rt:271:1
+same-length : tie.Need-same-length
+same-length c = search needs
+
+-- src/lib.rt:271:1
+returns : tie.Need-returns
+returns c = type-reads (c .before .before .before .before .before .before .before .before .before .before .before .before .before .before .before .before .before .before .pre) (c .before .before .before .before .before .before .before .before .before .before .before .before .before .before .before .headed .ensures) (c .before .before .before .before .before .before .before .before .before .before .before .before .before .before .expect .ensures) (c .before .before .before .before .before .before .before .before .before .before .before .before .underlying .ensures) (c .before .before .before .before .before .before .before .before .before .expect2 .ensures) (c .before .before .before .before .before .before .before .rules .ensures) (c .before .before .before .before .expect3 .ensures) (c .before .before .closed .ensures)
+
+pub type-declaration-spec : {M : Type 1} → statement M
+type-declaration-spec =
+    tie.close
+    (tie.spec
+    headed-requires
+    expect-requires
+    underlying-requires
+    expect-requires-2
+    rules-requires
+    expect-requires-3
+    add-closed
+    closed-requires
+    same-length
+    returns)
