@@ -36,6 +36,20 @@ answer-to x ts entries = cond (leb (length ts) most) (answer entries (parsed x t
 abbrev pub rows-to : Nonterminal → List ℕ → List Row
 rows-to x ts = cond (leb (length ts) most) (rows-of (parsed x ts)) []
 
+-- An answer as the paper numbers it: its reply, and the number beside it (the count of nodes, a token, or the entries needed; for a list
+-- that is too long, the limit of reply 1).
+abbrev pub reply : Parsed → ℕ
+reply (Accepted n) = 0
+reply (Refused k j) = k
+reply (Short n) = 7
+reply Long = 1
+
+abbrev pub number : Parsed → ℕ
+number (Accepted n) = n
+number (Refused k j) = j
+number (Short n) = n
+number Long = most
+
 -- "A table lent as columns is as long as its shortest column."
 abbrev pub entries : List ℕ → List ℕ → List ℕ → List ℕ → ℕ
 entries kinds tokens sizes roles = min (min (length kinds) (length tokens)) (min (length sizes) (length roles))

@@ -213,9 +213,9 @@ fn term(codes: &[u8], rows: &mut [u64], p: usize, n: usize) -> Read
     };
     while is_multiplication(token(codes, q)) {
         let right = factor(codes, rows, q + 1, m);
-        let whole = node(rows, right, n, 10, q);
-        let Read::At(q2, m2) = whole else {
-            return whole;
+        let product = node(rows, right, n, 10, q);
+        let Read::At(q2, m2) = product else {
+            return product;
         };
         q = q2;
         m = m2;

@@ -1815,7 +1815,7 @@ unfolding mem
 term-node-requires t c κs = (counts-of (c .before .before .before .factor2 .result) (onward (record { small = c .before .before .before .before .before .before .before .before .before .before .before .before .before .before .before .before .before .before .pre .1 .small; within = c .before .before .before .before .before .before .before .before .loop .inv .1 .lies .1; behind = omega (arith, c .before .before .before .before .before .before .before .before .loop .inv .1 .lies, c .before .before .before .before .before .before .before .before .before .before .before .before .before .before .before .before .before .before .pre .1 .behind) }) (inside (c .before .before .before .before .before .before .before .before .before .before .before .before .before .before .before .before .before .before .args .codes .now) multiplications (c .before .before .before .before .before .before .before .before .loop .q) refl (seen (c .before .before .before .before .before .before .before .before .before .before .before .before .before .before .before .before .before .before .args .codes .now) (c .before .before .before .before .before .before .before .before .loop .q) multiplications (c .before .before .before .before .before .before .before .token .ensures) (c .before .before .before .before .before .before .is-multiplication .ensures) (c .before .before .before .before .before .if1 .taken)))) (c .before .before .before .factor2 .ensures .ahead), omega arith, omega (arith, c .before .before .before .before .before .before .before .before .before .before .before .before .before .before .before .before .before .before .pre .1 .small, c .before .before .before .before .before .before .before .before .loop .inv .1 .lies .1))
 
 -- src/lib.rt:213:22
-term-enum-known-whole : (t : ℕ) → term-lts.Need-enum-known-whole (
+term-enum-known-product : (t : ℕ) → term-lts.Need-enum-known-product (
   factor-below t,
   factor.Post,
   token-reads.Asked,
@@ -1825,7 +1825,7 @@ term-enum-known-whole : (t : ℕ) → term-lts.Need-enum-known-whole (
   node-reads.Asked,
   node-reads.Learnt,
 ) (term-at t) term.Post term-Inv-loop term-μ-loop
-term-enum-known-whole t c = search needs
+term-enum-known-product t c = search needs
 
 -- src/lib.rt:214:13
 term-enum-told-2 : (t : ℕ) → term-lts.Need-enum-told-2 (
@@ -1879,7 +1879,7 @@ term-loop-less : (t : ℕ) → term-lts.Need-loop-less (
   node-reads.Learnt,
 ) (term-at t) term.Post term-Inv-loop term-μ-loop
 unfolding mem
-term-loop-less t c = omega (arith, (turns-more term′ factor′ multiplications refl (express .ok term′ .1) (c .before .before .before .before .before .before .before .before .before .before .before .before .before .before .before .before .before .before .before .before .before .before .before .before .pre .1) (c .before .before .before .before .before .before .before .before .before .before .before .before .before .before .loop .inv .1) (seen (c .before .before .before .before .before .before .before .before .before .before .before .before .before .before .before .before .before .before .before .before .before .before .before .before .args .codes .now) (c .before .before .before .before .before .before .before .before .before .before .before .before .before .before .loop .q) multiplications (c .before .before .before .before .before .before .before .before .before .before .before .before .before .token .ensures) (c .before .before .before .before .before .before .before .before .before .before .before .before .is-multiplication .ensures) (c .before .before .before .before .before .before .before .before .before .before .before .if1 .taken)) (omega (arith, (inside (c .before .before .before .before .before .before .before .before .before .before .before .before .before .before .before .before .before .before .before .before .before .before .before .before .args .codes .now) multiplications (c .before .before .before .before .before .before .before .before .before .before .before .before .before .before .loop .q) refl (seen (c .before .before .before .before .before .before .before .before .before .before .before .before .before .before .before .before .before .before .before .before .before .before .before .before .args .codes .now) (c .before .before .before .before .before .before .before .before .before .before .before .before .before .before .loop .q) multiplications (c .before .before .before .before .before .before .before .before .before .before .before .before .before .token .ensures) (c .before .before .before .before .before .before .before .before .before .before .before .before .is-multiplication .ensures) (c .before .before .before .before .before .before .before .before .before .before .before .if1 .taken))))) (c .before .before .before .before .before .before .before .before .before .factor2 .ensures) (c .before .before .before .before .before .node .ensures) (c .before .whole .given .1)) .lies, c .before .before .before .before .before .before .before .before .before .before .before .before .before .before .loop .inv .1 .lies, turn-onward (c .before .before .before .before .before .before .before .before .before .before .before .before .before .before .before .before .before .before .before .before .before .before .before .before .args .n) _ (c .before .before .before .before .before .node .result) (c .before .before .before .before .before .before .before .before .before .factor2 .ensures) (c .before .before .before .before .before .node .ensures) (c .before .whole .given .1))
+term-loop-less t c = omega (arith, (turns-more term′ factor′ multiplications refl (express .ok term′ .1) (c .before .before .before .before .before .before .before .before .before .before .before .before .before .before .before .before .before .before .before .before .before .before .before .before .pre .1) (c .before .before .before .before .before .before .before .before .before .before .before .before .before .before .loop .inv .1) (seen (c .before .before .before .before .before .before .before .before .before .before .before .before .before .before .before .before .before .before .before .before .before .before .before .before .args .codes .now) (c .before .before .before .before .before .before .before .before .before .before .before .before .before .before .loop .q) multiplications (c .before .before .before .before .before .before .before .before .before .before .before .before .before .token .ensures) (c .before .before .before .before .before .before .before .before .before .before .before .before .is-multiplication .ensures) (c .before .before .before .before .before .before .before .before .before .before .before .if1 .taken)) (omega (arith, (inside (c .before .before .before .before .before .before .before .before .before .before .before .before .before .before .before .before .before .before .before .before .before .before .before .before .args .codes .now) multiplications (c .before .before .before .before .before .before .before .before .before .before .before .before .before .before .loop .q) refl (seen (c .before .before .before .before .before .before .before .before .before .before .before .before .before .before .before .before .before .before .before .before .before .before .before .before .args .codes .now) (c .before .before .before .before .before .before .before .before .before .before .before .before .before .before .loop .q) multiplications (c .before .before .before .before .before .before .before .before .before .before .before .before .before .token .ensures) (c .before .before .before .before .before .before .before .before .before .before .before .before .is-multiplication .ensures) (c .before .before .before .before .before .before .before .before .before .before .before .if1 .taken))))) (c .before .before .before .before .before .before .before .before .before .factor2 .ensures) (c .before .before .before .before .before .node .ensures) (c .before .product .given .1)) .lies, c .before .before .before .before .before .before .before .before .before .before .before .before .before .before .loop .inv .1 .lies, turn-onward (c .before .before .before .before .before .before .before .before .before .before .before .before .before .before .before .before .before .before .before .before .before .before .before .before .args .n) _ (c .before .before .before .before .before .node .result) (c .before .before .before .before .before .before .before .before .before .factor2 .ensures) (c .before .before .before .before .before .node .ensures) (c .before .product .given .1))
 
 -- src/lib.rt:210:5
 term-loop-again : (t : ℕ) → term-lts.Need-loop-again (
@@ -1893,7 +1893,7 @@ term-loop-again : (t : ℕ) → term-lts.Need-loop-again (
   node-reads.Learnt,
 ) (term-at t) term.Post term-Inv-loop term-μ-loop
 unfolding mem
-term-loop-again t c = (search needs, turns-more term′ factor′ multiplications refl (express .ok term′ .1) (c .before .before .before .before .before .before .before .before .before .before .before .before .before .before .before .before .before .before .before .before .before .before .before .before .pre .1) (c .before .before .before .before .before .before .before .before .before .before .before .before .before .before .loop .inv .1) (seen (c .before .before .before .before .before .before .before .before .before .before .before .before .before .before .before .before .before .before .before .before .before .before .before .before .args .codes .now) (c .before .before .before .before .before .before .before .before .before .before .before .before .before .before .loop .q) multiplications (c .before .before .before .before .before .before .before .before .before .before .before .before .before .token .ensures) (c .before .before .before .before .before .before .before .before .before .before .before .before .is-multiplication .ensures) (c .before .before .before .before .before .before .before .before .before .before .before .if1 .taken)) (omega (arith, (inside (c .before .before .before .before .before .before .before .before .before .before .before .before .before .before .before .before .before .before .before .before .before .before .before .before .args .codes .now) multiplications (c .before .before .before .before .before .before .before .before .before .before .before .before .before .before .loop .q) refl (seen (c .before .before .before .before .before .before .before .before .before .before .before .before .before .before .before .before .before .before .before .before .before .before .before .before .args .codes .now) (c .before .before .before .before .before .before .before .before .before .before .before .before .before .before .loop .q) multiplications (c .before .before .before .before .before .before .before .before .before .before .before .before .before .token .ensures) (c .before .before .before .before .before .before .before .before .before .before .before .before .is-multiplication .ensures) (c .before .before .before .before .before .before .before .before .before .before .before .if1 .taken))))) (c .before .before .before .before .before .before .before .before .before .factor2 .ensures) (c .before .before .before .before .before .node .ensures) (c .before .whole .given .1))
+term-loop-again t c = (search needs, turns-more term′ factor′ multiplications refl (express .ok term′ .1) (c .before .before .before .before .before .before .before .before .before .before .before .before .before .before .before .before .before .before .before .before .before .before .before .before .pre .1) (c .before .before .before .before .before .before .before .before .before .before .before .before .before .before .loop .inv .1) (seen (c .before .before .before .before .before .before .before .before .before .before .before .before .before .before .before .before .before .before .before .before .before .before .before .before .args .codes .now) (c .before .before .before .before .before .before .before .before .before .before .before .before .before .before .loop .q) multiplications (c .before .before .before .before .before .before .before .before .before .before .before .before .before .token .ensures) (c .before .before .before .before .before .before .before .before .before .before .before .before .is-multiplication .ensures) (c .before .before .before .before .before .before .before .before .before .before .before .if1 .taken)) (omega (arith, (inside (c .before .before .before .before .before .before .before .before .before .before .before .before .before .before .before .before .before .before .before .before .before .before .before .before .args .codes .now) multiplications (c .before .before .before .before .before .before .before .before .before .before .before .before .before .before .loop .q) refl (seen (c .before .before .before .before .before .before .before .before .before .before .before .before .before .before .before .before .before .before .before .before .before .before .before .before .args .codes .now) (c .before .before .before .before .before .before .before .before .before .before .before .before .before .before .loop .q) multiplications (c .before .before .before .before .before .before .before .before .before .before .before .before .before .token .ensures) (c .before .before .before .before .before .before .before .before .before .before .before .before .is-multiplication .ensures) (c .before .before .before .before .before .before .before .before .before .before .before .if1 .taken))))) (c .before .before .before .before .before .before .before .before .before .factor2 .ensures) (c .before .before .before .before .before .node .ensures) (c .before .product .given .1))
 
 -- src/lib.rt:202:1
 term-same-length-3 : (t : ℕ) → term-lts.Need-same-length-3 (
@@ -2157,7 +2157,7 @@ pub +atom+compared+expression+factor+interval+operand+sum+term-spec : {M : Type 
     (term-add-factor t)
     (term-factor-requires-2 t)
     (term-node-requires t)
-    (term-enum-known-whole t)
+    (term-enum-known-product t)
     (term-enum-told-2 t)
     (term-same-length-2 t)
     (term-returns-2 t)

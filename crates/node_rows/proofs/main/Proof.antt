@@ -1,0 +1,133 @@
+use borrow.Author.Needs.{needs}
+use Rattle.node_rows.proofs.main.Statement.{statement}
+use Rattle.node_rows.proofs.main.Tie as tie
+use Rattle.node_rows.proofs.main.Reads as reads
+use Rattle.node_rows.proofs.main.Lts as lts
+use Rattle.columns.proofs.shorter.Reads as shorter-reads
+use Rattle.io.proofs.read_full.Reads as read-full-reads
+use Rattle.node_rows.proofs.print_refused.Reads as print-refused-reads
+use Rattle.node_rows.proofs.print_tree.Reads as print-tree-reads
+use Rattle.scan.proofs.scan.Reads as scan-reads
+use mathlib.Core.Path.{sym}
+use native.Mathlib.Omega.{arith}
+use lib.Seq.{length-take-le}
+
+-- src/main.rt:84:30
+slice-aggregate-read-full : tie.Need-slice-aggregate-read-full
+slice-aggregate-read-full c = search needs
+
+-- src/main.rt:84:9
+read-full-requires : tie.Need-read-full-requires
+read-full-requires c κs = search needs
+
+-- src/main.rt:88:27
+array-share-prefix-text : tie.Need-array-share-prefix-text
+array-share-prefix-text c = search needs
+
+-- src/main.rt:88:27
+slice-aggregate-scan : tie.Need-slice-aggregate-scan
+slice-aggregate-scan c = search needs
+
+-- src/main.rt:88:39
+slice-aggregate-scan-2 : tie.Need-slice-aggregate-scan-2
+slice-aggregate-scan-2 c = search needs
+
+-- src/main.rt:88:51
+slice-aggregate-scan-3 : tie.Need-slice-aggregate-scan-3
+slice-aggregate-scan-3 c = search needs
+
+-- src/main.rt:88:64
+slice-aggregate-scan-4 : tie.Need-slice-aggregate-scan-4
+slice-aggregate-scan-4 c = search needs
+
+-- src/main.rt:88:9
+scan-requires : tie.Need-scan-requires
+scan-requires c κs = search needs
+
+-- src/main.rt:90:24
+enum-known-step : tie.Need-enum-known-step
+enum-known-step c = search needs
+
+-- src/main.rt:91:17
+shorter-requires : tie.Need-shorter-requires
+shorter-requires c κs = search needs
+
+-- src/main.rt:92:24
+array-share-prefix-text-2 : tie.Need-array-share-prefix-text-2
+array-share-prefix-text-2 c = search needs
+
+-- src/main.rt:92:24
+slice-aggregate-print-tree : tie.Need-slice-aggregate-print-tree
+slice-aggregate-print-tree c = search needs
+
+-- src/main.rt:92:36
+array-share-prefix-kinds : tie.Need-array-share-prefix-kinds
+array-share-prefix-kinds c = search needs
+
+-- src/main.rt:92:36
+slice-aggregate-print-tree-2 : tie.Need-slice-aggregate-print-tree-2
+slice-aggregate-print-tree-2 c = sym (length-take-le _ _ (omega (arith, c .before .before .shorter .ensures)))
+
+-- src/main.rt:92:51
+array-share-prefix-starts : tie.Need-array-share-prefix-starts
+array-share-prefix-starts c = search needs
+
+-- src/main.rt:92:51
+slice-aggregate-print-tree-3 : tie.Need-slice-aggregate-print-tree-3
+slice-aggregate-print-tree-3 c = sym (length-take-le _ _ (omega (arith, c .before .before .before .shorter .ensures)))
+
+-- src/main.rt:92:67
+array-share-prefix-lengths : tie.Need-array-share-prefix-lengths
+array-share-prefix-lengths c = search needs
+
+-- src/main.rt:92:67
+slice-aggregate-print-tree-4 : tie.Need-slice-aggregate-print-tree-4
+slice-aggregate-print-tree-4 c = sym (length-take-le _ _ (omega (arith, c .before .before .before .before .shorter .ensures)))
+
+-- src/main.rt:92:13
+print-tree-requires : tie.Need-print-tree-requires
+print-tree-requires c κs = search needs
+
+-- src/main.rt:94:29
+enum-known-step-2 : tie.Need-enum-known-step-2
+enum-known-step-2 c = search needs
+
+-- src/main.rt:94:47
+print-refused-requires : tie.Need-print-refused-requires
+print-refused-requires c κs = search needs
+
+-- src/main.rt:81:1
+returns : tie.Need-returns
+returns c = search needs
+
+-- src/main.rt:81:1
+returns-2 : tie.Need-returns-2
+returns-2 c = search needs
+
+pub main-spec : {M : Type 1} → statement M
+main-spec =
+    tie.close
+    (tie.spec
+    slice-aggregate-read-full
+    read-full-requires
+    array-share-prefix-text
+    slice-aggregate-scan
+    slice-aggregate-scan-2
+    slice-aggregate-scan-3
+    slice-aggregate-scan-4
+    scan-requires
+    enum-known-step
+    shorter-requires
+    array-share-prefix-text-2
+    slice-aggregate-print-tree
+    array-share-prefix-kinds
+    slice-aggregate-print-tree-2
+    array-share-prefix-starts
+    slice-aggregate-print-tree-3
+    array-share-prefix-lengths
+    slice-aggregate-print-tree-4
+    print-tree-requires
+    enum-known-step-2
+    print-refused-requires
+    returns
+    returns-2)
