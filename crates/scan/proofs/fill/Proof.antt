@@ -77,7 +77,7 @@ kind-at-requires c κs = tt
 
 -- src/lib.rt:455:13
 token-end-requires : tie.Need-token-end-requires Inv-loop μ-loop
-token-end-requires c κs = c .before .if2 .left
+token-end-requires c κs = (c .before .if2 .left, c .kind-at .ensures)
 
 -- src/lib.rt:456:22
 enum-known-end : tie.Need-enum-known-end Inv-loop μ-loop
