@@ -144,16 +144,20 @@ fn remark_end(s: &[u8], from: usize) -> Step
     let mut depth: usize = 1;
     while i + 1 < s.len() {
         let b = s[i];
-        let c = s[i + 1];
-        if is_pair(40, 42, b, c) {
-            depth += 1;
-            i += 2;
-        } else if is_pair(42, 41, b, c) {
-            if depth == 1 {
-                return Step::At(i + 2);
+        if is_either(40, 42, b) {
+            let c = s[i + 1];
+            if is_pair(40, 42, b, c) {
+                depth += 1;
+                i += 2;
+            } else if is_pair(42, 41, b, c) {
+                if depth == 1 {
+                    return Step::At(i + 2);
+                }
+                depth -= 1;
+                i += 2;
+            } else {
+                i += 1;
             }
-            depth -= 1;
-            i += 2;
         } else {
             i += 1;
         }
@@ -411,25 +415,34 @@ fn token_end(s: &[u8], at: usize, kind: u8) -> Step
     symbol_end(s, at)
 }
 
-// One row, as far as the columns go.
+// One row, as far as the columns go; each of them has room entries.
 fn push(
     kinds: &mut [u8],
     starts: &mut [u32],
     lengths: &mut [u32],
+    room: usize,
     n: usize,
     kind: u8,
     start: u32,
     size: u32,
 )
+    requires { ⌜ (room ≤ length (now kinds)) × (room ≤ length (now starts)) × (room ≤ length (now lengths)) ⌝ }
     ensures { λ _. ⌜ (now (kinds .exit) ≡ set (now (kinds .entry)) n kind) × (now (starts .exit) ≡ set (now (starts .entry)) n start) × (now (lengths .exit) ≡ set (now (lengths .entry)) n size) ⌝ }
 {
+    if n < room {
+        kinds[n] = kind;
+        starts[n] = start;
+        lengths[n] = size;
+        return;
+    }
     columns::put8(kinds, n, kind);
     columns::put32(starts, n, start);
     columns::put32(lengths, n, size);
 }
 
 // One row for each token, as far as the columns go; the number of tokens, or the first refusal.
-fn fill(src: &[u8], kinds: &mut [u8], starts: &mut [u32], lengths: &mut [u32]) -> Step
+fn fill(src: &[u8], kinds: &mut [u8], starts: &mut [u32], lengths: &mut [u32], room: usize) -> Step
+    requires { ⌜ (room ≤ length (now kinds)) × (room ≤ length (now starts)) × (room ≤ length (now lengths)) ⌝ }
     ensures { λ r. ⌜ Filled (lexed (now (src .entry))) (now (kinds .entry)) (now (starts .entry)) (now (lengths .entry)) r (now (kinds .exit)) (now (starts .exit)) (now (lengths .exit)) ⌝ }
 {
     if src.len() > 65536 {
@@ -450,7 +463,7 @@ fn fill(src: &[u8], kinds: &mut [u8], starts: &mut [u32], lengths: &mut [u32]) -
         let Step::At(e) = end else {
             return end;
         };
-        push(kinds, starts, lengths, n, kind, p as u32, (e - p) as u32);
+        push(kinds, starts, lengths, room, n, kind, p as u32, (e - p) as u32);
         n += 1;
         at = e;
     }
@@ -461,7 +474,7 @@ pub fn scan(src: &[u8], kinds: &mut [u8], starts: &mut [u32], lengths: &mut [u32
     ensures { λ r. ⌜ Scanned (now (src .entry)) (now (kinds .entry)) (now (starts .entry)) (now (lengths .entry)) r (now (kinds .exit)) (now (starts .exit)) (now (lengths .exit)) ⌝ }
 {
     let room = columns::shorter(kinds.len(), columns::shorter(starts.len(), lengths.len()));
-    let step = fill(src, kinds, starts, lengths);
+    let step = fill(src, kinds, starts, lengths, room);
     let Step::At(n) = step else {
         return step;
     };
