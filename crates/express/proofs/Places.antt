@@ -69,7 +69,7 @@ in-text f z s i e = go (decLt i (length s))
 
 -- ---- runs
 
-run-low-of : (f : ℕ → Bool) (p : ℕ) (t : List ℕ) → p ≤ runEnd f p t
+pub run-low-of : (f : ℕ → Bool) (p : ℕ) (t : List ℕ) → p ≤ runEnd f p t
 unfolding runEnd
 run-low-of f p [] = le-refl p
 run-low-of f p (b ∷ t) = cond-ge (f b) (le-trans (omega arith) (run-low-of f (p + 1) t)) (le-refl p)

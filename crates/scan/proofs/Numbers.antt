@@ -1,15 +1,17 @@
 -- Numbers: the exponent of a real, by what its bytes are; the bound on integers.
-use mathlib.Core.Path.{_≡_}
-use mathlib.Core.Bool.{true, false, cond, _&&_}
-use mathlib.Core.List.{List}
-use Prim.Native.Nat.{ℕ, _≤_, _<_, _-_}
+use mathlib.Core.Path.{_≡_, refl, sym, subst}
+use mathlib.Core.Bool.{Bool, true, false, cond, _&&_}
+use mathlib.Core.List.{List, [], _∷_}
+use Prim.Native.Nat.{ℕ, zero, suc, _+_, _*_, _≤_, _<_, _-_}
 use native.Mathlib.Omega.{arith}
+use native.Mathlib.Nat.{le-trans}
+use lib.Dec.{T, leb, leb→le}
 use borrow.Author.Tests.{le-leb, lt-leb}
 use lib.ListN.{length, getD, take, drop}
 use Rattle.express.specs.Bytes.{digit}
-use Rattle.express.specs.Lexis.{at, refused, run, exponentMark, exponentDigits, exponentEnd, greatest, integerEnd, integerValue}
+use Rattle.express.specs.Lexis.{at, refused, runEnd, run, numeral, exponentMark, exponentDigits, exponentEnd, greatest, integerEnd, integerValue}
 use Rattle.literals.specs.Literal.{capped}
-use Rattle.express.proofs.Places.{past}
+use Rattle.express.proofs.Places.{past, run-low-of}
 
 module _ (s : List ℕ) (p : ℕ) where
   pub exponent-over : length s ≤ p → exponentEnd s p ≡ p
@@ -31,6 +33,50 @@ module _ (s : List ℕ) (p : ℕ) where
       go : (t : mathlib.Core.Bool.Bool) → cond (t && digit (getD s (exponentDigits s p) 0)) (run digit s (exponentDigits s p)) p ≡ p
       go true = rw f
       go false = mathlib.Core.Path.refl
+
+-- ---- integers: n digits after v stand for no more than n nines do
+
+abbrev nines : ℕ → ℕ → ℕ
+nines v zero = v
+nines v (suc n) = nines (v * 10 + 9) n
+
+nines-more : (v w n : ℕ) → v ≤ w → nines v n ≤ nines w n
+nines-more v w zero h = h
+nines-more v w (suc n) h = nines-more (v * 10 + 9) (w * 10 + 9) n (omega (arith, h))
+
+nines-few : (v n m : ℕ) → n ≤ m → nines v n ≤ nines v m
+nines-few v zero zero h = omega arith
+nines-few v zero (suc m) h = le-trans (nines-few v zero m (omega arith)) (nines-more v (v * 10 + 9) m (omega arith))
+nines-few v (suc n) zero h = absurd (omega (arith, h))
+nines-few v (suc n) (suc m) h = nines-few (v * 10 + 9) n m (omega (arith, h))
+
+digit-few : (b : ℕ) → digit b ≡ true → b ≤ 57
+digit-few b e = leb→le b 57 (subst T (sym (right (leb 48 b) (leb b 57) e)) tt)
+  where
+    right : (l r : Bool) → (l && r) ≡ true → r ≡ true
+    right true r q = q
+    right false r q = absurd (mathlib.Core.Bool.false≢true q)
+
+digits-few : (v p : ℕ) (t : List ℕ) → numeral 10 v (take (runEnd digit p t - p) t) ≤ nines v (runEnd digit p t - p)
+unfolding runEnd numeral
+digits-few v p [] = let none : p - p ≡ 0 = omega arith in rw none (omega arith)
+digits-few v p (b ∷ t) = go (runEnd digit (p + 1) t) (run-low-of digit (p + 1) t) (digit b) refl (digits-few (v * 10 + (b - 48)) (p + 1) t)
+  where
+    go : (e : ℕ) → p + 1 ≤ e → (d : Bool) → digit b ≡ d → numeral 10 (v * 10 + (b - 48)) (take (e - (p + 1)) t) ≤ nines (v * 10 + (b - 48)) (e - (p + 1))
+        → numeral 10 v (take (cond d e p - p) (b ∷ t)) ≤ nines v (cond d e p - p)
+    go e low true is more =
+        let one : e - p ≡ suc (e - (p + 1)) = omega (arith, low) in
+        let few : b ≤ 57 = digit-few b is in
+        rw one (le-trans more (nines-more (v * 10 + (b - 48)) (v * 10 + 9) (e - (p + 1)) (omega (arith, few))))
+    go e low false is more = let none : p - p ≡ 0 = omega arith in rw none (omega arith)
+
+pub integer-short : (s : List ℕ) (p e : ℕ) → e ≡ run digit s p → e - p < 19 → at e ≡ integerEnd s p
+unfolding integerEnd
+integer-short s p e ends h =
+    let few : nines 0 (e - p) ≤ nines 0 18 = nines-few 0 (e - p) 18 (omega (arith, h)) in
+    let here : numeral 10 0 (take (e - p) (drop p s)) ≤ nines 0 (e - p) = rw ends (digits-few 0 p (drop p s)) in
+    let l : numeral 10 0 (take (e - p) (drop p s)) ≤ greatest = omega (arith, here, few) in
+    rw (← ends, le-leb _ _ l)
 
 -- an integer that ends at e
 module _ (s : List ℕ) (p e n : ℕ) (ends : e ≡ run digit s p) (is : n ≡ capped (integerValue (take (e - p) (drop p s)))) where

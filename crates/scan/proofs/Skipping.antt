@@ -1,10 +1,11 @@
 -- Spaces and remarks: what one turn of the loop of `skip` does.
-use mathlib.Core.Path.{_≡_, sym, ap, _∙_}
+use mathlib.Core.Path.{_≡_, refl, sym, ap, _∙_}
 use mathlib.Core.Bool.{true, false}
 use mathlib.Core.List.{List}
 use Prim.Native.Nat.{ℕ, suc, _+_, _-_, _<_, _≤_}
 use native.Mathlib.Omega.{arith}
 use lib.ListN.{length, drop, getD}
+use borrow.Author.Tests.{ne-eqb, le-leb, lt-leb}
 use Rattle.express.specs.Bytes.{space}
 use Rattle.express.specs.Lexis.{Reading, at, run, opens, dashes, inLine, remarkEnd, andThen, skipIn, skipped}
 use Rattle.express.proofs.Places.{past, inside-at, remark-low}
@@ -60,6 +61,15 @@ module _ (s : List ℕ) (i : ℕ) (want : Reading) (h : i < length s) (left : Le
 
         pub left-remark : (q : ℕ) → r ≡ At q → i < q → Left s q want
         left-remark q e l = go-on q l (λ f. turn f ∙ ap (λ (x : Step). andThen (reading x) (λ q. skipIn f s q)) e)
+
+-- a byte above `-` opens nothing
+pub left-past : (s : List ℕ) (i : ℕ) (want : Reading) → i < length s → Left s i want → 45 < getD s i 0 → at i ≡ want
+unfolding space
+left-past s i want h left l =
+    left-stop s i want h left (getD s (i + 1) 0) refl
+    (rw (le-leb 9 (getD s i 0) (omega (arith, l)), lt-leb (getD s i 0) 13 (omega (arith, l)), ne-eqb (getD s i 0) 32 (λ e. omega (arith, e, l))))
+    (rw (ne-eqb (getD s i 0) 45 (λ e. omega (arith, e, l))))
+    (rw (ne-eqb (getD s i 0) 40 (λ e. omega (arith, e, l))))
 
 pub left-over : (s : List ℕ) (i : ℕ) (want : Reading) → length s ≤ i → Left s i want → at i ≡ want
 unfolding skipIn space

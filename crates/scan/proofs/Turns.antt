@@ -1,6 +1,6 @@
 -- What one turn of each reader's loop does to what the definition gives from there on.
-use mathlib.Core.Path.{_≡_, refl, ap, _∙_}
-use mathlib.Core.Bool.{Bool, true, false}
+use mathlib.Core.Path.{_≡_, refl, sym, ap, _∙_}
+use mathlib.Core.Bool.{Bool, true, false, _||_}
 use mathlib.Core.List.{List, [], _∷_}
 use Prim.Native.Nat.{ℕ, _+_, _<_, _-_, _≤_}
 use native.Mathlib.Numerals.{add-one}
@@ -8,9 +8,10 @@ use native.Mathlib.Omega.{arith}
 use native.Mathlib.Decide.{decLt}
 use lib.ListN.{length, drop, getD, drop-of-length-le}
 use lib.Seq.{drop-cons}
+use lib.Dec.{eqb}
 use borrow.Author.Tests.{eq-eqb, ne-eqb}
 use Rattle.express.specs.Bytes.{printable}
-use Rattle.express.specs.Lexis.{Reading, at, refused, runEnd, run, opens, closes, remarkEnd, stringEnd}
+use Rattle.express.specs.Lexis.{Reading, at, refused, runEnd, run, opens, closes, either, remarkEnd, stringEnd}
 
 module _ (s : List ℕ) (i : ℕ) where
   pub at-cons : i < length s → drop i s ≡ getD s i 0 ∷ drop (i + 1) s
@@ -40,6 +41,10 @@ module _ (f : ℕ → Bool) (s : List ℕ) (i : ℕ) where
   run-over h = rw (at-nil s i h)
 
 -- ---- remarks
+
+neither : (l r : Bool) → (l || r) ≡ false → (l ≡ false) × (r ≡ false)
+neither true r e = absurd (mathlib.Core.Bool.false≢true (sym e))
+neither false r e = (refl, e)
 
 module _ (s : List ℕ) (i : ℕ) where
   -- one byte at most is left
@@ -80,6 +85,10 @@ module _ (s : List ℕ) (i : ℕ) where
       pub remark-on : opens b c ≡ false → closes b c ≡ false → inside d i ≡ inside d (i + 1)
       unfolding remarkEnd
       remark-on e f = rw (at-cons s i (omega arith), at-cons s (i + 1) h, e, f)
+
+      -- a byte that is neither `(` nor `*` opens and closes nothing
+      pub remark-pass : either 40 42 b ≡ false → inside d i ≡ inside d (i + 1)
+      remark-pass e = let n = neither (eqb b 40) (eqb b 42) e in remark-on (rw (n .0)) (rw (n .1))
 
 -- ---- strings
 

@@ -1,6 +1,7 @@
 -- What the steps of the token reader mean, and what its calls promise.
-use Prim.Native.Nat.{ℕ, min}
-use mathlib.Core.Bool.{Bool}
+use Prim.Native.Nat.{ℕ, min, _/_, _%_, _^_}
+use mathlib.Core.Bool.{Bool, cond}
+use lib.Dec.{eqb, ltb}
 use mathlib.Core.Path.{_≡_}
 use mathlib.Core.List.{List}
 use lib.ListN.{length}
@@ -16,6 +17,13 @@ use Rattle.scan.specs.declared.Class.the-variants.{Word, Digit, Bit, Lin
 abbrev pub reading : Step → Reading
 reading (At p) = at p
 reading (Refused n p) = refused n p
+
+-- A set of bytes as two numbers of 64 bits each: byte b is bit b of the first, or bit b - 64 of the second.
+abbrev pub halfOf : ℕ → ℕ → ℕ → ℕ
+halfOf low high b = cond (ltb b 64) low (cond (ltb b 128) high 0)
+
+abbrev pub inSet : ℕ → ℕ → ℕ → Bool
+inSet low high b = eqb (halfOf low high b / 2 ^ (b % 64) % 2) 1
 
 abbrev pub member : Class → ℕ → Bool
 member Word = wordByte

@@ -5,7 +5,7 @@ ghost use Prim.Native.Nat.{_+_, _≤_, _<_};
 ghost use lib.ListN.{length, drop, getD, set};
 ghost use Rattle.express.specs.Bytes.{within, letter, wordByte, space};
 ghost use Rattle.express.specs.Lexis.{pair, either, run, remarkEnd, skipped, integerEnd, exponentDigits, exponentEnd, realEnd, stringEnd, binaryEnd, lone, symbolSize, symbolEnd, kindAt, tokenEnd, lexed};
-ghost use Rattle.scan.specs.Scan.{reading, member, Filled, Scanned};
+ghost use Rattle.scan.specs.Scan.{reading, halfOf, inSet, member, Filled, Scanned};
 
 // A reading step gives a new place, or a located refusal: its number and its place.
 pub enum Step {
@@ -29,6 +29,12 @@ fn byte(s: &[u8], i: usize) -> u8
         return s[i];
     }
     0
+}
+
+fn wide(b: u8) -> u64
+    ensures { λ r. ⌜ r ≡ b ⌝ }
+{
+    b as u64
 }
 
 fn is_within(lo: u8, hi: u8, b: u8) -> bool
@@ -67,16 +73,31 @@ fn is_letter(b: u8) -> bool
     is_within(97, 122, b)
 }
 
+// The half of a set of bytes that a byte is looked for in: the first has the bytes below 64, the second those below 128.
+fn half(low: u64, high: u64, b: u8) -> u64
+    ensures { λ r. ⌜ r ≡ halfOf low high b ⌝ }
+{
+    if b < 64 {
+        return low;
+    }
+    if b < 128 {
+        return high;
+    }
+    0
+}
+
+// Whether a byte is in a set, a bit for each byte: one jump where a chain of tests has several that are hard to foretell.
+fn is_in(low: u64, high: u64, b: u8) -> bool
+    ensures { λ r. ⌜ r ≡ inSet low high b ⌝ }
+{
+    let shift = wide(b % 64);
+    (half(low, high, b) >> shift) % 2 == 1
+}
+
 fn is_word(b: u8) -> bool
     ensures { λ r. ⌜ r ≡ wordByte b ⌝ }
 {
-    if is_letter(b) {
-        return true;
-    }
-    if is_within(48, 57, b) {
-        return true;
-    }
-    b == 95
+    is_in(287948901175001088, 576460745995190270, b)
 }
 
 fn is_space(b: u8) -> bool
@@ -123,16 +144,20 @@ fn remark_end(s: &[u8], from: usize) -> Step
     let mut depth: usize = 1;
     while i + 1 < s.len() {
         let b = s[i];
-        let c = s[i + 1];
-        if is_pair(40, 42, b, c) {
-            depth += 1;
-            i += 2;
-        } else if is_pair(42, 41, b, c) {
-            if depth == 1 {
-                return Step::At(i + 2);
+        if is_either(40, 42, b) {
+            let c = s[i + 1];
+            if is_pair(40, 42, b, c) {
+                depth += 1;
+                i += 2;
+            } else if is_pair(42, 41, b, c) {
+                if depth == 1 {
+                    return Step::At(i + 2);
+                }
+                depth -= 1;
+                i += 2;
+            } else {
+                i += 1;
             }
-            depth -= 1;
-            i += 2;
         } else {
             i += 1;
         }
@@ -147,19 +172,24 @@ fn skip(s: &[u8], at: usize) -> Step
     let mut i = at;
     while i < s.len() {
         let b = s[i];
-        let c = byte(s, i + 1);
+        if b > 45 {
+            return Step::At(i);
+        }
         if is_space(b) {
             i += 1;
-        } else if is_pair(45, 45, b, c) {
-            i = run_end(s, i + 2, Class::Line);
-        } else if is_pair(40, 42, b, c) {
-            let step = remark_end(s, i);
-            let Step::At(q) = step else {
-                return step;
-            };
-            i = q;
         } else {
-            return Step::At(i);
+            let c = byte(s, i + 1);
+            if is_pair(45, 45, b, c) {
+                i = run_end(s, i + 2, Class::Line);
+            } else if is_pair(40, 42, b, c) {
+                let step = remark_end(s, i);
+                let Step::At(q) = step else {
+                    return step;
+                };
+                i = q;
+            } else {
+                return Step::At(i);
+            }
         }
     }
     Step::At(i)
@@ -169,6 +199,9 @@ fn integer_end(s: &[u8], at: usize) -> Step
     ensures { λ r. ⌜ reading r ≡ integerEnd (now (s .entry)) at ⌝ }
 {
     let end = run_end(s, at, Class::Digit);
+    if end - at < 19 {
+        return Step::At(end);
+    }
     if literals::integer(s, at, end - at) > 9223372036854775807 {
         return Step::Refused(3, at);
     }
@@ -258,25 +291,7 @@ fn binary_end(s: &[u8], at: usize) -> Step
 fn is_lone(b: u8) -> bool
     ensures { λ r. ⌜ r ≡ lone b ⌝ }
 {
-    if b == 63 {
-        return true;
-    }
-    if is_within(40, 41, b) {
-        return true;
-    }
-    if is_within(43, 47, b) {
-        return true;
-    }
-    if b == 59 {
-        return true;
-    }
-    if b == 61 {
-        return true;
-    }
-    if is_within(91, 93, b) {
-        return true;
-    }
-    is_either(123, 125, b)
+    is_in(12105951775790465024, 2882303762456641536, b)
 }
 
 // How many of the four bytes are a symbol that starts with a colon, which b is.
@@ -340,7 +355,11 @@ fn symbol_end(s: &[u8], at: usize) -> Step
     requires { ⌜ at < length (now s) ⌝ }
     ensures { λ r. ⌜ reading r ≡ symbolEnd (now (s .entry)) at ⌝ }
 {
-    let size = symbol_size(s[at], byte(s, at + 1), byte(s, at + 2), byte(s, at + 3));
+    let b = s[at];
+    if is_lone(b) {
+        return Step::At(at + 1);
+    }
+    let size = symbol_size(b, byte(s, at + 1), byte(s, at + 2), byte(s, at + 3));
     if size == 0 {
         return Step::Refused(2, at);
     }
@@ -352,6 +371,9 @@ fn kind_at(s: &[u8], at: usize) -> u8
     ensures { λ r. ⌜ r ≡ kindAt (now (s .entry)) at ⌝ }
 {
     let b = byte(s, at);
+    if is_lone(b) {
+        return 6;
+    }
     if is_letter(b) {
         return 1;
     }
@@ -372,11 +394,11 @@ fn kind_at(s: &[u8], at: usize) -> u8
 }
 
 fn token_end(s: &[u8], at: usize, kind: u8) -> Step
-    requires { ⌜ at < length (now s) ⌝ }
+    requires { ⌜ (at < length (now s)) × (kind ≡ kindAt (now s) at) ⌝ }
     ensures { λ r. ⌜ reading r ≡ tokenEnd (now (s .entry)) at kind ⌝ }
 {
     if kind == 1 {
-        return Step::At(run_end(s, at, Class::Word));
+        return Step::At(run_end(s, at + 1, Class::Word));
     }
     if kind == 2 {
         return integer_end(s, at);
@@ -393,25 +415,34 @@ fn token_end(s: &[u8], at: usize, kind: u8) -> Step
     symbol_end(s, at)
 }
 
-// One row, as far as the columns go.
+// One row, as far as the columns go; each of them has room entries.
 fn push(
     kinds: &mut [u8],
     starts: &mut [u32],
     lengths: &mut [u32],
+    room: usize,
     n: usize,
     kind: u8,
     start: u32,
     size: u32,
 )
+    requires { ⌜ (room ≤ length (now kinds)) × (room ≤ length (now starts)) × (room ≤ length (now lengths)) ⌝ }
     ensures { λ _. ⌜ (now (kinds .exit) ≡ set (now (kinds .entry)) n kind) × (now (starts .exit) ≡ set (now (starts .entry)) n start) × (now (lengths .exit) ≡ set (now (lengths .entry)) n size) ⌝ }
 {
+    if n < room {
+        kinds[n] = kind;
+        starts[n] = start;
+        lengths[n] = size;
+        return;
+    }
     columns::put8(kinds, n, kind);
     columns::put32(starts, n, start);
     columns::put32(lengths, n, size);
 }
 
 // One row for each token, as far as the columns go; the number of tokens, or the first refusal.
-fn fill(src: &[u8], kinds: &mut [u8], starts: &mut [u32], lengths: &mut [u32]) -> Step
+fn fill(src: &[u8], kinds: &mut [u8], starts: &mut [u32], lengths: &mut [u32], room: usize) -> Step
+    requires { ⌜ (room ≤ length (now kinds)) × (room ≤ length (now starts)) × (room ≤ length (now lengths)) ⌝ }
     ensures { λ r. ⌜ Filled (lexed (now (src .entry))) (now (kinds .entry)) (now (starts .entry)) (now (lengths .entry)) r (now (kinds .exit)) (now (starts .exit)) (now (lengths .exit)) ⌝ }
 {
     if src.len() > 65536 {
@@ -432,7 +463,7 @@ fn fill(src: &[u8], kinds: &mut [u8], starts: &mut [u32], lengths: &mut [u32]) -
         let Step::At(e) = end else {
             return end;
         };
-        push(kinds, starts, lengths, n, kind, p as u32, (e - p) as u32);
+        push(kinds, starts, lengths, room, n, kind, p as u32, (e - p) as u32);
         n += 1;
         at = e;
     }
@@ -443,7 +474,7 @@ pub fn scan(src: &[u8], kinds: &mut [u8], starts: &mut [u32], lengths: &mut [u32
     ensures { λ r. ⌜ Scanned (now (src .entry)) (now (kinds .entry)) (now (starts .entry)) (now (lengths .entry)) r (now (kinds .exit)) (now (starts .exit)) (now (lengths .exit)) ⌝ }
 {
     let room = columns::shorter(kinds.len(), columns::shorter(starts.len(), lengths.len()));
-    let step = fill(src, kinds, starts, lengths);
+    let step = fill(src, kinds, starts, lengths, room);
     let Step::At(n) = step else {
         return step;
     };

@@ -1,6 +1,6 @@
 -- The terminal of a token by its kind, and the loop over the tokens.
-use mathlib.Core.Path.{_≡_, refl, sym, _∙_}
-use mathlib.Core.List.{List, _∷_}
+use mathlib.Core.Path.{_≡_, refl, sym, ap, _∙_}
+use mathlib.Core.List.{List, [], _∷_}
 use Prim.Native.Nat.{ℕ, _+_, _-_, _≤_, _<_}
 use native.Mathlib.Numerals.{add-one}
 use lib.ListN.{length, take, drop, getD, set, length-set, drop-of-length-le}
@@ -31,6 +31,10 @@ module _ (kind : ℕ) (t : List ℕ) where
         pub of-literal : kind ≤ 5 → terminalOf kind t ≡ kind
         unfolding terminalOf
         of-literal l = rw (ne-eqb _ _ n1, ne-eqb _ _ n6, le-leb _ _ h, le-leb _ _ l)
+
+-- a symbol of one byte, by that byte
+pub of-byte : (b x r : ℕ) → b ≡ x → r ≡ symbolTerminal (x ∷ []) → r ≡ symbolTerminal (b ∷ [])
+of-byte b x r e is = is ∙ ap (λ (y : ℕ). symbolTerminal (y ∷ [])) (sym e)
 
 -- the terminals from i on, over the column as it is, give what all of them give over the column as it was
 pub record Progress (src ks ps ns c₀ c : List ℕ) (i : ℕ) : Type 0 where

@@ -1,7 +1,7 @@
 -- The bytes of a token, and comparing them.
 use mathlib.Core.Path.{_≡_, sym, ap, _∙_}
 use mathlib.Core.Bool.{Bool, true, false}
-use mathlib.Core.List.{List, _∷_}
+use mathlib.Core.List.{List, [], _∷_}
 use Prim.Native.Nat.{ℕ, _+_, _-_, _≤_, _<_, min}
 use native.Mathlib.Omega.{arith}
 use native.Mathlib.Numerals.{add-one}
@@ -36,6 +36,9 @@ module _ (s : List ℕ) (start n : ℕ) (h : n ≤ length s - start) where
   pub letter-upper : (i : ℕ) → i < n → getD (folded true part) i 0 ≡ upper (getD s (start + i) 0)
   unfolding upper
   letter-upper i l = List·getD-map upper part i 0 ∙ ap upper (part-at i l)
+
+pub part-one : (s : List ℕ) (start n : ℕ) → n ≤ length s - start → n ≡ 1 → take n (drop start s) ≡ getD s start 0 ∷ []
+part-one s start n h e = let l : start < length s = omega (arith, h, e) in rw (e, drop-cons s start 0)
 
 -- the bytes past the end change nothing
 pub part-short : (s : List ℕ) (start size n : ℕ) → n ≡ min size (length s - start) → take n (drop start s) ≡ take size (drop start s)

@@ -3,6 +3,7 @@ mod table;
 
 ghost use mathlib.Core.Path.{_≡_};
 ghost use mathlib.Core.Bool.{true, false};
+ghost use mathlib.Core.List.{[], _∷_};
 ghost use Prim.Native.Nat.{_+_, _-_, _≤_, _<_, min};
 ghost use lib.ListN.{length, take, drop, getD};
 ghost use lib.Seq.{sets};
@@ -129,6 +130,35 @@ fn word(
     (k + 5) as u8
 }
 
+// The terminal of a symbol of one byte, or 0.
+fn alone(b: u8) -> u8
+    ensures { λ r. ⌜ r ≡ symbolTerminal (b ∷ []) ⌝ }
+{
+    match b {
+        40 => 24,
+        41 => 25,
+        42 => 11,
+        43 => 12,
+        44 => 8,
+        45 => 13,
+        46 => 7,
+        47 => 16,
+        58 => 10,
+        59 => 9,
+        60 => 17,
+        61 => 14,
+        62 => 18,
+        63 => 6,
+        91 => 19,
+        92 => 15,
+        93 => 20,
+        123 => 21,
+        124 => 23,
+        125 => 22,
+        _ => 0,
+    }
+}
+
 fn symbol(
     s: &[u8],
     start: usize,
@@ -140,6 +170,9 @@ fn symbol(
     requires { ⌜ (n ≤ length (now s) - start) × (now slots ≡ slotList) × (now froms ≡ fromList) × (now text ≡ textList) ⌝ }
     ensures { λ r. ⌜ r ≡ symbolTerminal (take n (drop start (now (s .entry)))) ⌝ }
 {
+    if n == 1 {
+        return alone(s[start]);
+    }
     let k = number(s, start, n, false, slots, froms, text);
     if k == 0 {
         return 0;

@@ -2,12 +2,13 @@ use Rattle.scan.proofs.remark_end.Statement.{statement}
 use Rattle.scan.proofs.remark_end.Tie as tie
 use Rattle.scan.proofs.remark_end.Reads as reads
 use Rattle.scan.proofs.remark_end.Lts as lts
+use Rattle.scan.proofs.is_either.Reads as is-either-reads
 use Rattle.scan.proofs.is_pair.Reads as is-pair-reads
 use mathlib.Core.Path.{_≡_, refl, sym, _∙_}
 use Prim.Native.Nat.{_≤_, _-_, _+_}
 use lib.ListN.{length, drop}
 use Rattle.express.specs.Lexis.{remarkEnd}
-use Rattle.scan.proofs.Turns.{remark-over, remark-deeper, remark-out, remark-done, remark-on}
+use Rattle.scan.proofs.Turns.{remark-over, remark-deeper, remark-out, remark-done, remark-on, remark-pass}
 use native.Mathlib.Omega.{arith}
 
 abbrev Inv-loop : tie.InvT-loop
@@ -16,91 +17,107 @@ Inv-loop s from i₀ depth₀ i depth = (i ≤ length s) × (1 ≤ depth) × (de
 abbrev μ-loop : tie.MeasureT-loop
 μ-loop s from i₀ depth₀ i depth = length s - i
 
--- src/lib.rt:122:17
+-- src/lib.rt:143:17
 add-i : tie.Need-add-i Inv-loop μ-loop
 add-i c = omega arith
 
--- src/lib.rt:124:5
+-- src/lib.rt:145:5
 loop-holds : tie.Need-loop-holds Inv-loop μ-loop
 loop-holds c = (omega arith, omega arith, omega arith, refl)
 
--- src/lib.rt:124:11
+-- src/lib.rt:145:11
 add-loop : tie.Need-add-loop Inv-loop μ-loop
 add-loop c = omega arith
 
--- src/lib.rt:125:17
+-- src/lib.rt:146:17
 shared-slice-read-b : tie.Need-shared-slice-read-b Inv-loop μ-loop
 shared-slice-read-b c = omega arith
 
--- src/lib.rt:126:19
+-- src/lib.rt:147:12
+is-either-requires : tie.Need-is-either-requires Inv-loop μ-loop
+is-either-requires c κs = tt
+
+-- src/lib.rt:148:23
 add-c : tie.Need-add-c Inv-loop μ-loop
 add-c c = omega arith
 
--- src/lib.rt:126:17
+-- src/lib.rt:148:21
 shared-slice-read-c : tie.Need-shared-slice-read-c Inv-loop μ-loop
 shared-slice-read-c c = omega arith
 
--- src/lib.rt:127:12
+-- src/lib.rt:149:16
 is-pair-requires : tie.Need-is-pair-requires Inv-loop μ-loop
 is-pair-requires c κs = tt
 
--- src/lib.rt:128:13
+-- src/lib.rt:150:17
 add-depth : tie.Need-add-depth Inv-loop μ-loop
 add-depth c = omega arith
 
--- src/lib.rt:129:13
+-- src/lib.rt:151:17
 add-i-2 : tie.Need-add-i-2 Inv-loop μ-loop
 add-i-2 c = omega arith
 
--- src/lib.rt:124:5
+-- src/lib.rt:145:5
 loop-less : tie.Need-loop-less Inv-loop μ-loop
 loop-less c = omega arith
 
--- src/lib.rt:124:5
+-- src/lib.rt:145:5
 loop-again : tie.Need-loop-again Inv-loop μ-loop
-loop-again c = (omega arith, omega arith, omega arith, sym (remark-deeper _ _ _ _ (c .before .before .before .before .loop-test .taken) (sym (c .before .is-pair .ensures) ∙ c .if1 .taken)) ∙ c .before .before .before .before .before .loop .inv .3)
+loop-again c = (omega arith, omega arith, omega arith, sym (remark-deeper _ _ _ _ (c .before .before .before .before .before .before .loop-test .taken) (sym (c .before .is-pair .ensures) ∙ c .if2 .taken)) ∙ c .before .before .before .before .before .before .before .loop .inv .3)
 
--- src/lib.rt:130:19
+-- src/lib.rt:152:23
 is-pair-requires-2 : tie.Need-is-pair-requires-2 Inv-loop μ-loop
 is-pair-requires-2 c κs = tt
 
--- src/lib.rt:132:33
-add-t16 : tie.Need-add-t16 Inv-loop μ-loop
-add-t16 c = omega arith
+-- src/lib.rt:154:37
+add-t19 : tie.Need-add-t19 Inv-loop μ-loop
+add-t19 c = omega arith
 
--- src/lib.rt:132:17
+-- src/lib.rt:154:21
 returns : tie.Need-returns Inv-loop μ-loop
-returns c = sym (remark-done _ _ _ _ (c .before .before .before .before .before .before .before .loop-test .taken) (sym (c .before .before .before .before .is-pair .ensures) ∙ c .before .before .before .if1 .left) (sym (c .before .before .is-pair2 .ensures) ∙ c .before .if2 .taken) (c .if3 .taken)) ∙ c .before .before .before .before .before .before .before .before .loop .inv .3
+returns c = sym (remark-done _ _ _ _ (c .before .before .before .before .before .before .before .before .before .loop-test .taken) (sym (c .before .before .before .before .is-pair .ensures) ∙ c .before .before .before .if2 .left) (sym (c .before .before .is-pair2 .ensures) ∙ c .before .if3 .taken) (c .if4 .taken)) ∙ c .before .before .before .before .before .before .before .before .before .before .loop .inv .3
 
--- src/lib.rt:134:13
+-- src/lib.rt:156:17
 sub-depth : tie.Need-sub-depth Inv-loop μ-loop
 sub-depth c = omega arith
 
--- src/lib.rt:135:13
+-- src/lib.rt:157:17
 add-i-3 : tie.Need-add-i-3 Inv-loop μ-loop
 add-i-3 c = omega arith
 
--- src/lib.rt:124:5
+-- src/lib.rt:145:5
 loop-less-2 : tie.Need-loop-less-2 Inv-loop μ-loop
 loop-less-2 c = omega arith
 
--- src/lib.rt:124:5
+-- src/lib.rt:145:5
 loop-again-2 : tie.Need-loop-again-2 Inv-loop μ-loop
-loop-again-2 c = (omega arith, omega arith, omega arith, sym (remark-out _ _ _ _ (c .before .before .before .before .before .before .before .loop-test .taken) (sym (c .before .before .before .before .is-pair .ensures) ∙ c .before .before .before .if1 .left) (sym (c .before .before .is-pair2 .ensures) ∙ c .before .if2 .taken) (c .if3 .left)) ∙ c .before .before .before .before .before .before .before .before .loop .inv .3)
+loop-again-2 c = (omega arith, omega arith, omega arith, sym (remark-out _ _ _ _ (c .before .before .before .before .before .before .before .before .before .loop-test .taken) (sym (c .before .before .before .before .is-pair .ensures) ∙ c .before .before .before .if2 .left) (sym (c .before .before .is-pair2 .ensures) ∙ c .before .if3 .taken) (c .if4 .left)) ∙ c .before .before .before .before .before .before .before .before .before .before .loop .inv .3)
 
--- src/lib.rt:137:13
+-- src/lib.rt:159:17
 add-i-4 : tie.Need-add-i-4 Inv-loop μ-loop
 add-i-4 c = omega arith
 
--- src/lib.rt:124:5
+-- src/lib.rt:145:5
 loop-less-3 : tie.Need-loop-less-3 Inv-loop μ-loop
 loop-less-3 c = omega arith
 
--- src/lib.rt:124:5
+-- src/lib.rt:145:5
 loop-again-3 : tie.Need-loop-again-3 Inv-loop μ-loop
-loop-again-3 c = (omega arith, omega arith, omega arith, sym (remark-on _ _ _ _ (c .before .before .before .before .before .before .loop-test .taken) (sym (c .before .before .before .is-pair .ensures) ∙ c .before .before .if1 .left) (sym (c .before .is-pair2 .ensures) ∙ c .if2 .left)) ∙ c .before .before .before .before .before .before .before .loop .inv .3)
+loop-again-3 c = (omega arith, omega arith, omega arith, sym (remark-on _ _ _ _ (c .before .before .before .before .before .before .before .before .loop-test .taken) (sym (c .before .before .before .is-pair .ensures) ∙ c .before .before .if2 .left) (sym (c .before .is-pair2 .ensures) ∙ c .if3 .left)) ∙ c .before .before .before .before .before .before .before .before .before .loop .inv .3)
 
--- src/lib.rt:118:1
+-- src/lib.rt:162:13
+add-i-5 : tie.Need-add-i-5 Inv-loop μ-loop
+add-i-5 c = omega arith
+
+-- src/lib.rt:145:5
+loop-less-4 : tie.Need-loop-less-4 Inv-loop μ-loop
+loop-less-4 c = omega arith
+
+-- src/lib.rt:145:5
+loop-again-4 : tie.Need-loop-again-4 Inv-loop μ-loop
+loop-again-4 c = (omega arith, omega arith, omega arith, sym (remark-pass _ _ _ _ (c .before .before .before .loop-test .taken) (sym (c .before .is-either .ensures) ∙ c .if1 .left)) ∙ c .before .before .before .before .loop .inv .3)
+
+-- src/lib.rt:139:1
 returns-2 : tie.Need-returns-2 Inv-loop μ-loop
 returns-2 c = sym (remark-over _ _ _ _ (c .loop-test .left)) ∙ c .before .loop .inv .3
 
@@ -114,6 +131,7 @@ remark-end-spec =
     loop-holds
     add-loop
     shared-slice-read-b
+    is-either-requires
     add-c
     shared-slice-read-c
     is-pair-requires
@@ -122,7 +140,7 @@ remark-end-spec =
     loop-less
     loop-again
     is-pair-requires-2
-    add-t16
+    add-t19
     returns
     sub-depth
     add-i-3
@@ -131,4 +149,7 @@ remark-end-spec =
     add-i-4
     loop-less-3
     loop-again-3
+    add-i-5
+    loop-less-4
+    loop-again-4
     returns-2)

@@ -9,6 +9,7 @@ use mathlib.Core.Path.{_∙_, ap}
 use lib.ListN.{length}
 use Prim.Native.Nat.{min}
 use Rattle.scan.proofs.Rows.{scan-refused, scan-short, scan-fits}
+use native.Mathlib.Omega.{arith}
 
 -- src/lib.rt:469:46
 shorter-requires : tie.Need-shorter-requires
@@ -20,7 +21,7 @@ shorter-requires-2 c κs = search needs
 
 -- src/lib.rt:470:9
 fill-requires : tie.Need-fill-requires
-fill-requires c κs = search needs
+fill-requires c κs = (omega (arith, c .before .before .before .before .shorter .ensures, c .before .before .before .shorter2 .ensures), omega (arith, c .before .before .before .before .shorter .ensures, c .before .before .before .shorter2 .ensures), omega (arith, c .before .before .before .before .shorter .ensures, c .before .before .before .shorter2 .ensures))
 
 -- src/lib.rt:471:18
 enum-known-step : tie.Need-enum-known-step

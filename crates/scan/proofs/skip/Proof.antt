@@ -11,8 +11,8 @@ use mathlib.Core.Path.{_≡_, refl, sym, _∙_, ap}
 use Prim.Native.Nat.{_≤_, _-_, _+_}
 use lib.ListN.{length, drop, getD}
 use Rattle.express.specs.Lexis.{skipped, inLine, pair}
-use Rattle.express.proofs.Places.{pair-in, run-low, run-high}
-use Rattle.scan.proofs.Skipping.{Left, left-first, left-space, left-line, left-stop, left-refused, left-remark, left-over, remark-passes}
+use Rattle.express.proofs.Places.{pair-in, run-low}
+use Rattle.scan.proofs.Skipping.{Left, left-first, left-past, left-space, left-line, left-stop, left-refused, left-remark, left-over, remark-passes}
 use borrow.Author.Needs.{needs}
 use native.Mathlib.Omega.{arith}
 
@@ -22,93 +22,97 @@ Inv-loop s at i₀ i = Left s i (skipped s at)
 abbrev μ-loop : tie.MeasureT-loop
 μ-loop s at i₀ i = length s - i
 
--- src/lib.rt:148:5
+-- src/lib.rt:169:5
 loop-holds : tie.Need-loop-holds Inv-loop μ-loop
 loop-holds c = left-first _ _
 
--- src/lib.rt:149:17
+-- src/lib.rt:170:17
 shared-slice-read-b : tie.Need-shared-slice-read-b Inv-loop μ-loop
 shared-slice-read-b c = omega arith
 
--- src/lib.rt:150:25
-add-byte : tie.Need-add-byte Inv-loop μ-loop
-add-byte c = omega arith
+-- src/lib.rt:172:13
+returns : tie.Need-returns Inv-loop μ-loop
+returns c = left-past _ _ _ (c .before .before .loop-test .taken) (c .before .before .before .loop .inv) (c .if1 .taken)
 
--- src/lib.rt:150:13
-byte-requires : tie.Need-byte-requires Inv-loop μ-loop
-byte-requires c κs = tt
-
--- src/lib.rt:151:12
+-- src/lib.rt:174:12
 is-space-requires : tie.Need-is-space-requires Inv-loop μ-loop
 is-space-requires c κs = tt
 
--- src/lib.rt:152:13
+-- src/lib.rt:175:13
 add-i : tie.Need-add-i Inv-loop μ-loop
 add-i c = omega arith
 
--- src/lib.rt:148:5
+-- src/lib.rt:169:5
 loop-less : tie.Need-loop-less Inv-loop μ-loop
 loop-less c = omega arith
 
--- src/lib.rt:148:5
+-- src/lib.rt:169:5
 loop-again : tie.Need-loop-again Inv-loop μ-loop
-loop-again c = left-space _ _ _ (c .before .before .before .before .loop-test .taken) (c .before .before .before .before .before .loop .inv) _ (c .before .before .byte .ensures) (sym (c .before .is-space .ensures) ∙ c .if1 .taken)
+loop-again c = left-space _ _ _ (c .before .before .before .before .loop-test .taken) (c .before .before .before .before .before .loop .inv) _ refl (sym (c .before .is-space .ensures) ∙ c .if2 .taken)
 
--- src/lib.rt:153:19
+-- src/lib.rt:177:29
+add-byte : tie.Need-add-byte Inv-loop μ-loop
+add-byte c = omega arith
+
+-- src/lib.rt:177:17
+byte-requires : tie.Need-byte-requires Inv-loop μ-loop
+byte-requires c κs = tt
+
+-- src/lib.rt:178:16
 is-pair-requires : tie.Need-is-pair-requires Inv-loop μ-loop
 is-pair-requires c κs = tt
 
--- src/lib.rt:154:28
+-- src/lib.rt:179:32
 add-run-end : tie.Need-add-run-end Inv-loop μ-loop
 add-run-end c = omega arith
 
--- src/lib.rt:154:13
+-- src/lib.rt:179:17
 run-end-requires : tie.Need-run-end-requires Inv-loop μ-loop
 run-end-requires c κs = tt
 
--- src/lib.rt:148:5
+-- src/lib.rt:169:5
 loop-less-2 : tie.Need-loop-less-2 Inv-loop μ-loop
-loop-less-2 c = omega (arith, c .run-end .ensures, run-low inLine (c .before .before .before .before .before .before .before .before .before .before .args .s .now) (c .before .before .before .before .before .before .before .before .loop .i + 2))
+loop-less-2 c = omega (arith, c .run-end .ensures, run-low inLine (c .before .before .before .before .before .before .before .before .before .before .before .args .s .now) (c .before .before .before .before .before .before .before .before .before .loop .i + 2))
 
--- src/lib.rt:148:5
+-- src/lib.rt:169:5
 loop-again-2 : tie.Need-loop-again-2 Inv-loop μ-loop
-loop-again-2 c = left-line _ _ _ (c .before .before .before .before .before .before .before .loop-test .taken) (c .before .before .before .before .before .before .before .before .loop .inv) _ (c .before .before .before .before .before .byte .ensures) (sym (c .before .before .before .before .is-space .ensures) ∙ c .before .before .before .if1 .left) (sym (c .before .before .is-pair .ensures) ∙ c .before .if2 .taken) _ (c .run-end .ensures) (omega (arith, c .run-end .ensures, run-low inLine (c .before .before .before .before .before .before .before .before .before .before .args .s .now) (c .before .before .before .before .before .before .before .before .loop .i + 2)))
+loop-again-2 c = left-line _ _ _ (c .before .before .before .before .before .before .before .before .loop-test .taken) (c .before .before .before .before .before .before .before .before .before .loop .inv) _ (c .before .before .before .byte .ensures) (sym (c .before .before .before .before .before .is-space .ensures) ∙ c .before .before .before .before .if2 .left) (sym (c .before .before .is-pair .ensures) ∙ c .before .if3 .taken) _ (c .run-end .ensures) (omega (arith, c .run-end .ensures, run-low inLine (c .before .before .before .before .before .before .before .before .before .before .before .args .s .now) (c .before .before .before .before .before .before .before .before .before .loop .i + 2)))
 
--- src/lib.rt:155:19
+-- src/lib.rt:180:23
 is-pair-requires-2 : tie.Need-is-pair-requires-2 Inv-loop μ-loop
 is-pair-requires-2 c κs = tt
 
--- src/lib.rt:156:17
+-- src/lib.rt:181:21
 remark-end-requires : tie.Need-remark-end-requires Inv-loop μ-loop
-remark-end-requires c κs = omega (arith, pair-in 40 42 (getD (c .before .before .before .before .before .before .before .before .before .before .before .args .s .now) (c .before .before .before .before .before .before .before .before .before .loop .i) 0) (c .before .before .before .before .before .before .before .before .before .before .before .args .s .now) (c .before .before .before .before .before .before .before .before .before .loop .i + 1) refl (ap (pair 40 42 (getD (c .before .before .before .before .before .before .before .before .before .before .before .args .s .now) (c .before .before .before .before .before .before .before .before .before .loop .i) 0)) (sym (c .before .before .before .before .before .before .byte .ensures)) ∙ sym (c .before .is-pair2 .ensures) ∙ c .if3 .taken))
+remark-end-requires c κs = omega (arith, pair-in 40 42 (getD (c .before .before .before .before .before .before .before .before .before .before .before .before .args .s .now) (c .before .before .before .before .before .before .before .before .before .before .loop .i) 0) (c .before .before .before .before .before .before .before .before .before .before .before .before .args .s .now) (c .before .before .before .before .before .before .before .before .before .before .loop .i + 1) refl (ap (pair 40 42 (getD (c .before .before .before .before .before .before .before .before .before .before .before .before .args .s .now) (c .before .before .before .before .before .before .before .before .before .before .loop .i) 0)) (sym (c .before .before .before .before .byte .ensures)) ∙ sym (c .before .is-pair2 .ensures) ∙ c .if4 .taken))
 
--- src/lib.rt:157:26
+-- src/lib.rt:182:30
 enum-known-step : tie.Need-enum-known-step Inv-loop μ-loop
 enum-known-step c = search needs
 
--- src/lib.rt:158:17
+-- src/lib.rt:183:21
 enum-told : tie.Need-enum-told Inv-loop μ-loop
 enum-told c = search needs
 
--- src/lib.rt:158:17
-returns : tie.Need-returns Inv-loop μ-loop
-returns c = left-refused _ _ _ (c .before .before .before .before .before .before .before .before .before .before .before .loop-test .taken) (c .before .before .before .before .before .before .before .before .before .before .before .before .loop .inv) _ (c .before .before .before .before .before .before .before .before .before .byte .ensures) (sym (c .before .before .before .before .before .before .before .before .is-space .ensures) ∙ c .before .before .before .before .before .before .before .if1 .left) (sym (c .before .before .before .before .before .before .is-pair .ensures) ∙ c .before .before .before .before .before .if2 .left) (sym (c .before .before .before .before .is-pair2 .ensures) ∙ c .before .before .before .if3 .taken) _ (c .before .before .remark-end .ensures) _ _ (c .enum-told .given .1)
+-- src/lib.rt:183:21
+returns-2 : tie.Need-returns-2 Inv-loop μ-loop
+returns-2 c = left-refused _ _ _ (c .before .before .before .before .before .before .before .before .before .before .before .before .loop-test .taken) (c .before .before .before .before .before .before .before .before .before .before .before .before .before .loop .inv) _ (c .before .before .before .before .before .before .before .byte .ensures) (sym (c .before .before .before .before .before .before .before .before .before .is-space .ensures) ∙ c .before .before .before .before .before .before .before .before .if2 .left) (sym (c .before .before .before .before .before .before .is-pair .ensures) ∙ c .before .before .before .before .before .if3 .left) (sym (c .before .before .before .before .is-pair2 .ensures) ∙ c .before .before .before .if4 .taken) _ (c .before .before .remark-end .ensures) _ _ (c .enum-told .given .1)
 
--- src/lib.rt:148:5
+-- src/lib.rt:169:5
 loop-less-3 : tie.Need-loop-less-3 Inv-loop μ-loop
 loop-less-3 c = omega (arith, remark-passes _ _ _ _ (c .before .before .before .remark-end .ensures) (c .before .step .given .1))
 
--- src/lib.rt:148:5
+-- src/lib.rt:169:5
 loop-again-3 : tie.Need-loop-again-3 Inv-loop μ-loop
-loop-again-3 c = left-remark _ _ _ (c .before .before .before .before .before .before .before .before .before .before .before .before .loop-test .taken) (c .before .before .before .before .before .before .before .before .before .before .before .before .before .loop .inv) _ (c .before .before .before .before .before .before .before .before .before .before .byte .ensures) (sym (c .before .before .before .before .before .before .before .before .before .is-space .ensures) ∙ c .before .before .before .before .before .before .before .before .if1 .left) (sym (c .before .before .before .before .before .before .before .is-pair .ensures) ∙ c .before .before .before .before .before .before .if2 .left) (sym (c .before .before .before .before .before .is-pair2 .ensures) ∙ c .before .before .before .before .if3 .taken) _ (c .before .before .before .remark-end .ensures) _ (c .before .step .given .1) (remark-passes _ _ _ _ (c .before .before .before .remark-end .ensures) (c .before .step .given .1))
+loop-again-3 c = left-remark _ _ _ (c .before .before .before .before .before .before .before .before .before .before .before .before .before .loop-test .taken) (c .before .before .before .before .before .before .before .before .before .before .before .before .before .before .loop .inv) _ (c .before .before .before .before .before .before .before .before .byte .ensures) (sym (c .before .before .before .before .before .before .before .before .before .before .is-space .ensures) ∙ c .before .before .before .before .before .before .before .before .before .if2 .left) (sym (c .before .before .before .before .before .before .before .is-pair .ensures) ∙ c .before .before .before .before .before .before .if3 .left) (sym (c .before .before .before .before .before .is-pair2 .ensures) ∙ c .before .before .before .before .if4 .taken) _ (c .before .before .before .remark-end .ensures) _ (c .before .step .given .1) (remark-passes _ _ _ _ (c .before .before .before .remark-end .ensures) (c .before .step .given .1))
 
--- src/lib.rt:162:13
-returns-2 : tie.Need-returns-2 Inv-loop μ-loop
-returns-2 c = left-stop _ _ _ (c .before .before .before .before .before .before .before .before .loop-test .taken) (c .before .before .before .before .before .before .before .before .before .loop .inv) _ (c .before .before .before .before .before .before .byte .ensures) (sym (c .before .before .before .before .before .is-space .ensures) ∙ c .before .before .before .before .if1 .left) (sym (c .before .before .before .is-pair .ensures) ∙ c .before .before .if2 .left) (sym (c .before .is-pair2 .ensures) ∙ c .if3 .left)
-
--- src/lib.rt:144:1
+-- src/lib.rt:187:17
 returns-3 : tie.Need-returns-3 Inv-loop μ-loop
-returns-3 c = left-over _ _ _ (c .loop-test .left) (c .before .loop .inv)
+returns-3 c = left-stop _ _ _ (c .before .before .before .before .before .before .before .before .before .loop-test .taken) (c .before .before .before .before .before .before .before .before .before .before .loop .inv) _ (c .before .before .before .before .byte .ensures) (sym (c .before .before .before .before .before .before .is-space .ensures) ∙ c .before .before .before .before .before .if2 .left) (sym (c .before .before .before .is-pair .ensures) ∙ c .before .before .if3 .left) (sym (c .before .is-pair2 .ensures) ∙ c .if4 .left)
+
+-- src/lib.rt:165:1
+returns-4 : tie.Need-returns-4 Inv-loop μ-loop
+returns-4 c = left-over _ _ _ (c .loop-test .left) (c .before .loop .inv)
 
 pub skip-spec : {M : Type 1} → statement M
 skip-spec =
@@ -118,12 +122,13 @@ skip-spec =
     μ-loop
     loop-holds
     shared-slice-read-b
-    add-byte
-    byte-requires
+    returns
     is-space-requires
     add-i
     loop-less
     loop-again
+    add-byte
+    byte-requires
     is-pair-requires
     add-run-end
     run-end-requires
@@ -133,8 +138,8 @@ skip-spec =
     remark-end-requires
     enum-known-step
     enum-told
-    returns
+    returns-2
     loop-less-3
     loop-again-3
-    returns-2
-    returns-3)
+    returns-3
+    returns-4)

@@ -1,0 +1,108 @@
+-- Sets of bytes as bits: a test that is computed for each byte.
+use mathlib.Core.Path.{_≡_, refl, sym}
+use mathlib.Core.Bool.{Bool, true, false, cond, not, _&&_}
+use mathlib.Core.List.{List}
+use Prim.Native.Nat.{ℕ, zero, suc, _+_, _<_}
+use native.Mathlib.Omega.{arith}
+use native.Mathlib.Nat.{not-suc-le-zero}
+use native.Mathlib.Decide.{decLt}
+use lib.ListN.{length, getD}
+use lib.Dec.{T, eqb, eqb→eq}
+use Rattle.express.specs.Bytes.{letter, digit, wordByte}
+use Rattle.express.specs.Lexis.{run, lone, kindAt}
+use Rattle.scan.specs.Scan.{inSet}
+use Rattle.scan.proofs.Turns.{run-more}
+
+abbrev below : (ℕ → Bool) → ℕ → Bool
+below f zero = true
+below f (suc n) = f n && below f n
+
+both : (a b : Bool) → T (a && b) → T a × T b
+both true b t = (tt, t)
+both false b t = absurd t
+
+at-byte : (f : ℕ → Bool) (n : ℕ) → T (below f n) → (b : ℕ) → b < n → T (f b)
+at-byte f zero t b h = absurd (not-suc-le-zero h)
+at-byte f (suc n) t b h = go (decLt b n) (λ l. at-byte f n (both (f n) (below f n) t .1) b l)
+  where
+    go : Dec (b < n) → (b < n → T (f b)) → T (f b)
+    go (yes l) more = more l
+    go (no g) more = let last : n ≡ b = omega (arith, g, h) in rw (← last) (both (f n) (below f n) t .0)
+
+abbrev agree : Bool → Bool → Bool
+agree x y = cond x y (not y)
+
+agreed : (x y : Bool) → T (agree x y) → x ≡ y
+agreed true true t = refl
+agreed true false t = absurd t
+agreed false true t = absurd t
+agreed false false t = refl
+
+-- what continues a word
+abbrev word-bits : ℕ → Bool
+word-bits b = inSet 287948901175001088 576460745995190270 b
+
+words-all : T (below (λ b. agree (word-bits b) (wordByte b)) 256)
+unfolding wordByte
+words-all = tt
+
+pub word-is : (b : ℕ) → b < 256 → word-bits b ≡ wordByte b
+word-is b h = agreed (word-bits b) (wordByte b) (at-byte (λ x. agree (word-bits x) (wordByte x)) 256 words-all b h)
+
+-- what is a symbol alone
+abbrev lone-bits : ℕ → Bool
+lone-bits b = inSet 12105951775790465024 2882303762456641536 b
+
+lones-all : T (below (λ b. agree (lone-bits b) (lone b)) 256)
+unfolding lone
+lones-all = tt
+
+pub lone-is : (b : ℕ) → b < 256 → lone-bits b ≡ lone b
+lone-is b h = agreed (lone-bits b) (lone b) (at-byte (λ x. agree (lone-bits x) (lone x)) 256 lones-all b h)
+
+-- a symbol alone is a symbol
+abbrev kind-by : Bool → Bool → Bool → Bool → ℕ → ℕ
+kind-by l d x y n = cond l 1 (cond d n (cond x 4 (cond y 5 6)))
+
+abbrev no-other : ℕ → Bool
+no-other b = cond (lone b) (eqb (kind-by (letter b) (digit b) (eqb b 39) (eqb b 37) 0) 6) true
+
+no-others : T (below no-other 256)
+unfolding lone
+no-others = tt
+
+pub lone-kind : (s : List ℕ) (p b : ℕ) → b ≡ getD s p 0 → b < 256 → lone b ≡ true → kindAt s p ≡ 6
+unfolding kindAt
+lone-kind s p b is h e = rw (← is) (go (letter b) (digit b) (eqb b 39) (eqb b 37) _ (eqb→eq _ _ tested))
+  where
+    tested : T (eqb (kind-by (letter b) (digit b) (eqb b 39) (eqb b 37) 0) 6)
+    tested = rw e at (at-byte no-other 256 no-others b h)
+
+    go : (l d x y : Bool) (n : ℕ) → kind-by l d x y 0 ≡ 6 → kind-by l d x y n ≡ 6
+    go true d x y n z = absurd (omega (arith, z))
+    go false true x y n z = absurd (omega (arith, z))
+    go false false x y n z = z
+
+-- what begins a word is a letter, so the word goes on after it
+module _ (s : List ℕ) (p : ℕ) where
+  abbrev first : ℕ
+  first = getD s p 0
+
+  abbrev point : ℕ
+  point = getD s (run digit s p) 0
+
+  begins : 1 ≡ kindAt s p → letter first ≡ true
+  unfolding kindAt
+  begins e = go (letter first) (digit first) (eqb first 39) (eqb first 37) (eqb point 46) (sym e)
+    where
+      go : (l d x y q : Bool) → kind-by l d x y (cond q 3 2) ≡ 1 → l ≡ true
+      go true d x y q z = refl
+      go false true x y true z = absurd (omega (arith, z))
+      go false true x y false z = absurd (omega (arith, z))
+      go false false true y q z = absurd (omega (arith, z))
+      go false false false true q z = absurd (omega (arith, z))
+      go false false false false q z = absurd (omega (arith, z))
+
+  pub word-more : p < length s → 1 ≡ kindAt s p → run wordByte s p ≡ run wordByte s (p + 1)
+  unfolding wordByte
+  word-more h e = run-more wordByte s p h (rw (begins e))
