@@ -103,7 +103,7 @@ module _ (k : ℕ) (h : k < 148) where
   entry-symbol : among symbols (spelling k) 0 ≡ code-of-symbol (suc k)
   entry-symbol = eqb→eq _ _ (right (eqb (among reserved (spelling k) 1) (code-of-word (suc k))) _ (each [] coded spellings coded-all k h))
 
-pub slot-few : (h : ℕ) → h < 600 → getD slots h 0 ≤ 148
+pub slot-few : (h : ℕ) → h < 1024 → getD slots h 0 ≤ 148
 slot-few h l = leb→le _ _ (each 0 (λ i x. leb x 148) slots few-all h l)
 
 -- ---- looking up a word
@@ -179,7 +179,7 @@ module _ (sl fr tx w : List ℕ) (n h k : ℕ) (sl-is : sl ≡ slots) (fr-is : f
   at-slot = rw (← sl-is, ← h-is) k-is
 
   pub few : k ≤ 148
-  few = let less : hash w < 600 = omega arith in rw at-slot (slot-few (hash w) less)
+  few = let less : hash w < 1024 = omega arith in rw at-slot (slot-few (hash w) less)
 
   pub no-slot : k ≡ 0 → Named w 0
   no-slot z = miss-slot w k at-slot z

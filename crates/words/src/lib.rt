@@ -61,7 +61,7 @@ fn hash_of(s: &[u8], start: usize, n: usize, fold: bool) -> usize
     let first = wide(letter(s, start, n, fold, 0));
     let last = wide(letter(s, start, n, fold, back(n, 1)));
     let before = wide(letter(s, start, n, fold, back(n, 2)));
-    (first * 26 + n * 194 + last * 405 + before * 482) % 600
+    (first * 462 + n * 300 + last * 447 + before * 332) % 1024
 }
 
 // Whether the n bytes of the text from a place on are those of the source.
@@ -86,7 +86,7 @@ fn number(
     start: usize,
     n: usize,
     fold: bool,
-    slots: &[u8; 600],
+    slots: &[u8; 1024],
     froms: &[usize; 149],
     text: &[u8; 719],
 ) -> usize
@@ -116,7 +116,7 @@ fn word(
     s: &[u8],
     start: usize,
     n: usize,
-    slots: &[u8; 600],
+    slots: &[u8; 1024],
     froms: &[usize; 149],
     text: &[u8; 719],
 ) -> u8
@@ -130,8 +130,9 @@ fn word(
     (k + 5) as u8
 }
 
-// The terminal of a symbol of one byte, or 0.
-fn alone(b: u8) -> u8
+// The terminal of a symbol of one byte below 64, or 0. These are dense, so that the compiler makes a table of them, and no jump.
+fn dense(b: u8) -> u8
+    requires { ⌜ b < 64 ⌝ }
     ensures { λ r. ⌜ r ≡ symbolTerminal (b ∷ []) ⌝ }
 {
     match b {
@@ -149,6 +150,18 @@ fn alone(b: u8) -> u8
         61 => 14,
         62 => 18,
         63 => 6,
+        _ => 0,
+    }
+}
+
+// The terminal of a symbol of one byte, or 0.
+fn alone(b: u8) -> u8
+    ensures { λ r. ⌜ r ≡ symbolTerminal (b ∷ []) ⌝ }
+{
+    if b < 64 {
+        return dense(b);
+    }
+    match b {
         91 => 19,
         92 => 15,
         93 => 20,
@@ -163,7 +176,7 @@ fn symbol(
     s: &[u8],
     start: usize,
     n: usize,
-    slots: &[u8; 600],
+    slots: &[u8; 1024],
     froms: &[usize; 149],
     text: &[u8; 719],
 ) -> u8
@@ -188,7 +201,7 @@ fn terminal(
     kind: u8,
     start: usize,
     size: usize,
-    slots: &[u8; 600],
+    slots: &[u8; 1024],
     froms: &[usize; 149],
     text: &[u8; 719],
 ) -> u8

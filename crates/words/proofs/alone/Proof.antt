@@ -1,122 +1,64 @@
+use borrow.Author.Needs.{needs}
 use Rattle.words.proofs.alone.Statement.{statement}
 use Rattle.words.proofs.alone.Tie as tie
 use Rattle.words.proofs.alone.Reads as reads
 use Rattle.words.proofs.alone.Lts as lts
+use Rattle.words.proofs.dense.Reads as dense-reads
 use mathlib.Core.Path.{refl, sym}
 use borrow.Author.Tests.{ne-eqb}
 use Rattle.express.specs.Spelling.{same}
 use Rattle.express.specs.Terminal.{among}
 use Rattle.words.proofs.Columns.{of-byte}
+use native.Mathlib.Omega.{arith}
 
--- src/lib.rt:134:1
+-- src/lib.rt:162:9
+dense-requires : tie.Need-dense-requires
+dense-requires c κs = search needs
+
+-- src/lib.rt:162:9
 returns : tie.Need-returns
-unfolding among same
-returns c = of-byte _ 40 _ (c .match .keys1) refl
+returns c = c .dense .ensures
 
--- src/lib.rt:134:1
+-- src/lib.rt:158:1
 returns-2 : tie.Need-returns-2
 unfolding among same
-returns-2 c = of-byte _ 41 _ (c .match .keys2) refl
+returns-2 c = of-byte _ 91 _ (c .match .keys1) refl
 
--- src/lib.rt:134:1
+-- src/lib.rt:158:1
 returns-3 : tie.Need-returns-3
 unfolding among same
-returns-3 c = of-byte _ 42 _ (c .match .keys3) refl
+returns-3 c = of-byte _ 92 _ (c .match .keys2) refl
 
--- src/lib.rt:134:1
+-- src/lib.rt:158:1
 returns-4 : tie.Need-returns-4
 unfolding among same
-returns-4 c = of-byte _ 43 _ (c .match .keys4) refl
+returns-4 c = of-byte _ 93 _ (c .match .keys3) refl
 
--- src/lib.rt:134:1
+-- src/lib.rt:158:1
 returns-5 : tie.Need-returns-5
 unfolding among same
-returns-5 c = of-byte _ 44 _ (c .match .keys5) refl
+returns-5 c = of-byte _ 123 _ (c .match .keys4) refl
 
--- src/lib.rt:134:1
+-- src/lib.rt:158:1
 returns-6 : tie.Need-returns-6
 unfolding among same
-returns-6 c = of-byte _ 45 _ (c .match .keys6) refl
+returns-6 c = of-byte _ 124 _ (c .match .keys5) refl
 
--- src/lib.rt:134:1
+-- src/lib.rt:158:1
 returns-7 : tie.Need-returns-7
 unfolding among same
-returns-7 c = of-byte _ 46 _ (c .match .keys7) refl
+returns-7 c = of-byte _ 125 _ (c .match .keys6) refl
 
--- src/lib.rt:134:1
+-- src/lib.rt:158:1
 returns-8 : tie.Need-returns-8
 unfolding among same
-returns-8 c = of-byte _ 47 _ (c .match .keys8) refl
-
--- src/lib.rt:134:1
-returns-9 : tie.Need-returns-9
-unfolding among same
-returns-9 c = of-byte _ 58 _ (c .match .keys9) refl
-
--- src/lib.rt:134:1
-returns-10 : tie.Need-returns-10
-unfolding among same
-returns-10 c = of-byte _ 59 _ (c .match .keys10) refl
-
--- src/lib.rt:134:1
-returns-11 : tie.Need-returns-11
-unfolding among same
-returns-11 c = of-byte _ 60 _ (c .match .keys11) refl
-
--- src/lib.rt:134:1
-returns-12 : tie.Need-returns-12
-unfolding among same
-returns-12 c = of-byte _ 61 _ (c .match .keys12) refl
-
--- src/lib.rt:134:1
-returns-13 : tie.Need-returns-13
-unfolding among same
-returns-13 c = of-byte _ 62 _ (c .match .keys13) refl
-
--- src/lib.rt:134:1
-returns-14 : tie.Need-returns-14
-unfolding among same
-returns-14 c = of-byte _ 63 _ (c .match .keys14) refl
-
--- src/lib.rt:134:1
-returns-15 : tie.Need-returns-15
-unfolding among same
-returns-15 c = of-byte _ 91 _ (c .match .keys15) refl
-
--- src/lib.rt:134:1
-returns-16 : tie.Need-returns-16
-unfolding among same
-returns-16 c = of-byte _ 92 _ (c .match .keys16) refl
-
--- src/lib.rt:134:1
-returns-17 : tie.Need-returns-17
-unfolding among same
-returns-17 c = of-byte _ 93 _ (c .match .keys17) refl
-
--- src/lib.rt:134:1
-returns-18 : tie.Need-returns-18
-unfolding among same
-returns-18 c = of-byte _ 123 _ (c .match .keys18) refl
-
--- src/lib.rt:134:1
-returns-19 : tie.Need-returns-19
-unfolding among same
-returns-19 c = of-byte _ 124 _ (c .match .keys19) refl
-
--- src/lib.rt:134:1
-returns-20 : tie.Need-returns-20
-unfolding among same
-returns-20 c = of-byte _ 125 _ (c .match .keys20) refl
-
--- src/lib.rt:134:1
-returns-21 : tie.Need-returns-21
-unfolding among same
-returns-21 c = rw (ne-eqb 40 _ (λ e. c .match .rest .0 .0 .0 .0 .0 .0 .0 .0 .0 .0 .0 .0 .0 .0 .0 .0 .0 .0 .0 .1 (sym e)), ne-eqb 41 _ (λ e. c .match .rest .0 .0 .0 .0 .0 .0 .0 .0 .0 .0 .0 .0 .0 .0 .0 .0 .0 .0 .1 (sym e)), ne-eqb 42 _ (λ e. c .match .rest .0 .0 .0 .0 .0 .0 .0 .0 .0 .0 .0 .0 .0 .0 .0 .0 .0 .1 (sym e)), ne-eqb 43 _ (λ e. c .match .rest .0 .0 .0 .0 .0 .0 .0 .0 .0 .0 .0 .0 .0 .0 .0 .0 .1 (sym e)), ne-eqb 44 _ (λ e. c .match .rest .0 .0 .0 .0 .0 .0 .0 .0 .0 .0 .0 .0 .0 .0 .0 .1 (sym e)), ne-eqb 45 _ (λ e. c .match .rest .0 .0 .0 .0 .0 .0 .0 .0 .0 .0 .0 .0 .0 .0 .1 (sym e)), ne-eqb 46 _ (λ e. c .match .rest .0 .0 .0 .0 .0 .0 .0 .0 .0 .0 .0 .0 .0 .1 (sym e)), ne-eqb 47 _ (λ e. c .match .rest .0 .0 .0 .0 .0 .0 .0 .0 .0 .0 .0 .0 .1 (sym e)), ne-eqb 58 _ (λ e. c .match .rest .0 .0 .0 .0 .0 .0 .0 .0 .0 .0 .0 .1 (sym e)), ne-eqb 59 _ (λ e. c .match .rest .0 .0 .0 .0 .0 .0 .0 .0 .0 .0 .1 (sym e)), ne-eqb 60 _ (λ e. c .match .rest .0 .0 .0 .0 .0 .0 .0 .0 .0 .1 (sym e)), ne-eqb 61 _ (λ e. c .match .rest .0 .0 .0 .0 .0 .0 .0 .0 .1 (sym e)), ne-eqb 62 _ (λ e. c .match .rest .0 .0 .0 .0 .0 .0 .0 .1 (sym e)), ne-eqb 63 _ (λ e. c .match .rest .0 .0 .0 .0 .0 .0 .1 (sym e)), ne-eqb 91 _ (λ e. c .match .rest .0 .0 .0 .0 .0 .1 (sym e)), ne-eqb 92 _ (λ e. c .match .rest .0 .0 .0 .0 .1 (sym e)), ne-eqb 93 _ (λ e. c .match .rest .0 .0 .0 .1 (sym e)), ne-eqb 123 _ (λ e. c .match .rest .0 .0 .1 (sym e)), ne-eqb 124 _ (λ e. c .match .rest .0 .1 (sym e)), ne-eqb 125 _ (λ e. c .match .rest .1 (sym e)))
+returns-8 c = rw (ne-eqb 40 (c .before .before .args .b) (λ e. omega (arith, e, c .before .if1 .left)), ne-eqb 41 (c .before .before .args .b) (λ e. omega (arith, e, c .before .if1 .left)), ne-eqb 42 (c .before .before .args .b) (λ e. omega (arith, e, c .before .if1 .left)), ne-eqb 43 (c .before .before .args .b) (λ e. omega (arith, e, c .before .if1 .left)), ne-eqb 44 (c .before .before .args .b) (λ e. omega (arith, e, c .before .if1 .left)), ne-eqb 45 (c .before .before .args .b) (λ e. omega (arith, e, c .before .if1 .left)), ne-eqb 46 (c .before .before .args .b) (λ e. omega (arith, e, c .before .if1 .left)), ne-eqb 47 (c .before .before .args .b) (λ e. omega (arith, e, c .before .if1 .left)), ne-eqb 58 (c .before .before .args .b) (λ e. omega (arith, e, c .before .if1 .left)), ne-eqb 59 (c .before .before .args .b) (λ e. omega (arith, e, c .before .if1 .left)), ne-eqb 60 (c .before .before .args .b) (λ e. omega (arith, e, c .before .if1 .left)), ne-eqb 61 (c .before .before .args .b) (λ e. omega (arith, e, c .before .if1 .left)), ne-eqb 62 (c .before .before .args .b) (λ e. omega (arith, e, c .before .if1 .left)), ne-eqb 63 (c .before .before .args .b) (λ e. omega (arith, e, c .before .if1 .left)), ne-eqb 91 _ (λ e. c .match .rest .0 .0 .0 .0 .0 .1 (sym e)), ne-eqb 92 _ (λ e. c .match .rest .0 .0 .0 .0 .1 (sym e)), ne-eqb 93 _ (λ e. c .match .rest .0 .0 .0 .1 (sym e)), ne-eqb 123 _ (λ e. c .match .rest .0 .0 .1 (sym e)), ne-eqb 124 _ (λ e. c .match .rest .0 .1 (sym e)), ne-eqb 125 _ (λ e. c .match .rest .1 (sym e)))
 
 pub alone-spec : {M : Type 1} → statement M
 alone-spec =
     tie.close
     (tie.spec
+    dense-requires
     returns
     returns-2
     returns-3
@@ -124,17 +66,4 @@ alone-spec =
     returns-5
     returns-6
     returns-7
-    returns-8
-    returns-9
-    returns-10
-    returns-11
-    returns-12
-    returns-13
-    returns-14
-    returns-15
-    returns-16
-    returns-17
-    returns-18
-    returns-19
-    returns-20
-    returns-21)
+    returns-8)
