@@ -3,4 +3,4 @@
 
 mod calls;
 
-pub use calls::{binary, integer, scan, terminals};
+pub use calls::{binary, integer, parse, scan, terminals};
