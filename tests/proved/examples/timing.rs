@@ -4,7 +4,8 @@
 //! The reference allocates its rows anew in each run, which is part of its time.
 
 use compare::random::{well_typed, LARGEST};
-use proved::{scan, terminals};
+use proved::{parse, scan, terminals};
+use reference::parser;
 use reference::terminals::classify;
 use reference::{tokens, TokenRow, MAX_BYTES};
 use std::hint::black_box;
@@ -57,8 +58,8 @@ struct Timed {
     reference: f64,
 }
 
-/// The token reader, then the terminals of the tokens that it read.
-fn steps(file: &[u8], rows: &[TokenRow]) -> [Timed; 2] {
+/// The token reader, then the terminals of the tokens that it read, then the parser.
+fn steps(file: &[u8], rows: &[TokenRow]) -> [Timed; 3] {
     let count = rows.len();
     let (mut kinds, mut starts, mut lengths, mut out) =
         (vec![0; count], vec![0; count], vec![0; count], vec![0; count]);
@@ -66,7 +67,14 @@ fn steps(file: &[u8], rows: &[TokenRow]) -> [Timed; 2] {
     let read = best(|| scan(black_box(file), &mut kinds, &mut starts, &mut lengths), || tokens::read(black_box(file)));
     let classified =
         best(|| terminals(black_box(file), &kinds, &starts, &lengths, &mut out), || classify(black_box(file), rows));
-    [("scan", read), ("terminals", classified)].map(|(step, [proved, reference])| Timed { step, proved, reference })
+    let codes = classify(file, rows);
+    let (mut nodes, mut names, mut sizes, mut roles) =
+        (vec![0; count], vec![0; count], vec![0; count], vec![0; count]);
+    let parsed = best(
+        || parse(black_box(&out), &mut nodes, &mut names, &mut sizes, &mut roles),
+        || parser::read(black_box(&codes)),
+    );
+    [("scan", read), ("terminals", classified), ("parse", parsed)].map(|(step, [proved, reference])| Timed { step, proved, reference })
 }
 
 fn main() {
