@@ -4,7 +4,10 @@ use mathlib.Core.Path.{_≡_, ap, _∙_}
 use mathlib.Core.List.{List}
 use Rattle.scan.specs.Scan.{reading, Scanned}
 use Rattle.scan.specs.declared.Step.{Step}
-use Rattle.exports.specs.Reply.{reply, number, Scans}
+use Rattle.express.specs.Grammar.{file}
+use Rattle.phrases.specs.declared.Parsed.{Parsed}
+use Rattle.phrases.specs.Parsing as Parsing
+use Rattle.exports.specs.Reply.{reply, number, Scans, Parses}
 
 pub scans : {src k₀ s₀ z₀ k s z : List ℕ} {step : Step} {r n : ℕ} → Scanned src k₀ s₀ z₀ step k s z → n ≡ number (reading step) → r ≡ reply (reading step) → Scans src k₀ s₀ z₀ r n k s z
 scans whole counted replied =
@@ -14,4 +17,15 @@ scans whole counted replied =
       kinds = whole .kinds;
       starts = whole .starts;
       lengths = whole .lengths;
+    }
+
+pub parses : {ts k t z o k′ t′ z′ o′ : List ℕ} {a : Parsed} {r n : ℕ} → Parsing.Parsing file ts a k t z o k′ t′ z′ o′ → n ≡ Parsing.number a → r ≡ Parsing.reply a → Parses ts r n k t z o k′ t′ z′ o′
+parses p counted replied =
+    record {
+      replies = replied ∙ ap Parsing.reply (p .answers);
+      counts = counted ∙ ap Parsing.number (p .answers);
+      kinds = p .kinds-are;
+      tokens = p .tokens-are;
+      sizes = p .sizes-are;
+      roles = p .roles-are;
     }

@@ -1,10 +1,13 @@
 -- A reading step as two numbers: its reply, and the number beside it.
 use Prim.Native.Nat.{ℕ, min}
 use mathlib.Core.Path.{_≡_}
-use mathlib.Core.List.{List}
+use mathlib.Core.List.{List, map}
 use lib.ListN.{length}
 use lib.Seq.{sets}
 use Rattle.express.specs.Lexis as Lexis
+use Rattle.ebnf.specs.Rows.{Row}
+use Rattle.express.specs.Grammar.{file}
+use Rattle.phrases.specs.Parsing as Parsing
 use Rattle.express.specs.Lexis.{Reading, at, refused, lexed, tokens}
 
 -- 0 for a new place or a count, else the number of the refusal
@@ -24,3 +27,12 @@ pub record Scans (src k₀ s₀ z₀ : List ℕ) (r n : ℕ) (k s z : List ℕ) 
   pub kinds : k ≡ sets k₀ 0 (Lexis.kinds (lexed src))
   pub starts : s ≡ sets s₀ 0 (Lexis.starts (lexed src))
   pub lengths : z ≡ sets z₀ 0 (Lexis.sizes (lexed src))
+
+-- what `woffulent_parse` answers and leaves: the promise of `parse`, its answer as two numbers
+pub record Parses (ts : List ℕ) (r n : ℕ) (k t z o k′ t′ z′ o′ : List ℕ) : Type 0 where
+  pub replies : r ≡ Parsing.reply (Parsing.answer-to file ts (Parsing.entries k t z o))
+  pub counts : n ≡ Parsing.number (Parsing.answer-to file ts (Parsing.entries k t z o))
+  pub kinds : k′ ≡ sets k 0 (map (λ (r : Row). r .kind) (Parsing.rows-to file ts))
+  pub tokens : t′ ≡ sets t 0 (map (λ (r : Row). r .token) (Parsing.rows-to file ts))
+  pub sizes : z′ ≡ sets z 0 (map (λ (r : Row). r .size) (Parsing.rows-to file ts))
+  pub roles : o′ ≡ sets o 0 (map (λ (r : Row). r .role) (Parsing.rows-to file ts))

@@ -12,7 +12,8 @@ ghost use Rattle.express.specs.Lexis.{integerValue, binaryValue};
 ghost use Rattle.express.specs.Terminal.{terminals};
 ghost use Rattle.literals.specs.Literal.{capped};
 ghost use Rattle.scan.specs.Scan.{reading};
-ghost use Rattle.exports.specs.Reply.{reply, number, Scans};
+ghost use Rattle.phrases.specs.Parsing as Parsing;
+ghost use Rattle.exports.specs.Reply.{reply, number, Scans, Parses};
 
 fn reply_of(step: scan::Step) -> u8
     ensures { λ r. ⌜ r ≡ reply (reading step) ⌝ }
@@ -72,4 +73,42 @@ pub extern "C" fn woffulent_terminals(
     ensures { λ _. ⌜ now (out .exit) ≡ sets (now (out .entry)) 0 (terminals (now (src .entry)) (now (kinds .entry)) (now (starts .entry)) (now (lengths .entry))) ⌝ }
 {
     words::terminals(src, kinds, starts, lengths, out);
+}
+
+fn parse_reply(parsed: phrases::Parsed) -> u8
+    ensures { λ r. ⌜ r ≡ Parsing.reply parsed ⌝ }
+{
+    match parsed {
+        phrases::Parsed::Accepted(_) => 0,
+        phrases::Parsed::Refused(k, _) => k,
+        phrases::Parsed::Short(_) => 7,
+        phrases::Parsed::Long => 1,
+    }
+}
+
+fn parse_number(parsed: phrases::Parsed) -> usize
+    ensures { λ r. ⌜ r ≡ Parsing.number parsed ⌝ }
+{
+    match parsed {
+        phrases::Parsed::Accepted(n) => n,
+        phrases::Parsed::Refused(_, j) => j,
+        phrases::Parsed::Short(n) => n,
+        phrases::Parsed::Long => 65536,
+    }
+}
+
+#[no_mangle]
+pub extern "C" fn woffulent_parse(
+    codes: &[u8],
+    kinds: &mut [u8],
+    tokens: &mut [u32],
+    sizes: &mut [u32],
+    roles: &mut [u32],
+    count: &mut usize,
+) -> u8
+    ensures { λ r. ⌜ Parses (now (codes .entry)) r (now (count .exit)) (now (kinds .entry)) (now (tokens .entry)) (now (sizes .entry)) (now (roles .entry)) (now (kinds .exit)) (now (tokens .exit)) (now (sizes .exit)) (now (roles .exit)) ⌝ }
+{
+    let parsed = syntax::parse(codes, kinds, tokens, sizes, roles);
+    *count = parse_number(parsed);
+    parse_reply(parsed)
 }

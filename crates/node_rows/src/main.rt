@@ -64,7 +64,10 @@ fn print_nodes(codes: &[u8], starts: &[u32], length: usize) {
     let parsed = syntax::parse(codes, &mut kinds, &mut tokens, &mut sizes, &mut roles);
     match parsed {
         phrases::Parsed::Accepted(n) => print_rows(&kinds, &tokens, &sizes, &roles, n),
-        phrases::Parsed::Refused(number, token) => print_refused(number, start_of(starts, token, length)),
+        phrases::Parsed::Refused(number, token) => print_refused(
+            number,
+            start_of(starts, token, length),
+        ),
         phrases::Parsed::Short(n) => print_refused(7, n),
         phrases::Parsed::Long => print_refused(1, 65536),
     }

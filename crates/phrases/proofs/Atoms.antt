@@ -18,8 +18,15 @@ keys = 2 ∷ 5 ∷ 80 ∷ 139 ∷ 143 ∷ 6 ∷ 3 ∷ 54 ∷ 115 ∷ 4 ∷ 1 ∷
 pub no-label : (c : ℕ) → mem c keys ≡ false → 0 ≡ atom-label c
 unfolding mem subset
 no-label c h =
-    rw (out-more c integer keys refl h, out-more c binary keys refl h, out-more c logicals keys refl h, out-more c question keys refl h,
-        out-more c others keys refl h, out-more c identifier keys refl h, out-more c SELF keys refl h)
+    rw (
+      out-more c integer keys refl h,
+      out-more c binary keys refl h,
+      out-more c logicals keys refl h,
+      out-more c question keys refl h,
+      out-more c others keys refl h,
+      out-more c identifier keys refl h,
+      out-more c SELF keys refl h,
+    )
     refl
 
 cond-small : (b : Bool) (x y : ℕ) → x < 65536 → y < 65536 → cond b x y < 65536

@@ -36,10 +36,10 @@ grown f words i w v c₀ c c′ l e h g k =
     let n : 0 + length (map f (take i words)) ≡ i = omega (arith, length-map f (take i words), length-take-le i words (omega arith)) in
     let s = sets-snoc c₀ 0 (map f (take i words)) v in
     let t : map f (take (i + 1) words) ≡ map f (take i words) ++ (v ∷ []) =
-        ap (λ (j : ℕ). map f (take j words)) (add-one i)
-        ∙ (ap (map f) (take-suc words i 0 l)
-        ∙ (map-append f (take i words) (getD words i 0 ∷ [])
-        ∙ ap (λ (x : ℕ). map f (take i words) ++ (x ∷ [])) (ap f (sym e) ∙ sym g))) in
+    ap (λ (j : ℕ). map f (take j words)) (add-one i)
+    ∙ (ap (map f) (take-suc words i 0 l)
+    ∙ (map-append f (take i words) (getD words i 0 ∷ [])
+    ∙ ap (λ (x : ℕ). map f (take i words) ++ (x ∷ [])) (ap f (sym e) ∙ sym g))) in
     k ∙ (ap (λ (x : List ℕ). set x i v) h ∙ (ap (λ (j : ℕ). set (sets c₀ 0 (map f (take i words))) j v) (sym n) ∙ (sym s ∙ ap (λ (x : List ℕ). sets c₀ 0 x) (sym t))))
 
 module _ {words : List ℕ} {k t z o : List ℕ} where
@@ -123,12 +123,13 @@ module _ (a : List ℕ) {j : Judgement} {b : List ℕ} {r : Parsed} {k t z o k�
   settled (good s) h l u =
       let u₂ : Settles (Good (length (s .rows))) b r k t z o k′ t′ z′ o′ = rw (h .0) at u in
       let l₂ : length (s .rows) ≤ length a = rw (h .0) at l in
-      let w = take-words a b (s .rows) l₂ (h .1) in
-      (u₂ .answers,
-       u₂ .unpacks .kinds-are ∙ ap (λ (l : List ℕ). sets k 0 l) (ap (map kind-in) w ∙ parts kind-in (λ (r : Row). r .kind) kind-is (s .rows) (h .2)),
-       u₂ .unpacks .tokens-are ∙ ap (λ (l : List ℕ). sets t 0 l) (ap (map token-in) w ∙ parts token-in (λ (r : Row). r .token) token-is (s .rows) (h .2)),
-       u₂ .unpacks .sizes-are ∙ ap (λ (l : List ℕ). sets z 0 l) (ap (map size-in) w ∙ parts size-in (λ (r : Row). r .size) size-is (s .rows) (h .2)),
-       u₂ .unpacks .roles-are ∙ ap (λ (l : List ℕ). sets o 0 l) (ap (map role-in) w ∙ parts role-in (λ (r : Row). r .role) role-is (s .rows) (h .2)))
+      let w = take-words a b (s .rows) l₂ (h .1) in (
+        u₂ .answers,
+        u₂ .unpacks .kinds-are ∙ ap (λ (l : List ℕ). sets k 0 l) (ap (map kind-in) w ∙ parts kind-in (λ (r : Row). r .kind) kind-is (s .rows) (h .2)),
+        u₂ .unpacks .tokens-are ∙ ap (λ (l : List ℕ). sets t 0 l) (ap (map token-in) w ∙ parts token-in (λ (r : Row). r .token) token-is (s .rows) (h .2)),
+        u₂ .unpacks .sizes-are ∙ ap (λ (l : List ℕ). sets z 0 l) (ap (map size-in) w ∙ parts size-in (λ (r : Row). r .size) size-is (s .rows) (h .2)),
+        u₂ .unpacks .roles-are ∙ ap (λ (l : List ℕ). sets o 0 l) (ap (map role-in) w ∙ parts role-in (λ (r : Row). r .role) role-is (s .rows) (h .2)),
+      )
   settled (unexpected i) h l u =
       let u₂ : Settles (Unexpected i) b r k t z o k′ t′ z′ o′ = rw h at u in
       (u₂ .answers, u₂ .unpacks .kinds-are, u₂ .unpacks .tokens-are, u₂ .unpacks .sizes-are, u₂ .unpacks .roles-are)

@@ -166,10 +166,11 @@ one-more : (j n i : ℕ) (s : Rows) (a b c : List ℕ) (q name : ℕ) (r : Row) 
     Found (at q (so name (s .rows ++ (r ∷ [])))) n (At q (i + 1)) a c
 one-more j n i s a b c q name r f g w =
     let e : i ≡ n + length (s .rows) = cc (f .0) in
-    let l : i + 1 ≡ n + length (s .rows ++ (r ∷ [])) = omega (arith, e, length-append (s .rows) (r ∷ [])) in
-    (ap (λ (k : ℕ). At q k) l,
-     w ∙ (ap (λ (k : ℕ). set b k (word-of r)) e ∙ (ap (λ (l : List ℕ). set l (n + length (s .rows)) (word-of r)) (f .1) ∙ sets-both a n (s .rows) (r ∷ []))),
-     fit-append (s .rows) (r ∷ []) (f .2) (g, tt))
+    let l : i + 1 ≡ n + length (s .rows ++ (r ∷ [])) = omega (arith, e, length-append (s .rows) (r ∷ [])) in (
+      ap (λ (k : ℕ). At q k) l,
+      w ∙ (ap (λ (k : ℕ). set b k (word-of r)) e ∙ (ap (λ (l : List ℕ). set l (n + length (s .rows)) (word-of r)) (f .1) ∙ sets-both a n (s .rows) (r ∷ []))),
+      fit-append (s .rows) (r ∷ []) (f .2) (g, tt),
+    )
 
 module _ (ts : List ℕ) (want : Result Rows) (n : ℕ) (a : List ℕ) (rest : Ebnf Nonterminal) (m : ℕ) (b c : List ℕ) (r : Read) (k o : ℕ) (hk : k < 256) (ho : o < 256) where
   leaf-at : (cs : List ℕ) (x : Read) → Sound ts x → Leafed ts cs (labelled k o) x r b c → (d : Result Rows) → Found d n x a b → Named d m →
@@ -241,9 +242,11 @@ module _ (ts : List ℕ) (want : Result Rows) (n : ℕ) (a : List ℕ) (rest : E
       let l : i + length (t .rows) ≡ n + length (s .rows ++ t .rows) = omega (arith, e₁, length-append (s .rows) (t .rows)) in
       record {
         done = at k (in-rows .join s t);
-        found = (g .0 ∙ ap (λ (z : ℕ). At k z) l,
+        found = (
+          g .0 ∙ ap (λ (z : ℕ). At k z) l,
           g .1 ∙ (ap (λ (z : ℕ). sets b z (map word-of (t .rows))) e₁ ∙ (ap (λ (z : List ℕ). sets z (n + length (s .rows)) (map word-of (t .rows))) (f .1) ∙ sets-both a n (s .rows) (t .rows))),
-          fit-append (s .rows) (t .rows) (f .2) (g .2));
+          fit-append (s .rows) (t .rows) (f .2) (g .2),
+        );
         named = e;
         is = w;
       }

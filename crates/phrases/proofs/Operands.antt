@@ -152,12 +152,12 @@ module _ {ts : List ℕ} {p n : ℕ} (g : Ready ts p n) (s : Bool) (t : ℕ) (f 
       record {
         ahead = ahead-more r (i .ahead);
         goes =
-          record {
-            on = λ x.
-              phrased i
-              (took (At (p + 1) (n + 1)) b (omega arith) (omega arith) g
-              (rw (comparison-at true z) (refl, u ∙ ap (λ (y : ℕ). set a n y) v)) (apart x));
-          };
+            record {
+              on = λ x.
+                  phrased i
+                  (took (At (p + 1) (n + 1)) b (omega arith) (omega arith) g
+                  (rw (comparison-at true z) (refl, u ∙ ap (λ (y : ℕ). set a n y) v)) (apart x));
+            };
       }
 
   pub compared-not : {a b : List ℕ} → s ≡ false → Compares ts p n (Refused p) a b

@@ -12,7 +12,9 @@ ghost use Rattle.express.specs.Syntax.{opening, closing, nesting};
 ghost use Rattle.phrases.specs.Reading.{word, atom-label, Ready, Sound, Reads, Expects, Leaves, Compares, Noded, Counts};
 ghost use Rattle.phrases.specs.Parsing.{most, Parsing};
 ghost use Rattle.phrases.specs.Outcome.{deep-or-end, end-of, judged, Judging, answered, kind-in, role-in, token-in, size-in, Unpacked, count, Settles};
-use columns::{put8, put32, shorter};
+use columns::put8;
+use columns::put32;
+use columns::shorter;
 
 // The next token and the next row; or the token that cannot stand.
 pub enum Read {
@@ -163,7 +165,6 @@ pub fn atom_label(c: u8) -> u64
         _ => 0,
     }
 }
-
 
 // expression = sum [ relation sum ]
 pub fn expression(codes: &[u8], rows: &mut [u64], p: usize, n: usize) -> Read
@@ -455,7 +456,14 @@ fn size_of(w: u64) -> u32
 }
 
 // The first n words, laid out in columns as far as they fit.
-pub fn unpack(words: &[u64], n: usize, kinds: &mut [u8], tokens: &mut [u32], sizes: &mut [u32], roles: &mut [u32])
+pub fn unpack(
+    words: &[u64],
+    n: usize,
+    kinds: &mut [u8],
+    tokens: &mut [u32],
+    sizes: &mut [u32],
+    roles: &mut [u32],
+)
     requires { ⌜ n ≤ length (now words) ⌝ }
     ensures { λ _. ⌜ Unpacked (now (words .entry)) n (now (kinds .entry)) (now (tokens .entry)) (now (sizes .entry)) (now (roles .entry)) (now (kinds .exit)) (now (tokens .exit)) (now (sizes .exit)) (now (roles .exit)) ⌝ }
 {
@@ -505,7 +513,14 @@ fn shortest(a: usize, b: usize, c: usize, d: usize) -> usize
 }
 
 // The answer, and the rows laid out in the columns as far as they fit.
-pub fn settle(judgement: Judgement, words: &[u64], kinds: &mut [u8], tokens: &mut [u32], sizes: &mut [u32], roles: &mut [u32]) -> Parsed
+pub fn settle(
+    judgement: Judgement,
+    words: &[u64],
+    kinds: &mut [u8],
+    tokens: &mut [u32],
+    sizes: &mut [u32],
+    roles: &mut [u32],
+) -> Parsed
     requires { ⌜ count judgement ≤ length (now words) ⌝ }
     ensures { λ r. ⌜ Settles judgement (now (words .entry)) r (now (kinds .entry)) (now (tokens .entry)) (now (sizes .entry)) (now (roles .entry)) (now (kinds .exit)) (now (tokens .exit)) (now (sizes .exit)) (now (roles .exit)) ⌝ }
 {
@@ -515,7 +530,13 @@ pub fn settle(judgement: Judgement, words: &[u64], kinds: &mut [u8], tokens: &mu
 }
 
 // Scratch for the words comes in two sizes, so that a short list clears little.
-fn parse_short(codes: &[u8], kinds: &mut [u8], tokens: &mut [u32], sizes: &mut [u32], roles: &mut [u32]) -> Parsed
+fn parse_short(
+    codes: &[u8],
+    kinds: &mut [u8],
+    tokens: &mut [u32],
+    sizes: &mut [u32],
+    roles: &mut [u32],
+) -> Parsed
     requires { ⌜ length (now codes) ≤ 1024 ⌝ }
     ensures { λ r. ⌜ Parsing expression (now (codes .entry)) r (now (kinds .entry)) (now (tokens .entry)) (now (sizes .entry)) (now (roles .entry)) (now (kinds .exit)) (now (tokens .exit)) (now (sizes .exit)) (now (roles .exit)) ⌝ }
 {
@@ -524,7 +545,13 @@ fn parse_short(codes: &[u8], kinds: &mut [u8], tokens: &mut [u32], sizes: &mut [
     settle(judgement, &words, kinds, tokens, sizes, roles)
 }
 
-fn parse_long(codes: &[u8], kinds: &mut [u8], tokens: &mut [u32], sizes: &mut [u32], roles: &mut [u32]) -> Parsed
+fn parse_long(
+    codes: &[u8],
+    kinds: &mut [u8],
+    tokens: &mut [u32],
+    sizes: &mut [u32],
+    roles: &mut [u32],
+) -> Parsed
     requires { ⌜ length (now codes) ≤ most ⌝ }
     ensures { λ r. ⌜ Parsing expression (now (codes .entry)) r (now (kinds .entry)) (now (tokens .entry)) (now (sizes .entry)) (now (roles .entry)) (now (kinds .exit)) (now (tokens .exit)) (now (sizes .exit)) (now (roles .exit)) ⌝ }
 {
@@ -534,7 +561,13 @@ fn parse_long(codes: &[u8], kinds: &mut [u8], tokens: &mut [u32], sizes: &mut [u
 }
 
 // One whole expression by itself.
-pub fn parse_expression(codes: &[u8], kinds: &mut [u8], tokens: &mut [u32], sizes: &mut [u32], roles: &mut [u32]) -> Parsed
+pub fn parse_expression(
+    codes: &[u8],
+    kinds: &mut [u8],
+    tokens: &mut [u32],
+    sizes: &mut [u32],
+    roles: &mut [u32],
+) -> Parsed
     ensures { λ r. ⌜ Parsing expression (now (codes .entry)) r (now (kinds .entry)) (now (tokens .entry)) (now (sizes .entry)) (now (roles .entry)) (now (kinds .exit)) (now (tokens .exit)) (now (sizes .exit)) (now (roles .exit)) ⌝ }
 {
     if codes.len() > 65536 {

@@ -67,10 +67,10 @@ pub closes : (first label name : ℕ) (ts : List ℕ) (x r s : Read) (a b : List
 closes first label name ts x r s a b l n h k =
     record {
       ends = λ v.
-        finish
-        (row r b (omega arith) (omega arith) (counts-sound ts s (h .sound)) n
-        (subst (λ (z : ℕ). Noded first z name s r a b) (sym (label-back label)) k)
-        (last (by-token h v)));
+          finish
+          (row r b (omega arith) (omega arith) (counts-sound ts s (h .sound)) n
+          (subst (λ (z : ℕ). Noded first z name s r a b) (sym (label-back label)) k)
+          (last (by-token h v)));
     }
 
 -- ---- an identifier that leaves a row

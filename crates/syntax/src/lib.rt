@@ -15,7 +15,20 @@ ghost use Rattle.phrases.specs.Reading.{Ready, Sound, Reads, Steps};
 ghost use Rattle.phrases.specs.Parsing.{most, Parsing};
 ghost use Rattle.phrases.specs.Outcome.{Judging};
 ghost use Rattle.syntax.specs.Declares.{Takes, Closes, id-of, names-of, type-label, Bases, assigned-by, declared-by, Heads};
-use phrases::{Read, Judgement, Parsed, token, packed, put, expect, leaf, node, expression, first_deep, end_of, judged, settle};
+use phrases::Judgement;
+use phrases::Parsed;
+use phrases::Read;
+use phrases::end_of;
+use phrases::expect;
+use phrases::expression;
+use phrases::first_deep;
+use phrases::judged;
+use phrases::leaf;
+use phrases::node;
+use phrases::packed;
+use phrases::put;
+use phrases::settle;
+use phrases::token;
 
 // An expression.
 fn value(codes: &[u8], rows: &mut [u64], before: Read) -> Read
@@ -29,7 +42,14 @@ fn value(codes: &[u8], rows: &mut [u64], before: Read) -> Read
 }
 
 // `;`, and a row over all rows from `first` on
-fn closed(codes: &[u8], rows: &mut [u64], before: Read, first: usize, label: u64, name: usize) -> Read
+fn closed(
+    codes: &[u8],
+    rows: &mut [u64],
+    before: Read,
+    first: usize,
+    label: u64,
+    name: usize,
+) -> Read
     requires { ⌜ (Sound (now codes) before) × (label < 65536) × (name < 1048576) ⌝ }
     ensures { λ r. ⌜ Closes first label name (now (codes .entry)) before r (now (rows .entry)) (now (rows .exit)) ⌝ }
 {
@@ -441,7 +461,13 @@ fn whole(codes: &[u8], words: &mut [u64]) -> Judgement
 }
 
 // Scratch for the words comes in two sizes, so that a short file clears little.
-fn parse_short(codes: &[u8], kinds: &mut [u8], tokens: &mut [u32], sizes: &mut [u32], roles: &mut [u32]) -> Parsed
+fn parse_short(
+    codes: &[u8],
+    kinds: &mut [u8],
+    tokens: &mut [u32],
+    sizes: &mut [u32],
+    roles: &mut [u32],
+) -> Parsed
     requires { ⌜ length (now codes) ≤ 1024 ⌝ }
     ensures { λ r. ⌜ Parsing file (now (codes .entry)) r (now (kinds .entry)) (now (tokens .entry)) (now (sizes .entry)) (now (roles .entry)) (now (kinds .exit)) (now (tokens .exit)) (now (sizes .exit)) (now (roles .exit)) ⌝ }
 {
@@ -450,7 +476,13 @@ fn parse_short(codes: &[u8], kinds: &mut [u8], tokens: &mut [u32], sizes: &mut [
     settle(judgement, &words, kinds, tokens, sizes, roles)
 }
 
-fn parse_long(codes: &[u8], kinds: &mut [u8], tokens: &mut [u32], sizes: &mut [u32], roles: &mut [u32]) -> Parsed
+fn parse_long(
+    codes: &[u8],
+    kinds: &mut [u8],
+    tokens: &mut [u32],
+    sizes: &mut [u32],
+    roles: &mut [u32],
+) -> Parsed
     requires { ⌜ length (now codes) ≤ most ⌝ }
     ensures { λ r. ⌜ Parsing file (now (codes .entry)) r (now (kinds .entry)) (now (tokens .entry)) (now (sizes .entry)) (now (roles .entry)) (now (kinds .exit)) (now (tokens .exit)) (now (sizes .exit)) (now (roles .exit)) ⌝ }
 {
@@ -460,7 +492,13 @@ fn parse_long(codes: &[u8], kinds: &mut [u8], tokens: &mut [u32], sizes: &mut [u
 }
 
 // THE PARSE of a whole file: replies 4, 5 and 7, and the node table.
-pub fn parse(codes: &[u8], kinds: &mut [u8], tokens: &mut [u32], sizes: &mut [u32], roles: &mut [u32]) -> Parsed
+pub fn parse(
+    codes: &[u8],
+    kinds: &mut [u8],
+    tokens: &mut [u32],
+    sizes: &mut [u32],
+    roles: &mut [u32],
+) -> Parsed
     ensures { λ r. ⌜ Parsing file (now (codes .entry)) r (now (kinds .entry)) (now (tokens .entry)) (now (sizes .entry)) (now (roles .entry)) (now (kinds .exit)) (now (tokens .exit)) (now (sizes .exit)) (now (roles .exit)) ⌝ }
 {
     if codes.len() > 65536 {

@@ -4,7 +4,8 @@
 //! The reference allocates its rows anew in each run, which is part of its time.
 
 use compare::random::{well_typed, Rng, LARGEST};
-use proved::{intern, scan, terminals};
+use proved::{intern, parse, scan, terminals};
+use reference::parser;
 use reference::terminals::{classify, Terminal};
 use reference::{symbols, tokens, TokenRow, MAX_BYTES};
 use std::hint::black_box;
@@ -59,8 +60,8 @@ struct Timed {
     reference: f64,
 }
 
-/// The token reader, the terminals of the tokens that it read, and the symbols of the identifiers among them.
-fn steps(file: &[u8], rows: &[TokenRow]) -> [Timed; 3] {
+/// The token reader, the terminals of the tokens that it read, the symbols of the identifiers among them, and the parser.
+fn steps(file: &[u8], rows: &[TokenRow]) -> [Timed; 4] {
     let column = || vec![0; rows.len()];
     let (mut kinds, mut starts, mut lengths) = (vec![0; rows.len()], column(), column());
     let (mut out, mut symbols, mut heads, mut next) = (vec![0; rows.len()], column(), vec![0; BUCKETS], column());
@@ -75,11 +76,13 @@ fn steps(file: &[u8], rows: &[TokenRow]) -> [Timed; 3] {
         || intern(file, &name_starts, &name_lengths, &mut symbols, &mut heads, &mut next),
         || symbols::intern(file, rows, &words),
     );
-    [("scan", read), ("terminals", classified), ("intern", interned)].map(|(step, [proved, reference])| Timed {
-        step,
-        proved,
-        reference,
-    })
+    let (mut nodes, mut names, mut sizes, mut roles) = (vec![0; rows.len()], column(), column(), column());
+    let parsed = best(
+        || parse(black_box(&out), &mut nodes, &mut names, &mut sizes, &mut roles),
+        || parser::read(black_box(&words)),
+    );
+    [("scan", read), ("terminals", classified), ("intern", interned), ("parse", parsed)]
+        .map(|(step, [proved, reference])| Timed { step, proved, reference })
 }
 
 type Operation = fn(i64, i64) -> Result<i64, u8>;

@@ -32,6 +32,19 @@ extern "C" {
         out: *mut u8,
         out_length: usize,
     );
+    fn woffulent_parse(
+        codes: *const u8,
+        codes_length: usize,
+        kinds: *mut u8,
+        kinds_length: usize,
+        tokens: *mut u32,
+        tokens_length: usize,
+        sizes: *mut u32,
+        sizes_length: usize,
+        roles: *mut u32,
+        roles_length: usize,
+        number: &mut usize,
+    ) -> u8;
     fn woffulent_integer(s: *const u8, s_length: usize, start: usize, length: usize) -> u64;
     fn woffulent_binary(s: *const u8, s_length: usize, start: usize, length: usize) -> u64;
     fn woffulent_add(a: i64, b: i64, value: &mut i64) -> u8;
@@ -157,6 +170,34 @@ pub fn terminals(src: &[u8], kinds: &[u8], starts: &[u32], lengths: &[u32], out:
             out.len(),
         )
     }
+}
+
+/// The node rows of the terminals of a file, as far as the columns go; their number, or the refusal (by 4 and 5 at a token).
+pub fn parse(
+    codes: &[u8],
+    kinds: &mut [u8],
+    tokens: &mut [u32],
+    sizes: &mut [u32],
+    roles: &mut [u32],
+) -> Result<usize, Refusal> {
+    let mut number = 0;
+    // SAFETY: see the head of this file.
+    let reply = unsafe {
+        woffulent_parse(
+            codes.as_ptr(),
+            codes.len(),
+            kinds.as_mut_ptr(),
+            kinds.len(),
+            tokens.as_mut_ptr(),
+            tokens.len(),
+            sizes.as_mut_ptr(),
+            sizes.len(),
+            roles.as_mut_ptr(),
+            roles.len(),
+            &mut number,
+        )
+    };
+    outcome(reply, number)
 }
 
 /// The value of the integer literal of `length` bytes at `start`, as far as 2 to the 63.

@@ -1,0 +1,54 @@
+use borrow.Author.Needs.{needs}
+use Rattle.exports.proofs.woffulent_parse.Statement.{statement}
+use Rattle.exports.proofs.woffulent_parse.Tie as tie
+use Rattle.exports.proofs.woffulent_parse.Reads as reads
+use Rattle.exports.proofs.woffulent_parse.Lts as lts
+use Rattle.exports.proofs.parse_number.Reads as parse-number-reads
+use Rattle.exports.proofs.parse_reply.Reads as parse-reply-reads
+use Rattle.syntax.proofs.parse.Reads as parse-reads
+use Rattle.exports.proofs.Steps.{parses}
+
+-- src/lib.rt:106:9
+parse-requires : tie.Need-parse-requires
+parse-requires c κs = search needs
+
+-- src/lib.rt:107:14
+parse-number-requires : tie.Need-parse-number-requires
+parse-number-requires c κs = search needs
+
+-- src/lib.rt:108:5
+parse-reply-requires : tie.Need-parse-reply-requires
+parse-reply-requires c κs = search needs
+
+-- src/lib.rt:95:1
+same-length : tie.Need-same-length
+same-length c = search needs
+
+-- src/lib.rt:95:1
+same-length-2 : tie.Need-same-length-2
+same-length-2 c = search needs
+
+-- src/lib.rt:95:1
+same-length-3 : tie.Need-same-length-3
+same-length-3 c = search needs
+
+-- src/lib.rt:95:1
+same-length-4 : tie.Need-same-length-4
+same-length-4 c = search needs
+
+-- src/lib.rt:95:1
+returns : tie.Need-returns
+returns c = parses (c .before .before .before .before .before .before .before .before .before .before .parse .ensures) (c .before .parse-number .ensures) (c .parse-reply .ensures)
+
+pub woffulent-parse-spec : {M : Type 1} → statement M
+woffulent-parse-spec =
+    tie.close
+    (tie.spec
+    parse-requires
+    parse-number-requires
+    parse-reply-requires
+    same-length
+    same-length-2
+    same-length-3
+    same-length-4
+    returns)
