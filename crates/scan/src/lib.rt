@@ -463,7 +463,16 @@ fn fill(src: &[u8], kinds: &mut [u8], starts: &mut [u32], lengths: &mut [u32], r
         let Step::At(e) = end else {
             return end;
         };
-        push(kinds, starts, lengths, room, n, kind, p as u32, (e - p) as u32);
+        push(
+            kinds,
+            starts,
+            lengths,
+            room,
+            n,
+            kind,
+            p as u32,
+            (e - p) as u32,
+        );
         n += 1;
         at = e;
     }
