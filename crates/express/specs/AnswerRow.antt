@@ -1,14 +1,10 @@
 -- "Answer row: kind, number, length."
-use mathlib.Core.List.{List, map}
 use Prim.Native.Nat.{ℕ}
 use lib.ListN.{length}
 use lib.IntN.{ℤ, pos}
 use Rattle.express.specs.Answer.{Answer, indeterminate, integer, logical, binary, item, end}
 use Rattle.express.specs.Logic.{rank}
 use Rattle.express.specs.Bits.{number}
-use Rattle.express.specs.Tree.{Table}
-use Rattle.express.specs.Kind.{constants}
-use Rattle.express.specs.Evaluate.{answers, answer-at}
 
 pub record AnswerRow : Type 0 where
   pub kind : ℕ
@@ -27,7 +23,3 @@ row-of (logical l) = row 2 (pos (rank l)) 0
 row-of (binary s) = row 3 (pos (number s)) (length s)
 row-of (item m) = row 4 (pos m) 0
 row-of (end e) = row e (pos 0) 0
-
--- "Rows follow the text": those of the constants, evaluated in the order ds
-unfoldable pub rows : Table → List ℕ → List ℕ → List AnswerRow
-rows t b ds = map (λ c. row-of (answer-at (answers t b ds) c)) (constants t)
