@@ -27,21 +27,24 @@ use Rattle.phrases.specs.declared.Read.{Read}
 use Rattle.phrases.specs.declared.Judgement.{Judgement}
 use Rattle.phrases.specs.declared.Judgement.the-variants.{Good, Unexpected, TooDeep}
 use Rattle.phrases.specs.Reading.{Ready, Found, Reads}
-use Rattle.phrases.specs.Outcome.{or-end, deep-or-end, end-of, judged, Judges}
+use Rattle.phrases.specs.Outcome.{steps-from, steps, or-end, deep-or-end, end-of, judged, Judges}
 
 -- ---- how many brackets are open
 
-pub opened-more : (d c : ℕ) (b : Bool) → b ≡ mem c opening → b ≡ true → d + 1 ≡ opened opening closing nesting d c
-opened-more d c b e h = rw (sym e ∙ h) (add-one d)
+steps-at : (n c k : ℕ) → k < n → getD (steps-from n c) k 0 ≡ opened opening closing nesting 1 (c + k)
+unfolding steps-from
+steps-at zero c k h = absurd (omega arith)
+steps-at (suc n) c zero h = ap (opened opening closing nesting 1) (omega arith)
+steps-at (suc n) c (suc k) h = let e : suc c + k ≡ c + suc k = omega arith in steps-at n (suc c) k (omega arith) ∙ ap (opened opening closing nesting 1) e
 
-pub opened-less : (d c : ℕ) (b k : Bool) → b ≡ mem c opening → b ≡ false → k ≡ mem c closing → k ≡ true → d - 1 ≡ opened opening closing nesting d c
-opened-less d c b k e h f g = rw (sym e ∙ h, sym f ∙ g) refl
-
-pub opened-none : (d c : ℕ) (b k : Bool) → b ≡ mem c opening → b ≡ false → k ≡ mem c closing → k ≡ true → (0 < d → ⊥) → d ≡ opened opening closing nesting d c
-opened-none d c b k e h f g z = let y : d ≡ d - 1 = omega arith in y ∙ opened-less d c b k e h f g
-
-pub opened-same : (d c : ℕ) (b k : Bool) → b ≡ mem c opening → b ≡ false → k ≡ mem c closing → k ≡ false → d ≡ opened opening closing nesting d c
-opened-same d c b k e h f g = rw (sym e ∙ h, sym f ∙ g) refl
+-- the table's entry tells what a token does, however many are open
+pub opened-by : (d : ℕ) {table : List ℕ} {c k s r : ℕ} → table ≡ steps → k ≡ c → k ≤ 255 → s ≡ getD table k 0 → r ≡ d + s - 1 → r ≡ opened opening closing nesting d c
+opened-by d {table} {c} {k} {s} {r} t e l h g = let z : 0 + k ≡ c = omega arith in rw (g, h, t, steps-at 256 0 k (omega arith), z) (go (mem c opening) (mem c closing))
+  where
+    go : (b t : Bool) → d + cond b 2 (cond t (1 - 1) 1) - 1 ≡ cond b (suc d) (cond t (d - 1) d)
+    go true t = omega arith
+    go false true = omega arith
+    go false false = omega arith
 
 -- ---- the first token too deep
 

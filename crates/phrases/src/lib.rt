@@ -11,7 +11,7 @@ ghost use Rattle.ebnf.specs.Depth.{opened};
 ghost use Rattle.express.specs.Syntax.{opening, closing, nesting};
 ghost use Rattle.phrases.specs.Reading.{word, atom-label, Ready, Sound, Reads, Expects, Leaves, Compares, Noded, Counts};
 ghost use Rattle.phrases.specs.Parsing.{most, Parsing};
-ghost use Rattle.phrases.specs.Outcome.{deep-or-end, end-of, judged, Judging, answered, kind-in, role-in, token-in, size-in, Unpacked, count, Settles};
+ghost use Rattle.phrases.specs.Outcome.{steps as stepList, deep-or-end, end-of, judged, Judging, answered, kind-in, role-in, token-in, size-in, Unpacked, count, Settles};
 use columns::put8;
 use columns::put32;
 use columns::shorter;
@@ -336,48 +336,44 @@ pub enum Parsed {
     Long,
 }
 
-fn is_opening(c: u8) -> bool
-    ensures { λ r. ⌜ r ≡ mem c opening ⌝ }
+// How many brackets are open after each terminal where one is before it: 2 after an opening one, 0 after a closing one, else 1. A table has
+// no branch, and the limit is tested at every token.
+const STEPS: [u8; 256] =
+    *b"\x01\x01\x01\x01\x01\x01\x01\x01\x01\x01\x01\x01\x01\x01\x01\x01\x01\x01\x01\x01\x01\x02\x00\x01\x02\x00\x01\x01\x01\x01\x01\x01\x01\x01\x01\x01\x01\x01\x01\x01\x01\x01\x01\x01\x01\x01\x01\x01\x01\x01\x01\x01\x01\x01\x01\x01\x01\x01\x01\x01\x01\x01\x01\x01\x01\x01\x01\x01\x01\x01\x01\x01\x01\x01\x01\x01\x01\x01\x01\x01\x01\x01\x01\x01\x01\x01\x01\x01\x01\x01\x01\x01\x01\x01\x01\x01\x01\x01\x01\x01\x01\x01\x01\x01\x01\x01\x01\x01\x01\x01\x01\x01\x01\x01\x01\x01\x01\x01\x01\x01\x01\x01\x01\x01\x01\x01\x01\x01\x01\x01\x01\x01\x01\x01\x01\x01\x01\x01\x01\x01\x01\x01\x01\x01\x01\x01\x01\x01\x01\x01\x01\x01\x01\x01\x01\x01\x01\x01\x01\x01\x01\x01\x01\x01\x01\x01\x01\x01\x01\x01\x01\x01\x01\x01\x01\x01\x01\x01\x01\x01\x01\x01\x01\x01\x01\x01\x01\x01\x01\x01\x01\x01\x01\x01\x01\x01\x01\x01\x01\x01\x01\x01\x01\x01\x01\x01\x01\x01\x01\x01\x01\x01\x01\x01\x01\x01\x01\x01\x01\x01\x01\x01\x01\x01\x01\x01\x01\x01\x01\x01\x01\x01\x01\x01\x01\x01\x01\x01\x01\x01\x01\x01\x01\x01\x01\x01\x01\x01\x01\x01\x01\x01\x01\x01\x01\x01";
+
+fn wide(b: u8) -> usize
+    ensures { λ r. ⌜ (r ≡ b) × (r ≤ 255) ⌝ }
 {
-    match c {
-        21 | 24 => true,
-        _ => false,
-    }
+    b as usize
 }
 
-fn is_closing(c: u8) -> bool
-    ensures { λ r. ⌜ r ≡ mem c closing ⌝ }
+fn predecessor(n: usize) -> usize
+    ensures { λ r. ⌜ r ≡ n - 1 ⌝ }
 {
-    match c {
-        22 | 25 => true,
-        _ => false,
+    if n < 1 {
+        return 0;
     }
+    n - 1
 }
 
 // How many brackets are open after one more token.
-fn nested(depth: usize, c: u8) -> usize
-    requires { ⌜ depth ≤ 64 ⌝ }
+fn nested(steps: &[u8; 256], depth: usize, c: u8) -> usize
+    requires { ⌜ (now steps ≡ stepList) × (depth ≤ 64) ⌝ }
     ensures { λ r. ⌜ r ≡ opened opening closing nesting depth c ⌝ }
 {
-    if is_opening(c) {
-        return depth + 1;
-    }
-    if is_closing(c) {
-        if depth > 0 {
-            return depth - 1;
-        }
-    }
-    depth
+    predecessor(depth + wide(steps[wide(c)]))
 }
 
 // The first token that opens a parenthesis or an interval while 64 are open; the length where there is none.
 pub fn first_deep(codes: &[u8]) -> usize
     ensures { λ r. ⌜ r ≡ deep-or-end (now (codes .entry)) ⌝ }
 {
+    // A constant array is built anew wherever it is named: once here, and lent from here on.
+    let steps = STEPS;
     let mut depth: usize = 0;
     let mut i: usize = 0;
     while i < codes.len() {
-        depth = nested(depth, codes[i]);
+        depth = nested(&steps, depth, codes[i]);
         if depth > 64 {
             return i;
         }
@@ -529,8 +525,24 @@ pub fn settle(
     answered(judgement, room)
 }
 
-// Scratch for the words comes in two sizes, so that a short list clears little.
-fn parse_short(
+// The answer, by way of scratch with room for a word for each token: nodes never outnumber tokens.
+fn parse_in(
+    words: &mut [u64],
+    codes: &[u8],
+    kinds: &mut [u8],
+    tokens: &mut [u32],
+    sizes: &mut [u32],
+    roles: &mut [u32],
+) -> Parsed
+    requires { ⌜ (length (now codes) ≤ most) × (length (now codes) ≤ length (now words)) ⌝ }
+    ensures { λ r. ⌜ Parsing expression (now (codes .entry)) r (now (kinds .entry)) (now (tokens .entry)) (now (sizes .entry)) (now (roles .entry)) (now (kinds .exit)) (now (tokens .exit)) (now (sizes .exit)) (now (roles .exit)) ⌝ }
+{
+    let judgement = whole(codes, words);
+    settle(judgement, words, kinds, tokens, sizes, roles)
+}
+
+// Scratch comes in three sizes: a short list clears little, and 24,576 words hold the nodes of nearly every file of 64 KiB.
+fn parse_small(
     codes: &[u8],
     kinds: &mut [u8],
     tokens: &mut [u32],
@@ -541,23 +553,35 @@ fn parse_short(
     ensures { λ r. ⌜ Parsing expression (now (codes .entry)) r (now (kinds .entry)) (now (tokens .entry)) (now (sizes .entry)) (now (roles .entry)) (now (kinds .exit)) (now (tokens .exit)) (now (sizes .exit)) (now (roles .exit)) ⌝ }
 {
     let mut words = [0u64; 1024];
-    let judgement = whole(codes, &mut words);
-    settle(judgement, &words, kinds, tokens, sizes, roles)
+    parse_in(&mut words, codes, kinds, tokens, sizes, roles)
 }
 
-fn parse_long(
+fn parse_middle(
     codes: &[u8],
     kinds: &mut [u8],
     tokens: &mut [u32],
     sizes: &mut [u32],
     roles: &mut [u32],
 ) -> Parsed
-    requires { ⌜ length (now codes) ≤ most ⌝ }
+    requires { ⌜ length (now codes) ≤ 24576 ⌝ }
+    ensures { λ r. ⌜ Parsing expression (now (codes .entry)) r (now (kinds .entry)) (now (tokens .entry)) (now (sizes .entry)) (now (roles .entry)) (now (kinds .exit)) (now (tokens .exit)) (now (sizes .exit)) (now (roles .exit)) ⌝ }
+{
+    let mut words = [0u64; 24576];
+    parse_in(&mut words, codes, kinds, tokens, sizes, roles)
+}
+
+fn parse_large(
+    codes: &[u8],
+    kinds: &mut [u8],
+    tokens: &mut [u32],
+    sizes: &mut [u32],
+    roles: &mut [u32],
+) -> Parsed
+    requires { ⌜ length (now codes) ≤ 65536 ⌝ }
     ensures { λ r. ⌜ Parsing expression (now (codes .entry)) r (now (kinds .entry)) (now (tokens .entry)) (now (sizes .entry)) (now (roles .entry)) (now (kinds .exit)) (now (tokens .exit)) (now (sizes .exit)) (now (roles .exit)) ⌝ }
 {
     let mut words = [0u64; 65536];
-    let judgement = whole(codes, &mut words);
-    settle(judgement, &words, kinds, tokens, sizes, roles)
+    parse_in(&mut words, codes, kinds, tokens, sizes, roles)
 }
 
 // One whole expression by itself.
@@ -573,8 +597,11 @@ pub fn parse_expression(
     if codes.len() > 65536 {
         return Parsed::Long;
     }
-    if codes.len() > 1024 {
-        return parse_long(codes, kinds, tokens, sizes, roles);
+    if codes.len() > 24576 {
+        return parse_large(codes, kinds, tokens, sizes, roles);
     }
-    parse_short(codes, kinds, tokens, sizes, roles)
+    if codes.len() > 1024 {
+        return parse_middle(codes, kinds, tokens, sizes, roles);
+    }
+    parse_small(codes, kinds, tokens, sizes, roles)
 }

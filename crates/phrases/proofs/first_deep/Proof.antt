@@ -6,45 +6,47 @@ use Rattle.phrases.proofs.nested.Reads as nested-reads
 use Prim.Native.Nat.{_≤_, _-_}
 use mathlib.Core.Path.{_≡_, refl, sym, _∙_}
 use lib.ListN.{length}
-use Rattle.phrases.specs.Outcome.{deep-or-end}
+use Rattle.ebnf.specs.Set.{mem}
+use Rattle.phrases.specs.Outcome.{steps-from, deep-or-end}
 use Rattle.phrases.proofs.Limit.{deep-from, deep-start, deep-here, deep-on, deep-end}
 use native.Mathlib.Omega.{arith}
 
 abbrev Inv-loop : tie.InvT-loop
-Inv-loop codes depth₀ i₀ depth i = (i ≤ length codes) × (depth ≤ 64) × (deep-from codes i depth ≡ deep-or-end codes)
+Inv-loop codes steps depth₀ i₀ depth i = (i ≤ length codes) × (depth ≤ 64) × (deep-from codes i depth ≡ deep-or-end codes)
 
 abbrev μ-loop : tie.MeasureT-loop
-μ-loop codes depth₀ i₀ depth i = length codes - i
+μ-loop codes steps depth₀ i₀ depth i = length codes - i
 
--- src/lib.rt:378:5
+-- src/lib.rt:375:5
 loop-holds : tie.Need-loop-holds Inv-loop μ-loop
 loop-holds c = (omega arith, omega arith, deep-start (c .before .args .codes .now))
 
--- src/lib.rt:379:31
+-- src/lib.rt:376:39
 shared-slice-read-nested : tie.Need-shared-slice-read-nested Inv-loop μ-loop
 shared-slice-read-nested c = omega arith
 
--- src/lib.rt:379:9
+-- src/lib.rt:376:9
 nested-requires : tie.Need-nested-requires Inv-loop μ-loop
-nested-requires c κs = c .before .before .loop .inv .1
+unfolding mem steps-from
+nested-requires c κs = (refl, c .before .before .before .loop .inv .1)
 
--- src/lib.rt:381:13
+-- src/lib.rt:378:13
 returns : tie.Need-returns Inv-loop μ-loop
-returns c = deep-here (c .before .before .before .before .before .before .args .codes .now) (c .before .before .before .before .loop .i) (c .before .before .before .before .loop .depth) _ (c .before .before .before .loop-test .taken) refl (c .before .nested .result) (c .before .nested .ensures) (c .before .before .before .before .loop .inv .1) (c .if1 .taken) ∙ c .before .before .before .before .loop .inv .2
+returns c = deep-here (c .before .before .before .before .before .before .before .args .codes .now) (c .before .before .before .before .before .loop .i) (c .before .before .before .before .before .loop .depth) _ (c .before .before .before .before .loop-test .taken) refl (c .before .nested .result) (c .before .nested .ensures) (c .before .before .before .before .before .loop .inv .1) (c .if1 .taken) ∙ c .before .before .before .before .before .loop .inv .2
 
--- src/lib.rt:383:9
+-- src/lib.rt:380:9
 add-i : tie.Need-add-i Inv-loop μ-loop
 add-i c = omega arith
 
--- src/lib.rt:378:5
+-- src/lib.rt:375:5
 loop-less : tie.Need-loop-less Inv-loop μ-loop
 loop-less c = omega arith
 
--- src/lib.rt:378:5
+-- src/lib.rt:375:5
 loop-again : tie.Need-loop-again Inv-loop μ-loop
-loop-again c = (omega arith, omega arith, sym (deep-on (c .before .before .before .before .before .before .args .codes .now) (c .before .before .before .before .loop .i) (c .before .before .before .before .loop .depth) _ (c .before .before .before .loop-test .taken) refl (c .before .nested .result) (c .before .nested .ensures) (λ h. omega arith)) ∙ c .before .before .before .before .loop .inv .2)
+loop-again c = (omega arith, omega arith, sym (deep-on (c .before .before .before .before .before .before .before .args .codes .now) (c .before .before .before .before .before .loop .i) (c .before .before .before .before .before .loop .depth) _ (c .before .before .before .before .loop-test .taken) refl (c .before .nested .result) (c .before .nested .ensures) (λ h. omega arith)) ∙ c .before .before .before .before .before .loop .inv .2)
 
--- src/lib.rt:373:1
+-- src/lib.rt:368:1
 returns-2 : tie.Need-returns-2 Inv-loop μ-loop
 returns-2 c = deep-end (c .before .before .before .args .codes .now) (c .before .loop .i) (c .before .loop .depth) (omega arith) (omega arith) ∙ c .before .loop .inv .2
 

@@ -3,52 +3,41 @@ use Rattle.phrases.proofs.nested.Statement.{statement}
 use Rattle.phrases.proofs.nested.Tie as tie
 use Rattle.phrases.proofs.nested.Reads as reads
 use Rattle.phrases.proofs.nested.Lts as lts
-use Rattle.phrases.proofs.is_closing.Reads as is-closing-reads
-use Rattle.phrases.proofs.is_opening.Reads as is-opening-reads
-use Rattle.phrases.proofs.Limit.{opened-more, opened-less, opened-none, opened-same}
-use native.Mathlib.Omega.{arith}
+use Rattle.phrases.proofs.predecessor.Reads as predecessor-reads
+use Rattle.phrases.proofs.wide.Reads as wide-reads
+use Rattle.phrases.proofs.Limit.{opened-by}
 
--- src/lib.rt:361:8
-is-opening-requires : tie.Need-is-opening-requires
-is-opening-requires c κs = search needs
+-- src/lib.rt:364:36
+wide-requires : tie.Need-wide-requires
+wide-requires c κs = search needs
 
--- src/lib.rt:362:16
-add-result : tie.Need-add-result
-add-result c = search needs
+-- src/lib.rt:364:30
+element-copy-out-wide : tie.Need-element-copy-out-wide
+element-copy-out-wide c = search needs
 
--- src/lib.rt:362:9
+-- src/lib.rt:364:25
+wide-requires-2 : tie.Need-wide-requires-2
+wide-requires-2 c κs = search needs
+
+-- src/lib.rt:364:17
+add-predecessor : tie.Need-add-predecessor
+add-predecessor c = search needs
+
+-- src/lib.rt:364:5
+predecessor-requires : tie.Need-predecessor-requires
+predecessor-requires c κs = search needs
+
+-- src/lib.rt:360:1
 returns : tie.Need-returns
-returns c = opened-more (c .before .before .args .depth) (c .before .before .args .c) (c .before .is-opening .result) (c .before .is-opening .ensures) (c .if1 .taken)
-
--- src/lib.rt:364:8
-is-closing-requires : tie.Need-is-closing-requires
-is-closing-requires c κs = search needs
-
--- src/lib.rt:366:20
-sub-result : tie.Need-sub-result
-sub-result c = search needs
-
--- src/lib.rt:366:13
-returns-2 : tie.Need-returns-2
-returns-2 c = opened-less (c .before .before .before .before .before .args .depth) (c .before .before .before .before .before .args .c) (c .before .before .before .before .is-opening .result) (c .before .before .is-closing .result) (c .before .before .before .before .is-opening .ensures) (c .before .before .before .if1 .left) (c .before .before .is-closing .ensures) (c .before .if2 .taken)
-
--- src/lib.rt:357:1
-returns-3 : tie.Need-returns-3
-returns-3 c = opened-none (c .before .before .before .before .before .args .depth) (c .before .before .before .before .before .args .c) (c .before .before .before .before .is-opening .result) (c .before .before .is-closing .result) (c .before .before .before .before .is-opening .ensures) (c .before .before .before .if1 .left) (c .before .before .is-closing .ensures) (c .before .if2 .taken) (λ h. omega arith)
-
--- src/lib.rt:357:1
-returns-4 : tie.Need-returns-4
-returns-4 c = opened-same (c .before .before .before .before .args .depth) (c .before .before .before .before .args .c) (c .before .before .before .is-opening .result) (c .before .is-closing .result) (c .before .before .before .is-opening .ensures) (c .before .before .if1 .left) (c .before .is-closing .ensures) (c .if2 .left)
+returns c = opened-by (c .before .before .before .before .args .depth) (c .before .before .before .before .pre .0) (c .before .before .before .wide .ensures .0) (c .before .before .before .wide .ensures .1) (c .before .wide2 .ensures .0) (c .predecessor .ensures)
 
 pub nested-spec : {M : Type 1} → statement M
 nested-spec =
     tie.close
     (tie.spec
-    is-opening-requires
-    add-result
-    returns
-    is-closing-requires
-    sub-result
-    returns-2
-    returns-3
-    returns-4)
+    wide-requires
+    element-copy-out-wide
+    wide-requires-2
+    add-predecessor
+    predecessor-requires
+    returns)
