@@ -460,8 +460,24 @@ fn whole(codes: &[u8], words: &mut [u64]) -> Judgement
     judged(read, deep, end)
 }
 
-// Scratch for the words comes in two sizes, so that a short file clears little.
-fn parse_short(
+// The answer, by way of scratch with room for a word for each token: nodes never outnumber tokens.
+fn parse_in(
+    words: &mut [u64],
+    codes: &[u8],
+    kinds: &mut [u8],
+    tokens: &mut [u32],
+    sizes: &mut [u32],
+    roles: &mut [u32],
+) -> Parsed
+    requires { ⌜ (length (now codes) ≤ most) × (length (now codes) ≤ length (now words)) ⌝ }
+    ensures { λ r. ⌜ Parsing file (now (codes .entry)) r (now (kinds .entry)) (now (tokens .entry)) (now (sizes .entry)) (now (roles .entry)) (now (kinds .exit)) (now (tokens .exit)) (now (sizes .exit)) (now (roles .exit)) ⌝ }
+{
+    let judgement = whole(codes, words);
+    settle(judgement, words, kinds, tokens, sizes, roles)
+}
+
+// Scratch comes in three sizes: a short file clears little, and 24,576 words hold the nodes of nearly every file of 64 KiB.
+fn parse_small(
     codes: &[u8],
     kinds: &mut [u8],
     tokens: &mut [u32],
@@ -472,23 +488,35 @@ fn parse_short(
     ensures { λ r. ⌜ Parsing file (now (codes .entry)) r (now (kinds .entry)) (now (tokens .entry)) (now (sizes .entry)) (now (roles .entry)) (now (kinds .exit)) (now (tokens .exit)) (now (sizes .exit)) (now (roles .exit)) ⌝ }
 {
     let mut words = [0u64; 1024];
-    let judgement = whole(codes, &mut words);
-    settle(judgement, &words, kinds, tokens, sizes, roles)
+    parse_in(&mut words, codes, kinds, tokens, sizes, roles)
 }
 
-fn parse_long(
+fn parse_middle(
     codes: &[u8],
     kinds: &mut [u8],
     tokens: &mut [u32],
     sizes: &mut [u32],
     roles: &mut [u32],
 ) -> Parsed
-    requires { ⌜ length (now codes) ≤ most ⌝ }
+    requires { ⌜ length (now codes) ≤ 24576 ⌝ }
+    ensures { λ r. ⌜ Parsing file (now (codes .entry)) r (now (kinds .entry)) (now (tokens .entry)) (now (sizes .entry)) (now (roles .entry)) (now (kinds .exit)) (now (tokens .exit)) (now (sizes .exit)) (now (roles .exit)) ⌝ }
+{
+    let mut words = [0u64; 24576];
+    parse_in(&mut words, codes, kinds, tokens, sizes, roles)
+}
+
+fn parse_large(
+    codes: &[u8],
+    kinds: &mut [u8],
+    tokens: &mut [u32],
+    sizes: &mut [u32],
+    roles: &mut [u32],
+) -> Parsed
+    requires { ⌜ length (now codes) ≤ 65536 ⌝ }
     ensures { λ r. ⌜ Parsing file (now (codes .entry)) r (now (kinds .entry)) (now (tokens .entry)) (now (sizes .entry)) (now (roles .entry)) (now (kinds .exit)) (now (tokens .exit)) (now (sizes .exit)) (now (roles .exit)) ⌝ }
 {
     let mut words = [0u64; 65536];
-    let judgement = whole(codes, &mut words);
-    settle(judgement, &words, kinds, tokens, sizes, roles)
+    parse_in(&mut words, codes, kinds, tokens, sizes, roles)
 }
 
 // THE PARSE of a whole file: replies 4, 5 and 7, and the node table.
@@ -504,8 +532,11 @@ pub fn parse(
     if codes.len() > 65536 {
         return Parsed::Long;
     }
-    if codes.len() > 1024 {
-        return parse_long(codes, kinds, tokens, sizes, roles);
+    if codes.len() > 24576 {
+        return parse_large(codes, kinds, tokens, sizes, roles);
     }
-    parse_short(codes, kinds, tokens, sizes, roles)
+    if codes.len() > 1024 {
+        return parse_middle(codes, kinds, tokens, sizes, roles);
+    }
+    parse_small(codes, kinds, tokens, sizes, roles)
 }
