@@ -211,15 +211,6 @@ module _ {first to group₀ place₀ at₀ stack₀ path₀ bound₀ group place
   storable Leave h = tt
   storable (Close from) h = closable h
 
-  pub running-end : (r : Step) → Chosen first to group place at stack path bound (c .root) (c .d) (c .b) r → after r c ≡ Over → Grouped first to group place (vertices first)
-  running-end Done h q = search-end S h
-  running-end Skip h q = absurd (on-over q)
-  running-end (Enter w) h q = absurd (on-over q)
-  running-end Join h q = absurd (on-over q)
-  running-end (Pass v e) h q = absurd (on-over q)
-  running-end Leave h q = absurd (on-over q)
-  running-end (Close from) h q = absurd (on-over q)
-
   module _ (group′ place′ at′ stack′ path′ bound′ : List ℕ) where
     turned :
         (r : Step) → Chosen first to group place at stack path bound (c .root) (c .d) (c .b) r
@@ -232,6 +223,19 @@ module _ {first to group₀ place₀ at₀ stack₀ path₀ bound₀ group place
     turned (Pass v e) h w = kept w (running-pass h)
     turned Leave h w = kept w (still _ (search-leave S h))
     turned (Close from) h w = kept (w .1) (running-close h (w .0))
+
+    pub running-end :
+        (r : Step) → Chosen first to group place at stack path bound (c .root) (c .d) (c .b) r
+        → after r c ≡ Over
+        → Stored first group place at stack path bound group′ place′ at′ stack′ path′ bound′ r c
+        → Grouped first to group′ place′ (vertices first)
+    running-end Done h q w = rw (w .group-is, w .place-is) (search-end S h)
+    running-end Skip h q w = absurd (on-over q)
+    running-end (Enter x) h q w = absurd (on-over q)
+    running-end Join h q w = absurd (on-over q)
+    running-end (Pass v e) h q w = absurd (on-over q)
+    running-end Leave h q w = absurd (on-over q)
+    running-end (Close from) h q w = absurd (on-over q)
 
     fewer :
         (r : Step) (t : Counts) → ((i : ℕ) → getD first i 0 < 4294967296)

@@ -248,10 +248,10 @@ fn search(
         let d = c.d;
         let b = c.b;
         let step = next(first, to, group, place, at, stack, path, bound, root, d, b);
+        store(first, group, place, at, stack, path, bound, step, c);
         let After::On(then) = counted(step, c) else {
             return;
         };
-        store(first, group, place, at, stack, path, bound, step, c);
         c = then;
     }
 }
