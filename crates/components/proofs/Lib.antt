@@ -6,6 +6,7 @@ pub mod Closing
 pub mod End
 pub mod Following
 pub mod Shutting
+pub mod Storing
 pub mod Running
 pub mod Scan
 pub mod Tested

@@ -8,6 +8,9 @@ use Rattle.graph.specs.Graph.{vertices, Arc}
 use Rattle.components.specs.Search.{start, Search}
 use Rattle.components.specs.declared.Step.{Step}
 use Rattle.components.specs.declared.Step.the-variants.{Done, Skip, Enter, Join, Pass, Leave, Close}
+use Rattle.components.specs.declared.Counts.{Counts}
+use Rattle.components.specs.declared.After.{After}
+use Rattle.components.specs.declared.After.the-variants.{Over, On}
 
 -- a search is going on
 pub record Going (first to group place at stack path bound : List ℕ) (root d b : ℕ) : Type 0 where
@@ -135,3 +138,63 @@ pub record Shut (group place stack group′ place′ : List ℕ) (from s m : ℕ
   pub place-out : (v : ℕ) → ((i : ℕ) → from ≤ i → i < s → getD stack i 0 ≡ v → ⊥) → getD place′ v 0 ≡ getD place v 0
   pub group-long : length group′ ≡ length group
   pub place-long : length place′ ≡ length place
+
+-- ---- the counts after a step
+
+-- no count passes an end
+abbrev pub Countable : Step → Counts → Type 0
+Countable Done c = Unit {0}
+Countable Skip c = c .root ≤ 65536
+Countable (Enter w) c = (c .s ≤ 65536) × (c .d ≤ 65536) × (c .b ≤ 65536)
+Countable Join c = 0 < c .b
+Countable (Pass v e) c = Unit {0}
+Countable Leave c = 0 < c .d
+Countable (Close from) c = (from ≤ c .s) × (c .m + c .s ≤ 65536) × (0 < c .d) × (0 < c .b)
+
+abbrev pub moved : Step → Counts → Counts
+moved Done c = c
+moved Skip c = record { root = c .root + 1; s = c .s; d = c .d; b = c .b; m = c .m }
+moved (Enter w) c = record { root = c .root; s = c .s + 1; d = c .d + 1; b = c .b + 1; m = c .m }
+moved Join c = record { root = c .root; s = c .s; d = c .d; b = c .b - 1; m = c .m }
+moved (Pass v e) c = c
+moved Leave c = record { root = c .root; s = c .s; d = c .d - 1; b = c .b; m = c .m }
+moved (Close from) c = record { root = c .root; s = from; d = c .d - 1; b = c .b - 1; m = c .m + (c .s - from) }
+
+-- the search goes on, but where it is done
+abbrev pub after : Step → Counts → After
+after Done c = Over
+after Skip c = On (moved Skip c)
+after (Enter w) c = On (moved (Enter w) c)
+after Join c = On (moved Join c)
+after (Pass v e) c = On (moved (Pass v e) c)
+after Leave c = On (moved Leave c)
+after (Close from) c = On (moved (Close from) c)
+
+-- ---- what a step writes
+
+abbrev pub Storable : List ℕ → List ℕ → List ℕ → List ℕ → Step → Counts → Type 0
+Storable first group place stack Done c = Unit {0}
+Storable first group place stack Skip c = Unit {0}
+Storable first group place stack (Enter w) c = Enterable first w (c .s) (c .d) (c .b)
+Storable first group place stack Join c = Unit {0}
+Storable first group place stack (Pass v e) c = Unit {0}
+Storable first group place stack Leave c = Unit {0}
+Storable first group place stack (Close from) c = Closable group place stack from (c .s) (c .m)
+
+-- the columns that are not written stay
+pub record Same (group place at stack path bound group′ place′ at′ stack′ path′ bound′ : List ℕ) : Type 0 where
+  pub group-is : group′ ≡ group
+  pub place-is : place′ ≡ place
+  pub at-is : at′ ≡ at
+  pub stack-is : stack′ ≡ stack
+  pub path-is : path′ ≡ path
+  pub bound-is : bound′ ≡ bound
+
+abbrev pub Stored : List ℕ → List ℕ → List ℕ → List ℕ → List ℕ → List ℕ → List ℕ → List ℕ → List ℕ → List ℕ → List ℕ → List ℕ → List ℕ → Step → Counts → Type 0
+Stored first group place at stack path bound group′ place′ at′ stack′ path′ bound′ Done c = Same group place at stack path bound group′ place′ at′ stack′ path′ bound′
+Stored first group place at stack path bound group′ place′ at′ stack′ path′ bound′ Skip c = Same group place at stack path bound group′ place′ at′ stack′ path′ bound′
+Stored first group place at stack path bound group′ place′ at′ stack′ path′ bound′ (Enter w) c = Entered first group place at stack path bound group′ place′ at′ stack′ path′ bound′ w (c .s) (c .d) (c .b)
+Stored first group place at stack path bound group′ place′ at′ stack′ path′ bound′ Join c = Same group place at stack path bound group′ place′ at′ stack′ path′ bound′
+Stored first group place at stack path bound group′ place′ at′ stack′ path′ bound′ (Pass v e) c = Same group place (set at v e) stack path bound group′ place′ at′ stack′ path′ bound′
+Stored first group place at stack path bound group′ place′ at′ stack′ path′ bound′ Leave c = Same group place at stack path bound group′ place′ at′ stack′ path′ bound′
+Stored first group place at stack path bound group′ place′ at′ stack′ path′ bound′ (Close from) c = Shut group place stack group′ place′ from (c .s) (c .m) × Same group′ place′ at stack path bound group′ place′ at′ stack′ path′ bound′

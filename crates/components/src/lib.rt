@@ -1,4 +1,5 @@
 // Strongly connected components, and with them the smallest vertex on a cycle and the order of dependencies.
+ghost use mathlib.Core.Path.{_≡_};
 ghost use mathlib.Core.Bool.{true, false};
 ghost use Prim.Native.Nat.{_+_, _-_, _<_};
 ghost use lib.ListN.{length};
@@ -6,7 +7,7 @@ ghost use Rattle.graph.specs.Graph.{vertices, Tells};
 ghost use Rattle.components.specs.Component.{Grouped};
 ghost use Rattle.components.specs.Search.{Ready};
 ghost use Rattle.components.specs.Answer.{Inner, Smallest, Fits, Solved, Bounded, Shortest, Arrangeable, Arranged, CycleAnswers, OrderAnswers};
-ghost use Rattle.components.specs.Step.{Going, Chosen, Followable, Followed, Enterable, Entered, Closable, Shut};
+ghost use Rattle.components.specs.Step.{Going, Chosen, Followable, Followed, Enterable, Entered, Closable, Shut, Countable, after, Storable, Stored};
 
 // What the search does next.
 enum Step {
@@ -17,6 +18,21 @@ enum Step {
     Pass(usize, u32),
     Leave,
     Close(usize),
+}
+
+// How far the search is: the root to try, the open vertices, those on the path, the groups along it, the closed vertices.
+struct Counts {
+    root: usize,
+    s: usize,
+    d: usize,
+    b: usize,
+    m: usize,
+}
+
+// The search is over, or goes on.
+enum After {
+    Over,
+    On(Counts),
 }
 
 pub enum Cycle {
@@ -137,6 +153,75 @@ fn close(group: &mut [u32], place: &mut [u32], stack: &[u32], from: usize, s: us
     }
 }
 
+// The counts after a step.
+fn counted(step: Step, c: Counts) -> After
+    requires { ⌜ Countable step c ⌝ }
+    ensures { λ r. ⌜ r ≡ after step c ⌝ }
+{
+    let mut t = c;
+    match step {
+        Step::Done => After::Over,
+        Step::Skip => {
+            t.root += 1;
+            After::On(t)
+        }
+        Step::Enter(_) => {
+            t.s += 1;
+            t.d += 1;
+            t.b += 1;
+            After::On(t)
+        }
+        Step::Join => {
+            t.b -= 1;
+            After::On(t)
+        }
+        Step::Pass(_, _) => After::On(t),
+        Step::Leave => {
+            t.d -= 1;
+            After::On(t)
+        }
+        Step::Close(from) => {
+            t.m += t.s - from;
+            t.s = from;
+            t.d -= 1;
+            t.b -= 1;
+            After::On(t)
+        }
+    }
+}
+
+// What a step writes.
+fn store(
+    first: &[u32],
+    group: &mut [u32],
+    place: &mut [u32],
+    at: &mut [u32],
+    stack: &mut [u32],
+    path: &mut [u32],
+    bound: &mut [u32],
+    step: Step,
+    c: Counts,
+)
+    requires { ⌜ Storable (now first) (now group) (now place) (now stack) step c ⌝ }
+    ensures { λ _. ⌜ Stored (now (first .entry)) (now (group .entry)) (now (place .entry)) (now (at .entry)) (now (stack .entry)) (now (path .entry)) (now (bound .entry)) (now (group .exit)) (now (place .exit)) (now (at .exit)) (now (stack .exit)) (now (path .exit)) (now (bound .exit)) step c ⌝ }
+{
+    let s = c.s;
+    let d = c.d;
+    let b = c.b;
+    match step {
+        Step::Enter(w) => {
+            enter(first, group, place, at, stack, path, bound, w, s, d, b);
+        }
+        Step::Pass(v, e) => {
+            columns::put32(at, v, e);
+        }
+        Step::Close(from) => {
+            close(group, place, stack, from, s, c.m);
+        }
+        Step::Done | Step::Skip | Step::Join | Step::Leave => {}
+    }
+}
+
 // Every vertex has the number of its component, and its place.
 fn search(
     first: &[u32],
@@ -151,43 +236,23 @@ fn search(
     requires { ⌜ Ready (now first) (now to) (now group) (now place) (now at) (now stack) (now path) (now bound) ⌝ }
     ensures { λ _. ⌜ Grouped (now (first .entry)) (now (to .entry)) (now (group .exit)) (now (place .exit)) (vertices (now (first .entry))) ⌝ }
 {
-    let mut root = 0;
-    let mut s = 0;
-    let mut d = 0;
-    let mut b = 0;
-    let mut m = 0;
+    let mut c = Counts {
+        root: 0,
+        s: 0,
+        d: 0,
+        b: 0,
+        m: 0,
+    };
     loop {
+        let root = c.root;
+        let d = c.d;
+        let b = c.b;
         let step = next(first, to, group, place, at, stack, path, bound, root, d, b);
-        match step {
-            Step::Done => {
-                return;
-            }
-            Step::Skip => {
-                root += 1;
-            }
-            Step::Enter(w) => {
-                enter(first, group, place, at, stack, path, bound, w, s, d, b);
-                s += 1;
-                d += 1;
-                b += 1;
-            }
-            Step::Join => {
-                b -= 1;
-            }
-            Step::Pass(v, e) => {
-                columns::put32(at, v, e);
-            }
-            Step::Leave => {
-                d -= 1;
-            }
-            Step::Close(from) => {
-                close(group, place, stack, from, s, m);
-                m += s - from;
-                s = from;
-                d -= 1;
-                b -= 1;
-            }
-        }
+        store(first, group, place, at, stack, path, bound, step, c);
+        let After::On(then) = counted(step, c) else {
+            return;
+        };
+        c = then;
     }
 }
 

@@ -48,32 +48,39 @@ fn size(shape: usize) -> usize
     mix(shape) % 8 + 1
 }
 
+// Two cycles, 20000 with 20001 and 50000 with 50001, and from the one to the other a way over 5.
+fn two_cycles(v: usize, second: bool) -> usize
+    requires { ⌜ v < 60000 ⌝ }
+    ensures { λ r. ⌜ r ≤ 60000 ⌝ }
+{
+    if second {
+        if v == 50000 {
+            return 50001;
+        }
+        if v == 50001 {
+            return 5;
+        }
+        return 60000;
+    }
+    if 20000 < v {
+        return v - 1;
+    }
+    if v == 20000 {
+        return 20001;
+    }
+    if v == 5 {
+        return 20000;
+    }
+    60000
+}
+
 // Where an arc of a large graph leads; nowhere, if to no vertex.
 fn large(shape: usize, v: usize, second: bool) -> usize
     requires { ⌜ v < 60000 ⌝ }
     ensures { λ r. ⌜ r ≤ 60000 ⌝ }
 {
     if shape == 4 {
-        // two cycles, 20000 with 20001 and 50000 with 50001, and from the one to the other a way over 5
-        if second {
-            if v == 50000 {
-                return 50001;
-            }
-            if v == 50001 {
-                return 5;
-            }
-            return 60000;
-        }
-        if 20000 < v {
-            return v - 1;
-        }
-        if v == 20000 {
-            return 20001;
-        }
-        if v == 5 {
-            return 20000;
-        }
-        return 60000;
+        return two_cycles(v, second);
     }
     if !second {
         // a chain; in graph 1 its end leads to the vertex before it

@@ -1,8 +1,11 @@
 //! The parser's refusals against a general recogniser (Earley's) of the grammar: reply 4 must stand at the first token
 //! through which no text of the grammar begins, and random files must never make the checker panic.
 
+mod common;
+
 use std::collections::{HashMap, HashSet};
 
+use common::Random;
 use reference::{check, listing, parse, tokens};
 
 /// The paper's grammar; the first alternative of each rule is one that comes to an end.
@@ -145,17 +148,6 @@ impl Grammar {
             stack.extend(self.rules[rules[choice]].parts.iter().rev());
         }
         text
-    }
-}
-
-struct Random(u64);
-
-impl Random {
-    fn below(&mut self, bound: usize) -> usize {
-        self.0 ^= self.0 << 13;
-        self.0 ^= self.0 >> 7;
-        self.0 ^= self.0 << 17;
-        (self.0 >> 11) as usize % bound
     }
 }
 

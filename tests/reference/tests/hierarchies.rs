@@ -1,21 +1,16 @@
 //! Random hierarchies of entities against a direct reading of the paper's scopes, over the model they are written from.
 
+mod common;
+
 use std::collections::BTreeSet;
 
+use common::Random;
 use reference::{check, Checked, NodeRow};
 
 const NAMES: [&str; 5] = ["a", "b", "c", "d", "e"];
 
-struct Random(u64);
-
 impl Random {
-    fn below(&mut self, bound: usize) -> usize {
-        self.0 ^= self.0 << 13;
-        self.0 ^= self.0 >> 7;
-        self.0 ^= self.0 << 17;
-        (self.0 >> 11) as usize % bound
-    }
-
+    /// At most so many different numbers below the bound.
     fn some(&mut self, bound: usize, most: usize) -> Vec<usize> {
         let count = self.below(most + 1);
         let mut chosen = Vec::new();
