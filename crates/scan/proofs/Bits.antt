@@ -38,17 +38,6 @@ agreed true false t = absurd t
 agreed false true t = absurd t
 agreed false false t = refl
 
--- what continues a word
-abbrev word-bits : ℕ → Bool
-word-bits b = inSet 287948901175001088 576460745995190270 b
-
-words-all : T (below (λ b. agree (word-bits b) (wordByte b)) 256)
-unfolding wordByte
-words-all = tt
-
-pub word-is : (b : ℕ) → b < 256 → word-bits b ≡ wordByte b
-word-is b h = agreed (word-bits b) (wordByte b) (at-byte (λ x. agree (word-bits x) (wordByte x)) 256 words-all b h)
-
 -- what is a symbol alone
 abbrev lone-bits : ℕ → Bool
 lone-bits b = inSet 12105951775790465024 2882303762456641536 b

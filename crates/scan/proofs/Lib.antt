@@ -3,3 +3,4 @@ pub mod Numbers
 pub mod Rows
 pub mod Skipping
 pub mod Turns
+pub mod Words

@@ -5,7 +5,7 @@ ghost use Prim.Native.Nat.{_+_, _≤_, _<_};
 ghost use lib.ListN.{length, drop, getD, set};
 ghost use Rattle.express.specs.Bytes.{within, letter, wordByte, space};
 ghost use Rattle.express.specs.Lexis.{pair, either, run, remarkEnd, skipped, integerEnd, exponentDigits, exponentEnd, realEnd, stringEnd, binaryEnd, lone, symbolSize, symbolEnd, kindAt, tokenEnd, lexed};
-ghost use Rattle.scan.specs.Scan.{reading, halfOf, inSet, member, Filled, Scanned};
+ghost use Rattle.scan.specs.Scan.{reading, halfOf, inSet, member, one, wordTable, Filled, Scanned};
 
 // A reading step gives a new place, or a located refusal: its number and its place.
 pub enum Step {
@@ -13,9 +13,12 @@ pub enum Step {
     Refused(u8, usize),
 }
 
+// 1 for each byte that a word goes on with, 0 for the others: specs/Scan has the rule.
+const WORDS: [u8; 256] =
+    *b"\x00\x00\x00\x00\x00\x00\x00\x00\x00\x00\x00\x00\x00\x00\x00\x00\x00\x00\x00\x00\x00\x00\x00\x00\x00\x00\x00\x00\x00\x00\x00\x00\x00\x00\x00\x00\x00\x00\x00\x00\x00\x00\x00\x00\x00\x00\x00\x00\x01\x01\x01\x01\x01\x01\x01\x01\x01\x01\x00\x00\x00\x00\x00\x00\x00\x01\x01\x01\x01\x01\x01\x01\x01\x01\x01\x01\x01\x01\x01\x01\x01\x01\x01\x01\x01\x01\x01\x01\x01\x01\x01\x00\x00\x00\x00\x01\x00\x01\x01\x01\x01\x01\x01\x01\x01\x01\x01\x01\x01\x01\x01\x01\x01\x01\x01\x01\x01\x01\x01\x01\x01\x01\x01\x00\x00\x00\x00\x00\x00\x00\x00\x00\x00\x00\x00\x00\x00\x00\x00\x00\x00\x00\x00\x00\x00\x00\x00\x00\x00\x00\x00\x00\x00\x00\x00\x00\x00\x00\x00\x00\x00\x00\x00\x00\x00\x00\x00\x00\x00\x00\x00\x00\x00\x00\x00\x00\x00\x00\x00\x00\x00\x00\x00\x00\x00\x00\x00\x00\x00\x00\x00\x00\x00\x00\x00\x00\x00\x00\x00\x00\x00\x00\x00\x00\x00\x00\x00\x00\x00\x00\x00\x00\x00\x00\x00\x00\x00\x00\x00\x00\x00\x00\x00\x00\x00\x00\x00\x00\x00\x00\x00\x00\x00\x00\x00\x00\x00\x00\x00\x00\x00\x00\x00\x00\x00\x00\x00\x00\x00\x00\x00\x00\x00\x00\x00\x00";
+
 // The classes of bytes that a run is made of.
 enum Class {
-    Word,
     Digit,
     Bit,
     Line,
@@ -94,12 +97,6 @@ fn is_in(low: u64, high: u64, b: u8) -> bool
     (half(low, high, b) >> shift) % 2 == 1
 }
 
-fn is_word(b: u8) -> bool
-    ensures { λ r. ⌜ r ≡ wordByte b ⌝ }
-{
-    is_in(287948901175001088, 576460745995190270, b)
-}
-
 fn is_space(b: u8) -> bool
     ensures { λ r. ⌜ r ≡ space b ⌝ }
 {
@@ -113,7 +110,6 @@ fn is_member(class: Class, b: u8) -> bool
     ensures { λ r. ⌜ r ≡ member class b ⌝ }
 {
     match class {
-        Class::Word => is_word(b),
         Class::Digit => is_within(48, 57, b),
         Class::Bit => is_within(48, 49, b),
         Class::Line => b != 10,
@@ -131,6 +127,43 @@ fn run_end(s: &[u8], at: usize, class: Class) -> usize
             return i;
         }
         i += 1;
+    }
+    i
+}
+
+fn index(b: u8) -> usize
+    ensures { λ r. ⌜ r ≡ b ⌝ }
+{
+    b as usize
+}
+
+// 1 where a word goes on with a byte, 0 where it does not.
+fn goes_on(words: &[u8; 256], b: u8) -> u8
+    requires { ⌜ now words ≡ wordTable ⌝ }
+    ensures { λ r. ⌜ r ≡ one (wordByte b) ⌝ }
+{
+    words[index(b)]
+}
+
+// The end of the word that goes on at a place. Two bytes a turn: half the jumps, and lengths 1 apart are alike to them.
+fn word_end(s: &[u8], at: usize, words: &[u8; 256]) -> usize
+    requires { ⌜ (at ≤ length (now s)) × (now words ≡ wordTable) ⌝ }
+    ensures { λ r. ⌜ r ≡ run wordByte (now (s .entry)) at ⌝ }
+{
+    let mut i = at;
+    while i + 1 < s.len() {
+        let a = goes_on(words, s[i]);
+        let b = goes_on(words, s[i + 1]);
+        if a & b == 0 {
+            if a == 0 {
+                return i;
+            }
+            return i + 1;
+        }
+        i += 2;
+    }
+    if i < s.len() {
+        return i + index(goes_on(words, s[i]));
     }
     i
 }
@@ -393,12 +426,12 @@ fn kind_at(s: &[u8], at: usize) -> u8
     6
 }
 
-fn token_end(s: &[u8], at: usize, kind: u8) -> Step
-    requires { ⌜ (at < length (now s)) × (kind ≡ kindAt (now s) at) ⌝ }
+fn token_end(s: &[u8], at: usize, kind: u8, words: &[u8; 256]) -> Step
+    requires { ⌜ (at < length (now s)) × (kind ≡ kindAt (now s) at) × (now words ≡ wordTable) ⌝ }
     ensures { λ r. ⌜ reading r ≡ tokenEnd (now (s .entry)) at kind ⌝ }
 {
     if kind == 1 {
-        return Step::At(run_end(s, at + 1, Class::Word));
+        return Step::At(word_end(s, at + 1, words));
     }
     if kind == 2 {
         return integer_end(s, at);
@@ -441,8 +474,15 @@ fn push(
 }
 
 // One row for each token, as far as the columns go; the number of tokens, or the first refusal.
-fn fill(src: &[u8], kinds: &mut [u8], starts: &mut [u32], lengths: &mut [u32], room: usize) -> Step
-    requires { ⌜ (room ≤ length (now kinds)) × (room ≤ length (now starts)) × (room ≤ length (now lengths)) ⌝ }
+fn fill(
+    src: &[u8],
+    kinds: &mut [u8],
+    starts: &mut [u32],
+    lengths: &mut [u32],
+    room: usize,
+    words: &[u8; 256],
+) -> Step
+    requires { ⌜ (room ≤ length (now kinds)) × (room ≤ length (now starts)) × (room ≤ length (now lengths)) × (now words ≡ wordTable) ⌝ }
     ensures { λ r. ⌜ Filled (lexed (now (src .entry))) (now (kinds .entry)) (now (starts .entry)) (now (lengths .entry)) r (now (kinds .exit)) (now (starts .exit)) (now (lengths .exit)) ⌝ }
 {
     if src.len() > 65536 {
@@ -459,7 +499,7 @@ fn fill(src: &[u8], kinds: &mut [u8], starts: &mut [u32], lengths: &mut [u32], r
             return Step::At(n);
         }
         let kind = kind_at(src, p);
-        let end = token_end(src, p, kind);
+        let end = token_end(src, p, kind, words);
         let Step::At(e) = end else {
             return end;
         };
@@ -483,7 +523,9 @@ pub fn scan(src: &[u8], kinds: &mut [u8], starts: &mut [u32], lengths: &mut [u32
     ensures { λ r. ⌜ Scanned (now (src .entry)) (now (kinds .entry)) (now (starts .entry)) (now (lengths .entry)) r (now (kinds .exit)) (now (starts .exit)) (now (lengths .exit)) ⌝ }
 {
     let room = columns::shorter(kinds.len(), columns::shorter(starts.len(), lengths.len()));
-    let step = fill(src, kinds, starts, lengths, room);
+    // A constant array is built anew wherever it is named: once here, and lent from here on.
+    let words = WORDS;
+    let step = fill(src, kinds, starts, lengths, room, &words);
     let Step::At(n) = step else {
         return step;
     };

@@ -14,10 +14,10 @@ use borrow.Author.Needs.{needs}
 use native.Mathlib.Omega.{arith}
 
 abbrev Inv-loop : tie.InvT-loop
-Inv-loop src kinds₀ starts₀ lengths₀ room n₀ at₀ kinds starts lengths n at = Progress src kinds₀ starts₀ lengths₀ kinds starts lengths n at
+Inv-loop src kinds₀ starts₀ lengths₀ room words n₀ at₀ kinds starts lengths n at = Progress src kinds₀ starts₀ lengths₀ kinds starts lengths n at
 
 abbrev μ-loop : tie.MeasureT-loop
-μ-loop src kinds₀ starts₀ lengths₀ room n₀ at₀ kinds starts lengths n at = length src - at
+μ-loop src kinds₀ starts₀ lengths₀ room words n₀ at₀ kinds starts lengths n at = length src - at
 
 -- src/lib.rt:442:9
 returns : tie.Need-returns Inv-loop μ-loop
@@ -77,7 +77,7 @@ kind-at-requires c κs = tt
 
 -- src/lib.rt:455:13
 token-end-requires : tie.Need-token-end-requires Inv-loop μ-loop
-token-end-requires c κs = (c .before .if2 .left, c .kind-at .ensures)
+token-end-requires c κs = (c .before .if2 .left, c .kind-at .ensures, c .before .before .before .before .before .before .before .before .before .before .before .before .pre .3)
 
 -- src/lib.rt:456:22
 enum-known-end : tie.Need-enum-known-end Inv-loop μ-loop

@@ -6,7 +6,7 @@ use Rattle.scan.proofs.token_end.Lts as lts
 use Rattle.scan.proofs.binary_end.Reads as binary-end-reads
 use Rattle.scan.proofs.integer_end.Reads as integer-end-reads
 use Rattle.scan.proofs.real_end.Reads as real-end-reads
-use Rattle.scan.proofs.run_end.Reads as run-end-reads
+use Rattle.scan.proofs.word_end.Reads as word-end-reads
 use Rattle.scan.proofs.string_end.Reads as string-end-reads
 use Rattle.scan.proofs.symbol_end.Reads as symbol-end-reads
 use mathlib.Core.Path.{sym, _∙_, ap}
@@ -15,17 +15,17 @@ use Rattle.express.specs.Lexis.{tokenEnd, at}
 use Rattle.scan.proofs.Bits.{word-more}
 
 -- src/lib.rt:397:36
-add-run-end : tie.Need-add-run-end
-add-run-end c = search needs
+add-word-end : tie.Need-add-word-end
+add-word-end c = search needs
 
 -- src/lib.rt:397:25
-run-end-requires : tie.Need-run-end-requires
-run-end-requires c κs = search needs
+word-end-requires : tie.Need-word-end-requires
+word-end-requires c κs = search needs
 
 -- src/lib.rt:397:9
 returns : tie.Need-returns
 unfolding tokenEnd
-returns c = rw (eq-eqb _ _ (c .before .if1 .taken)) (ap at (c .run-end .ensures ∙ sym (word-more _ _ (c .before .before .before .pre .0) (sym (c .before .if1 .taken) ∙ c .before .before .before .pre .1))))
+returns c = rw (eq-eqb _ _ (c .before .if1 .taken)) (ap at (c .word-end .ensures ∙ sym (word-more _ _ (c .before .before .before .pre .0) (sym (c .before .if1 .taken) ∙ c .before .before .before .pre .1))))
 
 -- src/lib.rt:400:9
 integer-end-requires : tie.Need-integer-end-requires
@@ -76,8 +76,8 @@ pub token-end-spec : {M : Type 1} → statement M
 token-end-spec =
     tie.close
     (tie.spec
-    add-run-end
-    run-end-requires
+    add-word-end
+    word-end-requires
     returns
     integer-end-requires
     returns-2
