@@ -392,7 +392,15 @@ fn symbol_end(s: &[u8], at: usize) -> Step
     if is_lone(b) {
         return Step::At(at + 1);
     }
-    let size = symbol_size(b, byte(s, at + 1), byte(s, at + 2), byte(s, at + 3));
+    // `:=` is the commonest symbol of two bytes.
+    let c = byte(s, at + 1);
+    if is_pair(58, 61, b, c) {
+        if byte(s, at + 2) == 58 {
+            return Step::At(at + 3);
+        }
+        return Step::At(at + 2);
+    }
+    let size = symbol_size(b, c, byte(s, at + 2), byte(s, at + 3));
     if size == 0 {
         return Step::Refused(2, at);
     }
