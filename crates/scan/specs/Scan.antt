@@ -8,9 +8,11 @@ use lib.ListN.{length}
 use lib.Seq.{sets}
 use Rattle.express.specs.Bytes.{digit, wordByte}
 use Rattle.express.specs.Lexis as Lexis
-use Rattle.express.specs.Lexis.{Reading, at, refused, Lexed, inLine, bit, lexed, tokens}
+use Rattle.express.specs.Lexis.{Reading, at, refused, Lexed, inLine, bit, kindAt, tokenEnd, lexed, tokens}
 use Rattle.scan.specs.declared.Step.{Step}
 use Rattle.scan.specs.declared.Step.the-variants.{At, Refused}
+use Rattle.scan.specs.declared.Found.{Found}
+use Rattle.scan.specs.declared.Found.the-variants.{Of, Not}
 use Rattle.scan.specs.declared.Class.{Class}
 use Rattle.scan.specs.declared.Class.the-variants.{Digit, Bit, Line}
 
@@ -36,6 +38,18 @@ column f p (suc n) = f p ∷ column f (p + 1) n
 -- by its byte: 1 for what a word goes on with
 unfoldable pub wordTable : List ℕ
 wordTable = column (λ b. one (wordByte b)) 0 256
+
+-- what a token's kind and end are together
+abbrev pub tokenOf : ℕ → Reading → Found
+tokenOf k (at e) = Of k e
+tokenOf k (refused n o) = Not n o
+
+abbrev pub stepOf : Found → Step
+stepOf (Of k e) = At e
+stepOf (Not n o) = Refused n o
+
+unfoldable pub tokenAt : List ℕ → ℕ → Found
+tokenAt s p = tokenOf (kindAt s p) (tokenEnd s p (kindAt s p))
 
 abbrev pub member : Class → ℕ → Bool
 member Digit = digit

@@ -1,16 +1,22 @@
 // The token reader: bytes to a table of tokens, lent as three columns.
 ghost use mathlib.Core.Path.{_≡_};
-ghost use mathlib.Core.Bool.{false};
+ghost use mathlib.Core.Bool.{true, false};
 ghost use Prim.Native.Nat.{_+_, _≤_, _<_};
 ghost use lib.ListN.{length, drop, getD, set};
-ghost use Rattle.express.specs.Bytes.{within, letter, wordByte, space};
-ghost use Rattle.express.specs.Lexis.{pair, either, run, remarkEnd, skipped, integerEnd, exponentDigits, exponentEnd, realEnd, stringEnd, binaryEnd, lone, symbolSize, symbolEnd, kindAt, tokenEnd, lexed};
-ghost use Rattle.scan.specs.Scan.{reading, halfOf, inSet, member, one, wordTable, Filled, Scanned};
+ghost use Rattle.express.specs.Bytes.{within, digit, letter, wordByte, space};
+ghost use Rattle.express.specs.Lexis.{pair, either, run, remarkEnd, skipped, integerEnd, exponentDigits, exponentEnd, stringEnd, binaryEnd, lone, symbolSize, symbolEnd, lexed};
+ghost use Rattle.scan.specs.Scan.{reading, halfOf, inSet, member, one, wordTable, tokenOf, stepOf, tokenAt, Filled, Scanned};
 
 // A reading step gives a new place, or a located refusal: its number and its place.
 pub enum Step {
     At(usize),
     Refused(u8, usize),
+}
+
+// A token gives its kind and its end, or a located refusal.
+enum Found {
+    Of(u8, usize),
+    Not(u8, usize),
 }
 
 // 1 for each byte that a word goes on with, 0 for the others: specs/Scan has the rule.
@@ -228,10 +234,11 @@ fn skip(s: &[u8], at: usize) -> Step
     Step::At(i)
 }
 
-fn integer_end(s: &[u8], at: usize) -> Step
+// Of the integer whose digits end at a place.
+fn integer_end(s: &[u8], at: usize, end: usize) -> Step
+    requires { ⌜ end ≡ run digit (now s) at ⌝ }
     ensures { λ r. ⌜ reading r ≡ integerEnd (now (s .entry)) at ⌝ }
 {
-    let end = run_end(s, at, Class::Digit);
     if end - at < 19 {
         return Step::At(end);
     }
@@ -268,11 +275,11 @@ fn exponent_end(s: &[u8], at: usize) -> usize
     run_end(s, digits, Class::Digit)
 }
 
-fn real_end(s: &[u8], at: usize) -> usize
-    requires { ⌜ at ≤ length (now s) ⌝ }
-    ensures { λ r. ⌜ r ≡ realEnd (now (s .entry)) at ⌝ }
+// Of the real whose point is at a place.
+fn real_end(s: &[u8], point: usize) -> usize
+    requires { ⌜ point ≤ length (now s) ⌝ }
+    ensures { λ r. ⌜ r ≡ exponentEnd (now (s .entry)) (run digit (now (s .entry)) (point + 1)) ⌝ }
 {
-    let point = run_end(s, at, Class::Digit);
     exponent_end(s, run_end(s, point + 1, Class::Digit))
 }
 
@@ -407,53 +414,57 @@ fn symbol_end(s: &[u8], at: usize) -> Step
     Step::At(at + size)
 }
 
-// The kind of the token at a place.
-fn kind_at(s: &[u8], at: usize) -> u8
-    ensures { λ r. ⌜ r ≡ kindAt (now (s .entry)) at ⌝ }
+fn named(kind: u8, step: Step) -> Found
+    ensures { λ r. ⌜ r ≡ tokenOf kind (reading step) ⌝ }
 {
-    let b = byte(s, at);
-    if is_lone(b) {
-        return 6;
+    match step {
+        Step::At(e) => Found::Of(kind, e),
+        Step::Refused(n, o) => Found::Not(n, o),
     }
-    if is_letter(b) {
-        return 1;
-    }
-    if is_within(48, 57, b) {
-        let end = run_end(s, at, Class::Digit);
-        if byte(s, end) == 46 {
-            return 3;
-        }
-        return 2;
-    }
-    if b == 39 {
-        return 4;
-    }
-    if b == 37 {
-        return 5;
-    }
-    6
 }
 
-fn token_end(s: &[u8], at: usize, kind: u8, words: &[u8; 256]) -> Step
-    requires { ⌜ (at < length (now s)) × (kind ≡ kindAt (now s) at) × (now words ≡ wordTable) ⌝ }
-    ensures { λ r. ⌜ reading r ≡ tokenEnd (now (s .entry)) at kind ⌝ }
+fn refusal(found: Found) -> Step
+    ensures { λ r. ⌜ r ≡ stepOf found ⌝ }
 {
-    if kind == 1 {
-        return Step::At(word_end(s, at + 1, words));
+    match found {
+        Found::Of(_, e) => Step::At(e),
+        Found::Not(n, o) => Step::Refused(n, o),
     }
-    if kind == 2 {
-        return integer_end(s, at);
+}
+
+fn number(s: &[u8], at: usize) -> Found
+    requires { ⌜ (at < length (now s)) × (letter (getD (now s) at 0) ≡ false) × (digit (getD (now s) at 0) ≡ true) ⌝ }
+    ensures { λ r. ⌜ r ≡ tokenAt (now (s .entry)) at ⌝ }
+{
+    let end = run_end(s, at, Class::Digit);
+    if byte(s, end) == 46 {
+        return Found::Of(3, real_end(s, end));
     }
-    if kind == 3 {
-        return Step::At(real_end(s, at));
+    named(2, integer_end(s, at, end))
+}
+
+// The token at a place, by its first byte.
+fn token(s: &[u8], at: usize, words: &[u8; 256]) -> Found
+    requires { ⌜ (at < length (now s)) × (now words ≡ wordTable) ⌝ }
+    ensures { λ r. ⌜ r ≡ tokenAt (now (s .entry)) at ⌝ }
+{
+    let b = s[at];
+    if is_lone(b) {
+        return Found::Of(6, at + 1);
     }
-    if kind == 4 {
-        return string_end(s, at);
+    if is_letter(b) {
+        return Found::Of(1, word_end(s, at + 1, words));
     }
-    if kind == 5 {
-        return binary_end(s, at);
+    if is_within(48, 57, b) {
+        return number(s, at);
     }
-    symbol_end(s, at)
+    if b == 39 {
+        return named(4, string_end(s, at));
+    }
+    if b == 37 {
+        return named(5, binary_end(s, at));
+    }
+    named(6, symbol_end(s, at))
 }
 
 // One row, as far as the columns go; each of them has room entries.
@@ -506,10 +517,9 @@ fn fill(
         if p >= src.len() {
             return Step::At(n);
         }
-        let kind = kind_at(src, p);
-        let end = token_end(src, p, kind, words);
-        let Step::At(e) = end else {
-            return end;
+        let found = token(src, p, words);
+        let Found::Of(kind, e) = found else {
+            return refusal(found);
         };
         push(
             kinds,
