@@ -3,7 +3,7 @@ ghost use mathlib.Core.Path.{_≡_};
 ghost use mathlib.Core.Bool.{true, false};
 ghost use Prim.Native.Nat.{_+_, _≤_, _<_};
 ghost use lib.ListN.{length, drop, getD, set};
-ghost use Rattle.express.specs.Bytes.{within, digit, letter, wordByte, space};
+ghost use Rattle.express.specs.Bytes.{within, digit, letter, wordByte};
 ghost use Rattle.express.specs.Lexis.{pair, either, run, remarkEnd, skipped, integerEnd, exponentDigits, exponentEnd, stringEnd, binaryEnd, lone, symbolSize, symbolEnd, lexed};
 ghost use Rattle.scan.specs.Scan.{reading, halfOf, inSet, member, one, wordTable, tokenOf, stepOf, tokenAt, Filled, Scanned};
 
@@ -101,15 +101,6 @@ fn is_in(low: u64, high: u64, b: u8) -> bool
 {
     let shift = wide(b % 64);
     (half(low, high, b) >> shift) % 2 == 1
-}
-
-fn is_space(b: u8) -> bool
-    ensures { λ r. ⌜ r ≡ space b ⌝ }
-{
-    if is_within(9, 13, b) {
-        return true;
-    }
-    b == 32
 }
 
 fn is_member(class: Class, b: u8) -> bool
@@ -211,10 +202,11 @@ fn skip(s: &[u8], at: usize) -> Step
     let mut i = at;
     while i < s.len() {
         let b = s[i];
-        if b > 45 {
+        if b == 32 {
+            i += 1;
+        } else if b > 45 {
             return Step::At(i);
-        }
-        if is_space(b) {
+        } else if is_within(9, 13, b) {
             i += 1;
         } else {
             let c = byte(s, i + 1);
