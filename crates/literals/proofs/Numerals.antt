@@ -1,5 +1,5 @@
 -- Numerals: what one digit more does, and the bound of 63 bits. Assumes nothing.
-use mathlib.Core.Path.{_≡_, refl, ap, _∙_}
+use mathlib.Core.Path.{_≡_, refl, sym, ap, _∙_}
 use mathlib.Core.List.{List, [], _∷_}
 use Prim.Native.Nat.{ℕ, suc, _+_, _-_, _*_, _/_, _≤_, _<_}
 use native.Mathlib.Omega.{arith}
@@ -8,7 +8,7 @@ use native.Mathlib.Decide.{decLt}
 use lib.ListN.{length, take, drop, getD}
 use lib.Seq.{take-nil}
 use Rattle.express.specs.Lexis.{numeral, integerValue, binaryValue}
-use Rattle.literals.specs.Literal.{capped}
+use Rattle.literals.specs.Literal.{capped, Zeros}
 use lib.Seq.{drop-cons}
 use lib.ListN.{drop-of-length-le}
 use native.Mathlib.Numerals.{add-one}
@@ -71,6 +71,20 @@ module _ (base : ℕ) (s : List ℕ) (i left v : ℕ) where
   pub numeral-more : (d : ℕ) → i < length s → (left ≡ 0 → ⊥) → d ≡ getD s i 0 - 48 → coming base s i left v ≡ coming base s (i + 1) (left - 1) (v * base + d)
   unfolding numeral
   numeral-more d h n e = rw (part-more s i left h n, e)
+
+-- zeros in front
+pub zeros-none : (s : List ℕ) (start size : ℕ) → Zeros s start size 0
+zeros-none s start size =
+    let none : size - 0 ≡ size = omega arith in
+    let here : start + 0 ≡ start = omega arith in
+    record { few = omega arith; inside = omega arith; is = rw (none, here) }
+
+pub zeros-more : (s : List ℕ) (start size n : ℕ) → Zeros s start size n → n < size → start + n < length s → getD s (start + n) 0 ≡ 48 → Zeros s start size (n + 1)
+zeros-more s start size n z l h e =
+    let more : numeral 10 0 (take (size - n) (drop (start + n) s)) ≡ numeral 10 0 (take (size - n - 1) (drop (start + n + 1) s)) = numeral-more 10 s (start + n) (size - n) 0 0 h (λ q. omega (arith, q, l)) (omega (arith, e)) in
+    let left : size - (n + 1) ≡ size - n - 1 = omega arith in
+    let next : start + (n + 1) ≡ start + n + 1 = omega arith in
+    record { few = omega (arith, l); inside = omega (arith, h); is = rw (left, next) (sym more ∙ z .is) }
 
 -- a literal's token, its first byte passed over
 module _ (s : List ℕ) (i n : ℕ) where

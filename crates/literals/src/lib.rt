@@ -3,7 +3,7 @@ ghost use mathlib.Core.Path.{_≡_};
 ghost use Prim.Native.Nat.{_-_, _≤_, _<_};
 ghost use lib.ListN.{take, drop};
 ghost use Rattle.express.specs.Lexis.{numeral, integerValue, binaryValue};
-ghost use Rattle.literals.specs.Literal.{capped};
+ghost use Rattle.literals.specs.Literal.{capped, Zeros};
 
 fn digit(b: u8) -> u64
     ensures { λ r. ⌜ (r ≡ b - 48) × (r ≤ 255) ⌝ }
@@ -37,11 +37,29 @@ fn numeral_of(s: &[u8], start: usize, length: usize, base: u64) -> u64
     v
 }
 
+// How many zeros a part starts with: none of them counts, and there may be a whole file of them.
+fn zeros(s: &[u8], start: usize, length: usize) -> usize
+    ensures { λ r. ⌜ Zeros (now (s .entry)) start length r ⌝ }
+{
+    let mut n: usize = 0;
+    while n < length {
+        if start + n >= s.len() {
+            return n;
+        }
+        if s[start + n] != 48 {
+            return n;
+        }
+        n += 1;
+    }
+    n
+}
+
 // The value of the integer literal that lies from a start on, as far as 2 to the 63, which no literal of the language reaches.
 pub fn integer(s: &[u8], start: usize, length: usize) -> u64
     ensures { λ r. ⌜ r ≡ capped (integerValue (take length (drop start (now (s .entry))))) ⌝ }
 {
-    numeral_of(s, start, length, 10)
+    let n = zeros(s, start, length);
+    numeral_of(s, start + n, length - n, 10)
 }
 
 // The bits of a binary literal as a number, its `%` passed over; there are as many as the token has bytes after that.

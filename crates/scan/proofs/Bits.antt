@@ -1,17 +1,16 @@
 -- Sets of bytes as bits: a test that is computed for each byte.
-use mathlib.Core.Path.{_≡_, refl, sym}
+use mathlib.Core.Path.{_≡_, refl}
 use mathlib.Core.Bool.{Bool, true, false, cond, not, _&&_}
 use mathlib.Core.List.{List}
-use Prim.Native.Nat.{ℕ, zero, suc, _+_, _<_}
+use Prim.Native.Nat.{ℕ, zero, suc, _<_}
 use native.Mathlib.Omega.{arith}
 use native.Mathlib.Nat.{not-suc-le-zero}
 use native.Mathlib.Decide.{decLt}
-use lib.ListN.{length, getD}
+use lib.ListN.{getD}
 use lib.Dec.{T, eqb, eqb→eq}
-use Rattle.express.specs.Bytes.{letter, digit, wordByte}
-use Rattle.express.specs.Lexis.{run, lone, kindAt}
+use Rattle.express.specs.Bytes.{letter, digit}
+use Rattle.express.specs.Lexis.{lone, kindAt}
 use Rattle.scan.specs.Scan.{inSet}
-use Rattle.scan.proofs.Turns.{run-more}
 
 abbrev below : (ℕ → Bool) → ℕ → Bool
 below f zero = true
@@ -37,17 +36,6 @@ agreed true true t = refl
 agreed true false t = absurd t
 agreed false true t = absurd t
 agreed false false t = refl
-
--- what continues a word
-abbrev word-bits : ℕ → Bool
-word-bits b = inSet 287948901175001088 576460745995190270 b
-
-words-all : T (below (λ b. agree (word-bits b) (wordByte b)) 256)
-unfolding wordByte
-words-all = tt
-
-pub word-is : (b : ℕ) → b < 256 → word-bits b ≡ wordByte b
-word-is b h = agreed (word-bits b) (wordByte b) (at-byte (λ x. agree (word-bits x) (wordByte x)) 256 words-all b h)
 
 -- what is a symbol alone
 abbrev lone-bits : ℕ → Bool
@@ -82,27 +70,3 @@ lone-kind s p b is h e = rw (← is) (go (letter b) (digit b) (eqb b 39) (eqb b 
     go true d x y n z = absurd (omega (arith, z))
     go false true x y n z = absurd (omega (arith, z))
     go false false x y n z = z
-
--- what begins a word is a letter, so the word goes on after it
-module _ (s : List ℕ) (p : ℕ) where
-  abbrev first : ℕ
-  first = getD s p 0
-
-  abbrev point : ℕ
-  point = getD s (run digit s p) 0
-
-  begins : 1 ≡ kindAt s p → letter first ≡ true
-  unfolding kindAt
-  begins e = go (letter first) (digit first) (eqb first 39) (eqb first 37) (eqb point 46) (sym e)
-    where
-      go : (l d x y q : Bool) → kind-by l d x y (cond q 3 2) ≡ 1 → l ≡ true
-      go true d x y q z = refl
-      go false true x y true z = absurd (omega (arith, z))
-      go false true x y false z = absurd (omega (arith, z))
-      go false false true y q z = absurd (omega (arith, z))
-      go false false false true q z = absurd (omega (arith, z))
-      go false false false false q z = absurd (omega (arith, z))
-
-  pub word-more : p < length s → 1 ≡ kindAt s p → run wordByte s p ≡ run wordByte s (p + 1)
-  unfolding wordByte
-  word-more h e = run-more wordByte s p h (rw (begins e))

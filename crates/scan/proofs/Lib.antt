@@ -2,4 +2,7 @@ pub mod Bits
 pub mod Numbers
 pub mod Rows
 pub mod Skipping
+pub mod Symbols
+pub mod Tokens
 pub mod Turns
+pub mod Words

@@ -12,9 +12,12 @@ use lib.Seq.{sets}
 use borrow.Author.Tests.{lt-ltb, le-ltb, le-leb, lt-leb}
 use Rattle.express.specs.Lexis.{Reading, at, refused, skipped, kindAt, tokenEnd, Lexed, stopped, cons, afterSkip, afterToken, lexIn, lexed, kinds, starts, sizes, counted, tokens}
 use Rattle.express.proofs.Places.{inside-at, skip-inside, token-inside}
-use Rattle.scan.specs.Scan.{reading, ended, Filled, Scanned}
+use Rattle.scan.specs.Scan.{reading, stepOf, tokenAt, ended, Filled, Scanned}
 use Rattle.scan.specs.declared.Step.{Step}
 use Rattle.scan.specs.declared.Step.the-variants.{At, Refused}
+use Rattle.scan.specs.declared.Found.{Found}
+use Rattle.scan.specs.declared.Found.the-variants.{Of, Not}
+use Rattle.scan.proofs.Tokens.{of-is, not-is}
 
 -- n rows are written and p is reached; what is left from there, in enough turns, completes them
 pub record Progress (src k₀ s₀ z₀ k s z : List ℕ) (n p : ℕ) : Type 0 where
@@ -81,22 +84,22 @@ module _ {src k₀ s₀ z₀ k s z : List ℕ} {n p : ℕ} (c : Progress src k�
       pub all-read : length src ≤ q → Filled (lexed src) k₀ s₀ z₀ (At n) k s z
       all-read h = ends (at q) (At n) (after ∙ rw (le-ltb q (length src) h)) refl
 
-      module _ (h : q < length src) {kind : ℕ} (kind-is : kind ≡ kindAt src q) (end : Step) (end-is : reading end ≡ tokenEnd src q kind) where
-        token-of : lexIn (suc (length src - n)) src p ≡ afterToken kind q (reading end) (λ r. lexIn (length src - n) src r)
-        token-of = after ∙ rw (lt-ltb q (length src) h, ← kind-is, end-is)
+      module _ (h : q < length src) {found : Found} (found-is : found ≡ tokenAt src q) where
+        token-of : {r : Reading} → r ≡ tokenEnd src q (kindAt src q) → lexIn (suc (length src - n)) src p ≡ afterToken (kindAt src q) q r (λ r. lexIn (length src - n) src r)
+        token-of r-is = after ∙ rw (lt-ltb q (length src) h, r-is)
 
-        pub token-refused : {m o : ℕ} → end ≡ Refused m o → Filled (lexed src) k₀ s₀ z₀ end k s z
-        token-refused {m} {o} e =
-            ends (refused m o) end
-            (token-of ∙ ap (λ (x : Step). afterToken kind q (reading x) (λ r. lexIn (length src - n) src r)) e)
-            (ap reading e)
+        pub token-refused : {m o : ℕ} → found ≡ Not m o → (r : Step) → r ≡ stepOf found → Filled (lexed src) k₀ s₀ z₀ r k s z
+        token-refused {m} {o} e r r-is = ends (refused m o) r (token-of (not-is src q (sym e ∙ found-is))) (ap reading (r-is ∙ ap stepOf e))
 
-        module _ {e : ℕ} (at-e : end ≡ At e) where
+        module _ {kind e : ℕ} (of-e : found ≡ Of kind e) where
+          parts : (kind ≡ kindAt src q) × (at e ≡ tokenEnd src q (kindAt src q))
+          parts = of-is src q (sym of-e ∙ found-is)
+
           -- where the token lies
           pub places : (n ≤ q) × (p ≤ q) × (q < e) × (e ≤ length src)
           places =
               let a = inside-at (sym is ∙ ap reading at-q) (skip-inside src p (c .inside)) in
-              let t = inside-at (sym (end-is ∙ ap (tokenEnd src q) kind-is) ∙ ap reading at-e) (token-inside src q h) in
+              let t = inside-at (sym (parts .1)) (token-inside src q h) in
               (omega (arith, a .0, c .fewer), a .0, omega (arith, t .0), t .1)
 
           pub row-read : {k′ s′ z′ : List ℕ} → k′ ≡ set k n kind → s′ ≡ set s n q → z′ ≡ set z n (e - q) → Progress src k₀ s₀ z₀ k′ s′ z′ (n + 1) e
@@ -106,7 +109,7 @@ module _ {src k₀ s₀ z₀ k s z : List ℕ} {n p : ℕ} (c : Progress src k�
               rest = lexIn (length src - n) src e
 
               l-is : c .left ≡ cons (record { kind = kind; start = q; size = e - q }) rest
-              l-is = sym (c .is) ∙ token-of ∙ ap (λ (x : Step). afterToken kind q (reading x) (λ r. lexIn (length src - n) src r)) at-e
+              l-is = sym (c .is) ∙ token-of (parts .1) ∙ ap (λ (i : ℕ). cons (record { kind = i; start = q; size = e - q }) rest) (sym (parts .0))
 
               row : Progress src k₀ s₀ z₀ (set k n kind) (set s n q) (set z n (e - q)) (n + 1) e
               row = record {

@@ -6,12 +6,25 @@ use Prim.Native.Nat.{ℕ, suc, _+_, _-_, _<_, _≤_}
 use native.Mathlib.Omega.{arith}
 use lib.ListN.{length, drop, getD}
 use borrow.Author.Tests.{ne-eqb, le-leb, lt-leb}
-use Rattle.express.specs.Bytes.{space}
+use Rattle.express.specs.Bytes.{within, space}
 use Rattle.express.specs.Lexis.{Reading, at, run, opens, dashes, inLine, remarkEnd, andThen, skipIn, skipped}
 use Rattle.express.proofs.Places.{past, inside-at, remark-low}
 use Rattle.scan.specs.Scan.{reading}
 use Rattle.scan.specs.declared.Step.{Step}
 use Rattle.scan.specs.declared.Step.the-variants.{At, Refused}
+
+-- a byte is a space by what it is compared with
+pub is-blank : (b : ℕ) → b ≡ 32 → space b ≡ true
+unfolding space
+is-blank b e = rw e
+
+pub is-control : (b : ℕ) → within 9 13 b ≡ true → space b ≡ true
+unfolding space
+is-control b e = rw e
+
+pub no-space : (b : ℕ) → (b ≡ 32 → ⊥) → within 9 13 b ≡ false → space b ≡ false
+unfolding space
+no-space b n e = rw (e, ne-eqb b 32 n)
 
 -- what is still to come, from i on, is what is wanted; f turns are enough
 pub record Left (s : List ℕ) (i : ℕ) (want : Reading) : Type 0 where

@@ -1,18 +1,20 @@
 -- What the steps of the token reader mean, and what its calls promise.
-use Prim.Native.Nat.{ℕ, min, _/_, _%_, _^_}
+use Prim.Native.Nat.{ℕ, zero, suc, min, _+_, _/_, _%_, _^_}
 use mathlib.Core.Bool.{Bool, cond}
 use lib.Dec.{eqb, ltb}
 use mathlib.Core.Path.{_≡_}
-use mathlib.Core.List.{List}
+use mathlib.Core.List.{List, [], _∷_}
 use lib.ListN.{length}
 use lib.Seq.{sets}
 use Rattle.express.specs.Bytes.{digit, wordByte}
 use Rattle.express.specs.Lexis as Lexis
-use Rattle.express.specs.Lexis.{Reading, at, refused, Lexed, inLine, bit, lexed, tokens}
+use Rattle.express.specs.Lexis.{Reading, at, refused, Lexed, inLine, bit, kindAt, tokenEnd, lexed, tokens}
 use Rattle.scan.specs.declared.Step.{Step}
 use Rattle.scan.specs.declared.Step.the-variants.{At, Refused}
+use Rattle.scan.specs.declared.Found.{Found}
+use Rattle.scan.specs.declared.Found.the-variants.{Of, Not}
 use Rattle.scan.specs.declared.Class.{Class}
-use Rattle.scan.specs.declared.Class.the-variants.{Word, Digit, Bit, Line}
+use Rattle.scan.specs.declared.Class.the-variants.{Digit, Bit, Line}
 
 abbrev pub reading : Step → Reading
 reading (At p) = at p
@@ -25,8 +27,31 @@ halfOf low high b = cond (ltb b 64) low (cond (ltb b 128) high 0)
 abbrev pub inSet : ℕ → ℕ → ℕ → Bool
 inSet low high b = eqb (halfOf low high b / 2 ^ (b % 64) % 2) 1
 
+abbrev pub one : Bool → ℕ
+one x = cond x 1 0
+
+-- what f gives for n numbers from p on
+unfoldable pub column : (ℕ → ℕ) → ℕ → ℕ → List ℕ
+column f p zero = []
+column f p (suc n) = f p ∷ column f (p + 1) n
+
+-- by its byte: 1 for what a word goes on with
+unfoldable pub wordTable : List ℕ
+wordTable = column (λ b. one (wordByte b)) 0 256
+
+-- what a token's kind and end are together
+abbrev pub tokenOf : ℕ → Reading → Found
+tokenOf k (at e) = Of k e
+tokenOf k (refused n o) = Not n o
+
+abbrev pub stepOf : Found → Step
+stepOf (Of k e) = At e
+stepOf (Not n o) = Refused n o
+
+unfoldable pub tokenAt : List ℕ → ℕ → Found
+tokenAt s p = tokenOf (kindAt s p) (tokenEnd s p (kindAt s p))
+
 abbrev pub member : Class → ℕ → Bool
-member Word = wordByte
 member Digit = digit
 member Bit = bit
 member Line = inLine

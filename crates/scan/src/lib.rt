@@ -1,11 +1,11 @@
 // The token reader: bytes to a table of tokens, lent as three columns.
 ghost use mathlib.Core.Path.{_≡_};
-ghost use mathlib.Core.Bool.{false};
+ghost use mathlib.Core.Bool.{true, false};
 ghost use Prim.Native.Nat.{_+_, _≤_, _<_};
 ghost use lib.ListN.{length, drop, getD, set};
-ghost use Rattle.express.specs.Bytes.{within, letter, wordByte, space};
-ghost use Rattle.express.specs.Lexis.{pair, either, run, remarkEnd, skipped, integerEnd, exponentDigits, exponentEnd, realEnd, stringEnd, binaryEnd, lone, symbolSize, symbolEnd, kindAt, tokenEnd, lexed};
-ghost use Rattle.scan.specs.Scan.{reading, halfOf, inSet, member, Filled, Scanned};
+ghost use Rattle.express.specs.Bytes.{within, digit, letter, wordByte};
+ghost use Rattle.express.specs.Lexis.{pair, either, run, remarkEnd, skipped, integerEnd, exponentDigits, exponentEnd, stringEnd, binaryEnd, lone, symbolSize, symbolEnd, lexed};
+ghost use Rattle.scan.specs.Scan.{reading, halfOf, inSet, member, one, wordTable, tokenOf, stepOf, tokenAt, Filled, Scanned};
 
 // A reading step gives a new place, or a located refusal: its number and its place.
 pub enum Step {
@@ -13,9 +13,18 @@ pub enum Step {
     Refused(u8, usize),
 }
 
+// A token gives its kind and its end, or a located refusal.
+enum Found {
+    Of(u8, usize),
+    Not(u8, usize),
+}
+
+// 1 for each byte that a word goes on with, 0 for the others: specs/Scan has the rule.
+const WORDS: [u8; 256] =
+    *b"\x00\x00\x00\x00\x00\x00\x00\x00\x00\x00\x00\x00\x00\x00\x00\x00\x00\x00\x00\x00\x00\x00\x00\x00\x00\x00\x00\x00\x00\x00\x00\x00\x00\x00\x00\x00\x00\x00\x00\x00\x00\x00\x00\x00\x00\x00\x00\x00\x01\x01\x01\x01\x01\x01\x01\x01\x01\x01\x00\x00\x00\x00\x00\x00\x00\x01\x01\x01\x01\x01\x01\x01\x01\x01\x01\x01\x01\x01\x01\x01\x01\x01\x01\x01\x01\x01\x01\x01\x01\x01\x01\x00\x00\x00\x00\x01\x00\x01\x01\x01\x01\x01\x01\x01\x01\x01\x01\x01\x01\x01\x01\x01\x01\x01\x01\x01\x01\x01\x01\x01\x01\x01\x01\x00\x00\x00\x00\x00\x00\x00\x00\x00\x00\x00\x00\x00\x00\x00\x00\x00\x00\x00\x00\x00\x00\x00\x00\x00\x00\x00\x00\x00\x00\x00\x00\x00\x00\x00\x00\x00\x00\x00\x00\x00\x00\x00\x00\x00\x00\x00\x00\x00\x00\x00\x00\x00\x00\x00\x00\x00\x00\x00\x00\x00\x00\x00\x00\x00\x00\x00\x00\x00\x00\x00\x00\x00\x00\x00\x00\x00\x00\x00\x00\x00\x00\x00\x00\x00\x00\x00\x00\x00\x00\x00\x00\x00\x00\x00\x00\x00\x00\x00\x00\x00\x00\x00\x00\x00\x00\x00\x00\x00\x00\x00\x00\x00\x00\x00\x00\x00\x00\x00\x00\x00\x00\x00\x00\x00\x00\x00\x00\x00\x00\x00\x00\x00";
+
 // The classes of bytes that a run is made of.
 enum Class {
-    Word,
     Digit,
     Bit,
     Line,
@@ -94,26 +103,10 @@ fn is_in(low: u64, high: u64, b: u8) -> bool
     (half(low, high, b) >> shift) % 2 == 1
 }
 
-fn is_word(b: u8) -> bool
-    ensures { λ r. ⌜ r ≡ wordByte b ⌝ }
-{
-    is_in(287948901175001088, 576460745995190270, b)
-}
-
-fn is_space(b: u8) -> bool
-    ensures { λ r. ⌜ r ≡ space b ⌝ }
-{
-    if is_within(9, 13, b) {
-        return true;
-    }
-    b == 32
-}
-
 fn is_member(class: Class, b: u8) -> bool
     ensures { λ r. ⌜ r ≡ member class b ⌝ }
 {
     match class {
-        Class::Word => is_word(b),
         Class::Digit => is_within(48, 57, b),
         Class::Bit => is_within(48, 49, b),
         Class::Line => b != 10,
@@ -131,6 +124,43 @@ fn run_end(s: &[u8], at: usize, class: Class) -> usize
             return i;
         }
         i += 1;
+    }
+    i
+}
+
+fn index(b: u8) -> usize
+    ensures { λ r. ⌜ r ≡ b ⌝ }
+{
+    b as usize
+}
+
+// 1 where a word goes on with a byte, 0 where it does not.
+fn goes_on(words: &[u8; 256], b: u8) -> u8
+    requires { ⌜ now words ≡ wordTable ⌝ }
+    ensures { λ r. ⌜ r ≡ one (wordByte b) ⌝ }
+{
+    words[index(b)]
+}
+
+// The end of the word that goes on at a place. Two bytes a turn: half the jumps, and lengths 1 apart are alike to them.
+fn word_end(s: &[u8], at: usize, words: &[u8; 256]) -> usize
+    requires { ⌜ (at ≤ length (now s)) × (now words ≡ wordTable) ⌝ }
+    ensures { λ r. ⌜ r ≡ run wordByte (now (s .entry)) at ⌝ }
+{
+    let mut i = at;
+    while i + 1 < s.len() {
+        let a = goes_on(words, s[i]);
+        let b = goes_on(words, s[i + 1]);
+        if a & b == 0 {
+            if a == 0 {
+                return i;
+            }
+            return i + 1;
+        }
+        i += 2;
+    }
+    if i < s.len() {
+        return i + index(goes_on(words, s[i]));
     }
     i
 }
@@ -172,10 +202,11 @@ fn skip(s: &[u8], at: usize) -> Step
     let mut i = at;
     while i < s.len() {
         let b = s[i];
-        if b > 45 {
+        if b == 32 {
+            i += 1;
+        } else if b > 45 {
             return Step::At(i);
-        }
-        if is_space(b) {
+        } else if is_within(9, 13, b) {
             i += 1;
         } else {
             let c = byte(s, i + 1);
@@ -195,10 +226,11 @@ fn skip(s: &[u8], at: usize) -> Step
     Step::At(i)
 }
 
-fn integer_end(s: &[u8], at: usize) -> Step
+// Of the integer whose digits end at a place.
+fn integer_end(s: &[u8], at: usize, end: usize) -> Step
+    requires { ⌜ end ≡ run digit (now s) at ⌝ }
     ensures { λ r. ⌜ reading r ≡ integerEnd (now (s .entry)) at ⌝ }
 {
-    let end = run_end(s, at, Class::Digit);
     if end - at < 19 {
         return Step::At(end);
     }
@@ -235,11 +267,11 @@ fn exponent_end(s: &[u8], at: usize) -> usize
     run_end(s, digits, Class::Digit)
 }
 
-fn real_end(s: &[u8], at: usize) -> usize
-    requires { ⌜ at ≤ length (now s) ⌝ }
-    ensures { λ r. ⌜ r ≡ realEnd (now (s .entry)) at ⌝ }
+// Of the real whose point is at a place.
+fn real_end(s: &[u8], point: usize) -> usize
+    requires { ⌜ point ≤ length (now s) ⌝ }
+    ensures { λ r. ⌜ r ≡ exponentEnd (now (s .entry)) (run digit (now (s .entry)) (point + 1)) ⌝ }
 {
-    let point = run_end(s, at, Class::Digit);
     exponent_end(s, run_end(s, point + 1, Class::Digit))
 }
 
@@ -359,60 +391,72 @@ fn symbol_end(s: &[u8], at: usize) -> Step
     if is_lone(b) {
         return Step::At(at + 1);
     }
-    let size = symbol_size(b, byte(s, at + 1), byte(s, at + 2), byte(s, at + 3));
+    // `:=` is the commonest symbol of two bytes.
+    let c = byte(s, at + 1);
+    if is_pair(58, 61, b, c) {
+        if byte(s, at + 2) == 58 {
+            return Step::At(at + 3);
+        }
+        return Step::At(at + 2);
+    }
+    let size = symbol_size(b, c, byte(s, at + 2), byte(s, at + 3));
     if size == 0 {
         return Step::Refused(2, at);
     }
     Step::At(at + size)
 }
 
-// The kind of the token at a place.
-fn kind_at(s: &[u8], at: usize) -> u8
-    ensures { λ r. ⌜ r ≡ kindAt (now (s .entry)) at ⌝ }
+fn named(kind: u8, step: Step) -> Found
+    ensures { λ r. ⌜ r ≡ tokenOf kind (reading step) ⌝ }
 {
-    let b = byte(s, at);
-    if is_lone(b) {
-        return 6;
+    match step {
+        Step::At(e) => Found::Of(kind, e),
+        Step::Refused(n, o) => Found::Not(n, o),
     }
-    if is_letter(b) {
-        return 1;
-    }
-    if is_within(48, 57, b) {
-        let end = run_end(s, at, Class::Digit);
-        if byte(s, end) == 46 {
-            return 3;
-        }
-        return 2;
-    }
-    if b == 39 {
-        return 4;
-    }
-    if b == 37 {
-        return 5;
-    }
-    6
 }
 
-fn token_end(s: &[u8], at: usize, kind: u8) -> Step
-    requires { ⌜ (at < length (now s)) × (kind ≡ kindAt (now s) at) ⌝ }
-    ensures { λ r. ⌜ reading r ≡ tokenEnd (now (s .entry)) at kind ⌝ }
+fn refusal(found: Found) -> Step
+    ensures { λ r. ⌜ r ≡ stepOf found ⌝ }
 {
-    if kind == 1 {
-        return Step::At(run_end(s, at + 1, Class::Word));
+    match found {
+        Found::Of(_, e) => Step::At(e),
+        Found::Not(n, o) => Step::Refused(n, o),
     }
-    if kind == 2 {
-        return integer_end(s, at);
+}
+
+fn number(s: &[u8], at: usize) -> Found
+    requires { ⌜ (at < length (now s)) × (letter (getD (now s) at 0) ≡ false) × (digit (getD (now s) at 0) ≡ true) ⌝ }
+    ensures { λ r. ⌜ r ≡ tokenAt (now (s .entry)) at ⌝ }
+{
+    let end = run_end(s, at, Class::Digit);
+    if byte(s, end) == 46 {
+        return Found::Of(3, real_end(s, end));
     }
-    if kind == 3 {
-        return Step::At(real_end(s, at));
+    named(2, integer_end(s, at, end))
+}
+
+// The token at a place, by its first byte.
+fn token(s: &[u8], at: usize, words: &[u8; 256]) -> Found
+    requires { ⌜ (at < length (now s)) × (now words ≡ wordTable) ⌝ }
+    ensures { λ r. ⌜ r ≡ tokenAt (now (s .entry)) at ⌝ }
+{
+    let b = s[at];
+    if is_lone(b) {
+        return Found::Of(6, at + 1);
     }
-    if kind == 4 {
-        return string_end(s, at);
+    if is_letter(b) {
+        return Found::Of(1, word_end(s, at + 1, words));
     }
-    if kind == 5 {
-        return binary_end(s, at);
+    if is_within(48, 57, b) {
+        return number(s, at);
     }
-    symbol_end(s, at)
+    if b == 39 {
+        return named(4, string_end(s, at));
+    }
+    if b == 37 {
+        return named(5, binary_end(s, at));
+    }
+    named(6, symbol_end(s, at))
 }
 
 // One row, as far as the columns go; each of them has room entries.
@@ -441,8 +485,15 @@ fn push(
 }
 
 // One row for each token, as far as the columns go; the number of tokens, or the first refusal.
-fn fill(src: &[u8], kinds: &mut [u8], starts: &mut [u32], lengths: &mut [u32], room: usize) -> Step
-    requires { ⌜ (room ≤ length (now kinds)) × (room ≤ length (now starts)) × (room ≤ length (now lengths)) ⌝ }
+fn fill(
+    src: &[u8],
+    kinds: &mut [u8],
+    starts: &mut [u32],
+    lengths: &mut [u32],
+    room: usize,
+    words: &[u8; 256],
+) -> Step
+    requires { ⌜ (room ≤ length (now kinds)) × (room ≤ length (now starts)) × (room ≤ length (now lengths)) × (now words ≡ wordTable) ⌝ }
     ensures { λ r. ⌜ Filled (lexed (now (src .entry))) (now (kinds .entry)) (now (starts .entry)) (now (lengths .entry)) r (now (kinds .exit)) (now (starts .exit)) (now (lengths .exit)) ⌝ }
 {
     if src.len() > 65536 {
@@ -458,10 +509,9 @@ fn fill(src: &[u8], kinds: &mut [u8], starts: &mut [u32], lengths: &mut [u32], r
         if p >= src.len() {
             return Step::At(n);
         }
-        let kind = kind_at(src, p);
-        let end = token_end(src, p, kind);
-        let Step::At(e) = end else {
-            return end;
+        let found = token(src, p, words);
+        let Found::Of(kind, e) = found else {
+            return refusal(found);
         };
         push(
             kinds,
@@ -483,7 +533,9 @@ pub fn scan(src: &[u8], kinds: &mut [u8], starts: &mut [u32], lengths: &mut [u32
     ensures { λ r. ⌜ Scanned (now (src .entry)) (now (kinds .entry)) (now (starts .entry)) (now (lengths .entry)) r (now (kinds .exit)) (now (starts .exit)) (now (lengths .exit)) ⌝ }
 {
     let room = columns::shorter(kinds.len(), columns::shorter(starts.len(), lengths.len()));
-    let step = fill(src, kinds, starts, lengths, room);
+    // A constant array is built anew wherever it is named: once here, and lent from here on.
+    let words = WORDS;
+    let step = fill(src, kinds, starts, lengths, room, &words);
     let Step::At(n) = step else {
         return step;
     };

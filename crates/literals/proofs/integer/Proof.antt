@@ -4,17 +4,31 @@ use Rattle.literals.proofs.integer.Tie as tie
 use Rattle.literals.proofs.integer.Reads as reads
 use Rattle.literals.proofs.integer.Lts as lts
 use Rattle.literals.proofs.numeral_of.Reads as numeral-of-reads
+use Rattle.literals.proofs.zeros.Reads as zeros-reads
 use Rattle.literals.proofs.Numerals.{integer-is}
-use mathlib.Core.Path.{_∙_}
-use native.Mathlib.Omega.{arith}
+use Rattle.literals.specs.Literal.{capped}
+use mathlib.Core.Path.{ap, _∙_}
 
--- src/lib.rt:44:5
+-- src/lib.rt:61:9
+zeros-requires : tie.Need-zeros-requires
+zeros-requires c κs = search needs
+
+-- src/lib.rt:62:19
+add-numeral-of : tie.Need-add-numeral-of
+add-numeral-of c = search needs
+
+-- src/lib.rt:62:30
+sub-numeral-of : tie.Need-sub-numeral-of
+sub-numeral-of c = search needs
+
+-- src/lib.rt:62:5
 numeral-of-requires : tie.Need-numeral-of-requires
-numeral-of-requires c κs = (omega arith, omega arith)
+numeral-of-requires c κs = search needs
 
--- src/lib.rt:41:1
+-- src/lib.rt:58:1
 returns : tie.Need-returns
-returns c = c .numeral-of .ensures ∙ integer-is (c .before .before .args .s .now) (c .before .before .args .start) (c .before .before .args .length)
+returns c = c .numeral-of .ensures ∙ ap capped (c .before .zeros .ensures .is) ∙ integer-is (c .before .before .before .args .s .now) (c .before .before .before .args .start) (c .before .before .before .args .length)
 
 pub integer-spec : {M : Type 1} → statement M
-integer-spec = tie.close (tie.spec numeral-of-requires returns)
+integer-spec =
+    tie.close (tie.spec zeros-requires add-numeral-of sub-numeral-of numeral-of-requires returns)

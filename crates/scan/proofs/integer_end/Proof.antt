@@ -4,42 +4,35 @@ use Rattle.scan.proofs.integer_end.Tie as tie
 use Rattle.scan.proofs.integer_end.Reads as reads
 use Rattle.scan.proofs.integer_end.Lts as lts
 use Rattle.literals.proofs.integer.Reads as integer-reads
-use Rattle.scan.proofs.run_end.Reads as run-end-reads
-use Rattle.scan.specs.Scan.{member}
-use Rattle.scan.specs.declared.Class.the-variants.{Digit}
+use Rattle.express.specs.Bytes.{digit}
 use Rattle.express.proofs.Places.{run-low}
 use Rattle.scan.proofs.Numbers.{integer-short, integer-fits, integer-large}
 use native.Mathlib.Omega.{arith}
 
--- src/lib.rt:197:9
-run-end-requires : tie.Need-run-end-requires
-run-end-requires c κs = search needs
-
--- src/lib.rt:198:8
+-- src/lib.rt:242:8
 sub-if1 : tie.Need-sub-if1
-sub-if1 c = omega (arith, c .run-end .ensures, run-low (member Digit) (c .before .before .args .s .now) (c .before .before .args .at))
+sub-if1 c = omega (arith, c .before .pre, run-low digit (c .before .args .s .now) (c .before .args .at))
 
--- src/lib.rt:199:9
+-- src/lib.rt:243:9
 returns : tie.Need-returns
-returns c = integer-short _ _ _ (c .before .run-end .ensures) (c .if1 .taken)
+returns c = integer-short _ _ _ (c .before .before .pre) (c .if1 .taken)
 
--- src/lib.rt:201:33
+-- src/lib.rt:245:33
 sub-integer : tie.Need-sub-integer
 sub-integer c = search needs
 
--- src/lib.rt:201:8
+-- src/lib.rt:245:8
 integer-requires : tie.Need-integer-requires
 integer-requires c κs = search needs
 
--- src/lib.rt:202:9
+-- src/lib.rt:246:9
 returns-2 : tie.Need-returns-2
-returns-2 c = integer-large _ _ _ _ (c .before .before .before .run-end .ensures) (c .before .integer .ensures) (c .if2 .taken)
+returns-2 c = integer-large _ _ _ _ (c .before .before .before .before .pre) (c .before .integer .ensures) (c .if2 .taken)
 
--- src/lib.rt:194:1
+-- src/lib.rt:238:1
 returns-3 : tie.Need-returns-3
-returns-3 c = integer-fits _ _ _ _ (c .before .before .before .run-end .ensures) (c .before .integer .ensures) (c .if2 .left)
+returns-3 c = integer-fits _ _ _ _ (c .before .before .before .before .pre) (c .before .integer .ensures) (c .if2 .left)
 
 pub integer-end-spec : {M : Type 1} → statement M
 integer-end-spec =
-    tie.close
-    (tie.spec run-end-requires sub-if1 returns sub-integer integer-requires returns-2 returns-3)
+    tie.close (tie.spec sub-if1 returns sub-integer integer-requires returns-2 returns-3)

@@ -4,67 +4,51 @@ use Rattle.scan.proofs.is_member.Tie as tie
 use Rattle.scan.proofs.is_member.Reads as reads
 use Rattle.scan.proofs.is_member.Lts as lts
 use Rattle.scan.proofs.is_within.Reads as is-within-reads
-use Rattle.scan.proofs.is_word.Reads as is-word-reads
 use mathlib.Core.Path.{sym, _∙_, ap}
 use borrow.Author.Tests.{eq-eqb, ne-eqb}
 use Rattle.scan.specs.Scan.{member}
 
--- src/lib.rt:95:24
+-- src/lib.rt:96:25
 enum-told : tie.Need-enum-told
 enum-told c = search needs
-
--- src/lib.rt:95:24
-is-word-requires : tie.Need-is-word-requires
-is-word-requires c κs = search needs
-
--- src/lib.rt:96:25
-enum-told-2 : tie.Need-enum-told-2
-enum-told-2 c = search needs
 
 -- src/lib.rt:96:25
 is-within-requires : tie.Need-is-within-requires
 is-within-requires c κs = search needs
 
 -- src/lib.rt:97:23
-enum-told-3 : tie.Need-enum-told-3
-enum-told-3 c = search needs
+enum-told-2 : tie.Need-enum-told-2
+enum-told-2 c = search needs
 
 -- src/lib.rt:97:23
 is-within-requires-2 : tie.Need-is-within-requires-2
 is-within-requires-2 c κs = search needs
 
 -- src/lib.rt:98:24
-enum-told-4 : tie.Need-enum-told-4
-enum-told-4 c = search needs
+enum-told-3 : tie.Need-enum-told-3
+enum-told-3 c = search needs
 
 -- src/lib.rt:91:1
 returns : tie.Need-returns
-returns c = c .is-word .ensures ∙ sym (ap (λ k. member k (c .before .before .before .args .b)) (c .before .enum-told .given .1))
+returns c = c .is-within .ensures ∙ sym (ap (λ k. member k (c .before .before .before .args .b)) (c .before .enum-told .given .1))
 
 -- src/lib.rt:91:1
 returns-2 : tie.Need-returns-2
-returns-2 c = c .is-within .ensures ∙ sym (ap (λ k. member k (c .before .before .before .args .b)) (c .before .enum-told2 .given .1))
+returns-2 c = c .is-within2 .ensures ∙ sym (ap (λ k. member k (c .before .before .before .args .b)) (c .before .enum-told2 .given .1))
 
 -- src/lib.rt:91:1
 returns-3 : tie.Need-returns-3
-returns-3 c = c .is-within2 .ensures ∙ sym (ap (λ k. member k (c .before .before .before .args .b)) (c .before .enum-told3 .given .1))
-
--- src/lib.rt:91:1
-returns-4 : tie.Need-returns-4
-returns-4 c = sym (ap (λ k. member k (c .before .before .args .b)) (c .enum-told4 .given .1))
+returns-3 c = sym (ap (λ k. member k (c .before .before .args .b)) (c .enum-told3 .given .1))
 
 pub is-member-spec : {M : Type 1} → statement M
 is-member-spec =
     tie.close
     (tie.spec
     enum-told
-    is-word-requires
-    enum-told-2
     is-within-requires
-    enum-told-3
+    enum-told-2
     is-within-requires-2
-    enum-told-4
+    enum-told-3
     returns
     returns-2
-    returns-3
-    returns-4)
+    returns-3)

@@ -1,0 +1,73 @@
+-- Words: the table of the bytes that one goes on with, and two bytes a turn.
+use mathlib.Core.Path.{_≡_, refl, sym, ap, _∙_}
+use mathlib.Core.Bool.{Bool, true, false, _&&_}
+use mathlib.Core.List.{List}
+use Prim.Native.Nat.{ℕ, zero, suc, _+_, _<_, _≤_}
+use native.Mathlib.Omega.{arith}
+use native.Mathlib.Nat.{not-suc-le-zero}
+use lib.ListN.{length, getD}
+use lib.Bits.{bitAnd}
+use Rattle.express.specs.Bytes.{wordByte}
+use Rattle.express.specs.Lexis.{run}
+use Rattle.scan.specs.Scan.{one, column, wordTable}
+use Rattle.scan.proofs.Turns.{run-more, run-stop, run-over}
+
+column-at : (f : ℕ → ℕ) (p n i : ℕ) → i < n → getD (column f p n) i 0 ≡ f (p + i)
+unfolding column
+column-at f p zero i h = absurd (not-suc-le-zero h)
+column-at f p (suc n) zero h = ap f (omega arith)
+column-at f p (suc n) (suc i) h = column-at f (p + 1) n i (omega (arith, h)) ∙ ap f (omega arith)
+
+pub table-at : (t : List ℕ) (b i : ℕ) → t ≡ wordTable → i ≡ b → b < 256 → getD t i 0 ≡ one (wordByte b)
+unfolding wordTable
+table-at t b i is at h = rw (is, at) (column-at (λ x. one (wordByte x)) 0 256 b h ∙ ap (λ (x : ℕ). one (wordByte x)) (omega arith))
+
+none : (x : Bool) → one x ≡ 0 → x ≡ false
+none true e = absurd (omega (arith, e))
+none false e = refl
+
+some : (x : Bool) → (one x ≡ 0 → ⊥) → x ≡ true
+some true n = refl
+some false n = absurd (n refl)
+
+second : (x y : Bool) → x ≡ true → bitAnd (one x) (one y) ≡ 0 → y ≡ false
+second true y e z = go y z
+  where
+    go : (y : Bool) → bitAnd 1 (one y) ≡ 0 → y ≡ false
+    go true z = absurd (omega (arith, z))
+    go false z = refl
+second false y e z = absurd (mathlib.Core.Bool.false≢true e)
+
+both : (x y : Bool) → (bitAnd (one x) (one y) ≡ 0 → ⊥) → (x ≡ true) × (y ≡ true)
+both true true n = (refl, refl)
+both true false n = absurd (n refl)
+both false true n = absurd (n refl)
+both false false n = absurd (n refl)
+
+-- what is known of the bytes at i and after it: a of the first and b of the second
+module _ (s : List ℕ) (i a : ℕ) (a-is : a ≡ one (wordByte (getD s i 0))) where
+  pub word-stops : i < length s → a ≡ 0 → i ≡ run wordByte s i
+  word-stops h e = sym (run-stop wordByte s i h (none _ (sym a-is ∙ e)))
+
+  pub word-last : i < length s → length s ≤ i + 1 → i + a ≡ run wordByte s i
+  word-last h l = ap (λ (n : ℕ). i + n) a-is ∙ go (wordByte (getD s i 0)) refl
+    where
+      go : (x : Bool) → wordByte (getD s i 0) ≡ x → i + one x ≡ run wordByte s i
+      go true e = sym (run-more wordByte s i h e ∙ run-over wordByte s (i + 1) l)
+      go false e = omega (arith, run-stop wordByte s i h e)
+
+  module _ (b : ℕ) (b-is : b ≡ one (wordByte (getD s (i + 1) 0))) (h : i + 1 < length s) where
+    first : (a ≡ 0 → ⊥) → wordByte (getD s i 0) ≡ true
+    first n = some _ (λ e. n (a-is ∙ e))
+
+    pub word-stops-next : (a ≡ 0 → ⊥) → bitAnd a b ≡ 0 → i + 1 ≡ run wordByte s i
+    word-stops-next n e =
+        let f : wordByte (getD s i 0) ≡ true = first n in
+        let z : bitAnd (one (wordByte (getD s i 0))) (one (wordByte (getD s (i + 1) 0))) ≡ 0 = rw (← a-is, ← b-is) e in
+        sym (run-more wordByte s i (omega arith) f ∙ run-stop wordByte s (i + 1) h (second _ _ f z))
+
+    pub word-goes-on : (bitAnd a b ≡ 0 → ⊥) → run wordByte s (i + 2) ≡ run wordByte s i
+    word-goes-on n =
+        let t = both (wordByte (getD s i 0)) (wordByte (getD s (i + 1) 0)) (λ e. n (rw (a-is, b-is) e)) in
+        let two : i + 2 ≡ i + 1 + 1 = omega arith in
+        rw two (sym (run-more wordByte s i (omega arith) (t .0) ∙ run-more wordByte s (i + 1) h (t .1)))
