@@ -485,20 +485,15 @@ fn push(
 }
 
 // One row for each token, as far as the columns go; the number of tokens, or the first refusal.
-fn fill(
-    src: &[u8],
-    kinds: &mut [u8],
-    starts: &mut [u32],
-    lengths: &mut [u32],
-    room: usize,
-    words: &[u8; 256],
-) -> Step
-    requires { ⌜ (room ≤ length (now kinds)) × (room ≤ length (now starts)) × (room ≤ length (now lengths)) × (now words ≡ wordTable) ⌝ }
+fn fill(src: &[u8], kinds: &mut [u8], starts: &mut [u32], lengths: &mut [u32], room: usize) -> Step
+    requires { ⌜ (room ≤ length (now kinds)) × (room ≤ length (now starts)) × (room ≤ length (now lengths)) ⌝ }
     ensures { λ r. ⌜ Filled (lexed (now (src .entry))) (now (kinds .entry)) (now (starts .entry)) (now (lengths .entry)) r (now (kinds .exit)) (now (starts .exit)) (now (lengths .exit)) ⌝ }
 {
     if src.len() > 65536 {
         return Step::Refused(1, 65536);
     }
+    // A constant array is built anew wherever it is named: once here, and lent from here on.
+    let words = WORDS;
     let mut n: usize = 0;
     let mut at: usize = 0;
     loop {
@@ -509,7 +504,7 @@ fn fill(
         if p >= src.len() {
             return Step::At(n);
         }
-        let found = token(src, p, words);
+        let found = token(src, p, &words);
         let Found::Of(kind, e) = found else {
             return refusal(found);
         };
@@ -533,9 +528,7 @@ pub fn scan(src: &[u8], kinds: &mut [u8], starts: &mut [u32], lengths: &mut [u32
     ensures { λ r. ⌜ Scanned (now (src .entry)) (now (kinds .entry)) (now (starts .entry)) (now (lengths .entry)) r (now (kinds .exit)) (now (starts .exit)) (now (lengths .exit)) ⌝ }
 {
     let room = columns::shorter(kinds.len(), columns::shorter(starts.len(), lengths.len()));
-    // A constant array is built anew wherever it is named: once here, and lent from here on.
-    let words = WORDS;
-    let step = fill(src, kinds, starts, lengths, room, &words);
+    let step = fill(src, kinds, starts, lengths, room);
     let Step::At(n) = step else {
         return step;
     };

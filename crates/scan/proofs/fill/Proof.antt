@@ -9,6 +9,8 @@ use Rattle.scan.proofs.token.Reads as token-reads
 use mathlib.Core.Path.{_≡_, refl, sym, _∙_, ap}
 use Prim.Native.Nat.{_≤_, _-_, _+_}
 use lib.ListN.{length}
+use Rattle.express.specs.Bytes.{wordByte}
+use Rattle.scan.specs.Scan.{column, wordTable}
 use Rattle.scan.proofs.Rows.{Progress, too-long, progress-first, skip-refused, all-read, token-refused, places, row-read}
 use borrow.Author.Needs.{needs}
 use native.Mathlib.Omega.{arith}
@@ -73,7 +75,8 @@ returns-3 c = all-read (c .before .before .before .before .before .loop .inv) _ 
 
 -- src/lib.rt:520:13
 token-requires : tie.Need-token-requires Inv-loop μ-loop
-token-requires c κs = (c .if2 .left, c .before .before .before .before .before .before .before .before .before .before .before .pre .3)
+unfolding wordTable column wordByte
+token-requires c κs = (c .before .if2 .left, refl)
 
 -- src/lib.rt:521:23
 enum-known-found : tie.Need-enum-known-found Inv-loop μ-loop
@@ -89,47 +92,47 @@ refusal-requires c κs = tt
 
 -- src/lib.rt:522:13
 same-length-7 : tie.Need-same-length-7 Inv-loop μ-loop
-same-length-7 c = c .before .before .before .before .before .before .before .before .before .loop .inv .kept-kinds
+same-length-7 c = c .before .before .before .before .before .before .before .before .before .before .loop .inv .kept-kinds
 
 -- src/lib.rt:522:13
 same-length-8 : tie.Need-same-length-8 Inv-loop μ-loop
-same-length-8 c = c .before .before .before .before .before .before .before .before .before .loop .inv .kept-starts
+same-length-8 c = c .before .before .before .before .before .before .before .before .before .before .loop .inv .kept-starts
 
 -- src/lib.rt:522:13
 same-length-9 : tie.Need-same-length-9 Inv-loop μ-loop
-same-length-9 c = c .before .before .before .before .before .before .before .before .before .loop .inv .kept-lengths
+same-length-9 c = c .before .before .before .before .before .before .before .before .before .before .loop .inv .kept-lengths
 
 -- src/lib.rt:522:13
 returns-4 : tie.Need-returns-4 Inv-loop μ-loop
-returns-4 c = token-refused (c .before .before .before .before .before .before .before .before .before .loop .inv) _ (c .before .before .before .before .before .before .before .before .skip .ensures) (c .before .before .before .before .before .before .step .given .1) (c .before .before .before .before .if2 .left) (c .before .before .before .token .ensures) (c .before .enum-told2 .given .1) _ (c .refusal .ensures)
+returns-4 c = token-refused (c .before .before .before .before .before .before .before .before .before .before .loop .inv) _ (c .before .before .before .before .before .before .before .before .before .skip .ensures) (c .before .before .before .before .before .before .before .step .given .1) (c .before .before .before .before .before .if2 .left) (c .before .before .before .token .ensures) (c .before .enum-told2 .given .1) _ (c .refusal .ensures)
 
 -- src/lib.rt:531:13
 cast-push : tie.Need-cast-push Inv-loop μ-loop
-cast-push c = let p = places (c .before .before .before .before .before .before .before .before .before .before .before .before .loop .inv) _ (c .before .before .before .before .before .before .before .before .before .before .before .skip .ensures) (c .before .before .before .before .before .before .before .before .before .step .given .1) (c .before .before .before .before .before .before .before .if2 .left) (c .before .before .before .before .before .before .token .ensures) (c .before .before .before .before .found .given .1) in omega (arith, p .2, p .3, c .before .before .before .before .before .before .before .before .before .before .before .before .before .if1 .left)
+cast-push c = let p = places (c .before .before .before .before .before .before .before .before .before .before .before .before .before .loop .inv) _ (c .before .before .before .before .before .before .before .before .before .before .before .before .skip .ensures) (c .before .before .before .before .before .before .before .before .before .before .step .given .1) (c .before .before .before .before .before .before .before .before .if2 .left) (c .before .before .before .before .before .before .token .ensures) (c .before .before .before .before .found .given .1) in omega (arith, p .2, p .3, c .before .before .before .before .before .before .before .before .before .before .before .before .before .before .if1 .left)
 
 -- src/lib.rt:532:14
 sub-push : tie.Need-sub-push Inv-loop μ-loop
-sub-push c = let p = places (c .before .before .before .before .before .before .before .before .before .before .before .before .loop .inv) _ (c .before .before .before .before .before .before .before .before .before .before .before .skip .ensures) (c .before .before .before .before .before .before .before .before .before .step .given .1) (c .before .before .before .before .before .before .before .if2 .left) (c .before .before .before .before .before .before .token .ensures) (c .before .before .before .before .found .given .1) in omega (arith, p .2)
+sub-push c = let p = places (c .before .before .before .before .before .before .before .before .before .before .before .before .before .loop .inv) _ (c .before .before .before .before .before .before .before .before .before .before .before .before .skip .ensures) (c .before .before .before .before .before .before .before .before .before .before .step .given .1) (c .before .before .before .before .before .before .before .before .if2 .left) (c .before .before .before .before .before .before .token .ensures) (c .before .before .before .before .found .given .1) in omega (arith, p .2)
 
 -- src/lib.rt:532:13
 cast-push-2 : tie.Need-cast-push-2 Inv-loop μ-loop
-cast-push-2 c = let p = places (c .before .before .before .before .before .before .before .before .before .before .before .before .loop .inv) _ (c .before .before .before .before .before .before .before .before .before .before .before .skip .ensures) (c .before .before .before .before .before .before .before .before .before .step .given .1) (c .before .before .before .before .before .before .before .if2 .left) (c .before .before .before .before .before .before .token .ensures) (c .before .before .before .before .found .given .1) in omega (arith, p .3, c .before .before .before .before .before .before .before .before .before .before .before .before .before .if1 .left)
+cast-push-2 c = let p = places (c .before .before .before .before .before .before .before .before .before .before .before .before .before .loop .inv) _ (c .before .before .before .before .before .before .before .before .before .before .before .before .skip .ensures) (c .before .before .before .before .before .before .before .before .before .before .step .given .1) (c .before .before .before .before .before .before .before .before .if2 .left) (c .before .before .before .before .before .before .token .ensures) (c .before .before .before .before .found .given .1) in omega (arith, p .3, c .before .before .before .before .before .before .before .before .before .before .before .before .before .before .if1 .left)
 
 -- src/lib.rt:524:9
 push-requires : tie.Need-push-requires Inv-loop μ-loop
-push-requires c κs = (omega (arith, c .before .before .before .before .before .before .before .before .before .before .before .before .before .before .before .before .before .before .pre .0, c .before .before .before .before .before .before .before .before .before .before .before .before .loop .inv .kept-kinds), omega (arith, c .before .before .before .before .before .before .before .before .before .before .before .before .before .before .before .before .before .before .pre .1, c .before .before .before .before .before .before .before .before .before .before .before .before .loop .inv .kept-starts), omega (arith, c .before .before .before .before .before .before .before .before .before .before .before .before .before .before .before .before .before .before .pre .2, c .before .before .before .before .before .before .before .before .before .before .before .before .loop .inv .kept-lengths))
+push-requires c κs = (omega (arith, c .before .before .before .before .before .before .before .before .before .before .before .before .before .before .before .before .before .before .before .pre .0, c .before .before .before .before .before .before .before .before .before .before .before .before .before .loop .inv .kept-kinds), omega (arith, c .before .before .before .before .before .before .before .before .before .before .before .before .before .before .before .before .before .before .before .pre .1, c .before .before .before .before .before .before .before .before .before .before .before .before .before .loop .inv .kept-starts), omega (arith, c .before .before .before .before .before .before .before .before .before .before .before .before .before .before .before .before .before .before .before .pre .2, c .before .before .before .before .before .before .before .before .before .before .before .before .before .loop .inv .kept-lengths))
 
 -- src/lib.rt:534:9
 add-n : tie.Need-add-n Inv-loop μ-loop
-add-n c = let p = places (c .before .before .before .before .before .before .before .before .before .before .before .before .before .before .before .before .before .before .before .loop .inv) _ (c .before .before .before .before .before .before .before .before .before .before .before .before .before .before .before .before .before .before .skip .ensures) (c .before .before .before .before .before .before .before .before .before .before .before .before .before .before .before .before .step .given .1) (c .before .before .before .before .before .before .before .before .before .before .before .before .before .before .if2 .left) (c .before .before .before .before .before .before .before .before .before .before .before .before .before .token .ensures) (c .before .before .before .before .before .before .before .before .before .before .before .found .given .1) in omega (arith, p .0, p .2, p .3, c .before .before .before .before .before .before .before .before .before .before .before .before .before .before .before .before .before .before .before .before .if1 .left)
+add-n c = let p = places (c .before .before .before .before .before .before .before .before .before .before .before .before .before .before .before .before .before .before .before .before .loop .inv) _ (c .before .before .before .before .before .before .before .before .before .before .before .before .before .before .before .before .before .before .before .skip .ensures) (c .before .before .before .before .before .before .before .before .before .before .before .before .before .before .before .before .before .step .given .1) (c .before .before .before .before .before .before .before .before .before .before .before .before .before .before .before .if2 .left) (c .before .before .before .before .before .before .before .before .before .before .before .before .before .token .ensures) (c .before .before .before .before .before .before .before .before .before .before .before .found .given .1) in omega (arith, p .0, p .2, p .3, c .before .before .before .before .before .before .before .before .before .before .before .before .before .before .before .before .before .before .before .before .before .if1 .left)
 
 -- src/lib.rt:512:5
 loop-less : tie.Need-loop-less Inv-loop μ-loop
-loop-less c = let p = places (c .before .before .before .before .before .before .before .before .before .before .before .before .before .before .before .before .before .before .before .loop .inv) _ (c .before .before .before .before .before .before .before .before .before .before .before .before .before .before .before .before .before .before .skip .ensures) (c .before .before .before .before .before .before .before .before .before .before .before .before .before .before .before .before .step .given .1) (c .before .before .before .before .before .before .before .before .before .before .before .before .before .before .if2 .left) (c .before .before .before .before .before .before .before .before .before .before .before .before .before .token .ensures) (c .before .before .before .before .before .before .before .before .before .before .before .found .given .1) in omega (arith, p .1, p .2, p .3)
+loop-less c = let p = places (c .before .before .before .before .before .before .before .before .before .before .before .before .before .before .before .before .before .before .before .before .loop .inv) _ (c .before .before .before .before .before .before .before .before .before .before .before .before .before .before .before .before .before .before .before .skip .ensures) (c .before .before .before .before .before .before .before .before .before .before .before .before .before .before .before .before .before .step .given .1) (c .before .before .before .before .before .before .before .before .before .before .before .before .before .before .before .if2 .left) (c .before .before .before .before .before .before .before .before .before .before .before .before .before .token .ensures) (c .before .before .before .before .before .before .before .before .before .before .before .found .given .1) in omega (arith, p .1, p .2, p .3)
 
 -- src/lib.rt:512:5
 loop-again : tie.Need-loop-again Inv-loop μ-loop
-loop-again c = row-read (c .before .before .before .before .before .before .before .before .before .before .before .before .before .before .before .before .before .before .before .loop .inv) _ (c .before .before .before .before .before .before .before .before .before .before .before .before .before .before .before .before .before .before .skip .ensures) (c .before .before .before .before .before .before .before .before .before .before .before .before .before .before .before .before .step .given .1) (c .before .before .before .before .before .before .before .before .before .before .before .before .before .before .if2 .left) (c .before .before .before .before .before .before .before .before .before .before .before .before .before .token .ensures) (c .before .before .before .before .before .before .before .before .before .before .before .found .given .1) (c .before .before .before .before .before .before .push .ensures .0) (c .before .before .before .before .before .before .push .ensures .1) (c .before .before .before .before .before .before .push .ensures .2)
+loop-again c = row-read (c .before .before .before .before .before .before .before .before .before .before .before .before .before .before .before .before .before .before .before .before .loop .inv) _ (c .before .before .before .before .before .before .before .before .before .before .before .before .before .before .before .before .before .before .before .skip .ensures) (c .before .before .before .before .before .before .before .before .before .before .before .before .before .before .before .before .before .step .given .1) (c .before .before .before .before .before .before .before .before .before .before .before .before .before .before .before .if2 .left) (c .before .before .before .before .before .before .before .before .before .before .before .before .before .token .ensures) (c .before .before .before .before .before .before .before .before .before .before .before .found .given .1) (c .before .before .before .before .before .before .push .ensures .0) (c .before .before .before .before .before .before .push .ensures .1) (c .before .before .before .before .before .before .push .ensures .2)
 
 pub fill-spec : {M : Type 1} → statement M
 fill-spec =

@@ -5,11 +5,9 @@ use Rattle.scan.proofs.scan.Reads as reads
 use Rattle.scan.proofs.scan.Lts as lts
 use Rattle.columns.proofs.shorter.Reads as shorter-reads
 use Rattle.scan.proofs.fill.Reads as fill-reads
-use mathlib.Core.Path.{refl, _∙_, ap}
+use mathlib.Core.Path.{_∙_, ap}
 use lib.ListN.{length}
 use Prim.Native.Nat.{min}
-use Rattle.express.specs.Bytes.{wordByte}
-use Rattle.scan.specs.Scan.{column, wordTable}
 use Rattle.scan.proofs.Rows.{scan-refused, scan-short, scan-fits}
 use native.Mathlib.Omega.{arith}
 
@@ -23,8 +21,7 @@ shorter-requires-2 c κs = search needs
 
 -- src/lib.rt:470:9
 fill-requires : tie.Need-fill-requires
-unfolding wordTable column wordByte
-fill-requires c κs = (omega (arith, c .before .before .before .before .before .shorter .ensures, c .before .before .before .before .shorter2 .ensures), omega (arith, c .before .before .before .before .before .shorter .ensures, c .before .before .before .before .shorter2 .ensures), omega (arith, c .before .before .before .before .before .shorter .ensures, c .before .before .before .before .shorter2 .ensures), refl)
+fill-requires c κs = (omega (arith, c .before .before .before .before .shorter .ensures, c .before .before .before .shorter2 .ensures), omega (arith, c .before .before .before .before .shorter .ensures, c .before .before .before .shorter2 .ensures), omega (arith, c .before .before .before .before .shorter .ensures, c .before .before .before .shorter2 .ensures))
 
 -- src/lib.rt:471:18
 enum-known-step : tie.Need-enum-known-step
@@ -64,7 +61,7 @@ same-length-6 c = search needs
 
 -- src/lib.rt:475:9
 returns-2 : tie.Need-returns-2
-returns-2 c = scan-short (c .before .before .before .before .before .before .before .before .before .before .fill .ensures) (c .before .before .step .given .1) (c .before .before .before .before .before .before .before .before .before .before .before .before .before .before .before .shorter2 .ensures ∙ ap (min (length (c .before .before .before .before .before .before .before .before .before .before .before .before .before .before .before .before .before .before .before .before .before .args .kinds .now))) (c .before .before .before .before .before .before .before .before .before .before .before .before .before .before .before .before .shorter .ensures)) (c .if1 .taken)
+returns-2 c = scan-short (c .before .before .before .before .before .before .before .before .before .before .fill .ensures) (c .before .before .step .given .1) (c .before .before .before .before .before .before .before .before .before .before .before .before .before .before .shorter2 .ensures ∙ ap (min (length (c .before .before .before .before .before .before .before .before .before .before .before .before .before .before .before .before .before .before .before .before .args .kinds .now))) (c .before .before .before .before .before .before .before .before .before .before .before .before .before .before .before .shorter .ensures)) (c .if1 .taken)
 
 -- src/lib.rt:466:1
 same-length-7 : tie.Need-same-length-7
@@ -80,7 +77,7 @@ same-length-9 c = search needs
 
 -- src/lib.rt:466:1
 returns-3 : tie.Need-returns-3
-returns-3 c = scan-fits (c .before .before .before .before .before .before .before .before .before .before .fill .ensures) (c .before .before .step .given .1) (c .before .before .before .before .before .before .before .before .before .before .before .before .before .before .before .shorter2 .ensures ∙ ap (min (length (c .before .before .before .before .before .before .before .before .before .before .before .before .before .before .before .before .before .before .before .before .before .args .kinds .now))) (c .before .before .before .before .before .before .before .before .before .before .before .before .before .before .before .before .shorter .ensures)) (c .if1 .left)
+returns-3 c = scan-fits (c .before .before .before .before .before .before .before .before .before .before .fill .ensures) (c .before .before .step .given .1) (c .before .before .before .before .before .before .before .before .before .before .before .before .before .before .shorter2 .ensures ∙ ap (min (length (c .before .before .before .before .before .before .before .before .before .before .before .before .before .before .before .before .before .before .before .before .args .kinds .now))) (c .before .before .before .before .before .before .before .before .before .before .before .before .before .before .before .shorter .ensures)) (c .if1 .left)
 
 pub scan-spec : {M : Type 1} → statement M
 scan-spec =
