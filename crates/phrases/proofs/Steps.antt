@@ -9,9 +9,10 @@ use lib.ListN.{length, getD, set}
 use borrow.Author.Tests.{eq-eqb, ne-eqb}
 use Rattle.ebnf.specs.Set.{mem}
 use Rattle.express.specs.Terminal.{identifier, dot}
+use Rattle.express.specs.NodeKind as kind
 use Rattle.phrases.specs.declared.Read.{Read}
 use Rattle.phrases.specs.declared.Read.the-variants.{At, Refused}
-use Rattle.phrases.specs.Reading.{word, Ready, Sound, expected, Expects, Took, Leafed, Leaves, Noded, Counts}
+use Rattle.phrases.specs.Reading.{word, Ready, Sound, expected, Expects, Took, Leafed, Leaves, Noded, Combined, Counts}
 use Rattle.phrases.proofs.Terminals.{is-one, not-one, inside}
 
 -- what is known of an answer that was taken apart
@@ -78,6 +79,17 @@ module _ (first label name : ℕ) (x : Read) (a b : List ℕ) where
 
   pub noded-there : {p n : ℕ} (w z : ℕ) → x ≡ At p n → z ≡ n + 1 - first → w ≡ word label name z → b ≡ set a n w → Noded first label name x (At p (n + 1)) a b
   noded-there {p} {n} w z e s v u = rw e (refl, u ∙ ap (λ (y : ℕ). set a n y) (v ∙ ap (λ (y : ℕ). word label name y) s))
+
+-- ---- the row over two operands
+
+module _ {p q n m : ℕ} {a : List ℕ} where
+  pub combined-one : q ≡ p → Combined p q n m m a a
+  combined-one e = let z = eq-eqb q p e in record { count = rw z refl; rows = rw z refl }
+
+  pub combined-two : {b : List ℕ} (w z : ℕ) → (q ≡ p → ⊥) → z ≡ m + 1 - n → w ≡ word kind.two-operand (q - 1) z → b ≡ set a m w → Combined p q n m (m + 1) a b
+  combined-two w z e s v u =
+      let f = ne-eqb q p e in
+      record { count = rw f refl; rows = rw f (u ∙ ap (λ (y : ℕ). set a m y) (v ∙ ap (λ (y : ℕ). word kind.two-operand (q - 1) y) s)) }
 
 -- ---- two tokens
 

@@ -3,6 +3,7 @@ use mathlib.Core.Bool.{Bool, true, false, cond}
 use mathlib.Core.List.{List, [], _∷_, map}
 use mathlib.Core.Path.{_≡_}
 use Prim.Native.Nat.{ℕ, _+_, _-_, _*_, _≤_, _<_}
+use lib.Dec.{eqb}
 use lib.ListN.{length, getD, set}
 use lib.Seq.{sets}
 use Rattle.ebnf.specs.Set.{mem}
@@ -144,6 +145,11 @@ atom-label c =
 abbrev pub Noded : ℕ → ℕ → ℕ → Read → Read → List ℕ → List ℕ → Type 0
 Noded first label name (At p n) r a b = (r ≡ At p (n + 1)) × (b ≡ set a n (word label name (n + 1 - first)))
 Noded first label name (Refused k) r a b = r ≡ Refused k
+
+-- The row over two operands, the second at q behind their operator, where m rows are left: r rows then. A first operand, at p, has no such row.
+pub record Combined (p q n m r : ℕ) (a b : List ℕ) : Type 0 where
+  pub count : r ≡ cond (eqb q p) m (m + 1)
+  pub rows : b ≡ cond (eqb q p) a (set a m (word kind.two-operand (q - 1) (m + 1 - n)))
 
 abbrev pub Counts : Read → Type 0
 Counts (At p n) = n ≤ 65536

@@ -1,5 +1,5 @@
 // Expressions by recursive descent: terminal codes to rows of nodes, each row packed into one word.
-ghost use mathlib.Core.Bool.{_&&_, cond};
+ghost use mathlib.Core.Bool.{true, _&&_, cond};
 ghost use mathlib.Core.List.{[], _∷_};
 ghost use mathlib.Core.Path.{_≡_};
 ghost use Prim.Native.Nat.{ℕ, _+_, _-_, _*_, _≤_, _<_, min};
@@ -9,7 +9,7 @@ ghost use Rattle.express.specs.Terminal.{identifier, dot};
 ghost use Rattle.express.specs.Grammar.{expression, sum, term, factor, operand, atom, interval, relations, additions, multiplications, signs, comparisons};
 ghost use Rattle.ebnf.specs.Depth.{opened};
 ghost use Rattle.express.specs.Syntax.{opening, closing, nesting};
-ghost use Rattle.phrases.specs.Reading.{word, atom-label, Ready, Sound, Reads, Expects, Leaves, Compares, Noded, Counts};
+ghost use Rattle.phrases.specs.Reading.{word, atom-label, Ready, Sound, Reads, Expects, Leaves, Compares, Noded, Combined, Counts};
 ghost use Rattle.phrases.specs.Parsing.{most, Parsing};
 ghost use Rattle.phrases.specs.Outcome.{steps as stepList, deep-or-end, end-of, judged, Judging, answered, kind-in, role-in, token-in, size-in, Unpacked, count, Settles};
 use columns::put8;
@@ -182,25 +182,37 @@ pub fn expression(codes: &[u8], rows: &mut [u64], p: usize, n: usize) -> Read
     left
 }
 
+// The row over two operands and the operator between them, which stands before the second, at q; a first operand, at p, has none. The number of
+// rows then.
+fn combined(rows: &mut [u64], p: usize, q: usize, n: usize, m: usize) -> usize
+    requires { ⌜ (p ≤ q) × (q ≤ 65536) × (m ≤ 65536) ⌝ }
+    ensures { λ r. ⌜ Combined p q n m r (now (rows .entry)) (now (rows .exit)) ⌝ }
+{
+    if q == p {
+        return m;
+    }
+    put(rows, m, packed(10, q - 1, span(n, m)));
+    m + 1
+}
+
 // sum = term { ( '+' | '-' | OR | XOR ) term }
 fn sum(codes: &[u8], rows: &mut [u64], p: usize, n: usize) -> Read
     requires { ⌜ Ready (now codes) p n ⌝ }
     ensures { λ r. ⌜ Reads sum (now (codes .entry)) p n r (now (rows .entry)) (now (rows .exit)) ⌝ }
 {
-    let first = term(codes, rows, p, n);
-    let Read::At(mut q, mut m) = first else {
-        return first;
-    };
-    while is_addition(token(codes, q)) {
-        let right = term(codes, rows, q + 1, m);
-        let whole = node(rows, right, n, 10, q);
-        let Read::At(q2, m2) = whole else {
-            return whole;
+    let mut q = p;
+    let mut m = n;
+    loop {
+        let right = term(codes, rows, q, m);
+        let Read::At(q2, m2) = right else {
+            return right;
         };
-        q = q2;
-        m = m2;
+        m = combined(rows, p, q, n, m2);
+        if !is_addition(token(codes, q2)) {
+            return Read::At(q2, m);
+        }
+        q = q2 + 1;
     }
-    Read::At(q, m)
 }
 
 // term = factor { ( '*' | '/' | DIV | MOD | AND ) factor }
@@ -208,20 +220,19 @@ fn term(codes: &[u8], rows: &mut [u64], p: usize, n: usize) -> Read
     requires { ⌜ Ready (now codes) p n ⌝ }
     ensures { λ r. ⌜ Reads term (now (codes .entry)) p n r (now (rows .entry)) (now (rows .exit)) ⌝ }
 {
-    let first = factor(codes, rows, p, n);
-    let Read::At(mut q, mut m) = first else {
-        return first;
-    };
-    while is_multiplication(token(codes, q)) {
-        let right = factor(codes, rows, q + 1, m);
-        let product = node(rows, right, n, 10, q);
-        let Read::At(q2, m2) = product else {
-            return product;
+    let mut q = p;
+    let mut m = n;
+    loop {
+        let right = factor(codes, rows, q, m);
+        let Read::At(q2, m2) = right else {
+            return right;
         };
-        q = q2;
-        m = m2;
+        m = combined(rows, p, q, n, m2);
+        if !is_multiplication(token(codes, q2)) {
+            return Read::At(q2, m);
+        }
+        q = q2 + 1;
     }
-    Read::At(q, m)
 }
 
 // factor = operand [ '**' operand ]
@@ -229,15 +240,22 @@ fn factor(codes: &[u8], rows: &mut [u64], p: usize, n: usize) -> Read
     requires { ⌜ Ready (now codes) p n ⌝ }
     ensures { λ r. ⌜ Reads factor (now (codes .entry)) p n r (now (rows .entry)) (now (rows .exit)) ⌝ }
 {
-    let left = operand(codes, rows, p, n);
-    let Read::At(q, m) = left else {
-        return left;
-    };
-    if token(codes, q) == 32 {
-        let right = operand(codes, rows, q + 1, m);
-        return node(rows, right, n, 10, q);
+    let mut q = p;
+    let mut m = n;
+    loop {
+        let right = operand(codes, rows, q, m);
+        let Read::At(q2, m2) = right else {
+            return right;
+        };
+        m = combined(rows, p, q, n, m2);
+        if q > p {
+            return Read::At(q2, m);
+        }
+        if token(codes, q2) != 32 {
+            return Read::At(q2, m);
+        }
+        q = q2 + 1;
     }
-    left
 }
 
 // operand = id '.' id | interval | [ '+' | '-' | NOT ] atom
@@ -253,10 +271,18 @@ fn operand(codes: &[u8], rows: &mut [u64], p: usize, n: usize) -> Read
         return interval(codes, rows, p, n);
     }
     if is_sign(c) {
-        let inner = atom(codes, rows, p + 1, n);
-        return node(rows, inner, n, 9, p);
+        return signed(codes, rows, p, n);
     }
     atom(codes, rows, p, n)
+}
+
+// a sign, which is there, and an atom: no power and no type.item
+fn signed(codes: &[u8], rows: &mut [u64], p: usize, n: usize) -> Read
+    requires { ⌜ (Ready (now codes) p n) × (mem (getD (now codes) p 0) signs ≡ true) ⌝ }
+    ensures { λ r. ⌜ Reads operand (now (codes .entry)) p n r (now (rows .entry)) (now (rows .exit)) ⌝ }
+{
+    let inner = atom(codes, rows, p + 1, n);
+    node(rows, inner, n, 9, p)
 }
 
 // id '.' stands here.
@@ -278,7 +304,13 @@ fn atom(codes: &[u8], rows: &mut [u64], p: usize, n: usize) -> Read
     let c = token(codes, p);
     if c == 24 {
         let inner = expression(codes, rows, p + 1, n);
-        return expect(codes, inner, 25);
+        let Read::At(q, m) = inner else {
+            return inner;
+        };
+        if token(codes, q) == 25 {
+            return Read::At(q + 1, m);
+        }
+        return Read::Refused(q);
     }
     let label = atom_label(c);
     if label == 0 {

@@ -3,29 +3,33 @@ use borrow.Fn.Kinds.{In}
 use borrow.Fn.PlainCycle.{Measures, is, falls, and}
 use Rattle.phrases.proofs.atom.Reads as atom
 use Rattle.phrases.proofs.atom.Kinds as atom-kinds
-use Rattle.phrases.proofs.+atom+compared+expression+factor+interval+operand+sum+term.Lts-atom as atom-lts
+use Rattle.phrases.proofs.+atom+compared+expression+factor+interval+operand+signed+sum+term.Lts-atom as atom-lts
 use Rattle.phrases.proofs.compared.Reads as compared
 use Rattle.phrases.proofs.compared.Kinds as compared-kinds
-use Rattle.phrases.proofs.+atom+compared+expression+factor+interval+operand+sum+term.Lts-compared as compared-lts
+use Rattle.phrases.proofs.+atom+compared+expression+factor+interval+operand+signed+sum+term.Lts-compared as compared-lts
 use Rattle.phrases.proofs.expression.Reads as expression
 use Rattle.phrases.proofs.expression.Kinds as expression-kinds
-use Rattle.phrases.proofs.+atom+compared+expression+factor+interval+operand+sum+term.Lts-expression as expression-lts
+use Rattle.phrases.proofs.+atom+compared+expression+factor+interval+operand+signed+sum+term.Lts-expression as expression-lts
 use Rattle.phrases.proofs.factor.Reads as factor
 use Rattle.phrases.proofs.factor.Kinds as factor-kinds
-use Rattle.phrases.proofs.+atom+compared+expression+factor+interval+operand+sum+term.Lts-factor as factor-lts
+use Rattle.phrases.proofs.+atom+compared+expression+factor+interval+operand+signed+sum+term.Lts-factor as factor-lts
 use Rattle.phrases.proofs.interval.Reads as interval
 use Rattle.phrases.proofs.interval.Kinds as interval-kinds
-use Rattle.phrases.proofs.+atom+compared+expression+factor+interval+operand+sum+term.Lts-interval as interval-lts
+use Rattle.phrases.proofs.+atom+compared+expression+factor+interval+operand+signed+sum+term.Lts-interval as interval-lts
 use Rattle.phrases.proofs.operand.Reads as operand
 use Rattle.phrases.proofs.operand.Kinds as operand-kinds
-use Rattle.phrases.proofs.+atom+compared+expression+factor+interval+operand+sum+term.Lts-operand as operand-lts
+use Rattle.phrases.proofs.+atom+compared+expression+factor+interval+operand+signed+sum+term.Lts-operand as operand-lts
+use Rattle.phrases.proofs.signed.Reads as signed
+use Rattle.phrases.proofs.signed.Kinds as signed-kinds
+use Rattle.phrases.proofs.+atom+compared+expression+factor+interval+operand+signed+sum+term.Lts-signed as signed-lts
 use Rattle.phrases.proofs.sum.Reads as sum
 use Rattle.phrases.proofs.sum.Kinds as sum-kinds
-use Rattle.phrases.proofs.+atom+compared+expression+factor+interval+operand+sum+term.Lts-sum as sum-lts
+use Rattle.phrases.proofs.+atom+compared+expression+factor+interval+operand+signed+sum+term.Lts-sum as sum-lts
 use Rattle.phrases.proofs.term.Reads as term
 use Rattle.phrases.proofs.term.Kinds as term-kinds
-use Rattle.phrases.proofs.+atom+compared+expression+factor+interval+operand+sum+term.Lts-term as term-lts
+use Rattle.phrases.proofs.+atom+compared+expression+factor+interval+operand+signed+sum+term.Lts-term as term-lts
 use Rattle.phrases.proofs.atom_label.Reads as atom-label-reads
+use Rattle.phrases.proofs.combined.Reads as combined-reads
 use Rattle.phrases.proofs.expect.Reads as expect-reads
 use Rattle.phrases.proofs.is_addition.Reads as is-addition-reads
 use Rattle.phrases.proofs.is_comparison.Reads as is-comparison-reads
@@ -38,27 +42,28 @@ use Rattle.phrases.proofs.node.Reads as node-reads
 use Rattle.phrases.proofs.packed.Reads as packed-reads
 use Rattle.phrases.proofs.put.Reads as put-reads
 use Rattle.phrases.proofs.token.Reads as token-reads
-use Rattle.phrases.proofs.+atom+compared+expression+factor+interval+operand+sum+term.{
+use Rattle.phrases.proofs.+atom+compared+expression+factor+interval+operand+signed+sum+term.{
   statement,
 }
-use Rattle.phrases.proofs.+atom+compared+expression+factor+interval+operand+sum+term.Tie.{
+use Rattle.phrases.proofs.+atom+compared+expression+factor+interval+operand+signed+sum+term.Tie.{
   close,
 }
-use mathlib.Core.List.{[], _∷_}
+use Rattle.phrases.proofs.Operators.{Before, before-first, again, combinable, often-refused, often-ends, often-again, turned-refused, turned-both, turned-alone, turned-again, once-refused, once-alone, once-both}
 use mathlib.Core.Path.{_≡_, refl, sym, _∙_}
 use lib.ListN.{length, getD}
 use Rattle.ebnf.specs.Set.{mem}
 use Rattle.express.specs.Terminal.{power}
-use Rattle.express.specs.Grammar.{expression as expression′, sum as sum′, term as term′, factor as factor′, operand as operand′, relations, additions, multiplications, signs, comparisons}
+use Rattle.express.specs.Grammar.{expression as expression′, sum as sum′, term as term′, factor as factor′, operand as operand′, relations, additions, multiplications, signs}
 use Rattle.express.proofs.Syntax.{express}
 use Rattle.phrases.proofs.Terminals.{inside, seen, seen-one, seen-other}
-use Rattle.phrases.proofs.Steps.{onward, onward-row, one-inside}
+use Rattle.phrases.proofs.Steps.{onward, onward-row, one-inside, expects-refused, expects-there, expects-not}
 use Rattle.phrases.proofs.Laws.{reads-at, compares-at, ready-of, sound-of, counts-of, counts-sound}
-use Rattle.phrases.proofs.Operators.{once-refused, once-alone, once-both, Turns, turns-begin, turns-more, turn-onward, often-refused, often-begins, often-ends, often-stops}
 use Rattle.phrases.proofs.Atoms.{label-small}
-use Rattle.phrases.proofs.Operands.{atom-nested, atom-row, atom-none, item-ready, operand-item, operand-interval, sign-ready, operand-signed, operand-plain, comparison-inside, compared-there, compared-not, brace-inside, low-refused, item-refused, interval-whole}
+use Rattle.phrases.proofs.Operands.{atom-nested, atom-row, atom-none, item-ready, operand-item, operand-interval, sign-ready, sign-counts, operand-signed, operand-plain, comparison-inside, compared-there, compared-not, low-refused, item-refused, interval-whole}
 use borrow.Author.Needs.{needs}
 use native.Mathlib.Omega.{arith}
+use borrow.Author.Tests.{not-true, not-false}
+use Rattle.ebnf.specs.Grammar.{none}
 
 abbrev μ-atom : Measures 2 atom-kinds.ps ℕ
 μ-atom κs a = 8 * (length (a .0 .now) - a .1 .1 .0) + 0
@@ -77,6 +82,9 @@ abbrev μ-interval : Measures 2 interval-kinds.ps ℕ
 
 abbrev μ-operand : Measures 2 operand-kinds.ps ℕ
 μ-operand κs a = 8 * (length (a .0 .now) - a .1 .1 .0) + 1
+
+abbrev μ-signed : Measures 2 signed-kinds.ps ℕ
+μ-signed κs a = 8 * (length (a .0 .now) - a .1 .1 .0) + 0
 
 abbrev μ-sum : Measures 2 sum-kinds.ps ℕ
 μ-sum κs a = 8 * (length (a .0 .now) - a .1 .1 .0) + 4
@@ -124,6 +132,12 @@ operand-at t = and 2 operand-kinds.ps (is 2 operand-kinds.ps μ-operand t) opera
 abbrev operand-below : ℕ → In 2 operand-kinds.ps
 operand-below t = and 2 operand-kinds.ps (falls 2 operand-kinds.ps _<_ μ-operand t) operand.Pre
 
+abbrev signed-at : ℕ → In 2 signed-kinds.ps
+signed-at t = and 2 signed-kinds.ps (is 2 signed-kinds.ps μ-signed t) signed.Pre
+
+abbrev signed-below : ℕ → In 2 signed-kinds.ps
+signed-below t = and 2 signed-kinds.ps (falls 2 signed-kinds.ps _<_ μ-signed t) signed.Pre
+
 abbrev sum-at : ℕ → In 2 sum-kinds.ps
 sum-at t = and 2 sum-kinds.ps (is 2 sum-kinds.ps μ-sum t) sum.Pre
 
@@ -136,14 +150,12 @@ term-at t = and 2 term-kinds.ps (is 2 term-kinds.ps μ-term t) term.Pre
 abbrev term-below : ℕ → In 2 term-kinds.ps
 term-below t = and 2 term-kinds.ps (falls 2 term-kinds.ps _<_ μ-term t) term.Pre
 
--- src/lib.rt:273:9
+-- src/lib.rt:304:9
 atom-token-requires : (t : ℕ) → atom-lts.Need-token-requires (
   token-reads.Asked,
   token-reads.Learnt,
   expression-below t,
   expression.Post,
-  expect-reads.Asked,
-  expect-reads.Learnt,
   atom-label-reads.Asked,
   atom-label-reads.Learnt,
   packed-reads.Asked,
@@ -153,14 +165,12 @@ atom-token-requires : (t : ℕ) → atom-lts.Need-token-requires (
 ) (atom-at t) atom.Post
 atom-token-requires t c κs = search needs
 
--- src/lib.rt:275:45
+-- src/lib.rt:306:45
 atom-add-expression : (t : ℕ) → atom-lts.Need-add-expression (
   token-reads.Asked,
   token-reads.Learnt,
   expression-below t,
   expression.Post,
-  expect-reads.Asked,
-  expect-reads.Learnt,
   atom-label-reads.Asked,
   atom-label-reads.Learnt,
   packed-reads.Asked,
@@ -170,14 +180,12 @@ atom-add-expression : (t : ℕ) → atom-lts.Need-add-expression (
 ) (atom-at t) atom.Post
 atom-add-expression t c = omega (arith, c .before .before .before .before .before .pre .1 .small, c .before .before .before .before .before .pre .1 .within)
 
--- src/lib.rt:275:13
+-- src/lib.rt:306:13
 atom-expression-requires : (t : ℕ) → atom-lts.Need-expression-requires (
   token-reads.Asked,
   token-reads.Learnt,
   expression-below t,
   expression.Post,
-  expect-reads.Asked,
-  expect-reads.Learnt,
   atom-label-reads.Asked,
   atom-label-reads.Learnt,
   packed-reads.Asked,
@@ -187,14 +195,12 @@ atom-expression-requires : (t : ℕ) → atom-lts.Need-expression-requires (
 ) (atom-at t) atom.Post
 atom-expression-requires t c κs = (omega (arith, c .before .before .before .before .before .pre .0, (one-inside (c .before .before .before .before .before .args .codes .now) (c .before .before .before .before .before .args .p) (c .before .before .token .result) 24 (c .before .before .token .ensures) (c .before .if1 .taken) (omega arith))), onward (c .before .before .before .before .before .pre .1) (one-inside (c .before .before .before .before .before .args .codes .now) (c .before .before .before .before .before .args .p) (c .before .before .token .result) 24 (c .before .before .token .ensures) (c .before .if1 .taken) (omega arith)))
 
--- src/lib.rt:276:9
-atom-expect-requires : (t : ℕ) → atom-lts.Need-expect-requires (
+-- src/lib.rt:307:22
+atom-enum-known-inner : (t : ℕ) → atom-lts.Need-enum-known-inner (
   token-reads.Asked,
   token-reads.Learnt,
   expression-below t,
   expression.Post,
-  expect-reads.Asked,
-  expect-reads.Learnt,
   atom-label-reads.Asked,
   atom-label-reads.Learnt,
   packed-reads.Asked,
@@ -202,16 +208,29 @@ atom-expect-requires : (t : ℕ) → atom-lts.Need-expect-requires (
   put-reads.Asked,
   put-reads.Learnt,
 ) (atom-at t) atom.Post
-atom-expect-requires t c κs = (sound-of (c .before .before .expression .result) (onward (c .before .before .before .before .before .before .before .before .pre .1) (one-inside (c .before .before .before .before .before .before .before .before .args .codes .now) (c .before .before .before .before .before .before .before .before .args .p) (c .before .before .before .before .before .token .result) 24 (c .before .before .before .before .before .token .ensures) (c .before .before .before .before .if1 .taken) (omega arith))) (c .before .before .expression .ensures .ahead), omega arith)
+atom-enum-known-inner t c = search needs
 
--- src/lib.rt:276:9
+-- src/lib.rt:308:13
+atom-enum-told : (t : ℕ) → atom-lts.Need-enum-told (
+  token-reads.Asked,
+  token-reads.Learnt,
+  expression-below t,
+  expression.Post,
+  atom-label-reads.Asked,
+  atom-label-reads.Learnt,
+  packed-reads.Asked,
+  packed-reads.Learnt,
+  put-reads.Asked,
+  put-reads.Learnt,
+) (atom-at t) atom.Post
+atom-enum-told t c = search needs
+
+-- src/lib.rt:308:13
 atom-same-length : (t : ℕ) → atom-lts.Need-same-length (
   token-reads.Asked,
   token-reads.Learnt,
   expression-below t,
   expression.Post,
-  expect-reads.Asked,
-  expect-reads.Learnt,
   atom-label-reads.Asked,
   atom-label-reads.Learnt,
   packed-reads.Asked,
@@ -221,14 +240,12 @@ atom-same-length : (t : ℕ) → atom-lts.Need-same-length (
 ) (atom-at t) atom.Post
 atom-same-length t c = search needs
 
--- src/lib.rt:276:9
+-- src/lib.rt:308:13
 atom-returns : (t : ℕ) → atom-lts.Need-returns (
   token-reads.Asked,
   token-reads.Learnt,
   expression-below t,
   expression.Post,
-  expect-reads.Asked,
-  expect-reads.Learnt,
   atom-label-reads.Asked,
   atom-label-reads.Learnt,
   packed-reads.Asked,
@@ -236,16 +253,14 @@ atom-returns : (t : ℕ) → atom-lts.Need-returns (
   put-reads.Asked,
   put-reads.Learnt,
 ) (atom-at t) atom.Post
-atom-returns t c = atom-nested (c .before .before .before .before .before .before .before .before .before .pre .1) (c .before .before .before .before .before .before .token .result) (c .before .before .before .before .before .before .token .ensures) (c .before .before .before .before .before .if1 .taken) (c .before .before .before .expression .ensures) (c .expect .ensures)
+atom-returns t c = atom-nested (c .before .before .before .before .before .before .before .before .before .before .pre .1) (c .before .before .before .before .before .before .before .token .result) (c .before .before .before .before .before .before .before .token .ensures) (c .before .before .before .before .before .before .if1 .taken) (c .before .before .before .before .expression .ensures) (expects-refused (c .before .before .before .before .before .before .before .before .before .before .args .codes .now) (c .before .before .before .before .expression .result) 25 (c .enum-told .given .1))
 
--- src/lib.rt:278:9
-atom-atom-label-requires : (t : ℕ) → atom-lts.Need-atom-label-requires (
+-- src/lib.rt:310:12
+atom-token-requires-2 : (t : ℕ) → atom-lts.Need-token-requires-2 (
   token-reads.Asked,
   token-reads.Learnt,
   expression-below t,
   expression.Post,
-  expect-reads.Asked,
-  expect-reads.Learnt,
   atom-label-reads.Asked,
   atom-label-reads.Learnt,
   packed-reads.Asked,
@@ -253,67 +268,14 @@ atom-atom-label-requires : (t : ℕ) → atom-lts.Need-atom-label-requires (
   put-reads.Asked,
   put-reads.Learnt,
 ) (atom-at t) atom.Post
-atom-atom-label-requires t c κs = search needs
+atom-token-requires-2 t c κs = search needs
 
--- src/lib.rt:280:9
-atom-returns-2 : (t : ℕ) → atom-lts.Need-returns-2 (
-  token-reads.Asked,
-  token-reads.Learnt,
-  expression-below t,
-  expression.Post,
-  expect-reads.Asked,
-  expect-reads.Learnt,
-  atom-label-reads.Asked,
-  atom-label-reads.Learnt,
-  packed-reads.Asked,
-  packed-reads.Learnt,
-  put-reads.Asked,
-  put-reads.Learnt,
-) (atom-at t) atom.Post
-atom-returns-2 t c = atom-none (c .before .before .before .before .before .before .pre .1) (c .before .before .before .token .result) (c .before .before .before .token .ensures) (c .before .atom-label .result) (c .before .before .if1 .left) (c .before .atom-label .ensures) (c .if2 .taken)
-
--- src/lib.rt:282:18
-atom-packed-requires : (t : ℕ) → atom-lts.Need-packed-requires (
-  token-reads.Asked,
-  token-reads.Learnt,
-  expression-below t,
-  expression.Post,
-  expect-reads.Asked,
-  expect-reads.Learnt,
-  atom-label-reads.Asked,
-  atom-label-reads.Learnt,
-  packed-reads.Asked,
-  packed-reads.Learnt,
-  put-reads.Asked,
-  put-reads.Learnt,
-) (atom-at t) atom.Post
-atom-packed-requires t c κs = (label-small (c .before .before .atom-label .result) (c .before .before .before .before .token .result) (c .before .before .atom-label .ensures), omega (arith, c .before .before .before .before .before .before .before .pre .1 .small, c .before .before .before .before .before .before .before .pre .1 .within), omega arith)
-
--- src/lib.rt:282:5
-atom-put-requires : (t : ℕ) → atom-lts.Need-put-requires (
-  token-reads.Asked,
-  token-reads.Learnt,
-  expression-below t,
-  expression.Post,
-  expect-reads.Asked,
-  expect-reads.Learnt,
-  atom-label-reads.Asked,
-  atom-label-reads.Learnt,
-  packed-reads.Asked,
-  packed-reads.Learnt,
-  put-reads.Asked,
-  put-reads.Learnt,
-) (atom-at t) atom.Post
-atom-put-requires t c κs = search needs
-
--- src/lib.rt:283:14
+-- src/lib.rt:311:29
 atom-add-t16 : (t : ℕ) → atom-lts.Need-add-t16 (
   token-reads.Asked,
   token-reads.Learnt,
   expression-below t,
   expression.Post,
-  expect-reads.Asked,
-  expect-reads.Learnt,
   atom-label-reads.Asked,
   atom-label-reads.Learnt,
   packed-reads.Asked,
@@ -321,33 +283,14 @@ atom-add-t16 : (t : ℕ) → atom-lts.Need-add-t16 (
   put-reads.Asked,
   put-reads.Learnt,
 ) (atom-at t) atom.Post
-atom-add-t16 t c = omega (arith, c .before .before .before .before .before .before .before .before .before .before .before .pre .1 .small, c .before .before .before .before .before .before .before .before .before .before .before .pre .1 .within, c .before .before .before .before .before .before .before .before .before .before .before .pre .1 .behind)
+atom-add-t16 t c = omega (arith, c .before .before .before .before .before .before .before .before .before .before .before .before .before .pre .1 .small, reads-at (c .before .before .before .before .before .before .before .expression .ensures) (c .before .before .before .inner .given .1))
 
--- src/lib.rt:283:21
-atom-add-t17 : (t : ℕ) → atom-lts.Need-add-t17 (
-  token-reads.Asked,
-  token-reads.Learnt,
-  expression-below t,
-  expression.Post,
-  expect-reads.Asked,
-  expect-reads.Learnt,
-  atom-label-reads.Asked,
-  atom-label-reads.Learnt,
-  packed-reads.Asked,
-  packed-reads.Learnt,
-  put-reads.Asked,
-  put-reads.Learnt,
-) (atom-at t) atom.Post
-atom-add-t17 t c = omega (arith, c .before .before .before .before .before .before .before .before .before .before .before .pre .1 .small, c .before .before .before .before .before .before .before .before .before .before .before .pre .1 .within, c .before .before .before .before .before .before .before .before .before .before .before .pre .1 .behind)
-
--- src/lib.rt:269:1
+-- src/lib.rt:311:13
 atom-same-length-2 : (t : ℕ) → atom-lts.Need-same-length-2 (
   token-reads.Asked,
   token-reads.Learnt,
   expression-below t,
   expression.Post,
-  expect-reads.Asked,
-  expect-reads.Learnt,
   atom-label-reads.Asked,
   atom-label-reads.Learnt,
   packed-reads.Asked,
@@ -357,14 +300,12 @@ atom-same-length-2 : (t : ℕ) → atom-lts.Need-same-length-2 (
 ) (atom-at t) atom.Post
 atom-same-length-2 t c = search needs
 
--- src/lib.rt:269:1
-atom-returns-3 : (t : ℕ) → atom-lts.Need-returns-3 (
+-- src/lib.rt:311:13
+atom-returns-2 : (t : ℕ) → atom-lts.Need-returns-2 (
   token-reads.Asked,
   token-reads.Learnt,
   expression-below t,
   expression.Post,
-  expect-reads.Asked,
-  expect-reads.Learnt,
   atom-label-reads.Asked,
   atom-label-reads.Learnt,
   packed-reads.Asked,
@@ -372,9 +313,159 @@ atom-returns-3 : (t : ℕ) → atom-lts.Need-returns-3 (
   put-reads.Asked,
   put-reads.Learnt,
 ) (atom-at t) atom.Post
-atom-returns-3 t c = atom-row (c .before .before .before .before .before .before .before .before .before .before .before .pre .1) (c .before .before .before .before .before .before .before .before .token .result) (c .before .before .before .before .before .before .before .before .token .ensures) (c .before .before .before .before .before .before .atom-label .result) (c .before .before .before .packed .result) (c .before .before .before .before .before .before .before .if1 .left) (c .before .before .before .before .before .before .atom-label .ensures) (c .before .before .before .before .before .if2 .left) (c .before .before .before .packed .ensures) (c .before .before .put .ensures)
+atom-returns-2 t c = atom-nested (c .before .before .before .before .before .before .before .before .before .before .before .before .before .pre .1) (c .before .before .before .before .before .before .before .before .before .before .token .result) (c .before .before .before .before .before .before .before .before .before .before .token .ensures) (c .before .before .before .before .before .before .before .before .before .if1 .taken) (c .before .before .before .before .before .before .before .expression .ensures) (expects-there (c .before .before .before .before .before .before .before .before .before .before .before .before .before .args .codes .now) (c .before .before .before .before .before .before .before .expression .result) 25 (c .before .before .before .inner .given .1) (c .before .token2 .result) (c .before .token2 .ensures) (omega arith) (sound-of (c .before .before .before .before .before .before .before .expression .result) (onward (c .before .before .before .before .before .before .before .before .before .before .before .before .before .pre .1) (one-inside (c .before .before .before .before .before .before .before .before .before .before .before .before .before .args .codes .now) (c .before .before .before .before .before .before .before .before .before .before .before .before .before .args .p) (c .before .before .before .before .before .before .before .before .before .before .token .result) 24 (c .before .before .before .before .before .before .before .before .before .before .token .ensures) (c .before .before .before .before .before .before .before .before .before .if1 .taken) (omega arith))) (c .before .before .before .before .before .before .before .expression .ensures .ahead)) (c .if2 .taken))
 
--- src/lib.rt:309:22
+-- src/lib.rt:313:9
+atom-same-length-3 : (t : ℕ) → atom-lts.Need-same-length-3 (
+  token-reads.Asked,
+  token-reads.Learnt,
+  expression-below t,
+  expression.Post,
+  atom-label-reads.Asked,
+  atom-label-reads.Learnt,
+  packed-reads.Asked,
+  packed-reads.Learnt,
+  put-reads.Asked,
+  put-reads.Learnt,
+) (atom-at t) atom.Post
+atom-same-length-3 t c = search needs
+
+-- src/lib.rt:313:9
+atom-returns-3 : (t : ℕ) → atom-lts.Need-returns-3 (
+  token-reads.Asked,
+  token-reads.Learnt,
+  expression-below t,
+  expression.Post,
+  atom-label-reads.Asked,
+  atom-label-reads.Learnt,
+  packed-reads.Asked,
+  packed-reads.Learnt,
+  put-reads.Asked,
+  put-reads.Learnt,
+) (atom-at t) atom.Post
+atom-returns-3 t c = atom-nested (c .before .before .before .before .before .before .before .before .before .before .before .before .before .pre .1) (c .before .before .before .before .before .before .before .before .before .before .token .result) (c .before .before .before .before .before .before .before .before .before .before .token .ensures) (c .before .before .before .before .before .before .before .before .before .if1 .taken) (c .before .before .before .before .before .before .before .expression .ensures) (expects-not (c .before .before .before .before .before .before .before .before .before .before .before .before .before .args .codes .now) (c .before .before .before .before .before .before .before .expression .result) 25 (c .before .before .before .inner .given .1) (c .before .token2 .result) (c .before .token2 .ensures) (c .if2 .left))
+
+-- src/lib.rt:315:9
+atom-atom-label-requires : (t : ℕ) → atom-lts.Need-atom-label-requires (
+  token-reads.Asked,
+  token-reads.Learnt,
+  expression-below t,
+  expression.Post,
+  atom-label-reads.Asked,
+  atom-label-reads.Learnt,
+  packed-reads.Asked,
+  packed-reads.Learnt,
+  put-reads.Asked,
+  put-reads.Learnt,
+) (atom-at t) atom.Post
+atom-atom-label-requires t c κs = search needs
+
+-- src/lib.rt:317:9
+atom-returns-4 : (t : ℕ) → atom-lts.Need-returns-4 (
+  token-reads.Asked,
+  token-reads.Learnt,
+  expression-below t,
+  expression.Post,
+  atom-label-reads.Asked,
+  atom-label-reads.Learnt,
+  packed-reads.Asked,
+  packed-reads.Learnt,
+  put-reads.Asked,
+  put-reads.Learnt,
+) (atom-at t) atom.Post
+atom-returns-4 t c = atom-none (c .before .before .before .before .before .before .pre .1) (c .before .before .before .token .result) (c .before .before .before .token .ensures) (c .before .atom-label .result) (c .before .before .if1 .left) (c .before .atom-label .ensures) (c .if3 .taken)
+
+-- src/lib.rt:319:18
+atom-packed-requires : (t : ℕ) → atom-lts.Need-packed-requires (
+  token-reads.Asked,
+  token-reads.Learnt,
+  expression-below t,
+  expression.Post,
+  atom-label-reads.Asked,
+  atom-label-reads.Learnt,
+  packed-reads.Asked,
+  packed-reads.Learnt,
+  put-reads.Asked,
+  put-reads.Learnt,
+) (atom-at t) atom.Post
+atom-packed-requires t c κs = (label-small (c .before .before .atom-label .result) (c .before .before .before .before .token .result) (c .before .before .atom-label .ensures), omega (arith, c .before .before .before .before .before .before .before .pre .1 .small, c .before .before .before .before .before .before .before .pre .1 .within), omega arith)
+
+-- src/lib.rt:319:5
+atom-put-requires : (t : ℕ) → atom-lts.Need-put-requires (
+  token-reads.Asked,
+  token-reads.Learnt,
+  expression-below t,
+  expression.Post,
+  atom-label-reads.Asked,
+  atom-label-reads.Learnt,
+  packed-reads.Asked,
+  packed-reads.Learnt,
+  put-reads.Asked,
+  put-reads.Learnt,
+) (atom-at t) atom.Post
+atom-put-requires t c κs = search needs
+
+-- src/lib.rt:320:14
+atom-add-t21 : (t : ℕ) → atom-lts.Need-add-t21 (
+  token-reads.Asked,
+  token-reads.Learnt,
+  expression-below t,
+  expression.Post,
+  atom-label-reads.Asked,
+  atom-label-reads.Learnt,
+  packed-reads.Asked,
+  packed-reads.Learnt,
+  put-reads.Asked,
+  put-reads.Learnt,
+) (atom-at t) atom.Post
+atom-add-t21 t c = omega (arith, c .before .before .before .before .before .before .before .before .before .before .before .pre .1 .small, c .before .before .before .before .before .before .before .before .before .before .before .pre .1 .within, c .before .before .before .before .before .before .before .before .before .before .before .pre .1 .behind)
+
+-- src/lib.rt:320:21
+atom-add-t22 : (t : ℕ) → atom-lts.Need-add-t22 (
+  token-reads.Asked,
+  token-reads.Learnt,
+  expression-below t,
+  expression.Post,
+  atom-label-reads.Asked,
+  atom-label-reads.Learnt,
+  packed-reads.Asked,
+  packed-reads.Learnt,
+  put-reads.Asked,
+  put-reads.Learnt,
+) (atom-at t) atom.Post
+atom-add-t22 t c = omega (arith, c .before .before .before .before .before .before .before .before .before .before .before .pre .1 .small, c .before .before .before .before .before .before .before .before .before .before .before .pre .1 .within, c .before .before .before .before .before .before .before .before .before .before .before .pre .1 .behind)
+
+-- src/lib.rt:300:1
+atom-same-length-4 : (t : ℕ) → atom-lts.Need-same-length-4 (
+  token-reads.Asked,
+  token-reads.Learnt,
+  expression-below t,
+  expression.Post,
+  atom-label-reads.Asked,
+  atom-label-reads.Learnt,
+  packed-reads.Asked,
+  packed-reads.Learnt,
+  put-reads.Asked,
+  put-reads.Learnt,
+) (atom-at t) atom.Post
+atom-same-length-4 t c = search needs
+
+-- src/lib.rt:300:1
+atom-returns-5 : (t : ℕ) → atom-lts.Need-returns-5 (
+  token-reads.Asked,
+  token-reads.Learnt,
+  expression-below t,
+  expression.Post,
+  atom-label-reads.Asked,
+  atom-label-reads.Learnt,
+  packed-reads.Asked,
+  packed-reads.Learnt,
+  put-reads.Asked,
+  put-reads.Learnt,
+) (atom-at t) atom.Post
+atom-returns-5 t c = atom-row (c .before .before .before .before .before .before .before .before .before .before .before .pre .1) (c .before .before .before .before .before .before .before .before .token .result) (c .before .before .before .before .before .before .before .before .token .ensures) (c .before .before .before .before .before .before .atom-label .result) (c .before .before .before .packed .result) (c .before .before .before .before .before .before .before .if1 .left) (c .before .before .before .before .before .before .atom-label .ensures) (c .before .before .before .before .before .if3 .left) (c .before .before .before .packed .ensures) (c .before .before .put .ensures)
+
+-- src/lib.rt:346:22
 compared-token-requires : (t : ℕ) → compared-lts.Need-token-requires (
   token-reads.Asked,
   token-reads.Learnt,
@@ -389,7 +480,7 @@ compared-token-requires : (t : ℕ) → compared-lts.Need-token-requires (
 ) (compared-at t) compared.Post
 compared-token-requires t c κs = search needs
 
--- src/lib.rt:309:8
+-- src/lib.rt:346:8
 compared-is-comparison-requires : (t : ℕ) → compared-lts.Need-is-comparison-requires (
   token-reads.Asked,
   token-reads.Learnt,
@@ -404,7 +495,7 @@ compared-is-comparison-requires : (t : ℕ) → compared-lts.Need-is-comparison-
 ) (compared-at t) compared.Post
 compared-is-comparison-requires t c κs = search needs
 
--- src/lib.rt:310:22
+-- src/lib.rt:347:22
 compared-packed-requires : (t : ℕ) → compared-lts.Need-packed-requires (
   token-reads.Asked,
   token-reads.Learnt,
@@ -419,7 +510,7 @@ compared-packed-requires : (t : ℕ) → compared-lts.Need-packed-requires (
 ) (compared-at t) compared.Post
 compared-packed-requires t c κs = (omega arith, omega (arith, c .before .before .before .before .before .before .pre .1 .small, c .before .before .before .before .before .before .pre .1 .within), omega arith)
 
--- src/lib.rt:310:9
+-- src/lib.rt:347:9
 compared-put-requires : (t : ℕ) → compared-lts.Need-put-requires (
   token-reads.Asked,
   token-reads.Learnt,
@@ -434,7 +525,7 @@ compared-put-requires : (t : ℕ) → compared-lts.Need-put-requires (
 ) (compared-at t) compared.Post
 compared-put-requires t c κs = search needs
 
--- src/lib.rt:311:33
+-- src/lib.rt:348:33
 compared-add-sum : (t : ℕ) → compared-lts.Need-add-sum (
   token-reads.Asked,
   token-reads.Learnt,
@@ -449,7 +540,7 @@ compared-add-sum : (t : ℕ) → compared-lts.Need-add-sum (
 ) (compared-at t) compared.Post
 compared-add-sum t c = omega (arith, c .before .before .before .before .before .before .before .before .before .before .before .pre .1 .small, c .before .before .before .before .before .before .before .before .before .before .before .pre .1 .within, c .before .before .before .before .before .before .before .before .before .before .before .pre .1 .behind)
 
--- src/lib.rt:311:40
+-- src/lib.rt:348:40
 compared-add-sum-2 : (t : ℕ) → compared-lts.Need-add-sum-2 (
   token-reads.Asked,
   token-reads.Learnt,
@@ -464,7 +555,7 @@ compared-add-sum-2 : (t : ℕ) → compared-lts.Need-add-sum-2 (
 ) (compared-at t) compared.Post
 compared-add-sum-2 t c = omega (arith, c .before .before .before .before .before .before .before .before .before .before .before .pre .1 .small, c .before .before .before .before .before .before .before .before .before .before .before .pre .1 .within, c .before .before .before .before .before .before .before .before .before .before .before .pre .1 .behind)
 
--- src/lib.rt:311:9
+-- src/lib.rt:348:9
 compared-sum-requires : (t : ℕ) → compared-lts.Need-sum-requires (
   token-reads.Asked,
   token-reads.Learnt,
@@ -479,7 +570,7 @@ compared-sum-requires : (t : ℕ) → compared-lts.Need-sum-requires (
 ) (compared-at t) compared.Post
 compared-sum-requires t c κs = (omega (arith, c .before .before .before .before .before .before .before .before .before .before .before .pre .0, (comparison-inside (c .before .before .before .before .before .before .before .before .before .before .before .pre .1) (c .before .before .before .before .before .before .before .is-comparison .result) (c .before .before .before .before .before .before .before .before .token .result) (c .before .before .before .before .before .before .before .before .token .ensures) (c .before .before .before .before .before .before .before .is-comparison .ensures) (c .before .before .before .before .before .before .if1 .taken))), onward-row (c .before .before .before .before .before .before .before .before .before .before .before .pre .1) (comparison-inside (c .before .before .before .before .before .before .before .before .before .before .before .pre .1) (c .before .before .before .before .before .before .before .is-comparison .result) (c .before .before .before .before .before .before .before .before .token .result) (c .before .before .before .before .before .before .before .before .token .ensures) (c .before .before .before .before .before .before .before .is-comparison .ensures) (c .before .before .before .before .before .before .if1 .taken)))
 
--- src/lib.rt:311:9
+-- src/lib.rt:348:9
 compared-same-length : (t : ℕ) → compared-lts.Need-same-length (
   token-reads.Asked,
   token-reads.Learnt,
@@ -494,7 +585,7 @@ compared-same-length : (t : ℕ) → compared-lts.Need-same-length (
 ) (compared-at t) compared.Post
 compared-same-length t c = search needs
 
--- src/lib.rt:311:9
+-- src/lib.rt:348:9
 compared-returns : (t : ℕ) → compared-lts.Need-returns (
   token-reads.Asked,
   token-reads.Learnt,
@@ -509,7 +600,7 @@ compared-returns : (t : ℕ) → compared-lts.Need-returns (
 ) (compared-at t) compared.Post
 compared-returns t c = compared-there (c .before .before .before .before .before .before .before .before .before .before .before .before .before .before .pre .1) (c .before .before .before .before .before .before .before .before .before .before .is-comparison .result) (c .before .before .before .before .before .before .before .before .before .before .before .token .result) (c .before .before .before .before .before .before .before .before .before .before .before .token .ensures) (c .before .before .before .before .before .before .before .before .before .before .is-comparison .ensures) (c .before .before .before .before .before .before .before .packed .result) (c .before .before .before .before .before .before .before .before .before .if1 .taken) (c .before .before .before .before .before .before .before .packed .ensures) (c .before .before .before .before .before .before .put .ensures) (c .before .before .sum .ensures)
 
--- src/lib.rt:305:1
+-- src/lib.rt:342:1
 compared-returns-2 : (t : ℕ) → compared-lts.Need-returns-2 (
   token-reads.Asked,
   token-reads.Learnt,
@@ -524,7 +615,7 @@ compared-returns-2 : (t : ℕ) → compared-lts.Need-returns-2 (
 ) (compared-at t) compared.Post
 compared-returns-2 t c = compared-not (c .before .before .before .before .before .pre .1) (c .before .is-comparison .result) (c .before .before .token .result) (c .before .before .token .ensures) (c .before .is-comparison .ensures) (c .if1 .left)
 
--- src/lib.rt:169:9
+-- src/lib.rt:174:9
 expression-sum-requires : (t : ℕ) → expression-lts.Need-sum-requires (
   sum-below t,
   sum.Post,
@@ -537,7 +628,7 @@ expression-sum-requires : (t : ℕ) → expression-lts.Need-sum-requires (
 ) (expression-at t) expression.Post
 expression-sum-requires t c κs = (omega (arith, c .before .before .before .pre .0), c .before .before .before .pre .1)
 
--- src/lib.rt:170:18
+-- src/lib.rt:175:18
 expression-enum-known-left : (t : ℕ) → expression-lts.Need-enum-known-left (
   sum-below t,
   sum.Post,
@@ -550,7 +641,7 @@ expression-enum-known-left : (t : ℕ) → expression-lts.Need-enum-known-left (
 ) (expression-at t) expression.Post
 expression-enum-known-left t c = search needs
 
--- src/lib.rt:171:9
+-- src/lib.rt:176:9
 expression-enum-told : (t : ℕ) → expression-lts.Need-enum-told (
   sum-below t,
   sum.Post,
@@ -563,7 +654,7 @@ expression-enum-told : (t : ℕ) → expression-lts.Need-enum-told (
 ) (expression-at t) expression.Post
 expression-enum-told t c = search needs
 
--- src/lib.rt:171:9
+-- src/lib.rt:176:9
 expression-same-length : (t : ℕ) → expression-lts.Need-same-length (
   sum-below t,
   sum.Post,
@@ -576,7 +667,7 @@ expression-same-length : (t : ℕ) → expression-lts.Need-same-length (
 ) (expression-at t) expression.Post
 expression-same-length t c = search needs
 
--- src/lib.rt:171:9
+-- src/lib.rt:176:9
 expression-returns : (t : ℕ) → expression-lts.Need-returns (
   sum-below t,
   sum.Post,
@@ -589,7 +680,7 @@ expression-returns : (t : ℕ) → expression-lts.Need-returns (
 ) (expression-at t) expression.Post
 expression-returns t c = once-refused expression′ sum′ relations refl (c .before .before .before .before .before .before .before .before .pre .1) (c .before .before .before .before .sum .ensures) (c .enum-told .given .1)
 
--- src/lib.rt:173:20
+-- src/lib.rt:178:20
 expression-token-requires : (t : ℕ) → expression-lts.Need-token-requires (
   sum-below t,
   sum.Post,
@@ -602,7 +693,7 @@ expression-token-requires : (t : ℕ) → expression-lts.Need-token-requires (
 ) (expression-at t) expression.Post
 expression-token-requires t c κs = search needs
 
--- src/lib.rt:173:8
+-- src/lib.rt:178:8
 expression-is-relation-requires : (t : ℕ) → expression-lts.Need-is-relation-requires (
   sum-below t,
   sum.Post,
@@ -615,7 +706,7 @@ expression-is-relation-requires : (t : ℕ) → expression-lts.Need-is-relation-
 ) (expression-at t) expression.Post
 expression-is-relation-requires t c κs = search needs
 
--- src/lib.rt:174:38
+-- src/lib.rt:179:38
 expression-add-sum : (t : ℕ) → expression-lts.Need-add-sum (
   sum-below t,
   sum.Post,
@@ -628,7 +719,7 @@ expression-add-sum : (t : ℕ) → expression-lts.Need-add-sum (
 ) (expression-at t) expression.Post
 expression-add-sum t c = omega (arith, c .before .before .before .before .before .before .before .before .before .before .before .before .before .pre .1 .small, reads-at (c .before .before .before .before .before .before .before .before .before .sum .ensures) (c .before .before .before .before .before .left .given .1))
 
--- src/lib.rt:174:13
+-- src/lib.rt:179:13
 expression-sum-requires-2 : (t : ℕ) → expression-lts.Need-sum-requires-2 (
   sum-below t,
   sum.Post,
@@ -642,7 +733,7 @@ expression-sum-requires-2 : (t : ℕ) → expression-lts.Need-sum-requires-2 (
 unfolding mem
 expression-sum-requires-2 t c κs = (omega (arith, c .before .before .before .before .before .before .before .before .before .before .before .before .before .pre .0, reads-at (c .before .before .before .before .before .before .before .before .before .sum .ensures) (c .before .before .before .before .before .left .given .1), (inside (c .before .before .before .before .before .before .before .before .before .before .before .before .before .args .codes .now) relations (c .before .before .before .before .before .left .given .0 .0) refl (seen (c .before .before .before .before .before .before .before .before .before .before .before .before .before .args .codes .now) (c .before .before .before .before .before .left .given .0 .0) relations (c .before .before .before .token .ensures) (c .before .before .is-relation .ensures) (c .before .if1 .taken)))), onward (ready-of (c .before .before .before .before .before .before .before .before .before .before .before .before .before .pre .1) (c .before .before .before .before .before .before .before .before .before .sum .ensures .ahead) (c .before .before .before .before .before .left .given .1)) (inside (c .before .before .before .before .before .before .before .before .before .before .before .before .before .args .codes .now) relations (c .before .before .before .before .before .left .given .0 .0) refl (seen (c .before .before .before .before .before .before .before .before .before .before .before .before .before .args .codes .now) (c .before .before .before .before .before .left .given .0 .0) relations (c .before .before .before .token .ensures) (c .before .before .is-relation .ensures) (c .before .if1 .taken))))
 
--- src/lib.rt:175:9
+-- src/lib.rt:180:9
 expression-node-requires : (t : ℕ) → expression-lts.Need-node-requires (
   sum-below t,
   sum.Post,
@@ -656,7 +747,7 @@ expression-node-requires : (t : ℕ) → expression-lts.Need-node-requires (
 unfolding mem
 expression-node-requires t c κs = (counts-of (c .before .before .before .sum2 .result) (onward (ready-of (c .before .before .before .before .before .before .before .before .before .before .before .before .before .before .before .before .before .pre .1) (c .before .before .before .before .before .before .before .before .before .before .before .before .before .sum .ensures .ahead) (c .before .before .before .before .before .before .before .before .before .left .given .1)) (inside (c .before .before .before .before .before .before .before .before .before .before .before .before .before .before .before .before .before .args .codes .now) relations (c .before .before .before .before .before .before .before .before .before .left .given .0 .0) refl (seen (c .before .before .before .before .before .before .before .before .before .before .before .before .before .before .before .before .before .args .codes .now) (c .before .before .before .before .before .before .before .before .before .left .given .0 .0) relations (c .before .before .before .before .before .before .before .token .ensures) (c .before .before .before .before .before .before .is-relation .ensures) (c .before .before .before .before .before .if1 .taken)))) (c .before .before .before .sum2 .ensures .ahead), omega arith, omega (arith, c .before .before .before .before .before .before .before .before .before .before .before .before .before .before .before .before .before .pre .1 .small, reads-at (c .before .before .before .before .before .before .before .before .before .before .before .before .before .sum .ensures) (c .before .before .before .before .before .before .before .before .before .left .given .1)))
 
--- src/lib.rt:175:9
+-- src/lib.rt:180:9
 expression-same-length-2 : (t : ℕ) → expression-lts.Need-same-length-2 (
   sum-below t,
   sum.Post,
@@ -669,7 +760,7 @@ expression-same-length-2 : (t : ℕ) → expression-lts.Need-same-length-2 (
 ) (expression-at t) expression.Post
 expression-same-length-2 t c = search needs
 
--- src/lib.rt:175:9
+-- src/lib.rt:180:9
 expression-returns-2 : (t : ℕ) → expression-lts.Need-returns-2 (
   sum-below t,
   sum.Post,
@@ -683,7 +774,7 @@ expression-returns-2 : (t : ℕ) → expression-lts.Need-returns-2 (
 unfolding mem
 expression-returns-2 t c = once-both expression′ sum′ relations refl (c .before .before .before .before .before .before .before .before .before .before .before .before .before .before .before .before .before .before .before .before .pre .1) (c .before .before .before .before .before .before .before .before .before .before .before .before .before .before .before .before .sum .ensures) (c .before .before .before .before .before .before .before .before .before .before .before .before .left .given .1) (seen (c .before .before .before .before .before .before .before .before .before .before .before .before .before .before .before .before .before .before .before .before .args .codes .now) (c .before .before .before .before .before .before .before .before .before .before .before .before .left .given .0 .0) relations (c .before .before .before .before .before .before .before .before .before .before .token .ensures) (c .before .before .before .before .before .before .before .before .before .is-relation .ensures) (c .before .before .before .before .before .before .before .before .if1 .taken)) (omega (arith, (inside (c .before .before .before .before .before .before .before .before .before .before .before .before .before .before .before .before .before .before .before .before .args .codes .now) relations (c .before .before .before .before .before .before .before .before .before .before .before .before .left .given .0 .0) refl (seen (c .before .before .before .before .before .before .before .before .before .before .before .before .before .before .before .before .before .before .before .before .args .codes .now) (c .before .before .before .before .before .before .before .before .before .before .before .before .left .given .0 .0) relations (c .before .before .before .before .before .before .before .before .before .before .token .ensures) (c .before .before .before .before .before .before .before .before .before .is-relation .ensures) (c .before .before .before .before .before .before .before .before .if1 .taken))))) (c .before .before .before .before .before .before .sum2 .ensures) (c .before .before .node .ensures)
 
--- src/lib.rt:165:1
+-- src/lib.rt:170:1
 expression-same-length-3 : (t : ℕ) → expression-lts.Need-same-length-3 (
   sum-below t,
   sum.Post,
@@ -696,7 +787,7 @@ expression-same-length-3 : (t : ℕ) → expression-lts.Need-same-length-3 (
 ) (expression-at t) expression.Post
 expression-same-length-3 t c = search needs
 
--- src/lib.rt:165:1
+-- src/lib.rt:170:1
 expression-returns-3 : (t : ℕ) → expression-lts.Need-returns-3 (
   sum-below t,
   sum.Post,
@@ -709,153 +800,179 @@ expression-returns-3 : (t : ℕ) → expression-lts.Need-returns-3 (
 ) (expression-at t) expression.Post
 expression-returns-3 t c = once-alone expression′ sum′ relations refl (c .before .before .before .before .before .before .before .before .before .before .before .before .pre .1) (c .before .before .before .before .before .before .before .before .sum .ensures) (c .before .before .before .before .left .given .1) (seen (c .before .before .before .before .before .before .before .before .before .before .before .before .args .codes .now) (c .before .before .before .before .left .given .0 .0) relations (c .before .before .token .ensures) (c .before .is-relation .ensures) (c .if1 .left))
 
--- src/lib.rt:227:9
+abbrev factor-Inv-loop : factor-lts.InvT-loop
+factor-Inv-loop codes rows₀ p n q₀ m₀ rows q m = (length rows ≡ length rows₀) × Before factor′ operand′ power none codes p n rows₀ q m rows
+
+abbrev factor-μ-loop : factor-lts.MeasureT-loop
+factor-μ-loop codes rows₀ p n q₀ m₀ rows q m = length codes - q
+
+-- src/lib.rt:245:5
+factor-loop-holds : (t : ℕ) → factor-lts.Need-loop-holds (
+  operand-below t,
+  operand.Post,
+  combined-reads.Asked,
+  combined-reads.Learnt,
+  token-reads.Asked,
+  token-reads.Learnt,
+) (factor-at t) factor.Post factor-Inv-loop factor-μ-loop
+factor-loop-holds t c = (refl, before-first (c .before .before .pre .1))
+
+-- src/lib.rt:246:13
 factor-operand-requires : (t : ℕ) → factor-lts.Need-operand-requires (
   operand-below t,
   operand.Post,
+  combined-reads.Asked,
+  combined-reads.Learnt,
   token-reads.Asked,
   token-reads.Learnt,
-  node-reads.Asked,
-  node-reads.Learnt,
-) (factor-at t) factor.Post
-factor-operand-requires t c κs = (omega (arith, c .before .before .before .pre .0), c .before .before .before .pre .1)
+) (factor-at t) factor.Post factor-Inv-loop factor-μ-loop
+factor-operand-requires t c κs = (omega (arith, c .before .before .before .before .pre .0, c .before .loop .inv .1 .from), c .before .loop .inv .1 .ready)
 
--- src/lib.rt:228:18
-factor-enum-known-left : (t : ℕ) → factor-lts.Need-enum-known-left (
+-- src/lib.rt:247:22
+factor-enum-known-right : (t : ℕ) → factor-lts.Need-enum-known-right (
   operand-below t,
   operand.Post,
+  combined-reads.Asked,
+  combined-reads.Learnt,
   token-reads.Asked,
   token-reads.Learnt,
-  node-reads.Asked,
-  node-reads.Learnt,
-) (factor-at t) factor.Post
-factor-enum-known-left t c = search needs
+) (factor-at t) factor.Post factor-Inv-loop factor-μ-loop
+factor-enum-known-right t c = search needs
 
--- src/lib.rt:229:9
+-- src/lib.rt:248:13
 factor-enum-told : (t : ℕ) → factor-lts.Need-enum-told (
   operand-below t,
   operand.Post,
+  combined-reads.Asked,
+  combined-reads.Learnt,
   token-reads.Asked,
   token-reads.Learnt,
-  node-reads.Asked,
-  node-reads.Learnt,
-) (factor-at t) factor.Post
+) (factor-at t) factor.Post factor-Inv-loop factor-μ-loop
 factor-enum-told t c = search needs
 
--- src/lib.rt:229:9
+-- src/lib.rt:248:13
 factor-same-length : (t : ℕ) → factor-lts.Need-same-length (
   operand-below t,
   operand.Post,
+  combined-reads.Asked,
+  combined-reads.Learnt,
   token-reads.Asked,
   token-reads.Learnt,
-  node-reads.Asked,
-  node-reads.Learnt,
-) (factor-at t) factor.Post
+) (factor-at t) factor.Post factor-Inv-loop factor-μ-loop
 factor-same-length t c = search needs
 
--- src/lib.rt:229:9
+-- src/lib.rt:248:13
 factor-returns : (t : ℕ) → factor-lts.Need-returns (
   operand-below t,
   operand.Post,
+  combined-reads.Asked,
+  combined-reads.Learnt,
   token-reads.Asked,
   token-reads.Learnt,
-  node-reads.Asked,
-  node-reads.Learnt,
-) (factor-at t) factor.Post
-factor-returns t c = once-refused factor′ operand′ power refl (c .before .before .before .before .before .before .before .before .pre .1) (c .before .before .before .before .operand .ensures) (c .enum-told .given .1)
+) (factor-at t) factor.Post factor-Inv-loop factor-μ-loop
+factor-returns t c = turned-refused factor′ operand′ power refl (c .before .before .before .before .before .before .before .before .before .pre .1) (c .before .before .before .before .before .before .loop .inv .1) (c .before .before .before .before .operand .ensures) (c .enum-told .given .1)
 
--- src/lib.rt:231:8
-factor-token-requires : (t : ℕ) → factor-lts.Need-token-requires (
+-- src/lib.rt:250:9
+factor-combined-requires : (t : ℕ) → factor-lts.Need-combined-requires (
   operand-below t,
   operand.Post,
+  combined-reads.Asked,
+  combined-reads.Learnt,
   token-reads.Asked,
   token-reads.Learnt,
-  node-reads.Asked,
-  node-reads.Learnt,
-) (factor-at t) factor.Post
-factor-token-requires t c κs = search needs
+) (factor-at t) factor.Post factor-Inv-loop factor-μ-loop
+factor-combined-requires t c κs = combinable (c .before .before .before .before .before .before .before .before .loop .inv .1) (c .before .before .before .before .before .before .operand .ensures) (c .before .before .right .given .1)
 
--- src/lib.rt:232:42
-factor-add-operand : (t : ℕ) → factor-lts.Need-add-operand (
-  operand-below t,
-  operand.Post,
-  token-reads.Asked,
-  token-reads.Learnt,
-  node-reads.Asked,
-  node-reads.Learnt,
-) (factor-at t) factor.Post
-factor-add-operand t c = omega (arith, c .before .before .before .before .before .before .before .before .before .before .before .before .pre .1 .small, reads-at (c .before .before .before .before .before .before .before .before .operand .ensures) (c .before .before .before .before .left .given .1))
-
--- src/lib.rt:232:13
-factor-operand-requires-2 : (t : ℕ) → factor-lts.Need-operand-requires-2 (
-  operand-below t,
-  operand.Post,
-  token-reads.Asked,
-  token-reads.Learnt,
-  node-reads.Asked,
-  node-reads.Learnt,
-) (factor-at t) factor.Post
-unfolding mem
-factor-operand-requires-2 t c κs = (omega (arith, c .before .before .before .before .before .before .before .before .before .before .before .before .pre .0, reads-at (c .before .before .before .before .before .before .before .before .operand .ensures) (c .before .before .before .before .left .given .1), (one-inside (c .before .before .before .before .before .before .before .before .before .before .before .before .args .codes .now) (c .before .before .before .before .left .given .0 .0) (c .before .before .token .result) 32 (c .before .before .token .ensures) (c .before .if1 .taken) (omega arith))), onward (ready-of (c .before .before .before .before .before .before .before .before .before .before .before .before .pre .1) (c .before .before .before .before .before .before .before .before .operand .ensures .ahead) (c .before .before .before .before .left .given .1)) (one-inside (c .before .before .before .before .before .before .before .before .before .before .before .before .args .codes .now) (c .before .before .before .before .left .given .0 .0) (c .before .before .token .result) 32 (c .before .before .token .ensures) (c .before .if1 .taken) (omega arith)))
-
--- src/lib.rt:233:9
-factor-node-requires : (t : ℕ) → factor-lts.Need-node-requires (
-  operand-below t,
-  operand.Post,
-  token-reads.Asked,
-  token-reads.Learnt,
-  node-reads.Asked,
-  node-reads.Learnt,
-) (factor-at t) factor.Post
-unfolding mem
-factor-node-requires t c κs = (counts-of (c .before .before .before .operand2 .result) (onward (ready-of (c .before .before .before .before .before .before .before .before .before .before .before .before .before .before .before .before .pre .1) (c .before .before .before .before .before .before .before .before .before .before .before .before .operand .ensures .ahead) (c .before .before .before .before .before .before .before .before .left .given .1)) (one-inside (c .before .before .before .before .before .before .before .before .before .before .before .before .before .before .before .before .args .codes .now) (c .before .before .before .before .before .before .before .before .left .given .0 .0) (c .before .before .before .before .before .before .token .result) 32 (c .before .before .before .before .before .before .token .ensures) (c .before .before .before .before .before .if1 .taken) (omega arith))) (c .before .before .before .operand2 .ensures .ahead), omega arith, omega (arith, c .before .before .before .before .before .before .before .before .before .before .before .before .before .before .before .before .pre .1 .small, reads-at (c .before .before .before .before .before .before .before .before .before .before .before .before .operand .ensures) (c .before .before .before .before .before .before .before .before .left .given .1)))
-
--- src/lib.rt:233:9
+-- src/lib.rt:252:13
 factor-same-length-2 : (t : ℕ) → factor-lts.Need-same-length-2 (
   operand-below t,
   operand.Post,
+  combined-reads.Asked,
+  combined-reads.Learnt,
   token-reads.Asked,
   token-reads.Learnt,
-  node-reads.Asked,
-  node-reads.Learnt,
-) (factor-at t) factor.Post
+) (factor-at t) factor.Post factor-Inv-loop factor-μ-loop
 factor-same-length-2 t c = search needs
 
--- src/lib.rt:233:9
+-- src/lib.rt:252:13
 factor-returns-2 : (t : ℕ) → factor-lts.Need-returns-2 (
   operand-below t,
   operand.Post,
+  combined-reads.Asked,
+  combined-reads.Learnt,
   token-reads.Asked,
   token-reads.Learnt,
-  node-reads.Asked,
-  node-reads.Learnt,
-) (factor-at t) factor.Post
-unfolding mem
-factor-returns-2 t c = once-both factor′ operand′ power refl (c .before .before .before .before .before .before .before .before .before .before .before .before .before .before .before .before .before .before .before .pre .1) (c .before .before .before .before .before .before .before .before .before .before .before .before .before .before .before .operand .ensures) (c .before .before .before .before .before .before .before .before .before .before .before .left .given .1) (seen-one (c .before .before .before .before .before .before .before .before .before .before .before .before .before .before .before .before .before .before .before .args .codes .now) (c .before .before .before .before .before .before .before .before .before .before .before .left .given .0 .0) 32 (c .before .before .before .before .before .before .before .before .before .token .ensures) (c .before .before .before .before .before .before .before .before .if1 .taken)) (omega (arith, (one-inside (c .before .before .before .before .before .before .before .before .before .before .before .before .before .before .before .before .before .before .before .args .codes .now) (c .before .before .before .before .before .before .before .before .before .before .before .left .given .0 .0) (c .before .before .before .before .before .before .before .before .before .token .result) 32 (c .before .before .before .before .before .before .before .before .before .token .ensures) (c .before .before .before .before .before .before .before .before .if1 .taken) (omega arith)))) (c .before .before .before .before .before .before .operand2 .ensures) (c .before .before .node .ensures)
+) (factor-at t) factor.Post factor-Inv-loop factor-μ-loop
+factor-returns-2 t c = turned-both factor′ operand′ power refl (c .before .before .before .before .before .before .before .before .before .before .before .before .before .before .before .pre .1) (c .before .before .before .before .before .before .before .before .before .before .before .before .loop .inv .1) (c .before .before .before .before .before .before .before .before .before .before .operand .ensures) (c .before .before .before .before .before .before .right .given .1) (c .before .before .before .combined .ensures) (c .if1 .taken)
 
--- src/lib.rt:223:1
+-- src/lib.rt:254:12
+factor-token-requires : (t : ℕ) → factor-lts.Need-token-requires (
+  operand-below t,
+  operand.Post,
+  combined-reads.Asked,
+  combined-reads.Learnt,
+  token-reads.Asked,
+  token-reads.Learnt,
+) (factor-at t) factor.Post factor-Inv-loop factor-μ-loop
+factor-token-requires t c κs = search needs
+
+-- src/lib.rt:255:13
 factor-same-length-3 : (t : ℕ) → factor-lts.Need-same-length-3 (
   operand-below t,
   operand.Post,
+  combined-reads.Asked,
+  combined-reads.Learnt,
   token-reads.Asked,
   token-reads.Learnt,
-  node-reads.Asked,
-  node-reads.Learnt,
-) (factor-at t) factor.Post
+) (factor-at t) factor.Post factor-Inv-loop factor-μ-loop
 factor-same-length-3 t c = search needs
 
--- src/lib.rt:223:1
+-- src/lib.rt:255:13
 factor-returns-3 : (t : ℕ) → factor-lts.Need-returns-3 (
   operand-below t,
   operand.Post,
+  combined-reads.Asked,
+  combined-reads.Learnt,
   token-reads.Asked,
   token-reads.Learnt,
-  node-reads.Asked,
-  node-reads.Learnt,
-) (factor-at t) factor.Post
-factor-returns-3 t c = once-alone factor′ operand′ power refl (c .before .before .before .before .before .before .before .before .before .before .before .pre .1) (c .before .before .before .before .before .before .before .operand .ensures) (c .before .before .before .left .given .1) (seen-other (c .before .before .before .before .before .before .before .before .before .before .before .args .codes .now) (c .before .before .before .left .given .0 .0) 32 (c .before .token .ensures) (c .if1 .left))
+) (factor-at t) factor.Post factor-Inv-loop factor-μ-loop
+factor-returns-3 t c = turned-alone factor′ operand′ power refl (c .before .before .before .before .before .before .before .before .before .before .before .before .before .before .before .before .before .pre .1) (c .before .before .before .before .before .before .before .before .before .before .before .before .before .before .loop .inv .1) (c .before .before .before .before .before .before .before .before .before .before .before .before .operand .ensures) (c .before .before .before .before .before .before .before .before .right .given .1) (c .before .before .before .before .before .combined .ensures) (c .before .before .if1 .left) (seen-other (c .before .before .before .before .before .before .before .before .before .before .before .before .before .before .before .before .before .args .codes .now) (c .before .before .before .before .before .before .before .before .right .given .0 .0) 32 (c .before .token .ensures) (c .if2 .taken))
 
--- src/lib.rt:291:32
+-- src/lib.rt:257:13
+factor-add-q : (t : ℕ) → factor-lts.Need-add-q (
+  operand-below t,
+  operand.Post,
+  combined-reads.Asked,
+  combined-reads.Learnt,
+  token-reads.Asked,
+  token-reads.Learnt,
+) (factor-at t) factor.Post factor-Inv-loop factor-μ-loop
+factor-add-q t c = omega (arith, c .before .before .before .before .before .before .before .before .before .before .before .before .before .before .before .before .before .pre .1 .small, reads-at (c .before .before .before .before .before .before .before .before .before .before .before .before .operand .ensures) (c .before .before .before .before .before .before .before .before .right .given .1))
+
+-- src/lib.rt:245:5
+factor-loop-less : (t : ℕ) → factor-lts.Need-loop-less (
+  operand-below t,
+  operand.Post,
+  combined-reads.Asked,
+  combined-reads.Learnt,
+  token-reads.Asked,
+  token-reads.Learnt,
+) (factor-at t) factor.Post factor-Inv-loop factor-μ-loop
+factor-loop-less t c = omega (arith, reads-at (c .before .before .before .before .before .before .before .before .before .before .before .before .operand .ensures) (c .before .before .before .before .before .before .before .before .right .given .1))
+
+-- src/lib.rt:245:5
+factor-loop-again : (t : ℕ) → factor-lts.Need-loop-again (
+  operand-below t,
+  operand.Post,
+  combined-reads.Asked,
+  combined-reads.Learnt,
+  token-reads.Asked,
+  token-reads.Learnt,
+) (factor-at t) factor.Post factor-Inv-loop factor-μ-loop
+unfolding mem
+factor-loop-again t c = (search needs, turned-again factor′ operand′ power refl (c .before .before .before .before .before .before .before .before .before .before .before .before .before .before .before .before .before .pre .1) (c .before .before .before .before .before .before .before .before .before .before .before .before .before .before .loop .inv .1) (c .before .before .before .before .before .before .before .before .before .before .before .before .operand .ensures) (c .before .before .before .before .before .before .before .before .right .given .1) (c .before .before .before .before .before .combined .ensures) (c .before .before .if1 .left) refl (seen-one (c .before .before .before .before .before .before .before .before .before .before .before .before .before .before .before .before .before .args .codes .now) (c .before .before .before .before .before .before .before .before .right .given .0 .0) 32 (c .before .token .ensures) (c .if2 .left)))
+
+-- src/lib.rt:328:32
 interval-add-sum : (t : ℕ) → interval-lts.Need-add-sum (
   sum-below t,
   sum.Post,
@@ -868,7 +985,7 @@ interval-add-sum : (t : ℕ) → interval-lts.Need-add-sum (
 ) (interval-at t) interval.Post
 interval-add-sum t c = omega (arith, c .before .before .before .pre .1 .0 .small, c .before .before .before .pre .1 .0 .within)
 
--- src/lib.rt:291:9
+-- src/lib.rt:328:9
 interval-sum-requires : (t : ℕ) → interval-lts.Need-sum-requires (
   sum-below t,
   sum.Post,
@@ -881,7 +998,7 @@ interval-sum-requires : (t : ℕ) → interval-lts.Need-sum-requires (
 ) (interval-at t) interval.Post
 interval-sum-requires t c κs = (omega (arith, c .before .before .before .pre .0, (one-inside (c .before .before .before .args .codes .now) (c .before .before .before .args .p) (getD (c .before .before .before .args .codes .now) (c .before .before .before .args .p) 0) 21 refl (c .before .before .before .pre .1 .1) (omega arith))), onward (c .before .before .before .pre .1 .0) (one-inside (c .before .before .before .args .codes .now) (c .before .before .before .args .p) (getD (c .before .before .before .args .codes .now) (c .before .before .before .args .p) 0) 21 refl (c .before .before .before .pre .1 .1) (omega arith)))
 
--- src/lib.rt:292:18
+-- src/lib.rt:329:18
 interval-enum-known-low : (t : ℕ) → interval-lts.Need-enum-known-low (
   sum-below t,
   sum.Post,
@@ -894,7 +1011,7 @@ interval-enum-known-low : (t : ℕ) → interval-lts.Need-enum-known-low (
 ) (interval-at t) interval.Post
 interval-enum-known-low t c = search needs
 
--- src/lib.rt:293:9
+-- src/lib.rt:330:9
 interval-enum-told : (t : ℕ) → interval-lts.Need-enum-told (
   sum-below t,
   sum.Post,
@@ -907,7 +1024,7 @@ interval-enum-told : (t : ℕ) → interval-lts.Need-enum-told (
 ) (interval-at t) interval.Post
 interval-enum-told t c = search needs
 
--- src/lib.rt:293:9
+-- src/lib.rt:330:9
 interval-same-length : (t : ℕ) → interval-lts.Need-same-length (
   sum-below t,
   sum.Post,
@@ -920,7 +1037,7 @@ interval-same-length : (t : ℕ) → interval-lts.Need-same-length (
 ) (interval-at t) interval.Post
 interval-same-length t c = search needs
 
--- src/lib.rt:293:9
+-- src/lib.rt:330:9
 interval-returns : (t : ℕ) → interval-lts.Need-returns (
   sum-below t,
   sum.Post,
@@ -933,7 +1050,7 @@ interval-returns : (t : ℕ) → interval-lts.Need-returns (
 ) (interval-at t) interval.Post
 interval-returns t c = low-refused (c .before .before .before .before .before .before .before .before .pre .1 .0) (c .before .before .before .before .before .before .before .before .pre .1 .1) (c .before .before .before .before .sum .ensures) (c .enum-told .given .1)
 
--- src/lib.rt:295:9
+-- src/lib.rt:332:9
 interval-compared-requires : (t : ℕ) → interval-lts.Need-compared-requires (
   sum-below t,
   sum.Post,
@@ -946,7 +1063,7 @@ interval-compared-requires : (t : ℕ) → interval-lts.Need-compared-requires (
 ) (interval-at t) interval.Post
 interval-compared-requires t c κs = (omega (arith, c .before .before .before .before .before .before .before .before .before .before .pre .0, reads-at (c .before .before .before .before .before .before .sum .ensures) (c .before .before .low .given .1)), (ready-of (onward (c .before .before .before .before .before .before .before .before .before .before .pre .1 .0) (one-inside (c .before .before .before .before .before .before .before .before .before .before .args .codes .now) (c .before .before .before .before .before .before .before .before .before .before .args .p) (getD (c .before .before .before .before .before .before .before .before .before .before .args .codes .now) (c .before .before .before .before .before .before .before .before .before .before .args .p) 0) 21 refl (c .before .before .before .before .before .before .before .before .before .before .pre .1 .1) (omega arith))) (c .before .before .before .before .before .before .sum .ensures .ahead) (c .before .before .low .given .1)))
 
--- src/lib.rt:296:18
+-- src/lib.rt:333:18
 interval-enum-known-item : (t : ℕ) → interval-lts.Need-enum-known-item (
   sum-below t,
   sum.Post,
@@ -959,7 +1076,7 @@ interval-enum-known-item : (t : ℕ) → interval-lts.Need-enum-known-item (
 ) (interval-at t) interval.Post
 interval-enum-known-item t c = search needs
 
--- src/lib.rt:297:9
+-- src/lib.rt:334:9
 interval-enum-told-2 : (t : ℕ) → interval-lts.Need-enum-told-2 (
   sum-below t,
   sum.Post,
@@ -972,7 +1089,7 @@ interval-enum-told-2 : (t : ℕ) → interval-lts.Need-enum-told-2 (
 ) (interval-at t) interval.Post
 interval-enum-told-2 t c = search needs
 
--- src/lib.rt:297:9
+-- src/lib.rt:334:9
 interval-same-length-2 : (t : ℕ) → interval-lts.Need-same-length-2 (
   sum-below t,
   sum.Post,
@@ -985,7 +1102,7 @@ interval-same-length-2 : (t : ℕ) → interval-lts.Need-same-length-2 (
 ) (interval-at t) interval.Post
 interval-same-length-2 t c = search needs
 
--- src/lib.rt:297:9
+-- src/lib.rt:334:9
 interval-returns-2 : (t : ℕ) → interval-lts.Need-returns-2 (
   sum-below t,
   sum.Post,
@@ -998,7 +1115,7 @@ interval-returns-2 : (t : ℕ) → interval-lts.Need-returns-2 (
 ) (interval-at t) interval.Post
 interval-returns-2 t c = item-refused (c .before .before .before .before .before .before .before .before .before .before .before .before .before .before .before .pre .1 .0) (c .before .before .before .before .before .before .before .before .before .before .before .before .before .before .before .pre .1 .1) (c .before .before .before .before .before .before .before .before .before .before .before .sum .ensures) (c .before .before .before .before .before .before .before .low .given .1) (c .before .before .before .before .compared .ensures) (c .enum-told2 .given .1)
 
--- src/lib.rt:299:9
+-- src/lib.rt:336:9
 interval-compared-requires-2 : (t : ℕ) → interval-lts.Need-compared-requires-2 (
   sum-below t,
   sum.Post,
@@ -1011,7 +1128,7 @@ interval-compared-requires-2 : (t : ℕ) → interval-lts.Need-compared-requires
 ) (interval-at t) interval.Post
 interval-compared-requires-2 t c κs = (omega (arith, c .before .before .before .before .before .before .before .before .before .before .before .before .before .before .before .before .before .pre .0, reads-at (c .before .before .before .before .before .before .before .before .before .before .before .before .before .sum .ensures) (c .before .before .before .before .before .before .before .before .before .low .given .1), compares-at (c .before .before .before .before .before .before .compared .ensures) (c .before .before .item .given .1)), (ready-of (ready-of (onward (c .before .before .before .before .before .before .before .before .before .before .before .before .before .before .before .before .before .pre .1 .0) (one-inside (c .before .before .before .before .before .before .before .before .before .before .before .before .before .before .before .before .before .args .codes .now) (c .before .before .before .before .before .before .before .before .before .before .before .before .before .before .before .before .before .args .p) (getD (c .before .before .before .before .before .before .before .before .before .before .before .before .before .before .before .before .before .args .codes .now) (c .before .before .before .before .before .before .before .before .before .before .before .before .before .before .before .before .before .args .p) 0) 21 refl (c .before .before .before .before .before .before .before .before .before .before .before .before .before .before .before .before .before .pre .1 .1) (omega arith))) (c .before .before .before .before .before .before .before .before .before .before .before .before .before .sum .ensures .ahead) (c .before .before .before .before .before .before .before .before .before .low .given .1)) (c .before .before .before .before .before .before .compared .ensures .ahead) (c .before .before .item .given .1)))
 
--- src/lib.rt:300:9
+-- src/lib.rt:337:9
 interval-expect-requires : (t : ℕ) → interval-lts.Need-expect-requires (
   sum-below t,
   sum.Post,
@@ -1024,7 +1141,7 @@ interval-expect-requires : (t : ℕ) → interval-lts.Need-expect-requires (
 ) (interval-at t) interval.Post
 interval-expect-requires t c κs = (sound-of (c .before .before .compared2 .result) (ready-of (ready-of (onward (c .before .before .before .before .before .before .before .before .before .before .before .before .before .before .before .before .before .before .before .before .pre .1 .0) (one-inside (c .before .before .before .before .before .before .before .before .before .before .before .before .before .before .before .before .before .before .before .before .args .codes .now) (c .before .before .before .before .before .before .before .before .before .before .before .before .before .before .before .before .before .before .before .before .args .p) (getD (c .before .before .before .before .before .before .before .before .before .before .before .before .before .before .before .before .before .before .before .before .args .codes .now) (c .before .before .before .before .before .before .before .before .before .before .before .before .before .before .before .before .before .before .before .before .args .p) 0) 21 refl (c .before .before .before .before .before .before .before .before .before .before .before .before .before .before .before .before .before .before .before .before .pre .1 .1) (omega arith))) (c .before .before .before .before .before .before .before .before .before .before .before .before .before .before .before .before .sum .ensures .ahead) (c .before .before .before .before .before .before .before .before .before .before .before .before .low .given .1)) (c .before .before .before .before .before .before .before .before .before .compared .ensures .ahead) (c .before .before .before .before .before .item .given .1)) (c .before .before .compared2 .ensures .ahead), omega arith)
 
--- src/lib.rt:301:5
+-- src/lib.rt:338:5
 interval-node-requires : (t : ℕ) → interval-lts.Need-node-requires (
   sum-below t,
   sum.Post,
@@ -1037,7 +1154,7 @@ interval-node-requires : (t : ℕ) → interval-lts.Need-node-requires (
 ) (interval-at t) interval.Post
 interval-node-requires t c κs = (counts-sound (c .before .before .before .before .before .before .before .before .before .before .before .before .before .before .before .before .before .before .before .before .before .before .args .codes .now) (c .before .expect .result) (c .before .expect .ensures .sound), omega arith, omega (arith, c .before .before .before .before .before .before .before .before .before .before .before .before .before .before .before .before .before .before .before .before .before .before .pre .1 .0 .small, c .before .before .before .before .before .before .before .before .before .before .before .before .before .before .before .before .before .before .before .before .before .before .pre .1 .0 .within))
 
--- src/lib.rt:287:1
+-- src/lib.rt:324:1
 interval-same-length-3 : (t : ℕ) → interval-lts.Need-same-length-3 (
   sum-below t,
   sum.Post,
@@ -1050,7 +1167,7 @@ interval-same-length-3 : (t : ℕ) → interval-lts.Need-same-length-3 (
 ) (interval-at t) interval.Post
 interval-same-length-3 t c = search needs
 
--- src/lib.rt:287:1
+-- src/lib.rt:324:1
 interval-returns-3 : (t : ℕ) → interval-lts.Need-returns-3 (
   sum-below t,
   sum.Post,
@@ -1063,7 +1180,7 @@ interval-returns-3 : (t : ℕ) → interval-lts.Need-returns-3 (
 ) (interval-at t) interval.Post
 interval-returns-3 t c = interval-whole (c .before .before .before .before .before .before .before .before .before .before .before .before .before .before .before .before .before .before .before .before .before .before .before .before .before .pre .1 .0) (c .before .before .before .before .before .before .before .before .before .before .before .before .before .before .before .before .before .before .before .before .before .before .before .before .before .pre .1 .1) (c .before .before .before .before .before .before .before .before .before .before .before .before .before .before .before .before .before .before .before .before .before .sum .ensures) (c .before .before .before .before .before .before .before .before .before .before .before .before .before .before .before .before .before .low .given .1) (c .before .before .before .before .before .before .before .before .before .before .before .before .before .before .compared .ensures) (c .before .before .before .before .before .before .before .before .before .before .item .given .1) (c .before .before .before .before .before .before .before .compared2 .ensures) (c .before .before .before .before .expect .ensures) (c .before .before .node .ensures) (counts-sound (c .before .before .before .before .before .before .before .before .before .before .before .before .before .before .before .before .before .before .before .before .before .before .before .before .before .args .codes .now) (c .before .before .before .before .expect .result) (c .before .before .before .before .expect .ensures .sound))
 
--- src/lib.rt:243:9
+-- src/lib.rt:266:9
 operand-token-requires : (t : ℕ) → operand-lts.Need-token-requires (
   token-reads.Asked,
   token-reads.Learnt,
@@ -1075,14 +1192,14 @@ operand-token-requires : (t : ℕ) → operand-lts.Need-token-requires (
   interval.Post,
   is-sign-reads.Asked,
   is-sign-reads.Learnt,
+  signed-below t,
+  signed.Post,
   atom-below t,
   atom.Post,
-  node-reads.Asked,
-  node-reads.Learnt,
 ) (operand-at t) operand.Post
 operand-token-requires t c κs = search needs
 
--- src/lib.rt:244:8
+-- src/lib.rt:267:8
 operand-is-qualified-requires : (t : ℕ) → operand-lts.Need-is-qualified-requires (
   token-reads.Asked,
   token-reads.Learnt,
@@ -1094,15 +1211,15 @@ operand-is-qualified-requires : (t : ℕ) → operand-lts.Need-is-qualified-requ
   interval.Post,
   is-sign-reads.Asked,
   is-sign-reads.Learnt,
+  signed-below t,
+  signed.Post,
   atom-below t,
   atom.Post,
-  node-reads.Asked,
-  node-reads.Learnt,
 ) (operand-at t) operand.Post
 operand-is-qualified-requires t c κs = omega (arith, c .before .before .before .pre .1 .small, c .before .before .before .pre .1 .within)
 
--- src/lib.rt:245:43
-operand-add-t10 : (t : ℕ) → operand-lts.Need-add-t10 (
+-- src/lib.rt:268:43
+operand-add-t9 : (t : ℕ) → operand-lts.Need-add-t9 (
   token-reads.Asked,
   token-reads.Learnt,
   is-qualified-reads.Asked,
@@ -1113,14 +1230,14 @@ operand-add-t10 : (t : ℕ) → operand-lts.Need-add-t10 (
   interval.Post,
   is-sign-reads.Asked,
   is-sign-reads.Learnt,
+  signed-below t,
+  signed.Post,
   atom-below t,
   atom.Post,
-  node-reads.Asked,
-  node-reads.Learnt,
 ) (operand-at t) operand.Post
-operand-add-t10 t c = omega (arith, c .before .before .before .before .before .before .pre .1 .small, c .before .before .before .before .before .before .pre .1 .within)
+operand-add-t9 t c = omega (arith, c .before .before .before .before .before .before .pre .1 .small, c .before .before .before .before .before .before .pre .1 .within)
 
--- src/lib.rt:245:9
+-- src/lib.rt:268:9
 operand-leaf-requires : (t : ℕ) → operand-lts.Need-leaf-requires (
   token-reads.Asked,
   token-reads.Learnt,
@@ -1132,14 +1249,14 @@ operand-leaf-requires : (t : ℕ) → operand-lts.Need-leaf-requires (
   interval.Post,
   is-sign-reads.Asked,
   is-sign-reads.Learnt,
+  signed-below t,
+  signed.Post,
   atom-below t,
   atom.Post,
-  node-reads.Asked,
-  node-reads.Learnt,
 ) (operand-at t) operand.Post
 operand-leaf-requires t c κs = (item-ready (c .before .before .before .before .before .before .pre .1) (c .before .before .is-qualified .result) (c .before .before .is-qualified .ensures) (c .before .if1 .taken), omega arith)
 
--- src/lib.rt:245:9
+-- src/lib.rt:268:9
 operand-same-length : (t : ℕ) → operand-lts.Need-same-length (
   token-reads.Asked,
   token-reads.Learnt,
@@ -1151,14 +1268,14 @@ operand-same-length : (t : ℕ) → operand-lts.Need-same-length (
   interval.Post,
   is-sign-reads.Asked,
   is-sign-reads.Learnt,
+  signed-below t,
+  signed.Post,
   atom-below t,
   atom.Post,
-  node-reads.Asked,
-  node-reads.Learnt,
 ) (operand-at t) operand.Post
 operand-same-length t c = search needs
 
--- src/lib.rt:245:9
+-- src/lib.rt:268:9
 operand-returns : (t : ℕ) → operand-lts.Need-returns (
   token-reads.Asked,
   token-reads.Learnt,
@@ -1170,14 +1287,14 @@ operand-returns : (t : ℕ) → operand-lts.Need-returns (
   interval.Post,
   is-sign-reads.Asked,
   is-sign-reads.Learnt,
+  signed-below t,
+  signed.Post,
   atom-below t,
   atom.Post,
-  node-reads.Asked,
-  node-reads.Learnt,
 ) (operand-at t) operand.Post
 operand-returns t c = operand-item (c .before .before .before .before .before .before .before .before .before .pre .1) (c .before .before .before .before .before .is-qualified .result) (c .before .before .before .before .before .is-qualified .ensures) (c .before .before .before .before .if1 .taken) (c .before .before .leaf .ensures)
 
--- src/lib.rt:248:9
+-- src/lib.rt:271:9
 operand-interval-requires : (t : ℕ) → operand-lts.Need-interval-requires (
   token-reads.Asked,
   token-reads.Learnt,
@@ -1189,14 +1306,14 @@ operand-interval-requires : (t : ℕ) → operand-lts.Need-interval-requires (
   interval.Post,
   is-sign-reads.Asked,
   is-sign-reads.Learnt,
+  signed-below t,
+  signed.Post,
   atom-below t,
   atom.Post,
-  node-reads.Asked,
-  node-reads.Learnt,
 ) (operand-at t) operand.Post
 operand-interval-requires t c κs = (omega (arith, c .before .before .before .before .before .before .before .pre .0), (c .before .before .before .before .before .before .before .pre .1, sym (c .before .before .before .before .token .ensures) ∙ c .before .if2 .taken))
 
--- src/lib.rt:248:9
+-- src/lib.rt:271:9
 operand-same-length-2 : (t : ℕ) → operand-lts.Need-same-length-2 (
   token-reads.Asked,
   token-reads.Learnt,
@@ -1208,14 +1325,14 @@ operand-same-length-2 : (t : ℕ) → operand-lts.Need-same-length-2 (
   interval.Post,
   is-sign-reads.Asked,
   is-sign-reads.Learnt,
+  signed-below t,
+  signed.Post,
   atom-below t,
   atom.Post,
-  node-reads.Asked,
-  node-reads.Learnt,
 ) (operand-at t) operand.Post
 operand-same-length-2 t c = search needs
 
--- src/lib.rt:248:9
+-- src/lib.rt:271:9
 operand-returns-2 : (t : ℕ) → operand-lts.Need-returns-2 (
   token-reads.Asked,
   token-reads.Learnt,
@@ -1227,14 +1344,14 @@ operand-returns-2 : (t : ℕ) → operand-lts.Need-returns-2 (
   interval.Post,
   is-sign-reads.Asked,
   is-sign-reads.Learnt,
+  signed-below t,
+  signed.Post,
   atom-below t,
   atom.Post,
-  node-reads.Asked,
-  node-reads.Learnt,
 ) (operand-at t) operand.Post
 operand-returns-2 t c = operand-interval (c .before .before .before .before .before .before .before .before .before .before .pre .1) (c .before .before .before .before .before .before .is-qualified .result) (c .before .before .before .before .before .before .is-qualified .ensures) (c .before .before .before .before .before .if1 .left) (c .before .before .before .before .before .before .before .token .result) (c .before .before .before .before .before .before .before .token .ensures) (c .before .before .before .before .if2 .taken) (c .before .before .interval .ensures)
 
--- src/lib.rt:250:8
+-- src/lib.rt:273:8
 operand-is-sign-requires : (t : ℕ) → operand-lts.Need-is-sign-requires (
   token-reads.Asked,
   token-reads.Learnt,
@@ -1246,15 +1363,15 @@ operand-is-sign-requires : (t : ℕ) → operand-lts.Need-is-sign-requires (
   interval.Post,
   is-sign-reads.Asked,
   is-sign-reads.Learnt,
+  signed-below t,
+  signed.Post,
   atom-below t,
   atom.Post,
-  node-reads.Asked,
-  node-reads.Learnt,
 ) (operand-at t) operand.Post
 operand-is-sign-requires t c κs = search needs
 
--- src/lib.rt:251:39
-operand-add-atom : (t : ℕ) → operand-lts.Need-add-atom (
+-- src/lib.rt:274:9
+operand-signed-requires : (t : ℕ) → operand-lts.Need-signed-requires (
   token-reads.Asked,
   token-reads.Learnt,
   is-qualified-reads.Asked,
@@ -1265,52 +1382,14 @@ operand-add-atom : (t : ℕ) → operand-lts.Need-add-atom (
   interval.Post,
   is-sign-reads.Asked,
   is-sign-reads.Learnt,
+  signed-below t,
+  signed.Post,
   atom-below t,
   atom.Post,
-  node-reads.Asked,
-  node-reads.Learnt,
 ) (operand-at t) operand.Post
-operand-add-atom t c = omega (arith, c .before .before .before .before .before .before .before .before .before .pre .1 .small, c .before .before .before .before .before .before .before .before .before .pre .1 .within)
+operand-signed-requires t c κs = (omega (arith, c .before .before .before .before .before .before .before .before .before .pre .0), (c .before .before .before .before .before .before .before .before .before .pre .1, seen (c .before .before .before .before .before .before .before .before .before .args .codes .now) (c .before .before .before .before .before .before .before .before .before .args .p) signs (c .before .before .before .before .before .before .token .ensures) (c .before .before .is-sign .ensures) (c .before .if3 .taken)))
 
--- src/lib.rt:251:13
-operand-atom-requires : (t : ℕ) → operand-lts.Need-atom-requires (
-  token-reads.Asked,
-  token-reads.Learnt,
-  is-qualified-reads.Asked,
-  is-qualified-reads.Learnt,
-  leaf-reads.Asked,
-  leaf-reads.Learnt,
-  interval-below t,
-  interval.Post,
-  is-sign-reads.Asked,
-  is-sign-reads.Learnt,
-  atom-below t,
-  atom.Post,
-  node-reads.Asked,
-  node-reads.Learnt,
-) (operand-at t) operand.Post
-operand-atom-requires t c κs = (omega (arith, c .before .before .before .before .before .before .before .before .before .pre .0, (sign-ready (c .before .before .before .before .before .before .before .before .before .pre .1) (c .before .before .before .before .before .is-qualified .result) (c .before .before .before .before .before .is-qualified .ensures) (c .before .before .before .before .if1 .left) (c .before .before .before .before .before .before .token .result) (c .before .before .before .before .before .before .token .ensures) (c .before .before .before .if2 .left) (c .before .before .is-sign .result) (c .before .before .is-sign .ensures) (c .before .if3 .taken)) .within), sign-ready (c .before .before .before .before .before .before .before .before .before .pre .1) (c .before .before .before .before .before .is-qualified .result) (c .before .before .before .before .before .is-qualified .ensures) (c .before .before .before .before .if1 .left) (c .before .before .before .before .before .before .token .result) (c .before .before .before .before .before .before .token .ensures) (c .before .before .before .if2 .left) (c .before .before .is-sign .result) (c .before .before .is-sign .ensures) (c .before .if3 .taken))
-
--- src/lib.rt:252:9
-operand-node-requires : (t : ℕ) → operand-lts.Need-node-requires (
-  token-reads.Asked,
-  token-reads.Learnt,
-  is-qualified-reads.Asked,
-  is-qualified-reads.Learnt,
-  leaf-reads.Asked,
-  leaf-reads.Learnt,
-  interval-below t,
-  interval.Post,
-  is-sign-reads.Asked,
-  is-sign-reads.Learnt,
-  atom-below t,
-  atom.Post,
-  node-reads.Asked,
-  node-reads.Learnt,
-) (operand-at t) operand.Post
-operand-node-requires t c κs = (counts-of (c .before .before .before .atom .result) (sign-ready (c .before .before .before .before .before .before .before .before .before .before .before .before .before .pre .1) (c .before .before .before .before .before .before .before .before .before .is-qualified .result) (c .before .before .before .before .before .before .before .before .before .is-qualified .ensures) (c .before .before .before .before .before .before .before .before .if1 .left) (c .before .before .before .before .before .before .before .before .before .before .token .result) (c .before .before .before .before .before .before .before .before .before .before .token .ensures) (c .before .before .before .before .before .before .before .if2 .left) (c .before .before .before .before .before .before .is-sign .result) (c .before .before .before .before .before .before .is-sign .ensures) (c .before .before .before .before .before .if3 .taken)) (c .before .before .before .atom .ensures .ahead), omega arith, omega (arith, c .before .before .before .before .before .before .before .before .before .before .before .before .before .pre .1 .small, c .before .before .before .before .before .before .before .before .before .before .before .before .before .pre .1 .within))
-
--- src/lib.rt:252:9
+-- src/lib.rt:274:9
 operand-same-length-3 : (t : ℕ) → operand-lts.Need-same-length-3 (
   token-reads.Asked,
   token-reads.Learnt,
@@ -1322,14 +1401,14 @@ operand-same-length-3 : (t : ℕ) → operand-lts.Need-same-length-3 (
   interval.Post,
   is-sign-reads.Asked,
   is-sign-reads.Learnt,
+  signed-below t,
+  signed.Post,
   atom-below t,
   atom.Post,
-  node-reads.Asked,
-  node-reads.Learnt,
 ) (operand-at t) operand.Post
 operand-same-length-3 t c = search needs
 
--- src/lib.rt:252:9
+-- src/lib.rt:274:9
 operand-returns-3 : (t : ℕ) → operand-lts.Need-returns-3 (
   token-reads.Asked,
   token-reads.Learnt,
@@ -1341,15 +1420,15 @@ operand-returns-3 : (t : ℕ) → operand-lts.Need-returns-3 (
   interval.Post,
   is-sign-reads.Asked,
   is-sign-reads.Learnt,
+  signed-below t,
+  signed.Post,
   atom-below t,
   atom.Post,
-  node-reads.Asked,
-  node-reads.Learnt,
 ) (operand-at t) operand.Post
-operand-returns-3 t c = operand-signed (c .before .before .before .before .before .before .before .before .before .before .before .before .before .before .before .before .pre .1) (c .before .before .before .before .before .before .before .before .before .before .before .before .is-qualified .result) (c .before .before .before .before .before .before .before .before .before .before .before .before .is-qualified .ensures) (c .before .before .before .before .before .before .before .before .before .before .before .if1 .left) (c .before .before .before .before .before .before .before .before .before .before .before .before .before .token .result) (c .before .before .before .before .before .before .before .before .before .before .before .before .before .token .ensures) (c .before .before .before .before .before .before .before .before .before .before .if2 .left) (c .before .before .before .before .before .before .before .before .before .is-sign .result) (c .before .before .before .before .before .before .before .before .before .is-sign .ensures) (c .before .before .before .before .before .before .before .before .if3 .taken) (c .before .before .before .before .before .before .atom .ensures) (c .before .before .node .ensures)
+operand-returns-3 t c = c .before .before .signed .ensures
 
--- src/lib.rt:254:5
-operand-atom-requires-2 : (t : ℕ) → operand-lts.Need-atom-requires-2 (
+-- src/lib.rt:276:5
+operand-atom-requires : (t : ℕ) → operand-lts.Need-atom-requires (
   token-reads.Asked,
   token-reads.Learnt,
   is-qualified-reads.Asked,
@@ -1360,14 +1439,14 @@ operand-atom-requires-2 : (t : ℕ) → operand-lts.Need-atom-requires-2 (
   interval.Post,
   is-sign-reads.Asked,
   is-sign-reads.Learnt,
+  signed-below t,
+  signed.Post,
   atom-below t,
   atom.Post,
-  node-reads.Asked,
-  node-reads.Learnt,
 ) (operand-at t) operand.Post
-operand-atom-requires-2 t c κs = (omega (arith, c .before .before .before .before .before .before .before .before .before .pre .0), c .before .before .before .before .before .before .before .before .before .pre .1)
+operand-atom-requires t c κs = (omega (arith, c .before .before .before .before .before .before .before .before .before .pre .0), c .before .before .before .before .before .before .before .before .before .pre .1)
 
--- src/lib.rt:239:1
+-- src/lib.rt:262:1
 operand-same-length-4 : (t : ℕ) → operand-lts.Need-same-length-4 (
   token-reads.Asked,
   token-reads.Learnt,
@@ -1379,14 +1458,14 @@ operand-same-length-4 : (t : ℕ) → operand-lts.Need-same-length-4 (
   interval.Post,
   is-sign-reads.Asked,
   is-sign-reads.Learnt,
+  signed-below t,
+  signed.Post,
   atom-below t,
   atom.Post,
-  node-reads.Asked,
-  node-reads.Learnt,
 ) (operand-at t) operand.Post
 operand-same-length-4 t c = search needs
 
--- src/lib.rt:239:1
+-- src/lib.rt:262:1
 operand-returns-4 : (t : ℕ) → operand-lts.Need-returns-4 (
   token-reads.Asked,
   token-reads.Learnt,
@@ -1398,531 +1477,394 @@ operand-returns-4 : (t : ℕ) → operand-lts.Need-returns-4 (
   interval.Post,
   is-sign-reads.Asked,
   is-sign-reads.Learnt,
+  signed-below t,
+  signed.Post,
   atom-below t,
   atom.Post,
-  node-reads.Asked,
-  node-reads.Learnt,
 ) (operand-at t) operand.Post
-operand-returns-4 t c = operand-plain (c .before .before .before .before .before .before .before .before .before .before .before .before .pre .1) (c .before .before .before .before .before .before .before .before .is-qualified .result) (c .before .before .before .before .before .before .before .before .is-qualified .ensures) (c .before .before .before .before .before .before .before .if1 .left) (c .before .before .before .before .before .before .before .before .before .token .result) (c .before .before .before .before .before .before .before .before .before .token .ensures) (c .before .before .before .before .before .before .if2 .left) (c .before .before .before .before .before .is-sign .result) (c .before .before .before .before .before .is-sign .ensures) (c .before .before .before .before .if3 .left) (c .before .before .atom2 .ensures)
+operand-returns-4 t c = operand-plain (c .before .before .before .before .before .before .before .before .before .before .before .before .pre .1) (c .before .before .before .before .before .before .before .before .is-qualified .result) (c .before .before .before .before .before .before .before .before .is-qualified .ensures) (c .before .before .before .before .before .before .before .if1 .left) (c .before .before .before .before .before .before .before .before .before .token .result) (c .before .before .before .before .before .before .before .before .before .token .ensures) (c .before .before .before .before .before .before .if2 .left) (c .before .before .before .before .before .is-sign .result) (c .before .before .before .before .before .is-sign .ensures) (c .before .before .before .before .if3 .left) (c .before .before .atom .ensures)
 
 abbrev sum-Inv-loop : sum-lts.InvT-loop
-sum-Inv-loop codes rows₀ p n q₀ m₀ rows q m = (length rows ≡ length rows₀) × Turns sum′ term′ additions codes p n q₀ m₀ rows₀ q m rows
+sum-Inv-loop codes rows₀ p n q₀ m₀ rows q m = (length rows ≡ length rows₀) × Before sum′ term′ additions (again additions term′) codes p n rows₀ q m rows
 
 abbrev sum-μ-loop : sum-lts.MeasureT-loop
 sum-μ-loop codes rows₀ p n q₀ m₀ rows q m = length codes - q
 
--- src/lib.rt:185:9
-sum-term-requires : (t : ℕ) → sum-lts.Need-term-requires (
-  term-below t,
-  term.Post,
-  token-reads.Asked,
-  token-reads.Learnt,
-  is-addition-reads.Asked,
-  is-addition-reads.Learnt,
-  node-reads.Asked,
-  node-reads.Learnt,
-) (sum-at t) sum.Post sum-Inv-loop sum-μ-loop
-sum-term-requires t c κs = (omega (arith, c .before .before .before .pre .0), c .before .before .before .pre .1)
-
--- src/lib.rt:186:18
-sum-enum-known-first : (t : ℕ) → sum-lts.Need-enum-known-first (
-  term-below t,
-  term.Post,
-  token-reads.Asked,
-  token-reads.Learnt,
-  is-addition-reads.Asked,
-  is-addition-reads.Learnt,
-  node-reads.Asked,
-  node-reads.Learnt,
-) (sum-at t) sum.Post sum-Inv-loop sum-μ-loop
-sum-enum-known-first t c = search needs
-
--- src/lib.rt:187:9
-sum-enum-told : (t : ℕ) → sum-lts.Need-enum-told (
-  term-below t,
-  term.Post,
-  token-reads.Asked,
-  token-reads.Learnt,
-  is-addition-reads.Asked,
-  is-addition-reads.Learnt,
-  node-reads.Asked,
-  node-reads.Learnt,
-) (sum-at t) sum.Post sum-Inv-loop sum-μ-loop
-sum-enum-told t c = search needs
-
--- src/lib.rt:187:9
-sum-same-length : (t : ℕ) → sum-lts.Need-same-length (
-  term-below t,
-  term.Post,
-  token-reads.Asked,
-  token-reads.Learnt,
-  is-addition-reads.Asked,
-  is-addition-reads.Learnt,
-  node-reads.Asked,
-  node-reads.Learnt,
-) (sum-at t) sum.Post sum-Inv-loop sum-μ-loop
-sum-same-length t c = search needs
-
--- src/lib.rt:187:9
-sum-returns : (t : ℕ) → sum-lts.Need-returns (
-  term-below t,
-  term.Post,
-  token-reads.Asked,
-  token-reads.Learnt,
-  is-addition-reads.Asked,
-  is-addition-reads.Learnt,
-  node-reads.Asked,
-  node-reads.Learnt,
-) (sum-at t) sum.Post sum-Inv-loop sum-μ-loop
-sum-returns t c = often-refused sum′ term′ additions refl (express .ok sum′ .1) (c .before .before .before .before .before .before .before .before .pre .1) (c .before .before .before .before .term .ensures) (c .enum-told .given .1)
-
--- src/lib.rt:189:5
+-- src/lib.rt:205:5
 sum-loop-holds : (t : ℕ) → sum-lts.Need-loop-holds (
   term-below t,
   term.Post,
+  combined-reads.Asked,
+  combined-reads.Learnt,
   token-reads.Asked,
   token-reads.Learnt,
   is-addition-reads.Asked,
   is-addition-reads.Learnt,
-  node-reads.Asked,
-  node-reads.Learnt,
 ) (sum-at t) sum.Post sum-Inv-loop sum-μ-loop
-sum-loop-holds t c = (refl, turns-begin (c .before .before .before .before .before .term .ensures) (c .before .first .given .1))
+sum-loop-holds t c = (refl, before-first (c .before .before .pre .1))
 
--- src/lib.rt:189:23
+-- src/lib.rt:206:13
+sum-term-requires : (t : ℕ) → sum-lts.Need-term-requires (
+  term-below t,
+  term.Post,
+  combined-reads.Asked,
+  combined-reads.Learnt,
+  token-reads.Asked,
+  token-reads.Learnt,
+  is-addition-reads.Asked,
+  is-addition-reads.Learnt,
+) (sum-at t) sum.Post sum-Inv-loop sum-μ-loop
+sum-term-requires t c κs = (omega (arith, c .before .before .before .before .pre .0, c .before .loop .inv .1 .from), c .before .loop .inv .1 .ready)
+
+-- src/lib.rt:207:22
+sum-enum-known-right : (t : ℕ) → sum-lts.Need-enum-known-right (
+  term-below t,
+  term.Post,
+  combined-reads.Asked,
+  combined-reads.Learnt,
+  token-reads.Asked,
+  token-reads.Learnt,
+  is-addition-reads.Asked,
+  is-addition-reads.Learnt,
+) (sum-at t) sum.Post sum-Inv-loop sum-μ-loop
+sum-enum-known-right t c = search needs
+
+-- src/lib.rt:208:13
+sum-enum-told : (t : ℕ) → sum-lts.Need-enum-told (
+  term-below t,
+  term.Post,
+  combined-reads.Asked,
+  combined-reads.Learnt,
+  token-reads.Asked,
+  token-reads.Learnt,
+  is-addition-reads.Asked,
+  is-addition-reads.Learnt,
+) (sum-at t) sum.Post sum-Inv-loop sum-μ-loop
+sum-enum-told t c = search needs
+
+-- src/lib.rt:208:13
+sum-same-length : (t : ℕ) → sum-lts.Need-same-length (
+  term-below t,
+  term.Post,
+  combined-reads.Asked,
+  combined-reads.Learnt,
+  token-reads.Asked,
+  token-reads.Learnt,
+  is-addition-reads.Asked,
+  is-addition-reads.Learnt,
+) (sum-at t) sum.Post sum-Inv-loop sum-μ-loop
+sum-same-length t c = search needs
+
+-- src/lib.rt:208:13
+sum-returns : (t : ℕ) → sum-lts.Need-returns (
+  term-below t,
+  term.Post,
+  combined-reads.Asked,
+  combined-reads.Learnt,
+  token-reads.Asked,
+  token-reads.Learnt,
+  is-addition-reads.Asked,
+  is-addition-reads.Learnt,
+) (sum-at t) sum.Post sum-Inv-loop sum-μ-loop
+sum-returns t c = often-refused sum′ term′ additions refl (express .ok sum′ .1) (c .before .before .before .before .before .before .before .before .before .pre .1) (c .before .before .before .before .before .before .loop .inv .1) (c .before .before .before .before .term .ensures) (c .enum-told .given .1)
+
+-- src/lib.rt:210:9
+sum-combined-requires : (t : ℕ) → sum-lts.Need-combined-requires (
+  term-below t,
+  term.Post,
+  combined-reads.Asked,
+  combined-reads.Learnt,
+  token-reads.Asked,
+  token-reads.Learnt,
+  is-addition-reads.Asked,
+  is-addition-reads.Learnt,
+) (sum-at t) sum.Post sum-Inv-loop sum-μ-loop
+sum-combined-requires t c κs = combinable (c .before .before .before .before .before .before .before .before .loop .inv .1) (c .before .before .before .before .before .before .term .ensures) (c .before .before .right .given .1)
+
+-- src/lib.rt:211:25
 sum-token-requires : (t : ℕ) → sum-lts.Need-token-requires (
   term-below t,
   term.Post,
+  combined-reads.Asked,
+  combined-reads.Learnt,
   token-reads.Asked,
   token-reads.Learnt,
   is-addition-reads.Asked,
   is-addition-reads.Learnt,
-  node-reads.Asked,
-  node-reads.Learnt,
 ) (sum-at t) sum.Post sum-Inv-loop sum-μ-loop
 sum-token-requires t c κs = search needs
 
--- src/lib.rt:189:11
+-- src/lib.rt:211:13
 sum-is-addition-requires : (t : ℕ) → sum-lts.Need-is-addition-requires (
   term-below t,
   term.Post,
+  combined-reads.Asked,
+  combined-reads.Learnt,
   token-reads.Asked,
   token-reads.Learnt,
   is-addition-reads.Asked,
   is-addition-reads.Learnt,
-  node-reads.Asked,
-  node-reads.Learnt,
 ) (sum-at t) sum.Post sum-Inv-loop sum-μ-loop
 sum-is-addition-requires t c κs = search needs
 
--- src/lib.rt:190:39
-sum-add-term : (t : ℕ) → sum-lts.Need-add-term (
-  term-below t,
-  term.Post,
-  token-reads.Asked,
-  token-reads.Learnt,
-  is-addition-reads.Asked,
-  is-addition-reads.Learnt,
-  node-reads.Asked,
-  node-reads.Learnt,
-) (sum-at t) sum.Post sum-Inv-loop sum-μ-loop
-sum-add-term t c = omega (arith, c .before .before .before .before .before .before .before .before .before .before .before .before .before .before .pre .1 .small, c .before .before .before .before .loop .inv .1 .lies .1)
-
--- src/lib.rt:190:13
-sum-term-requires-2 : (t : ℕ) → sum-lts.Need-term-requires-2 (
-  term-below t,
-  term.Post,
-  token-reads.Asked,
-  token-reads.Learnt,
-  is-addition-reads.Asked,
-  is-addition-reads.Learnt,
-  node-reads.Asked,
-  node-reads.Learnt,
-) (sum-at t) sum.Post sum-Inv-loop sum-μ-loop
-unfolding mem
-sum-term-requires-2 t c κs = (omega (arith, c .before .before .before .before .before .before .before .before .before .before .before .before .before .before .pre .0, c .before .before .before .before .loop .inv .1 .lies, (inside (c .before .before .before .before .before .before .before .before .before .before .before .before .before .before .args .codes .now) additions (c .before .before .before .before .loop .q) refl (seen (c .before .before .before .before .before .before .before .before .before .before .before .before .before .before .args .codes .now) (c .before .before .before .before .loop .q) additions (c .before .before .before .token .ensures) (c .before .before .is-addition .ensures) (c .before .if1 .taken)))), onward (record { small = c .before .before .before .before .before .before .before .before .before .before .before .before .before .before .pre .1 .small; within = c .before .before .before .before .loop .inv .1 .lies .1; behind = omega (arith, c .before .before .before .before .loop .inv .1 .lies, c .before .before .before .before .before .before .before .before .before .before .before .before .before .before .pre .1 .behind) }) (inside (c .before .before .before .before .before .before .before .before .before .before .before .before .before .before .args .codes .now) additions (c .before .before .before .before .loop .q) refl (seen (c .before .before .before .before .before .before .before .before .before .before .before .before .before .before .args .codes .now) (c .before .before .before .before .loop .q) additions (c .before .before .before .token .ensures) (c .before .before .is-addition .ensures) (c .before .if1 .taken))))
-
--- src/lib.rt:191:13
-sum-node-requires : (t : ℕ) → sum-lts.Need-node-requires (
-  term-below t,
-  term.Post,
-  token-reads.Asked,
-  token-reads.Learnt,
-  is-addition-reads.Asked,
-  is-addition-reads.Learnt,
-  node-reads.Asked,
-  node-reads.Learnt,
-) (sum-at t) sum.Post sum-Inv-loop sum-μ-loop
-unfolding mem
-sum-node-requires t c κs = (counts-of (c .before .before .before .term2 .result) (onward (record { small = c .before .before .before .before .before .before .before .before .before .before .before .before .before .before .before .before .before .before .pre .1 .small; within = c .before .before .before .before .before .before .before .before .loop .inv .1 .lies .1; behind = omega (arith, c .before .before .before .before .before .before .before .before .loop .inv .1 .lies, c .before .before .before .before .before .before .before .before .before .before .before .before .before .before .before .before .before .before .pre .1 .behind) }) (inside (c .before .before .before .before .before .before .before .before .before .before .before .before .before .before .before .before .before .before .args .codes .now) additions (c .before .before .before .before .before .before .before .before .loop .q) refl (seen (c .before .before .before .before .before .before .before .before .before .before .before .before .before .before .before .before .before .before .args .codes .now) (c .before .before .before .before .before .before .before .before .loop .q) additions (c .before .before .before .before .before .before .before .token .ensures) (c .before .before .before .before .before .before .is-addition .ensures) (c .before .before .before .before .before .if1 .taken)))) (c .before .before .before .term2 .ensures .ahead), omega arith, omega (arith, c .before .before .before .before .before .before .before .before .before .before .before .before .before .before .before .before .before .before .pre .1 .small, c .before .before .before .before .before .before .before .before .loop .inv .1 .lies .1))
-
--- src/lib.rt:192:22
-sum-enum-known-whole : (t : ℕ) → sum-lts.Need-enum-known-whole (
-  term-below t,
-  term.Post,
-  token-reads.Asked,
-  token-reads.Learnt,
-  is-addition-reads.Asked,
-  is-addition-reads.Learnt,
-  node-reads.Asked,
-  node-reads.Learnt,
-) (sum-at t) sum.Post sum-Inv-loop sum-μ-loop
-sum-enum-known-whole t c = search needs
-
--- src/lib.rt:193:13
-sum-enum-told-2 : (t : ℕ) → sum-lts.Need-enum-told-2 (
-  term-below t,
-  term.Post,
-  token-reads.Asked,
-  token-reads.Learnt,
-  is-addition-reads.Asked,
-  is-addition-reads.Learnt,
-  node-reads.Asked,
-  node-reads.Learnt,
-) (sum-at t) sum.Post sum-Inv-loop sum-μ-loop
-sum-enum-told-2 t c = search needs
-
--- src/lib.rt:193:13
+-- src/lib.rt:212:13
 sum-same-length-2 : (t : ℕ) → sum-lts.Need-same-length-2 (
   term-below t,
   term.Post,
+  combined-reads.Asked,
+  combined-reads.Learnt,
   token-reads.Asked,
   token-reads.Learnt,
   is-addition-reads.Asked,
   is-addition-reads.Learnt,
-  node-reads.Asked,
-  node-reads.Learnt,
 ) (sum-at t) sum.Post sum-Inv-loop sum-μ-loop
 sum-same-length-2 t c = search needs
 
--- src/lib.rt:193:13
+-- src/lib.rt:212:13
 sum-returns-2 : (t : ℕ) → sum-lts.Need-returns-2 (
   term-below t,
   term.Post,
+  combined-reads.Asked,
+  combined-reads.Learnt,
   token-reads.Asked,
   token-reads.Learnt,
   is-addition-reads.Asked,
   is-addition-reads.Learnt,
-  node-reads.Asked,
-  node-reads.Learnt,
 ) (sum-at t) sum.Post sum-Inv-loop sum-μ-loop
-unfolding mem
-sum-returns-2 t c = often-stops sum′ term′ additions refl (express .ok sum′ .1) (c .before .before .before .before .before .before .before .before .before .before .before .before .before .before .before .before .before .before .before .before .before .before .before .pre .1) (c .before .before .before .before .before .before .before .before .before .before .before .before .before .loop .inv .1 .turns _ (often-begins sum′ term′ additions refl (express .ok sum′ .1) (c .before .before .before .before .before .before .before .before .before .before .before .before .before .before .before .before .before .before .before .before .before .before .before .pre .1) (c .before .before .before .before .before .before .before .before .before .before .before .before .before .before .before .before .before .before .before .term .ensures) (c .before .before .before .before .before .before .before .before .before .before .before .before .before .before .before .first .given .1))) (seen (c .before .before .before .before .before .before .before .before .before .before .before .before .before .before .before .before .before .before .before .before .before .before .before .args .codes .now) (c .before .before .before .before .before .before .before .before .before .before .before .before .before .loop .q) additions (c .before .before .before .before .before .before .before .before .before .before .before .before .token .ensures) (c .before .before .before .before .before .before .before .before .before .before .before .is-addition .ensures) (c .before .before .before .before .before .before .before .before .before .before .if1 .taken)) (omega (arith, (inside (c .before .before .before .before .before .before .before .before .before .before .before .before .before .before .before .before .before .before .before .before .before .before .before .args .codes .now) additions (c .before .before .before .before .before .before .before .before .before .before .before .before .before .loop .q) refl (seen (c .before .before .before .before .before .before .before .before .before .before .before .before .before .before .before .before .before .before .before .before .before .before .before .args .codes .now) (c .before .before .before .before .before .before .before .before .before .before .before .before .before .loop .q) additions (c .before .before .before .before .before .before .before .before .before .before .before .before .token .ensures) (c .before .before .before .before .before .before .before .before .before .before .before .is-addition .ensures) (c .before .before .before .before .before .before .before .before .before .before .if1 .taken))))) (c .before .before .before .before .before .before .before .before .term2 .ensures) (c .before .before .before .before .node .ensures) (c .enum-told2 .given .1)
+sum-returns-2 t c = often-ends sum′ term′ additions refl (express .ok sum′ .1) (c .before .before .before .before .before .before .before .before .before .before .before .before .before .before .before .before .before .pre .1) (c .before .before .before .before .before .before .before .before .before .before .before .before .before .before .loop .inv .1) (c .before .before .before .before .before .before .before .before .before .before .before .before .term .ensures) (c .before .before .before .before .before .before .before .before .right .given .1) (c .before .before .before .before .before .combined .ensures) (seen (c .before .before .before .before .before .before .before .before .before .before .before .before .before .before .before .before .before .args .codes .now) (c .before .before .before .before .before .before .before .before .right .given .0 .0) additions (c .before .before .token .ensures) (c .before .is-addition .ensures) (not-true (c .before .is-addition .result) (c .if1 .taken)))
 
--- src/lib.rt:189:5
+-- src/lib.rt:214:13
+sum-add-q : (t : ℕ) → sum-lts.Need-add-q (
+  term-below t,
+  term.Post,
+  combined-reads.Asked,
+  combined-reads.Learnt,
+  token-reads.Asked,
+  token-reads.Learnt,
+  is-addition-reads.Asked,
+  is-addition-reads.Learnt,
+) (sum-at t) sum.Post sum-Inv-loop sum-μ-loop
+sum-add-q t c = omega (arith, c .before .before .before .before .before .before .before .before .before .before .before .before .before .before .before .before .before .pre .1 .small, reads-at (c .before .before .before .before .before .before .before .before .before .before .before .before .term .ensures) (c .before .before .before .before .before .before .before .before .right .given .1))
+
+-- src/lib.rt:205:5
 sum-loop-less : (t : ℕ) → sum-lts.Need-loop-less (
   term-below t,
   term.Post,
+  combined-reads.Asked,
+  combined-reads.Learnt,
   token-reads.Asked,
   token-reads.Learnt,
   is-addition-reads.Asked,
   is-addition-reads.Learnt,
-  node-reads.Asked,
-  node-reads.Learnt,
 ) (sum-at t) sum.Post sum-Inv-loop sum-μ-loop
-unfolding mem
-sum-loop-less t c = omega (arith, (turns-more sum′ term′ additions refl (express .ok sum′ .1) (c .before .before .before .before .before .before .before .before .before .before .before .before .before .before .before .before .before .before .before .before .before .before .before .before .pre .1) (c .before .before .before .before .before .before .before .before .before .before .before .before .before .before .loop .inv .1) (seen (c .before .before .before .before .before .before .before .before .before .before .before .before .before .before .before .before .before .before .before .before .before .before .before .before .args .codes .now) (c .before .before .before .before .before .before .before .before .before .before .before .before .before .before .loop .q) additions (c .before .before .before .before .before .before .before .before .before .before .before .before .before .token .ensures) (c .before .before .before .before .before .before .before .before .before .before .before .before .is-addition .ensures) (c .before .before .before .before .before .before .before .before .before .before .before .if1 .taken)) (omega (arith, (inside (c .before .before .before .before .before .before .before .before .before .before .before .before .before .before .before .before .before .before .before .before .before .before .before .before .args .codes .now) additions (c .before .before .before .before .before .before .before .before .before .before .before .before .before .before .loop .q) refl (seen (c .before .before .before .before .before .before .before .before .before .before .before .before .before .before .before .before .before .before .before .before .before .before .before .before .args .codes .now) (c .before .before .before .before .before .before .before .before .before .before .before .before .before .before .loop .q) additions (c .before .before .before .before .before .before .before .before .before .before .before .before .before .token .ensures) (c .before .before .before .before .before .before .before .before .before .before .before .before .is-addition .ensures) (c .before .before .before .before .before .before .before .before .before .before .before .if1 .taken))))) (c .before .before .before .before .before .before .before .before .before .term2 .ensures) (c .before .before .before .before .before .node .ensures) (c .before .whole .given .1)) .lies, c .before .before .before .before .before .before .before .before .before .before .before .before .before .before .loop .inv .1 .lies, turn-onward (c .before .before .before .before .before .before .before .before .before .before .before .before .before .before .before .before .before .before .before .before .before .before .before .before .args .n) _ (c .before .before .before .before .before .node .result) (c .before .before .before .before .before .before .before .before .before .term2 .ensures) (c .before .before .before .before .before .node .ensures) (c .before .whole .given .1))
+sum-loop-less t c = omega (arith, reads-at (c .before .before .before .before .before .before .before .before .before .before .before .before .term .ensures) (c .before .before .before .before .before .before .before .before .right .given .1))
 
--- src/lib.rt:189:5
+-- src/lib.rt:205:5
 sum-loop-again : (t : ℕ) → sum-lts.Need-loop-again (
   term-below t,
   term.Post,
+  combined-reads.Asked,
+  combined-reads.Learnt,
   token-reads.Asked,
   token-reads.Learnt,
   is-addition-reads.Asked,
   is-addition-reads.Learnt,
-  node-reads.Asked,
-  node-reads.Learnt,
 ) (sum-at t) sum.Post sum-Inv-loop sum-μ-loop
 unfolding mem
-sum-loop-again t c = (search needs, turns-more sum′ term′ additions refl (express .ok sum′ .1) (c .before .before .before .before .before .before .before .before .before .before .before .before .before .before .before .before .before .before .before .before .before .before .before .before .pre .1) (c .before .before .before .before .before .before .before .before .before .before .before .before .before .before .loop .inv .1) (seen (c .before .before .before .before .before .before .before .before .before .before .before .before .before .before .before .before .before .before .before .before .before .before .before .before .args .codes .now) (c .before .before .before .before .before .before .before .before .before .before .before .before .before .before .loop .q) additions (c .before .before .before .before .before .before .before .before .before .before .before .before .before .token .ensures) (c .before .before .before .before .before .before .before .before .before .before .before .before .is-addition .ensures) (c .before .before .before .before .before .before .before .before .before .before .before .if1 .taken)) (omega (arith, (inside (c .before .before .before .before .before .before .before .before .before .before .before .before .before .before .before .before .before .before .before .before .before .before .before .before .args .codes .now) additions (c .before .before .before .before .before .before .before .before .before .before .before .before .before .before .loop .q) refl (seen (c .before .before .before .before .before .before .before .before .before .before .before .before .before .before .before .before .before .before .before .before .before .before .before .before .args .codes .now) (c .before .before .before .before .before .before .before .before .before .before .before .before .before .before .loop .q) additions (c .before .before .before .before .before .before .before .before .before .before .before .before .before .token .ensures) (c .before .before .before .before .before .before .before .before .before .before .before .before .is-addition .ensures) (c .before .before .before .before .before .before .before .before .before .before .before .if1 .taken))))) (c .before .before .before .before .before .before .before .before .before .term2 .ensures) (c .before .before .before .before .before .node .ensures) (c .before .whole .given .1))
-
--- src/lib.rt:181:1
-sum-same-length-3 : (t : ℕ) → sum-lts.Need-same-length-3 (
-  term-below t,
-  term.Post,
-  token-reads.Asked,
-  token-reads.Learnt,
-  is-addition-reads.Asked,
-  is-addition-reads.Learnt,
-  node-reads.Asked,
-  node-reads.Learnt,
-) (sum-at t) sum.Post sum-Inv-loop sum-μ-loop
-sum-same-length-3 t c = search needs
-
--- src/lib.rt:181:1
-sum-returns-3 : (t : ℕ) → sum-lts.Need-returns-3 (
-  term-below t,
-  term.Post,
-  token-reads.Asked,
-  token-reads.Learnt,
-  is-addition-reads.Asked,
-  is-addition-reads.Learnt,
-  node-reads.Asked,
-  node-reads.Learnt,
-) (sum-at t) sum.Post sum-Inv-loop sum-μ-loop
-sum-returns-3 t c = often-ends sum′ term′ additions refl (express .ok sum′ .1) (c .before .before .before .before .before .before .before .before .before .before .before .before .before .pre .1) (c .before .before .before .loop .inv .1 .turns _ (often-begins sum′ term′ additions refl (express .ok sum′ .1) (c .before .before .before .before .before .before .before .before .before .before .before .before .before .pre .1) (c .before .before .before .before .before .before .before .before .before .term .ensures) (c .before .before .before .before .before .first .given .1))) (seen (c .before .before .before .before .before .before .before .before .before .before .before .before .before .args .codes .now) (c .before .before .before .loop .q) additions (c .before .before .token .ensures) (c .before .is-addition .ensures) (c .if1 .left))
+sum-loop-again t c = (search needs, often-again sum′ term′ additions refl (express .ok sum′ .1) (c .before .before .before .before .before .before .before .before .before .before .before .before .before .before .before .before .before .pre .1) (c .before .before .before .before .before .before .before .before .before .before .before .before .before .before .loop .inv .1) (c .before .before .before .before .before .before .before .before .before .before .before .before .term .ensures) (c .before .before .before .before .before .before .before .before .right .given .1) (c .before .before .before .before .before .combined .ensures) refl (seen (c .before .before .before .before .before .before .before .before .before .before .before .before .before .before .before .before .before .args .codes .now) (c .before .before .before .before .before .before .before .before .right .given .0 .0) additions (c .before .before .token .ensures) (c .before .is-addition .ensures) (not-false (c .before .is-addition .result) (c .if1 .left))))
 
 abbrev term-Inv-loop : term-lts.InvT-loop
-term-Inv-loop codes rows₀ p n q₀ m₀ rows q m = (length rows ≡ length rows₀) × Turns term′ factor′ multiplications codes p n q₀ m₀ rows₀ q m rows
+term-Inv-loop codes rows₀ p n q₀ m₀ rows q m = (length rows ≡ length rows₀) × Before term′ factor′ multiplications (again multiplications factor′) codes p n rows₀ q m rows
 
 abbrev term-μ-loop : term-lts.MeasureT-loop
 term-μ-loop codes rows₀ p n q₀ m₀ rows q m = length codes - q
 
--- src/lib.rt:206:9
-term-factor-requires : (t : ℕ) → term-lts.Need-factor-requires (
-  factor-below t,
-  factor.Post,
-  token-reads.Asked,
-  token-reads.Learnt,
-  is-multiplication-reads.Asked,
-  is-multiplication-reads.Learnt,
-  node-reads.Asked,
-  node-reads.Learnt,
-) (term-at t) term.Post term-Inv-loop term-μ-loop
-term-factor-requires t c κs = (omega (arith, c .before .before .before .pre .0), c .before .before .before .pre .1)
-
--- src/lib.rt:207:18
-term-enum-known-first : (t : ℕ) → term-lts.Need-enum-known-first (
-  factor-below t,
-  factor.Post,
-  token-reads.Asked,
-  token-reads.Learnt,
-  is-multiplication-reads.Asked,
-  is-multiplication-reads.Learnt,
-  node-reads.Asked,
-  node-reads.Learnt,
-) (term-at t) term.Post term-Inv-loop term-μ-loop
-term-enum-known-first t c = search needs
-
--- src/lib.rt:208:9
-term-enum-told : (t : ℕ) → term-lts.Need-enum-told (
-  factor-below t,
-  factor.Post,
-  token-reads.Asked,
-  token-reads.Learnt,
-  is-multiplication-reads.Asked,
-  is-multiplication-reads.Learnt,
-  node-reads.Asked,
-  node-reads.Learnt,
-) (term-at t) term.Post term-Inv-loop term-μ-loop
-term-enum-told t c = search needs
-
--- src/lib.rt:208:9
-term-same-length : (t : ℕ) → term-lts.Need-same-length (
-  factor-below t,
-  factor.Post,
-  token-reads.Asked,
-  token-reads.Learnt,
-  is-multiplication-reads.Asked,
-  is-multiplication-reads.Learnt,
-  node-reads.Asked,
-  node-reads.Learnt,
-) (term-at t) term.Post term-Inv-loop term-μ-loop
-term-same-length t c = search needs
-
--- src/lib.rt:208:9
-term-returns : (t : ℕ) → term-lts.Need-returns (
-  factor-below t,
-  factor.Post,
-  token-reads.Asked,
-  token-reads.Learnt,
-  is-multiplication-reads.Asked,
-  is-multiplication-reads.Learnt,
-  node-reads.Asked,
-  node-reads.Learnt,
-) (term-at t) term.Post term-Inv-loop term-μ-loop
-term-returns t c = often-refused term′ factor′ multiplications refl (express .ok term′ .1) (c .before .before .before .before .before .before .before .before .pre .1) (c .before .before .before .before .factor .ensures) (c .enum-told .given .1)
-
--- src/lib.rt:210:5
+-- src/lib.rt:225:5
 term-loop-holds : (t : ℕ) → term-lts.Need-loop-holds (
   factor-below t,
   factor.Post,
+  combined-reads.Asked,
+  combined-reads.Learnt,
   token-reads.Asked,
   token-reads.Learnt,
   is-multiplication-reads.Asked,
   is-multiplication-reads.Learnt,
-  node-reads.Asked,
-  node-reads.Learnt,
 ) (term-at t) term.Post term-Inv-loop term-μ-loop
-term-loop-holds t c = (refl, turns-begin (c .before .before .before .before .before .factor .ensures) (c .before .first .given .1))
+term-loop-holds t c = (refl, before-first (c .before .before .pre .1))
 
--- src/lib.rt:210:29
+-- src/lib.rt:226:13
+term-factor-requires : (t : ℕ) → term-lts.Need-factor-requires (
+  factor-below t,
+  factor.Post,
+  combined-reads.Asked,
+  combined-reads.Learnt,
+  token-reads.Asked,
+  token-reads.Learnt,
+  is-multiplication-reads.Asked,
+  is-multiplication-reads.Learnt,
+) (term-at t) term.Post term-Inv-loop term-μ-loop
+term-factor-requires t c κs = (omega (arith, c .before .before .before .before .pre .0, c .before .loop .inv .1 .from), c .before .loop .inv .1 .ready)
+
+-- src/lib.rt:227:22
+term-enum-known-right : (t : ℕ) → term-lts.Need-enum-known-right (
+  factor-below t,
+  factor.Post,
+  combined-reads.Asked,
+  combined-reads.Learnt,
+  token-reads.Asked,
+  token-reads.Learnt,
+  is-multiplication-reads.Asked,
+  is-multiplication-reads.Learnt,
+) (term-at t) term.Post term-Inv-loop term-μ-loop
+term-enum-known-right t c = search needs
+
+-- src/lib.rt:228:13
+term-enum-told : (t : ℕ) → term-lts.Need-enum-told (
+  factor-below t,
+  factor.Post,
+  combined-reads.Asked,
+  combined-reads.Learnt,
+  token-reads.Asked,
+  token-reads.Learnt,
+  is-multiplication-reads.Asked,
+  is-multiplication-reads.Learnt,
+) (term-at t) term.Post term-Inv-loop term-μ-loop
+term-enum-told t c = search needs
+
+-- src/lib.rt:228:13
+term-same-length : (t : ℕ) → term-lts.Need-same-length (
+  factor-below t,
+  factor.Post,
+  combined-reads.Asked,
+  combined-reads.Learnt,
+  token-reads.Asked,
+  token-reads.Learnt,
+  is-multiplication-reads.Asked,
+  is-multiplication-reads.Learnt,
+) (term-at t) term.Post term-Inv-loop term-μ-loop
+term-same-length t c = search needs
+
+-- src/lib.rt:228:13
+term-returns : (t : ℕ) → term-lts.Need-returns (
+  factor-below t,
+  factor.Post,
+  combined-reads.Asked,
+  combined-reads.Learnt,
+  token-reads.Asked,
+  token-reads.Learnt,
+  is-multiplication-reads.Asked,
+  is-multiplication-reads.Learnt,
+) (term-at t) term.Post term-Inv-loop term-μ-loop
+term-returns t c = often-refused term′ factor′ multiplications refl (express .ok term′ .1) (c .before .before .before .before .before .before .before .before .before .pre .1) (c .before .before .before .before .before .before .loop .inv .1) (c .before .before .before .before .factor .ensures) (c .enum-told .given .1)
+
+-- src/lib.rt:230:9
+term-combined-requires : (t : ℕ) → term-lts.Need-combined-requires (
+  factor-below t,
+  factor.Post,
+  combined-reads.Asked,
+  combined-reads.Learnt,
+  token-reads.Asked,
+  token-reads.Learnt,
+  is-multiplication-reads.Asked,
+  is-multiplication-reads.Learnt,
+) (term-at t) term.Post term-Inv-loop term-μ-loop
+term-combined-requires t c κs = combinable (c .before .before .before .before .before .before .before .before .loop .inv .1) (c .before .before .before .before .before .before .factor .ensures) (c .before .before .right .given .1)
+
+-- src/lib.rt:231:31
 term-token-requires : (t : ℕ) → term-lts.Need-token-requires (
   factor-below t,
   factor.Post,
+  combined-reads.Asked,
+  combined-reads.Learnt,
   token-reads.Asked,
   token-reads.Learnt,
   is-multiplication-reads.Asked,
   is-multiplication-reads.Learnt,
-  node-reads.Asked,
-  node-reads.Learnt,
 ) (term-at t) term.Post term-Inv-loop term-μ-loop
 term-token-requires t c κs = search needs
 
--- src/lib.rt:210:11
+-- src/lib.rt:231:13
 term-is-multiplication-requires : (t : ℕ) → term-lts.Need-is-multiplication-requires (
   factor-below t,
   factor.Post,
+  combined-reads.Asked,
+  combined-reads.Learnt,
   token-reads.Asked,
   token-reads.Learnt,
   is-multiplication-reads.Asked,
   is-multiplication-reads.Learnt,
-  node-reads.Asked,
-  node-reads.Learnt,
 ) (term-at t) term.Post term-Inv-loop term-μ-loop
 term-is-multiplication-requires t c κs = search needs
 
--- src/lib.rt:211:41
-term-add-factor : (t : ℕ) → term-lts.Need-add-factor (
-  factor-below t,
-  factor.Post,
-  token-reads.Asked,
-  token-reads.Learnt,
-  is-multiplication-reads.Asked,
-  is-multiplication-reads.Learnt,
-  node-reads.Asked,
-  node-reads.Learnt,
-) (term-at t) term.Post term-Inv-loop term-μ-loop
-term-add-factor t c = omega (arith, c .before .before .before .before .before .before .before .before .before .before .before .before .before .before .pre .1 .small, c .before .before .before .before .loop .inv .1 .lies .1)
-
--- src/lib.rt:211:13
-term-factor-requires-2 : (t : ℕ) → term-lts.Need-factor-requires-2 (
-  factor-below t,
-  factor.Post,
-  token-reads.Asked,
-  token-reads.Learnt,
-  is-multiplication-reads.Asked,
-  is-multiplication-reads.Learnt,
-  node-reads.Asked,
-  node-reads.Learnt,
-) (term-at t) term.Post term-Inv-loop term-μ-loop
-unfolding mem
-term-factor-requires-2 t c κs = (omega (arith, c .before .before .before .before .before .before .before .before .before .before .before .before .before .before .pre .0, c .before .before .before .before .loop .inv .1 .lies, (inside (c .before .before .before .before .before .before .before .before .before .before .before .before .before .before .args .codes .now) multiplications (c .before .before .before .before .loop .q) refl (seen (c .before .before .before .before .before .before .before .before .before .before .before .before .before .before .args .codes .now) (c .before .before .before .before .loop .q) multiplications (c .before .before .before .token .ensures) (c .before .before .is-multiplication .ensures) (c .before .if1 .taken)))), onward (record { small = c .before .before .before .before .before .before .before .before .before .before .before .before .before .before .pre .1 .small; within = c .before .before .before .before .loop .inv .1 .lies .1; behind = omega (arith, c .before .before .before .before .loop .inv .1 .lies, c .before .before .before .before .before .before .before .before .before .before .before .before .before .before .pre .1 .behind) }) (inside (c .before .before .before .before .before .before .before .before .before .before .before .before .before .before .args .codes .now) multiplications (c .before .before .before .before .loop .q) refl (seen (c .before .before .before .before .before .before .before .before .before .before .before .before .before .before .args .codes .now) (c .before .before .before .before .loop .q) multiplications (c .before .before .before .token .ensures) (c .before .before .is-multiplication .ensures) (c .before .if1 .taken))))
-
--- src/lib.rt:212:13
-term-node-requires : (t : ℕ) → term-lts.Need-node-requires (
-  factor-below t,
-  factor.Post,
-  token-reads.Asked,
-  token-reads.Learnt,
-  is-multiplication-reads.Asked,
-  is-multiplication-reads.Learnt,
-  node-reads.Asked,
-  node-reads.Learnt,
-) (term-at t) term.Post term-Inv-loop term-μ-loop
-unfolding mem
-term-node-requires t c κs = (counts-of (c .before .before .before .factor2 .result) (onward (record { small = c .before .before .before .before .before .before .before .before .before .before .before .before .before .before .before .before .before .before .pre .1 .small; within = c .before .before .before .before .before .before .before .before .loop .inv .1 .lies .1; behind = omega (arith, c .before .before .before .before .before .before .before .before .loop .inv .1 .lies, c .before .before .before .before .before .before .before .before .before .before .before .before .before .before .before .before .before .before .pre .1 .behind) }) (inside (c .before .before .before .before .before .before .before .before .before .before .before .before .before .before .before .before .before .before .args .codes .now) multiplications (c .before .before .before .before .before .before .before .before .loop .q) refl (seen (c .before .before .before .before .before .before .before .before .before .before .before .before .before .before .before .before .before .before .args .codes .now) (c .before .before .before .before .before .before .before .before .loop .q) multiplications (c .before .before .before .before .before .before .before .token .ensures) (c .before .before .before .before .before .before .is-multiplication .ensures) (c .before .before .before .before .before .if1 .taken)))) (c .before .before .before .factor2 .ensures .ahead), omega arith, omega (arith, c .before .before .before .before .before .before .before .before .before .before .before .before .before .before .before .before .before .before .pre .1 .small, c .before .before .before .before .before .before .before .before .loop .inv .1 .lies .1))
-
--- src/lib.rt:213:22
-term-enum-known-product : (t : ℕ) → term-lts.Need-enum-known-product (
-  factor-below t,
-  factor.Post,
-  token-reads.Asked,
-  token-reads.Learnt,
-  is-multiplication-reads.Asked,
-  is-multiplication-reads.Learnt,
-  node-reads.Asked,
-  node-reads.Learnt,
-) (term-at t) term.Post term-Inv-loop term-μ-loop
-term-enum-known-product t c = search needs
-
--- src/lib.rt:214:13
-term-enum-told-2 : (t : ℕ) → term-lts.Need-enum-told-2 (
-  factor-below t,
-  factor.Post,
-  token-reads.Asked,
-  token-reads.Learnt,
-  is-multiplication-reads.Asked,
-  is-multiplication-reads.Learnt,
-  node-reads.Asked,
-  node-reads.Learnt,
-) (term-at t) term.Post term-Inv-loop term-μ-loop
-term-enum-told-2 t c = search needs
-
--- src/lib.rt:214:13
+-- src/lib.rt:232:13
 term-same-length-2 : (t : ℕ) → term-lts.Need-same-length-2 (
   factor-below t,
   factor.Post,
+  combined-reads.Asked,
+  combined-reads.Learnt,
   token-reads.Asked,
   token-reads.Learnt,
   is-multiplication-reads.Asked,
   is-multiplication-reads.Learnt,
-  node-reads.Asked,
-  node-reads.Learnt,
 ) (term-at t) term.Post term-Inv-loop term-μ-loop
 term-same-length-2 t c = search needs
 
--- src/lib.rt:214:13
+-- src/lib.rt:232:13
 term-returns-2 : (t : ℕ) → term-lts.Need-returns-2 (
   factor-below t,
   factor.Post,
+  combined-reads.Asked,
+  combined-reads.Learnt,
   token-reads.Asked,
   token-reads.Learnt,
   is-multiplication-reads.Asked,
   is-multiplication-reads.Learnt,
-  node-reads.Asked,
-  node-reads.Learnt,
 ) (term-at t) term.Post term-Inv-loop term-μ-loop
-unfolding mem
-term-returns-2 t c = often-stops term′ factor′ multiplications refl (express .ok term′ .1) (c .before .before .before .before .before .before .before .before .before .before .before .before .before .before .before .before .before .before .before .before .before .before .before .pre .1) (c .before .before .before .before .before .before .before .before .before .before .before .before .before .loop .inv .1 .turns _ (often-begins term′ factor′ multiplications refl (express .ok term′ .1) (c .before .before .before .before .before .before .before .before .before .before .before .before .before .before .before .before .before .before .before .before .before .before .before .pre .1) (c .before .before .before .before .before .before .before .before .before .before .before .before .before .before .before .before .before .before .before .factor .ensures) (c .before .before .before .before .before .before .before .before .before .before .before .before .before .before .before .first .given .1))) (seen (c .before .before .before .before .before .before .before .before .before .before .before .before .before .before .before .before .before .before .before .before .before .before .before .args .codes .now) (c .before .before .before .before .before .before .before .before .before .before .before .before .before .loop .q) multiplications (c .before .before .before .before .before .before .before .before .before .before .before .before .token .ensures) (c .before .before .before .before .before .before .before .before .before .before .before .is-multiplication .ensures) (c .before .before .before .before .before .before .before .before .before .before .if1 .taken)) (omega (arith, (inside (c .before .before .before .before .before .before .before .before .before .before .before .before .before .before .before .before .before .before .before .before .before .before .before .args .codes .now) multiplications (c .before .before .before .before .before .before .before .before .before .before .before .before .before .loop .q) refl (seen (c .before .before .before .before .before .before .before .before .before .before .before .before .before .before .before .before .before .before .before .before .before .before .before .args .codes .now) (c .before .before .before .before .before .before .before .before .before .before .before .before .before .loop .q) multiplications (c .before .before .before .before .before .before .before .before .before .before .before .before .token .ensures) (c .before .before .before .before .before .before .before .before .before .before .before .is-multiplication .ensures) (c .before .before .before .before .before .before .before .before .before .before .if1 .taken))))) (c .before .before .before .before .before .before .before .before .factor2 .ensures) (c .before .before .before .before .node .ensures) (c .enum-told2 .given .1)
+term-returns-2 t c = often-ends term′ factor′ multiplications refl (express .ok term′ .1) (c .before .before .before .before .before .before .before .before .before .before .before .before .before .before .before .before .before .pre .1) (c .before .before .before .before .before .before .before .before .before .before .before .before .before .before .loop .inv .1) (c .before .before .before .before .before .before .before .before .before .before .before .before .factor .ensures) (c .before .before .before .before .before .before .before .before .right .given .1) (c .before .before .before .before .before .combined .ensures) (seen (c .before .before .before .before .before .before .before .before .before .before .before .before .before .before .before .before .before .args .codes .now) (c .before .before .before .before .before .before .before .before .right .given .0 .0) multiplications (c .before .before .token .ensures) (c .before .is-multiplication .ensures) (not-true (c .before .is-multiplication .result) (c .if1 .taken)))
 
--- src/lib.rt:210:5
+-- src/lib.rt:234:13
+term-add-q : (t : ℕ) → term-lts.Need-add-q (
+  factor-below t,
+  factor.Post,
+  combined-reads.Asked,
+  combined-reads.Learnt,
+  token-reads.Asked,
+  token-reads.Learnt,
+  is-multiplication-reads.Asked,
+  is-multiplication-reads.Learnt,
+) (term-at t) term.Post term-Inv-loop term-μ-loop
+term-add-q t c = omega (arith, c .before .before .before .before .before .before .before .before .before .before .before .before .before .before .before .before .before .pre .1 .small, reads-at (c .before .before .before .before .before .before .before .before .before .before .before .before .factor .ensures) (c .before .before .before .before .before .before .before .before .right .given .1))
+
+-- src/lib.rt:225:5
 term-loop-less : (t : ℕ) → term-lts.Need-loop-less (
   factor-below t,
   factor.Post,
+  combined-reads.Asked,
+  combined-reads.Learnt,
   token-reads.Asked,
   token-reads.Learnt,
   is-multiplication-reads.Asked,
   is-multiplication-reads.Learnt,
-  node-reads.Asked,
-  node-reads.Learnt,
 ) (term-at t) term.Post term-Inv-loop term-μ-loop
-unfolding mem
-term-loop-less t c = omega (arith, (turns-more term′ factor′ multiplications refl (express .ok term′ .1) (c .before .before .before .before .before .before .before .before .before .before .before .before .before .before .before .before .before .before .before .before .before .before .before .before .pre .1) (c .before .before .before .before .before .before .before .before .before .before .before .before .before .before .loop .inv .1) (seen (c .before .before .before .before .before .before .before .before .before .before .before .before .before .before .before .before .before .before .before .before .before .before .before .before .args .codes .now) (c .before .before .before .before .before .before .before .before .before .before .before .before .before .before .loop .q) multiplications (c .before .before .before .before .before .before .before .before .before .before .before .before .before .token .ensures) (c .before .before .before .before .before .before .before .before .before .before .before .before .is-multiplication .ensures) (c .before .before .before .before .before .before .before .before .before .before .before .if1 .taken)) (omega (arith, (inside (c .before .before .before .before .before .before .before .before .before .before .before .before .before .before .before .before .before .before .before .before .before .before .before .before .args .codes .now) multiplications (c .before .before .before .before .before .before .before .before .before .before .before .before .before .before .loop .q) refl (seen (c .before .before .before .before .before .before .before .before .before .before .before .before .before .before .before .before .before .before .before .before .before .before .before .before .args .codes .now) (c .before .before .before .before .before .before .before .before .before .before .before .before .before .before .loop .q) multiplications (c .before .before .before .before .before .before .before .before .before .before .before .before .before .token .ensures) (c .before .before .before .before .before .before .before .before .before .before .before .before .is-multiplication .ensures) (c .before .before .before .before .before .before .before .before .before .before .before .if1 .taken))))) (c .before .before .before .before .before .before .before .before .before .factor2 .ensures) (c .before .before .before .before .before .node .ensures) (c .before .product .given .1)) .lies, c .before .before .before .before .before .before .before .before .before .before .before .before .before .before .loop .inv .1 .lies, turn-onward (c .before .before .before .before .before .before .before .before .before .before .before .before .before .before .before .before .before .before .before .before .before .before .before .before .args .n) _ (c .before .before .before .before .before .node .result) (c .before .before .before .before .before .before .before .before .before .factor2 .ensures) (c .before .before .before .before .before .node .ensures) (c .before .product .given .1))
+term-loop-less t c = omega (arith, reads-at (c .before .before .before .before .before .before .before .before .before .before .before .before .factor .ensures) (c .before .before .before .before .before .before .before .before .right .given .1))
 
--- src/lib.rt:210:5
+-- src/lib.rt:225:5
 term-loop-again : (t : ℕ) → term-lts.Need-loop-again (
   factor-below t,
   factor.Post,
+  combined-reads.Asked,
+  combined-reads.Learnt,
   token-reads.Asked,
   token-reads.Learnt,
   is-multiplication-reads.Asked,
   is-multiplication-reads.Learnt,
-  node-reads.Asked,
-  node-reads.Learnt,
 ) (term-at t) term.Post term-Inv-loop term-μ-loop
 unfolding mem
-term-loop-again t c = (search needs, turns-more term′ factor′ multiplications refl (express .ok term′ .1) (c .before .before .before .before .before .before .before .before .before .before .before .before .before .before .before .before .before .before .before .before .before .before .before .before .pre .1) (c .before .before .before .before .before .before .before .before .before .before .before .before .before .before .loop .inv .1) (seen (c .before .before .before .before .before .before .before .before .before .before .before .before .before .before .before .before .before .before .before .before .before .before .before .before .args .codes .now) (c .before .before .before .before .before .before .before .before .before .before .before .before .before .before .loop .q) multiplications (c .before .before .before .before .before .before .before .before .before .before .before .before .before .token .ensures) (c .before .before .before .before .before .before .before .before .before .before .before .before .is-multiplication .ensures) (c .before .before .before .before .before .before .before .before .before .before .before .if1 .taken)) (omega (arith, (inside (c .before .before .before .before .before .before .before .before .before .before .before .before .before .before .before .before .before .before .before .before .before .before .before .before .args .codes .now) multiplications (c .before .before .before .before .before .before .before .before .before .before .before .before .before .before .loop .q) refl (seen (c .before .before .before .before .before .before .before .before .before .before .before .before .before .before .before .before .before .before .before .before .before .before .before .before .args .codes .now) (c .before .before .before .before .before .before .before .before .before .before .before .before .before .before .loop .q) multiplications (c .before .before .before .before .before .before .before .before .before .before .before .before .before .token .ensures) (c .before .before .before .before .before .before .before .before .before .before .before .before .is-multiplication .ensures) (c .before .before .before .before .before .before .before .before .before .before .before .if1 .taken))))) (c .before .before .before .before .before .before .before .before .before .factor2 .ensures) (c .before .before .before .before .before .node .ensures) (c .before .product .given .1))
+term-loop-again t c = (search needs, often-again term′ factor′ multiplications refl (express .ok term′ .1) (c .before .before .before .before .before .before .before .before .before .before .before .before .before .before .before .before .before .pre .1) (c .before .before .before .before .before .before .before .before .before .before .before .before .before .before .loop .inv .1) (c .before .before .before .before .before .before .before .before .before .before .before .before .factor .ensures) (c .before .before .before .before .before .before .before .before .right .given .1) (c .before .before .before .before .before .combined .ensures) refl (seen (c .before .before .before .before .before .before .before .before .before .before .before .before .before .before .before .before .before .args .codes .now) (c .before .before .before .before .before .before .before .before .right .given .0 .0) multiplications (c .before .before .token .ensures) (c .before .is-multiplication .ensures) (not-false (c .before .is-multiplication .result) (c .if1 .left))))
 
--- src/lib.rt:202:1
-term-same-length-3 : (t : ℕ) → term-lts.Need-same-length-3 (
-  factor-below t,
-  factor.Post,
-  token-reads.Asked,
-  token-reads.Learnt,
-  is-multiplication-reads.Asked,
-  is-multiplication-reads.Learnt,
-  node-reads.Asked,
-  node-reads.Learnt,
-) (term-at t) term.Post term-Inv-loop term-μ-loop
-term-same-length-3 t c = search needs
-
--- src/lib.rt:202:1
-term-returns-3 : (t : ℕ) → term-lts.Need-returns-3 (
-  factor-below t,
-  factor.Post,
-  token-reads.Asked,
-  token-reads.Learnt,
-  is-multiplication-reads.Asked,
-  is-multiplication-reads.Learnt,
-  node-reads.Asked,
-  node-reads.Learnt,
-) (term-at t) term.Post term-Inv-loop term-μ-loop
-term-returns-3 t c = often-ends term′ factor′ multiplications refl (express .ok term′ .1) (c .before .before .before .before .before .before .before .before .before .before .before .before .before .pre .1) (c .before .before .before .loop .inv .1 .turns _ (often-begins term′ factor′ multiplications refl (express .ok term′ .1) (c .before .before .before .before .before .before .before .before .before .before .before .before .before .pre .1) (c .before .before .before .before .before .before .before .before .before .factor .ensures) (c .before .before .before .before .before .first .given .1))) (seen (c .before .before .before .before .before .before .before .before .before .before .before .before .before .args .codes .now) (c .before .before .before .loop .q) multiplications (c .before .before .token .ensures) (c .before .is-multiplication .ensures) (c .if1 .left))
-
-pub +atom+compared+expression+factor+interval+operand+sum+term-spec : {M : Type 1} → statement M
-+atom+compared+expression+factor+interval+operand+sum+term-spec =
+pub +atom+compared+expression+factor+interval+operand+signed+sum+term-spec :
+    {M : Type 1} → statement M
++atom+compared+expression+factor+interval+operand+signed+sum+term-spec =
     close
     μ-atom
     μ-compared
@@ -1930,6 +1872,7 @@ pub +atom+compared+expression+factor+interval+operand+sum+term-spec : {M : Type 
     μ-factor
     μ-interval
     μ-operand
+    μ-signed
     μ-sum
     μ-term
     (λ t. atom-lts.spec (
@@ -1937,8 +1880,6 @@ pub +atom+compared+expression+factor+interval+operand+sum+term-spec : {M : Type 
       token-reads.Learnt,
       expression-below t,
       expression.Post,
-      expect-reads.Asked,
-      expect-reads.Learnt,
       atom-label-reads.Asked,
       atom-label-reads.Learnt,
       packed-reads.Asked,
@@ -1951,17 +1892,24 @@ pub +atom+compared+expression+factor+interval+operand+sum+term-spec : {M : Type 
     (atom-token-requires t)
     (atom-add-expression t)
     (atom-expression-requires t)
-    (atom-expect-requires t)
+    (atom-enum-known-inner t)
+    (atom-enum-told t)
     (atom-same-length t)
     (atom-returns t)
-    (atom-atom-label-requires t)
+    (atom-token-requires-2 t)
+    (atom-add-t16 t)
+    (atom-same-length-2 t)
     (atom-returns-2 t)
+    (atom-same-length-3 t)
+    (atom-returns-3 t)
+    (atom-atom-label-requires t)
+    (atom-returns-4 t)
     (atom-packed-requires t)
     (atom-put-requires t)
-    (atom-add-t16 t)
-    (atom-add-t17 t)
-    (atom-same-length-2 t)
-    (atom-returns-3 t))
+    (atom-add-t21 t)
+    (atom-add-t22 t)
+    (atom-same-length-4 t)
+    (atom-returns-5 t))
     (λ t. compared-lts.spec (
       token-reads.Asked,
       token-reads.Learnt,
@@ -2015,26 +1963,30 @@ pub +atom+compared+expression+factor+interval+operand+sum+term-spec : {M : Type 
     (λ t. factor-lts.spec (
       operand-below t,
       operand.Post,
+      combined-reads.Asked,
+      combined-reads.Learnt,
       token-reads.Asked,
       token-reads.Learnt,
-      node-reads.Asked,
-      node-reads.Learnt,
     )
     (factor-at t)
     factor.Post
+    factor-Inv-loop
+    factor-μ-loop
+    (factor-loop-holds t)
     (factor-operand-requires t)
-    (factor-enum-known-left t)
+    (factor-enum-known-right t)
     (factor-enum-told t)
     (factor-same-length t)
     (factor-returns t)
-    (factor-token-requires t)
-    (factor-add-operand t)
-    (factor-operand-requires-2 t)
-    (factor-node-requires t)
+    (factor-combined-requires t)
     (factor-same-length-2 t)
     (factor-returns-2 t)
+    (factor-token-requires t)
     (factor-same-length-3 t)
-    (factor-returns-3 t))
+    (factor-returns-3 t)
+    (factor-add-q t)
+    (factor-loop-less t)
+    (factor-loop-again t))
     (λ t. interval-lts.spec (
       sum-below t,
       sum.Post,
@@ -2074,16 +2026,16 @@ pub +atom+compared+expression+factor+interval+operand+sum+term-spec : {M : Type 
       interval.Post,
       is-sign-reads.Asked,
       is-sign-reads.Learnt,
+      signed-below t,
+      signed.Post,
       atom-below t,
       atom.Post,
-      node-reads.Asked,
-      node-reads.Learnt,
     )
     (operand-at t)
     operand.Post
     (operand-token-requires t)
     (operand-is-qualified-requires t)
-    (operand-add-t10 t)
+    (operand-add-t9 t)
     (operand-leaf-requires t)
     (operand-same-length t)
     (operand-returns t)
@@ -2091,77 +2043,75 @@ pub +atom+compared+expression+factor+interval+operand+sum+term-spec : {M : Type 
     (operand-same-length-2 t)
     (operand-returns-2 t)
     (operand-is-sign-requires t)
-    (operand-add-atom t)
-    (operand-atom-requires t)
-    (operand-node-requires t)
+    (operand-signed-requires t)
     (operand-same-length-3 t)
     (operand-returns-3 t)
-    (operand-atom-requires-2 t)
+    (operand-atom-requires t)
     (operand-same-length-4 t)
     (operand-returns-4 t))
+    -- Answers that name no callee: of another reader behind the sign (must-fail) it is what it promises that is refused.
+    (λ t. signed-lts.spec
+    (atom-below t, atom.Post, node-reads.Asked, node-reads.Learnt)
+    (signed-at t)
+    signed.Post
+    (λ c. omega (arith, c .before .before .before .pre .1 .0 .small, c .before .before .before .pre .1 .0 .within))
+    (λ c κs. (omega (arith, c .before .before .before .pre .0, (sign-ready (c .before .before .before .pre .1 .0) (c .before .before .before .pre .1 .1)) .within), sign-ready (c .before .before .before .pre .1 .0) (c .before .before .before .pre .1 .1)))
+    (λ c κs. (search (sign-counts (c .before .before .before .before .before .before .before .pre .1 .0) (c .before .before .before .before .before .before .before .pre .1 .1)), omega arith, omega (arith, c .before .before .before .before .before .before .before .pre .1 .0 .small, c .before .before .before .before .before .before .before .pre .1 .0 .within)))
+    (λ c. search needs)
+    (λ c. search (operand-signed (c .before .before .before .before .before .before .before .before .before .before .pre .1 .0) (c .before .before .before .before .before .before .before .before .before .before .pre .1 .1))))
     (λ t. sum-lts.spec (
       term-below t,
       term.Post,
+      combined-reads.Asked,
+      combined-reads.Learnt,
       token-reads.Asked,
       token-reads.Learnt,
       is-addition-reads.Asked,
       is-addition-reads.Learnt,
-      node-reads.Asked,
-      node-reads.Learnt,
     )
     (sum-at t)
     sum.Post
     sum-Inv-loop
     sum-μ-loop
+    (sum-loop-holds t)
     (sum-term-requires t)
-    (sum-enum-known-first t)
+    (sum-enum-known-right t)
     (sum-enum-told t)
     (sum-same-length t)
     (sum-returns t)
-    (sum-loop-holds t)
+    (sum-combined-requires t)
     (sum-token-requires t)
     (sum-is-addition-requires t)
-    (sum-add-term t)
-    (sum-term-requires-2 t)
-    (sum-node-requires t)
-    (sum-enum-known-whole t)
-    (sum-enum-told-2 t)
     (sum-same-length-2 t)
     (sum-returns-2 t)
+    (sum-add-q t)
     (sum-loop-less t)
-    (sum-loop-again t)
-    (sum-same-length-3 t)
-    (sum-returns-3 t))
+    (sum-loop-again t))
     λ t. term-lts.spec (
       factor-below t,
       factor.Post,
+      combined-reads.Asked,
+      combined-reads.Learnt,
       token-reads.Asked,
       token-reads.Learnt,
       is-multiplication-reads.Asked,
       is-multiplication-reads.Learnt,
-      node-reads.Asked,
-      node-reads.Learnt,
     )
     (term-at t)
     term.Post
     term-Inv-loop
     term-μ-loop
+    (term-loop-holds t)
     (term-factor-requires t)
-    (term-enum-known-first t)
+    (term-enum-known-right t)
     (term-enum-told t)
     (term-same-length t)
     (term-returns t)
-    (term-loop-holds t)
+    (term-combined-requires t)
     (term-token-requires t)
     (term-is-multiplication-requires t)
-    (term-add-factor t)
-    (term-factor-requires-2 t)
-    (term-node-requires t)
-    (term-enum-known-product t)
-    (term-enum-told-2 t)
     (term-same-length-2 t)
     (term-returns-2 t)
+    (term-add-q t)
     (term-loop-less t)
     (term-loop-again t)
-    (term-same-length-3 t)
-    (term-returns-3 t)
