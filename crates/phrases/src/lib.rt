@@ -282,7 +282,11 @@ fn signed(codes: &[u8], rows: &mut [u64], p: usize, n: usize) -> Read
     ensures { λ r. ⌜ Reads operand (now (codes .entry)) p n r (now (rows .entry)) (now (rows .exit)) ⌝ }
 {
     let inner = atom(codes, rows, p + 1, n);
-    node(rows, inner, n, 9, p)
+    let Read::At(q, m) = inner else {
+        return inner;
+    };
+    put(rows, m, packed(9, p, span(n, m)));
+    Read::At(q, m + 1)
 }
 
 // id '.' stands here.

@@ -41,6 +41,7 @@ use Rattle.phrases.proofs.leaf.Reads as leaf-reads
 use Rattle.phrases.proofs.node.Reads as node-reads
 use Rattle.phrases.proofs.packed.Reads as packed-reads
 use Rattle.phrases.proofs.put.Reads as put-reads
+use Rattle.phrases.proofs.span.Reads as span-reads
 use Rattle.phrases.proofs.token.Reads as token-reads
 use Rattle.phrases.proofs.+atom+compared+expression+factor+interval+operand+signed+sum+term.{
   statement,
@@ -59,7 +60,7 @@ use Rattle.phrases.proofs.Terminals.{inside, seen, seen-one, seen-other
 use Rattle.phrases.proofs.Steps.{onward, onward-row, one-inside, expects-refused, expects-there, expects-not}
 use Rattle.phrases.proofs.Laws.{reads-at, compares-at, ready-of, sound-of, counts-of, counts-sound}
 use Rattle.phrases.proofs.Atoms.{label-small}
-use Rattle.phrases.proofs.Operands.{atom-nested, atom-row, atom-none, item-ready, operand-item, operand-interval, sign-ready, sign-counts, operand-signed, operand-plain, comparison-inside, compared-there, compared-not, low-refused, item-refused, interval-whole}
+use Rattle.phrases.proofs.Operands.{atom-nested, atom-row, atom-none, item-ready, operand-item, operand-interval, sign-ready, sign-count, signed-refused, signed-row, operand-plain, comparison-inside, compared-there, compared-not, low-refused, item-refused, interval-whole}
 use borrow.Author.Needs.{needs}
 use native.Mathlib.Omega.{arith}
 use borrow.Author.Tests.{not-true, not-false}
@@ -150,7 +151,7 @@ term-at t = and 2 term-kinds.ps (is 2 term-kinds.ps μ-term t) term.Pre
 abbrev term-below : ℕ → In 2 term-kinds.ps
 term-below t = and 2 term-kinds.ps (falls 2 term-kinds.ps _<_ μ-term t) term.Pre
 
--- src/lib.rt:304:9
+-- src/lib.rt:308:9
 atom-token-requires : (t : ℕ) → atom-lts.Need-token-requires (
   token-reads.Asked,
   token-reads.Learnt,
@@ -165,7 +166,7 @@ atom-token-requires : (t : ℕ) → atom-lts.Need-token-requires (
 ) (atom-at t) atom.Post
 atom-token-requires t c κs = search needs
 
--- src/lib.rt:306:45
+-- src/lib.rt:310:45
 atom-add-expression : (t : ℕ) → atom-lts.Need-add-expression (
   token-reads.Asked,
   token-reads.Learnt,
@@ -180,7 +181,7 @@ atom-add-expression : (t : ℕ) → atom-lts.Need-add-expression (
 ) (atom-at t) atom.Post
 atom-add-expression t c = omega (arith, c .before .before .before .before .before .pre .1 .small, c .before .before .before .before .before .pre .1 .within)
 
--- src/lib.rt:306:13
+-- src/lib.rt:310:13
 atom-expression-requires : (t : ℕ) → atom-lts.Need-expression-requires (
   token-reads.Asked,
   token-reads.Learnt,
@@ -195,7 +196,7 @@ atom-expression-requires : (t : ℕ) → atom-lts.Need-expression-requires (
 ) (atom-at t) atom.Post
 atom-expression-requires t c κs = (omega (arith, c .before .before .before .before .before .pre .0, (one-inside (c .before .before .before .before .before .args .codes .now) (c .before .before .before .before .before .args .p) (c .before .before .token .result) 24 (c .before .before .token .ensures) (c .before .if1 .taken) (omega arith))), onward (c .before .before .before .before .before .pre .1) (one-inside (c .before .before .before .before .before .args .codes .now) (c .before .before .before .before .before .args .p) (c .before .before .token .result) 24 (c .before .before .token .ensures) (c .before .if1 .taken) (omega arith)))
 
--- src/lib.rt:307:22
+-- src/lib.rt:311:22
 atom-enum-known-inner : (t : ℕ) → atom-lts.Need-enum-known-inner (
   token-reads.Asked,
   token-reads.Learnt,
@@ -210,7 +211,7 @@ atom-enum-known-inner : (t : ℕ) → atom-lts.Need-enum-known-inner (
 ) (atom-at t) atom.Post
 atom-enum-known-inner t c = search needs
 
--- src/lib.rt:308:13
+-- src/lib.rt:312:13
 atom-enum-told : (t : ℕ) → atom-lts.Need-enum-told (
   token-reads.Asked,
   token-reads.Learnt,
@@ -225,7 +226,7 @@ atom-enum-told : (t : ℕ) → atom-lts.Need-enum-told (
 ) (atom-at t) atom.Post
 atom-enum-told t c = search needs
 
--- src/lib.rt:308:13
+-- src/lib.rt:312:13
 atom-same-length : (t : ℕ) → atom-lts.Need-same-length (
   token-reads.Asked,
   token-reads.Learnt,
@@ -240,7 +241,7 @@ atom-same-length : (t : ℕ) → atom-lts.Need-same-length (
 ) (atom-at t) atom.Post
 atom-same-length t c = search needs
 
--- src/lib.rt:308:13
+-- src/lib.rt:312:13
 atom-returns : (t : ℕ) → atom-lts.Need-returns (
   token-reads.Asked,
   token-reads.Learnt,
@@ -255,7 +256,7 @@ atom-returns : (t : ℕ) → atom-lts.Need-returns (
 ) (atom-at t) atom.Post
 atom-returns t c = atom-nested (c .before .before .before .before .before .before .before .before .before .before .pre .1) (c .before .before .before .before .before .before .before .token .result) (c .before .before .before .before .before .before .before .token .ensures) (c .before .before .before .before .before .before .if1 .taken) (c .before .before .before .before .expression .ensures) (expects-refused (c .before .before .before .before .before .before .before .before .before .before .args .codes .now) (c .before .before .before .before .expression .result) 25 (c .enum-told .given .1))
 
--- src/lib.rt:310:12
+-- src/lib.rt:314:12
 atom-token-requires-2 : (t : ℕ) → atom-lts.Need-token-requires-2 (
   token-reads.Asked,
   token-reads.Learnt,
@@ -270,7 +271,7 @@ atom-token-requires-2 : (t : ℕ) → atom-lts.Need-token-requires-2 (
 ) (atom-at t) atom.Post
 atom-token-requires-2 t c κs = search needs
 
--- src/lib.rt:311:29
+-- src/lib.rt:315:29
 atom-add-t16 : (t : ℕ) → atom-lts.Need-add-t16 (
   token-reads.Asked,
   token-reads.Learnt,
@@ -285,7 +286,7 @@ atom-add-t16 : (t : ℕ) → atom-lts.Need-add-t16 (
 ) (atom-at t) atom.Post
 atom-add-t16 t c = omega (arith, c .before .before .before .before .before .before .before .before .before .before .before .before .before .pre .1 .small, reads-at (c .before .before .before .before .before .before .before .expression .ensures) (c .before .before .before .inner .given .1))
 
--- src/lib.rt:311:13
+-- src/lib.rt:315:13
 atom-same-length-2 : (t : ℕ) → atom-lts.Need-same-length-2 (
   token-reads.Asked,
   token-reads.Learnt,
@@ -300,7 +301,7 @@ atom-same-length-2 : (t : ℕ) → atom-lts.Need-same-length-2 (
 ) (atom-at t) atom.Post
 atom-same-length-2 t c = search needs
 
--- src/lib.rt:311:13
+-- src/lib.rt:315:13
 atom-returns-2 : (t : ℕ) → atom-lts.Need-returns-2 (
   token-reads.Asked,
   token-reads.Learnt,
@@ -315,7 +316,7 @@ atom-returns-2 : (t : ℕ) → atom-lts.Need-returns-2 (
 ) (atom-at t) atom.Post
 atom-returns-2 t c = atom-nested (c .before .before .before .before .before .before .before .before .before .before .before .before .before .pre .1) (c .before .before .before .before .before .before .before .before .before .before .token .result) (c .before .before .before .before .before .before .before .before .before .before .token .ensures) (c .before .before .before .before .before .before .before .before .before .if1 .taken) (c .before .before .before .before .before .before .before .expression .ensures) (expects-there (c .before .before .before .before .before .before .before .before .before .before .before .before .before .args .codes .now) (c .before .before .before .before .before .before .before .expression .result) 25 (c .before .before .before .inner .given .1) (c .before .token2 .result) (c .before .token2 .ensures) (omega arith) (sound-of (c .before .before .before .before .before .before .before .expression .result) (onward (c .before .before .before .before .before .before .before .before .before .before .before .before .before .pre .1) (one-inside (c .before .before .before .before .before .before .before .before .before .before .before .before .before .args .codes .now) (c .before .before .before .before .before .before .before .before .before .before .before .before .before .args .p) (c .before .before .before .before .before .before .before .before .before .before .token .result) 24 (c .before .before .before .before .before .before .before .before .before .before .token .ensures) (c .before .before .before .before .before .before .before .before .before .if1 .taken) (omega arith))) (c .before .before .before .before .before .before .before .expression .ensures .ahead)) (c .if2 .taken))
 
--- src/lib.rt:313:9
+-- src/lib.rt:317:9
 atom-same-length-3 : (t : ℕ) → atom-lts.Need-same-length-3 (
   token-reads.Asked,
   token-reads.Learnt,
@@ -330,7 +331,7 @@ atom-same-length-3 : (t : ℕ) → atom-lts.Need-same-length-3 (
 ) (atom-at t) atom.Post
 atom-same-length-3 t c = search needs
 
--- src/lib.rt:313:9
+-- src/lib.rt:317:9
 atom-returns-3 : (t : ℕ) → atom-lts.Need-returns-3 (
   token-reads.Asked,
   token-reads.Learnt,
@@ -345,7 +346,7 @@ atom-returns-3 : (t : ℕ) → atom-lts.Need-returns-3 (
 ) (atom-at t) atom.Post
 atom-returns-3 t c = atom-nested (c .before .before .before .before .before .before .before .before .before .before .before .before .before .pre .1) (c .before .before .before .before .before .before .before .before .before .before .token .result) (c .before .before .before .before .before .before .before .before .before .before .token .ensures) (c .before .before .before .before .before .before .before .before .before .if1 .taken) (c .before .before .before .before .before .before .before .expression .ensures) (expects-not (c .before .before .before .before .before .before .before .before .before .before .before .before .before .args .codes .now) (c .before .before .before .before .before .before .before .expression .result) 25 (c .before .before .before .inner .given .1) (c .before .token2 .result) (c .before .token2 .ensures) (c .if2 .left))
 
--- src/lib.rt:315:9
+-- src/lib.rt:319:9
 atom-atom-label-requires : (t : ℕ) → atom-lts.Need-atom-label-requires (
   token-reads.Asked,
   token-reads.Learnt,
@@ -360,7 +361,7 @@ atom-atom-label-requires : (t : ℕ) → atom-lts.Need-atom-label-requires (
 ) (atom-at t) atom.Post
 atom-atom-label-requires t c κs = search needs
 
--- src/lib.rt:317:9
+-- src/lib.rt:321:9
 atom-returns-4 : (t : ℕ) → atom-lts.Need-returns-4 (
   token-reads.Asked,
   token-reads.Learnt,
@@ -375,7 +376,7 @@ atom-returns-4 : (t : ℕ) → atom-lts.Need-returns-4 (
 ) (atom-at t) atom.Post
 atom-returns-4 t c = atom-none (c .before .before .before .before .before .before .pre .1) (c .before .before .before .token .result) (c .before .before .before .token .ensures) (c .before .atom-label .result) (c .before .before .if1 .left) (c .before .atom-label .ensures) (c .if3 .taken)
 
--- src/lib.rt:319:18
+-- src/lib.rt:323:18
 atom-packed-requires : (t : ℕ) → atom-lts.Need-packed-requires (
   token-reads.Asked,
   token-reads.Learnt,
@@ -390,7 +391,7 @@ atom-packed-requires : (t : ℕ) → atom-lts.Need-packed-requires (
 ) (atom-at t) atom.Post
 atom-packed-requires t c κs = (label-small (c .before .before .atom-label .result) (c .before .before .before .before .token .result) (c .before .before .atom-label .ensures), omega (arith, c .before .before .before .before .before .before .before .pre .1 .small, c .before .before .before .before .before .before .before .pre .1 .within), omega arith)
 
--- src/lib.rt:319:5
+-- src/lib.rt:323:5
 atom-put-requires : (t : ℕ) → atom-lts.Need-put-requires (
   token-reads.Asked,
   token-reads.Learnt,
@@ -405,7 +406,7 @@ atom-put-requires : (t : ℕ) → atom-lts.Need-put-requires (
 ) (atom-at t) atom.Post
 atom-put-requires t c κs = search needs
 
--- src/lib.rt:320:14
+-- src/lib.rt:324:14
 atom-add-t21 : (t : ℕ) → atom-lts.Need-add-t21 (
   token-reads.Asked,
   token-reads.Learnt,
@@ -420,7 +421,7 @@ atom-add-t21 : (t : ℕ) → atom-lts.Need-add-t21 (
 ) (atom-at t) atom.Post
 atom-add-t21 t c = omega (arith, c .before .before .before .before .before .before .before .before .before .before .before .pre .1 .small, c .before .before .before .before .before .before .before .before .before .before .before .pre .1 .within, c .before .before .before .before .before .before .before .before .before .before .before .pre .1 .behind)
 
--- src/lib.rt:320:21
+-- src/lib.rt:324:21
 atom-add-t22 : (t : ℕ) → atom-lts.Need-add-t22 (
   token-reads.Asked,
   token-reads.Learnt,
@@ -435,7 +436,7 @@ atom-add-t22 : (t : ℕ) → atom-lts.Need-add-t22 (
 ) (atom-at t) atom.Post
 atom-add-t22 t c = omega (arith, c .before .before .before .before .before .before .before .before .before .before .before .pre .1 .small, c .before .before .before .before .before .before .before .before .before .before .before .pre .1 .within, c .before .before .before .before .before .before .before .before .before .before .before .pre .1 .behind)
 
--- src/lib.rt:300:1
+-- src/lib.rt:304:1
 atom-same-length-4 : (t : ℕ) → atom-lts.Need-same-length-4 (
   token-reads.Asked,
   token-reads.Learnt,
@@ -450,7 +451,7 @@ atom-same-length-4 : (t : ℕ) → atom-lts.Need-same-length-4 (
 ) (atom-at t) atom.Post
 atom-same-length-4 t c = search needs
 
--- src/lib.rt:300:1
+-- src/lib.rt:304:1
 atom-returns-5 : (t : ℕ) → atom-lts.Need-returns-5 (
   token-reads.Asked,
   token-reads.Learnt,
@@ -465,7 +466,7 @@ atom-returns-5 : (t : ℕ) → atom-lts.Need-returns-5 (
 ) (atom-at t) atom.Post
 atom-returns-5 t c = atom-row (c .before .before .before .before .before .before .before .before .before .before .before .pre .1) (c .before .before .before .before .before .before .before .before .token .result) (c .before .before .before .before .before .before .before .before .token .ensures) (c .before .before .before .before .before .before .atom-label .result) (c .before .before .before .packed .result) (c .before .before .before .before .before .before .before .if1 .left) (c .before .before .before .before .before .before .atom-label .ensures) (c .before .before .before .before .before .if3 .left) (c .before .before .before .packed .ensures) (c .before .before .put .ensures)
 
--- src/lib.rt:346:22
+-- src/lib.rt:350:22
 compared-token-requires : (t : ℕ) → compared-lts.Need-token-requires (
   token-reads.Asked,
   token-reads.Learnt,
@@ -480,7 +481,7 @@ compared-token-requires : (t : ℕ) → compared-lts.Need-token-requires (
 ) (compared-at t) compared.Post
 compared-token-requires t c κs = search needs
 
--- src/lib.rt:346:8
+-- src/lib.rt:350:8
 compared-is-comparison-requires : (t : ℕ) → compared-lts.Need-is-comparison-requires (
   token-reads.Asked,
   token-reads.Learnt,
@@ -495,7 +496,7 @@ compared-is-comparison-requires : (t : ℕ) → compared-lts.Need-is-comparison-
 ) (compared-at t) compared.Post
 compared-is-comparison-requires t c κs = search needs
 
--- src/lib.rt:347:22
+-- src/lib.rt:351:22
 compared-packed-requires : (t : ℕ) → compared-lts.Need-packed-requires (
   token-reads.Asked,
   token-reads.Learnt,
@@ -510,7 +511,7 @@ compared-packed-requires : (t : ℕ) → compared-lts.Need-packed-requires (
 ) (compared-at t) compared.Post
 compared-packed-requires t c κs = (omega arith, omega (arith, c .before .before .before .before .before .before .pre .1 .small, c .before .before .before .before .before .before .pre .1 .within), omega arith)
 
--- src/lib.rt:347:9
+-- src/lib.rt:351:9
 compared-put-requires : (t : ℕ) → compared-lts.Need-put-requires (
   token-reads.Asked,
   token-reads.Learnt,
@@ -525,7 +526,7 @@ compared-put-requires : (t : ℕ) → compared-lts.Need-put-requires (
 ) (compared-at t) compared.Post
 compared-put-requires t c κs = search needs
 
--- src/lib.rt:348:33
+-- src/lib.rt:352:33
 compared-add-sum : (t : ℕ) → compared-lts.Need-add-sum (
   token-reads.Asked,
   token-reads.Learnt,
@@ -540,7 +541,7 @@ compared-add-sum : (t : ℕ) → compared-lts.Need-add-sum (
 ) (compared-at t) compared.Post
 compared-add-sum t c = omega (arith, c .before .before .before .before .before .before .before .before .before .before .before .pre .1 .small, c .before .before .before .before .before .before .before .before .before .before .before .pre .1 .within, c .before .before .before .before .before .before .before .before .before .before .before .pre .1 .behind)
 
--- src/lib.rt:348:40
+-- src/lib.rt:352:40
 compared-add-sum-2 : (t : ℕ) → compared-lts.Need-add-sum-2 (
   token-reads.Asked,
   token-reads.Learnt,
@@ -555,7 +556,7 @@ compared-add-sum-2 : (t : ℕ) → compared-lts.Need-add-sum-2 (
 ) (compared-at t) compared.Post
 compared-add-sum-2 t c = omega (arith, c .before .before .before .before .before .before .before .before .before .before .before .pre .1 .small, c .before .before .before .before .before .before .before .before .before .before .before .pre .1 .within, c .before .before .before .before .before .before .before .before .before .before .before .pre .1 .behind)
 
--- src/lib.rt:348:9
+-- src/lib.rt:352:9
 compared-sum-requires : (t : ℕ) → compared-lts.Need-sum-requires (
   token-reads.Asked,
   token-reads.Learnt,
@@ -570,7 +571,7 @@ compared-sum-requires : (t : ℕ) → compared-lts.Need-sum-requires (
 ) (compared-at t) compared.Post
 compared-sum-requires t c κs = (omega (arith, c .before .before .before .before .before .before .before .before .before .before .before .pre .0, (comparison-inside (c .before .before .before .before .before .before .before .before .before .before .before .pre .1) (c .before .before .before .before .before .before .before .is-comparison .result) (c .before .before .before .before .before .before .before .before .token .result) (c .before .before .before .before .before .before .before .before .token .ensures) (c .before .before .before .before .before .before .before .is-comparison .ensures) (c .before .before .before .before .before .before .if1 .taken))), onward-row (c .before .before .before .before .before .before .before .before .before .before .before .pre .1) (comparison-inside (c .before .before .before .before .before .before .before .before .before .before .before .pre .1) (c .before .before .before .before .before .before .before .is-comparison .result) (c .before .before .before .before .before .before .before .before .token .result) (c .before .before .before .before .before .before .before .before .token .ensures) (c .before .before .before .before .before .before .before .is-comparison .ensures) (c .before .before .before .before .before .before .if1 .taken)))
 
--- src/lib.rt:348:9
+-- src/lib.rt:352:9
 compared-same-length : (t : ℕ) → compared-lts.Need-same-length (
   token-reads.Asked,
   token-reads.Learnt,
@@ -585,7 +586,7 @@ compared-same-length : (t : ℕ) → compared-lts.Need-same-length (
 ) (compared-at t) compared.Post
 compared-same-length t c = search needs
 
--- src/lib.rt:348:9
+-- src/lib.rt:352:9
 compared-returns : (t : ℕ) → compared-lts.Need-returns (
   token-reads.Asked,
   token-reads.Learnt,
@@ -600,7 +601,7 @@ compared-returns : (t : ℕ) → compared-lts.Need-returns (
 ) (compared-at t) compared.Post
 compared-returns t c = compared-there (c .before .before .before .before .before .before .before .before .before .before .before .before .before .before .pre .1) (c .before .before .before .before .before .before .before .before .before .before .is-comparison .result) (c .before .before .before .before .before .before .before .before .before .before .before .token .result) (c .before .before .before .before .before .before .before .before .before .before .before .token .ensures) (c .before .before .before .before .before .before .before .before .before .before .is-comparison .ensures) (c .before .before .before .before .before .before .before .packed .result) (c .before .before .before .before .before .before .before .before .before .if1 .taken) (c .before .before .before .before .before .before .before .packed .ensures) (c .before .before .before .before .before .before .put .ensures) (c .before .before .sum .ensures)
 
--- src/lib.rt:342:1
+-- src/lib.rt:346:1
 compared-returns-2 : (t : ℕ) → compared-lts.Need-returns-2 (
   token-reads.Asked,
   token-reads.Learnt,
@@ -972,7 +973,7 @@ factor-loop-again : (t : ℕ) → factor-lts.Need-loop-again (
 unfolding mem
 factor-loop-again t c = (search needs, turned-again factor′ operand′ power refl (c .before .before .before .before .before .before .before .before .before .before .before .before .before .before .before .before .before .pre .1) (c .before .before .before .before .before .before .before .before .before .before .before .before .before .before .loop .inv .1) (c .before .before .before .before .before .before .before .before .before .before .before .before .operand .ensures) (c .before .before .before .before .before .before .before .before .right .given .1) (c .before .before .before .before .before .combined .ensures) (c .before .before .if1 .left) refl (seen-one (c .before .before .before .before .before .before .before .before .before .before .before .before .before .before .before .before .before .args .codes .now) (c .before .before .before .before .before .before .before .before .right .given .0 .0) 32 (c .before .token .ensures) (c .if2 .left)))
 
--- src/lib.rt:328:32
+-- src/lib.rt:332:32
 interval-add-sum : (t : ℕ) → interval-lts.Need-add-sum (
   sum-below t,
   sum.Post,
@@ -985,7 +986,7 @@ interval-add-sum : (t : ℕ) → interval-lts.Need-add-sum (
 ) (interval-at t) interval.Post
 interval-add-sum t c = omega (arith, c .before .before .before .pre .1 .0 .small, c .before .before .before .pre .1 .0 .within)
 
--- src/lib.rt:328:9
+-- src/lib.rt:332:9
 interval-sum-requires : (t : ℕ) → interval-lts.Need-sum-requires (
   sum-below t,
   sum.Post,
@@ -998,7 +999,7 @@ interval-sum-requires : (t : ℕ) → interval-lts.Need-sum-requires (
 ) (interval-at t) interval.Post
 interval-sum-requires t c κs = (omega (arith, c .before .before .before .pre .0, (one-inside (c .before .before .before .args .codes .now) (c .before .before .before .args .p) (getD (c .before .before .before .args .codes .now) (c .before .before .before .args .p) 0) 21 refl (c .before .before .before .pre .1 .1) (omega arith))), onward (c .before .before .before .pre .1 .0) (one-inside (c .before .before .before .args .codes .now) (c .before .before .before .args .p) (getD (c .before .before .before .args .codes .now) (c .before .before .before .args .p) 0) 21 refl (c .before .before .before .pre .1 .1) (omega arith)))
 
--- src/lib.rt:329:18
+-- src/lib.rt:333:18
 interval-enum-known-low : (t : ℕ) → interval-lts.Need-enum-known-low (
   sum-below t,
   sum.Post,
@@ -1011,7 +1012,7 @@ interval-enum-known-low : (t : ℕ) → interval-lts.Need-enum-known-low (
 ) (interval-at t) interval.Post
 interval-enum-known-low t c = search needs
 
--- src/lib.rt:330:9
+-- src/lib.rt:334:9
 interval-enum-told : (t : ℕ) → interval-lts.Need-enum-told (
   sum-below t,
   sum.Post,
@@ -1024,7 +1025,7 @@ interval-enum-told : (t : ℕ) → interval-lts.Need-enum-told (
 ) (interval-at t) interval.Post
 interval-enum-told t c = search needs
 
--- src/lib.rt:330:9
+-- src/lib.rt:334:9
 interval-same-length : (t : ℕ) → interval-lts.Need-same-length (
   sum-below t,
   sum.Post,
@@ -1037,7 +1038,7 @@ interval-same-length : (t : ℕ) → interval-lts.Need-same-length (
 ) (interval-at t) interval.Post
 interval-same-length t c = search needs
 
--- src/lib.rt:330:9
+-- src/lib.rt:334:9
 interval-returns : (t : ℕ) → interval-lts.Need-returns (
   sum-below t,
   sum.Post,
@@ -1050,7 +1051,7 @@ interval-returns : (t : ℕ) → interval-lts.Need-returns (
 ) (interval-at t) interval.Post
 interval-returns t c = low-refused (c .before .before .before .before .before .before .before .before .pre .1 .0) (c .before .before .before .before .before .before .before .before .pre .1 .1) (c .before .before .before .before .sum .ensures) (c .enum-told .given .1)
 
--- src/lib.rt:332:9
+-- src/lib.rt:336:9
 interval-compared-requires : (t : ℕ) → interval-lts.Need-compared-requires (
   sum-below t,
   sum.Post,
@@ -1063,7 +1064,7 @@ interval-compared-requires : (t : ℕ) → interval-lts.Need-compared-requires (
 ) (interval-at t) interval.Post
 interval-compared-requires t c κs = (omega (arith, c .before .before .before .before .before .before .before .before .before .before .pre .0, reads-at (c .before .before .before .before .before .before .sum .ensures) (c .before .before .low .given .1)), (ready-of (onward (c .before .before .before .before .before .before .before .before .before .before .pre .1 .0) (one-inside (c .before .before .before .before .before .before .before .before .before .before .args .codes .now) (c .before .before .before .before .before .before .before .before .before .before .args .p) (getD (c .before .before .before .before .before .before .before .before .before .before .args .codes .now) (c .before .before .before .before .before .before .before .before .before .before .args .p) 0) 21 refl (c .before .before .before .before .before .before .before .before .before .before .pre .1 .1) (omega arith))) (c .before .before .before .before .before .before .sum .ensures .ahead) (c .before .before .low .given .1)))
 
--- src/lib.rt:333:18
+-- src/lib.rt:337:18
 interval-enum-known-item : (t : ℕ) → interval-lts.Need-enum-known-item (
   sum-below t,
   sum.Post,
@@ -1076,7 +1077,7 @@ interval-enum-known-item : (t : ℕ) → interval-lts.Need-enum-known-item (
 ) (interval-at t) interval.Post
 interval-enum-known-item t c = search needs
 
--- src/lib.rt:334:9
+-- src/lib.rt:338:9
 interval-enum-told-2 : (t : ℕ) → interval-lts.Need-enum-told-2 (
   sum-below t,
   sum.Post,
@@ -1089,7 +1090,7 @@ interval-enum-told-2 : (t : ℕ) → interval-lts.Need-enum-told-2 (
 ) (interval-at t) interval.Post
 interval-enum-told-2 t c = search needs
 
--- src/lib.rt:334:9
+-- src/lib.rt:338:9
 interval-same-length-2 : (t : ℕ) → interval-lts.Need-same-length-2 (
   sum-below t,
   sum.Post,
@@ -1102,7 +1103,7 @@ interval-same-length-2 : (t : ℕ) → interval-lts.Need-same-length-2 (
 ) (interval-at t) interval.Post
 interval-same-length-2 t c = search needs
 
--- src/lib.rt:334:9
+-- src/lib.rt:338:9
 interval-returns-2 : (t : ℕ) → interval-lts.Need-returns-2 (
   sum-below t,
   sum.Post,
@@ -1115,7 +1116,7 @@ interval-returns-2 : (t : ℕ) → interval-lts.Need-returns-2 (
 ) (interval-at t) interval.Post
 interval-returns-2 t c = item-refused (c .before .before .before .before .before .before .before .before .before .before .before .before .before .before .before .pre .1 .0) (c .before .before .before .before .before .before .before .before .before .before .before .before .before .before .before .pre .1 .1) (c .before .before .before .before .before .before .before .before .before .before .before .sum .ensures) (c .before .before .before .before .before .before .before .low .given .1) (c .before .before .before .before .compared .ensures) (c .enum-told2 .given .1)
 
--- src/lib.rt:336:9
+-- src/lib.rt:340:9
 interval-compared-requires-2 : (t : ℕ) → interval-lts.Need-compared-requires-2 (
   sum-below t,
   sum.Post,
@@ -1128,7 +1129,7 @@ interval-compared-requires-2 : (t : ℕ) → interval-lts.Need-compared-requires
 ) (interval-at t) interval.Post
 interval-compared-requires-2 t c κs = (omega (arith, c .before .before .before .before .before .before .before .before .before .before .before .before .before .before .before .before .before .pre .0, reads-at (c .before .before .before .before .before .before .before .before .before .before .before .before .before .sum .ensures) (c .before .before .before .before .before .before .before .before .before .low .given .1), compares-at (c .before .before .before .before .before .before .compared .ensures) (c .before .before .item .given .1)), (ready-of (ready-of (onward (c .before .before .before .before .before .before .before .before .before .before .before .before .before .before .before .before .before .pre .1 .0) (one-inside (c .before .before .before .before .before .before .before .before .before .before .before .before .before .before .before .before .before .args .codes .now) (c .before .before .before .before .before .before .before .before .before .before .before .before .before .before .before .before .before .args .p) (getD (c .before .before .before .before .before .before .before .before .before .before .before .before .before .before .before .before .before .args .codes .now) (c .before .before .before .before .before .before .before .before .before .before .before .before .before .before .before .before .before .args .p) 0) 21 refl (c .before .before .before .before .before .before .before .before .before .before .before .before .before .before .before .before .before .pre .1 .1) (omega arith))) (c .before .before .before .before .before .before .before .before .before .before .before .before .before .sum .ensures .ahead) (c .before .before .before .before .before .before .before .before .before .low .given .1)) (c .before .before .before .before .before .before .compared .ensures .ahead) (c .before .before .item .given .1)))
 
--- src/lib.rt:337:9
+-- src/lib.rt:341:9
 interval-expect-requires : (t : ℕ) → interval-lts.Need-expect-requires (
   sum-below t,
   sum.Post,
@@ -1141,7 +1142,7 @@ interval-expect-requires : (t : ℕ) → interval-lts.Need-expect-requires (
 ) (interval-at t) interval.Post
 interval-expect-requires t c κs = (sound-of (c .before .before .compared2 .result) (ready-of (ready-of (onward (c .before .before .before .before .before .before .before .before .before .before .before .before .before .before .before .before .before .before .before .before .pre .1 .0) (one-inside (c .before .before .before .before .before .before .before .before .before .before .before .before .before .before .before .before .before .before .before .before .args .codes .now) (c .before .before .before .before .before .before .before .before .before .before .before .before .before .before .before .before .before .before .before .before .args .p) (getD (c .before .before .before .before .before .before .before .before .before .before .before .before .before .before .before .before .before .before .before .before .args .codes .now) (c .before .before .before .before .before .before .before .before .before .before .before .before .before .before .before .before .before .before .before .before .args .p) 0) 21 refl (c .before .before .before .before .before .before .before .before .before .before .before .before .before .before .before .before .before .before .before .before .pre .1 .1) (omega arith))) (c .before .before .before .before .before .before .before .before .before .before .before .before .before .before .before .before .sum .ensures .ahead) (c .before .before .before .before .before .before .before .before .before .before .before .before .low .given .1)) (c .before .before .before .before .before .before .before .before .before .compared .ensures .ahead) (c .before .before .before .before .before .item .given .1)) (c .before .before .compared2 .ensures .ahead), omega arith)
 
--- src/lib.rt:338:5
+-- src/lib.rt:342:5
 interval-node-requires : (t : ℕ) → interval-lts.Need-node-requires (
   sum-below t,
   sum.Post,
@@ -1154,7 +1155,7 @@ interval-node-requires : (t : ℕ) → interval-lts.Need-node-requires (
 ) (interval-at t) interval.Post
 interval-node-requires t c κs = (counts-sound (c .before .before .before .before .before .before .before .before .before .before .before .before .before .before .before .before .before .before .before .before .before .before .args .codes .now) (c .before .expect .result) (c .before .expect .ensures .sound), omega arith, omega (arith, c .before .before .before .before .before .before .before .before .before .before .before .before .before .before .before .before .before .before .before .before .before .before .pre .1 .0 .small, c .before .before .before .before .before .before .before .before .before .before .before .before .before .before .before .before .before .before .before .before .before .before .pre .1 .0 .within))
 
--- src/lib.rt:324:1
+-- src/lib.rt:328:1
 interval-same-length-3 : (t : ℕ) → interval-lts.Need-same-length-3 (
   sum-below t,
   sum.Post,
@@ -1167,7 +1168,7 @@ interval-same-length-3 : (t : ℕ) → interval-lts.Need-same-length-3 (
 ) (interval-at t) interval.Post
 interval-same-length-3 t c = search needs
 
--- src/lib.rt:324:1
+-- src/lib.rt:328:1
 interval-returns-3 : (t : ℕ) → interval-lts.Need-returns-3 (
   sum-below t,
   sum.Post,
@@ -2049,16 +2050,31 @@ pub +atom+compared+expression+factor+interval+operand+signed+sum+term-spec :
     (operand-atom-requires t)
     (operand-same-length-4 t)
     (operand-returns-4 t))
-    -- Answers that name no callee: of another reader behind the sign (must-fail) it is what it promises that is refused.
-    (λ t. signed-lts.spec
-    (atom-below t, atom.Post, node-reads.Asked, node-reads.Learnt)
+    -- Answers that name no callee behind the sign: of another reader there (must-fail) it is what it promises that is refused.
+    (λ t. signed-lts.spec (
+      atom-below t,
+      atom.Post,
+      span-reads.Asked,
+      span-reads.Learnt,
+      packed-reads.Asked,
+      packed-reads.Learnt,
+      put-reads.Asked,
+      put-reads.Learnt,
+    )
     (signed-at t)
     signed.Post
     (λ c. omega (arith, c .before .before .before .pre .1 .0 .small, c .before .before .before .pre .1 .0 .within))
     (λ c κs. (omega (arith, c .before .before .before .pre .0, (sign-ready (c .before .before .before .pre .1 .0) (c .before .before .before .pre .1 .1)) .within), sign-ready (c .before .before .before .pre .1 .0) (c .before .before .before .pre .1 .1)))
-    (λ c κs. (search (sign-counts (c .before .before .before .before .before .before .before .pre .1 .0) (c .before .before .before .before .before .before .before .pre .1 .1)), omega arith, omega (arith, c .before .before .before .before .before .before .before .pre .1 .0 .small, c .before .before .before .before .before .before .before .pre .1 .0 .within)))
     (λ c. search needs)
-    (λ c. search (operand-signed (c .before .before .before .before .before .before .before .before .before .before .pre .1 .0) (c .before .before .before .before .before .before .before .before .before .before .pre .1 .1))))
+    (λ c. search needs)
+    (λ c. search needs)
+    (λ c. signed-refused (c .before .before .before .before .before .before .before .before .pre .1 .0) (c .before .before .before .before .before .before .before .before .pre .1 .1) (search needs) (c .enum-told .given .1))
+    (λ c κs. sign-count (c .before .before .before .before .before .before .before .before .before .before .pre .1 .0) (c .before .before .before .before .before .before .before .before .before .before .pre .1 .1) (search needs) (c .before .before .inner .given .1))
+    (λ c κs. let l = sign-count (c .before .before .before .before .before .before .before .before .before .before .before .pre .1 .0) (c .before .before .before .before .before .before .before .before .before .before .before .pre .1 .1) (search needs) (c .before .before .before .inner .given .1) in (omega arith, omega (arith, c .before .before .before .before .before .before .before .before .before .before .before .pre .1 .0 .small, c .before .before .before .before .before .before .before .before .before .before .before .pre .1 .0 .within), omega (arith, c .span .ensures)))
+    (λ c κs. search needs)
+    (λ c. let l = sign-count (c .before .before .before .before .before .before .before .before .before .before .before .before .before .before .before .pre .1 .0) (c .before .before .before .before .before .before .before .before .before .before .before .before .before .before .before .pre .1 .1) (search needs) (c .before .before .before .before .before .before .before .inner .given .1) in omega arith)
+    (λ c. search needs)
+    (λ c. search (signed-row (c .before .before .before .before .before .before .before .before .before .before .before .before .before .before .before .pre .1 .0) (c .before .before .before .before .before .before .before .before .before .before .before .before .before .before .before .pre .1 .1) (c .before .before .before .before .before .before .before .inner .given .1) (c .before .before .before .before .span .ensures) (c .before .before .before .packed .ensures), c .before .before .put .ensures)))
     (λ t. sum-lts.spec (
       term-below t,
       term.Post,
