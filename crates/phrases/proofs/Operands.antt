@@ -7,11 +7,11 @@ use native.Mathlib.Omega.{arith}
 use lib.Dec.{eqb}
 use lib.ListN.{length, getD, set}
 use borrow.Author.Tests.{eq-eqb, ne-eqb}
-use Rattle.ebnf.specs.Set.{mem}
+use Rattle.ebnf.specs.Set.{mem, disjoint}
 use Rattle.ebnf.specs.Grammar.{leaf, Ebnf, none, step, seq, alt, nt}
 use Rattle.ebnf.specs.Rows.{Rows}
 use Rattle.ebnf.specs.Parse.{Result}
-use Rattle.ebnf.proofs.Sets.{and-split}
+use Rattle.ebnf.proofs.Sets.{and-split, apart′}
 use Rattle.express.specs.Terminal.{identifier, dot, rbrace, SELF}
 use Rattle.express.specs.Grammar.{Nonterminal, expression, sum, operand, atom, interval, signs, comparisons, _·_, _∣_, tok, named, leaves, row as row-of}
 use Rattle.express.specs.NodeKind as kind
@@ -20,7 +20,8 @@ use Rattle.phrases.specs.declared.Read.{Read}
 use Rattle.phrases.specs.declared.Read.the-variants.{At, Refused}
 use Rattle.phrases.specs.Reading.{word, labelled, atom-label, Ready, Sound, Ahead, Found, Reads, expected, Expects, Reading, Goes, Compares, Took, Leaves, Noded, Counts}
 use Rattle.phrases.proofs.Terminals.{is-one, not-one, inside}
-use Rattle.phrases.proofs.Laws.{start, finish, last, apart, together, dead, refused-found, told, token, passed, took, row, phrased, left, right, ahead-left, ahead-right, operator, reads, reads-at, compares-at, counts-of, sound-of, ready-of}
+use Rattle.phrases.proofs.Steps.{count-at, onward, noded-there}
+use Rattle.phrases.proofs.Laws.{start, finish, last, alone, apart, together, dead, refused-found, told, token, passed, took, row, phrased, left, right, ahead-left, ahead-right, operator, reads, reads-at, compares-at, counts-of, sound-of, ready-of}
 
 -- ---- atoms
 
@@ -90,6 +91,36 @@ module _ {ts : List ℕ} {p n : ℕ} (g : Ready ts p n) (c : ℕ) (e : c ≡ get
 
 -- ---- operands
 
+-- behind a sign
+module _ {ts : List ℕ} {p n : ℕ} (g : Ready ts p n) (h : mem (getD ts p 0) signs ≡ true) where
+  pub sign-ready : Ready ts (p + 1) n
+  unfolding mem
+  sign-ready = onward g (inside ts signs p refl h)
+
+  pub sign-count : {r : Read} {q m : ℕ} → Ahead ts (p + 1) n r → r ≡ At q m → m ≤ 65536
+  sign-count {r} i e = count-at r (counts-of r sign-ready i) e
+
+  sign-alone : {a : List ℕ} → Reading ts (phrase ts operand p) n a (seq (named signs · nt atom · row-of kind.unary) none) p (At p n) a
+  unfolding mem disjoint
+  sign-alone =
+      let e : (mem (getD ts p 0) identifier && mem (getD ts (p + 1) 0) dot) ≡ false = rw (apart′ (getD ts p 0) identifier signs refl h) refl in
+      left h (right (apart′ (getD ts p 0) (21 ∷ []) signs refl h) (ahead-right e (last (start operand p (g .within)))))
+
+  -- the atom
+  sign-atom : {a b : List ℕ} {r : Read} → Reads atom ts (p + 1) n r a b → Reading ts (phrase ts operand p) n a (row-of kind.unary) p r b
+  sign-atom i = alone (phrased i (apart (operator h (apart sign-alone))))
+
+  pub signed-refused : {a b : List ℕ} {r : Read} {k : ℕ} → Reads atom ts (p + 1) n r a b → r ≡ Refused k → Reads operand ts p n r a b
+  signed-refused i e = reads operand (g .within) (refused-found e (sign-atom i))
+
+  -- and the row over it
+  pub signed-row : {r : Read} {q m z w : ℕ} → r ≡ At q m → z ≡ m + 1 - n → w ≡ word kind.unary p z → (a b d : List ℕ) → Reads atom ts (p + 1) n r a b → d ≡ set b m w → Reads operand ts p n (At q (m + 1)) a d
+  signed-row {r} {q} {m} {z} {w} e s v a b d i u =
+      let l = g .small in
+      let l₂ = g .within in
+      reads operand (g .within)
+      (finish (row (At q (m + 1)) d (omega arith) (omega arith) (counts-of r sign-ready (i .ahead)) (omega arith) (noded-there n kind.unary p r b d w z e s v u) (last (sign-atom i))))
+
 module _ {ts : List ℕ} {p n : ℕ} (g : Ready ts p n) (q : Bool) (e : q ≡ (mem (getD ts p 0) identifier && mem (getD ts (p + 1) 0) dot)) where
   -- type.item: where the item stands is within the list
   pub item-ready : q ≡ true → Ready ts (p + 2) n
@@ -114,21 +145,6 @@ module _ {ts : List ℕ} {p n : ℕ} (g : Ready ts p n) (q : Bool) (e : q ≡ (m
 
       no-brace : {a : List ℕ} → Reading ts (phrase ts operand p) n a (seq (named signs · nt atom · row-of kind.unary ∣ nt atom) none) p (At p n) a
       no-brace = right (not-one (getD ts p 0) 21 (λ z. k (f ∙ z))) (ahead-right (sym e ∙ h) (last (start operand p (g .within))))
-
-      pub sign-ready : s ≡ true → Ready ts (p + 1) n
-      unfolding mem
-      sign-ready z =
-          let i = inside ts signs p refl (signs-at true z) in
-          let w = g .behind in
-          record { small = g .small; within = omega arith; behind = omega arith }
-
-      pub operand-signed : {a b d : List ℕ} {r w : Read} → s ≡ true → Reads atom ts (p + 1) n r a b → Noded n kind.unary p r w b d → Reads operand ts p n w a d
-      operand-signed {a} {b} {d} {r} {w} z i x =
-          let l = g .small in
-          let l₂ = g .within in
-          reads operand (g .within)
-          (finish (row w d (omega arith) (omega arith) (counts-of r (sign-ready z) (i .ahead)) (omega arith) x
-          (phrased i (apart (operator (signs-at true z) (apart (left (signs-at true z) no-brace)))))))
 
       pub operand-plain : {a b : List ℕ} {r : Read} → s ≡ false → Reads atom ts p n r a b → Reads operand ts p n r a b
       operand-plain z i = reads operand (g .within) (finish (phrased i (right (signs-at false z) no-brace)))

@@ -1,5 +1,5 @@
 // Expressions by recursive descent: terminal codes to rows of nodes, each row packed into one word.
-ghost use mathlib.Core.Bool.{_&&_, cond};
+ghost use mathlib.Core.Bool.{true, _&&_, cond};
 ghost use mathlib.Core.List.{[], _∷_};
 ghost use mathlib.Core.Path.{_≡_};
 ghost use Prim.Native.Nat.{ℕ, _+_, _-_, _*_, _≤_, _<_, min};
@@ -271,10 +271,22 @@ fn operand(codes: &[u8], rows: &mut [u64], p: usize, n: usize) -> Read
         return interval(codes, rows, p, n);
     }
     if is_sign(c) {
-        let inner = atom(codes, rows, p + 1, n);
-        return node(rows, inner, n, 9, p);
+        return signed(codes, rows, p, n);
     }
     atom(codes, rows, p, n)
+}
+
+// a sign, which is there, and an atom: no power and no type.item
+fn signed(codes: &[u8], rows: &mut [u64], p: usize, n: usize) -> Read
+    requires { ⌜ (Ready (now codes) p n) × (mem (getD (now codes) p 0) signs ≡ true) ⌝ }
+    ensures { λ r. ⌜ Reads operand (now (codes .entry)) p n r (now (rows .entry)) (now (rows .exit)) ⌝ }
+{
+    let inner = atom(codes, rows, p + 1, n);
+    let Read::At(q, m) = inner else {
+        return inner;
+    };
+    put(rows, m, packed(9, p, span(n, m)));
+    Read::At(q, m + 1)
 }
 
 // id '.' stands here.

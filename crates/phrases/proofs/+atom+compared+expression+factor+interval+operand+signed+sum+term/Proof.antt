@@ -3,28 +3,31 @@ use borrow.Fn.Kinds.{In}
 use borrow.Fn.PlainCycle.{Measures, is, falls, and}
 use Rattle.phrases.proofs.atom.Reads as atom
 use Rattle.phrases.proofs.atom.Kinds as atom-kinds
-use Rattle.phrases.proofs.+atom+compared+expression+factor+interval+operand+sum+term.Lts-atom as atom-lts
+use Rattle.phrases.proofs.+atom+compared+expression+factor+interval+operand+signed+sum+term.Lts-atom as atom-lts
 use Rattle.phrases.proofs.compared.Reads as compared
 use Rattle.phrases.proofs.compared.Kinds as compared-kinds
-use Rattle.phrases.proofs.+atom+compared+expression+factor+interval+operand+sum+term.Lts-compared as compared-lts
+use Rattle.phrases.proofs.+atom+compared+expression+factor+interval+operand+signed+sum+term.Lts-compared as compared-lts
 use Rattle.phrases.proofs.expression.Reads as expression
 use Rattle.phrases.proofs.expression.Kinds as expression-kinds
-use Rattle.phrases.proofs.+atom+compared+expression+factor+interval+operand+sum+term.Lts-expression as expression-lts
+use Rattle.phrases.proofs.+atom+compared+expression+factor+interval+operand+signed+sum+term.Lts-expression as expression-lts
 use Rattle.phrases.proofs.factor.Reads as factor
 use Rattle.phrases.proofs.factor.Kinds as factor-kinds
-use Rattle.phrases.proofs.+atom+compared+expression+factor+interval+operand+sum+term.Lts-factor as factor-lts
+use Rattle.phrases.proofs.+atom+compared+expression+factor+interval+operand+signed+sum+term.Lts-factor as factor-lts
 use Rattle.phrases.proofs.interval.Reads as interval
 use Rattle.phrases.proofs.interval.Kinds as interval-kinds
-use Rattle.phrases.proofs.+atom+compared+expression+factor+interval+operand+sum+term.Lts-interval as interval-lts
+use Rattle.phrases.proofs.+atom+compared+expression+factor+interval+operand+signed+sum+term.Lts-interval as interval-lts
 use Rattle.phrases.proofs.operand.Reads as operand
 use Rattle.phrases.proofs.operand.Kinds as operand-kinds
-use Rattle.phrases.proofs.+atom+compared+expression+factor+interval+operand+sum+term.Lts-operand as operand-lts
+use Rattle.phrases.proofs.+atom+compared+expression+factor+interval+operand+signed+sum+term.Lts-operand as operand-lts
+use Rattle.phrases.proofs.signed.Reads as signed
+use Rattle.phrases.proofs.signed.Kinds as signed-kinds
+use Rattle.phrases.proofs.+atom+compared+expression+factor+interval+operand+signed+sum+term.Lts-signed as signed-lts
 use Rattle.phrases.proofs.sum.Reads as sum
 use Rattle.phrases.proofs.sum.Kinds as sum-kinds
-use Rattle.phrases.proofs.+atom+compared+expression+factor+interval+operand+sum+term.Lts-sum as sum-lts
+use Rattle.phrases.proofs.+atom+compared+expression+factor+interval+operand+signed+sum+term.Lts-sum as sum-lts
 use Rattle.phrases.proofs.term.Reads as term
 use Rattle.phrases.proofs.term.Kinds as term-kinds
-use Rattle.phrases.proofs.+atom+compared+expression+factor+interval+operand+sum+term.Lts-term as term-lts
+use Rattle.phrases.proofs.+atom+compared+expression+factor+interval+operand+signed+sum+term.Lts-term as term-lts
 use Rattle.phrases.proofs.atom_label.Reads as atom-label-reads
 use Rattle.phrases.proofs.combined.Reads as combined-reads
 use Rattle.phrases.proofs.expect.Reads as expect-reads
@@ -38,11 +41,12 @@ use Rattle.phrases.proofs.leaf.Reads as leaf-reads
 use Rattle.phrases.proofs.node.Reads as node-reads
 use Rattle.phrases.proofs.packed.Reads as packed-reads
 use Rattle.phrases.proofs.put.Reads as put-reads
+use Rattle.phrases.proofs.span.Reads as span-reads
 use Rattle.phrases.proofs.token.Reads as token-reads
-use Rattle.phrases.proofs.+atom+compared+expression+factor+interval+operand+sum+term.{
+use Rattle.phrases.proofs.+atom+compared+expression+factor+interval+operand+signed+sum+term.{
   statement,
 }
-use Rattle.phrases.proofs.+atom+compared+expression+factor+interval+operand+sum+term.Tie.{
+use Rattle.phrases.proofs.+atom+compared+expression+factor+interval+operand+signed+sum+term.Tie.{
   close,
 }
 use Rattle.phrases.proofs.Operators.{Before, before-first, again, combinable, often-refused, often-ends, often-again, turned-refused, turned-both, turned-alone, turned-again, once-refused, once-alone, once-both}
@@ -50,13 +54,13 @@ use mathlib.Core.Path.{_≡_, refl, sym, _∙_}
 use lib.ListN.{length, getD}
 use Rattle.ebnf.specs.Set.{mem}
 use Rattle.express.specs.Terminal.{power}
-use Rattle.express.specs.Grammar.{expression as expression′, sum as sum′, term as term′, factor as factor′, operand as operand′, relations, additions, multiplications}
+use Rattle.express.specs.Grammar.{expression as expression′, sum as sum′, term as term′, factor as factor′, operand as operand′, relations, additions, multiplications, signs}
 use Rattle.express.proofs.Syntax.{express}
 use Rattle.phrases.proofs.Terminals.{inside, seen, seen-one, seen-other}
 use Rattle.phrases.proofs.Steps.{onward, onward-row, one-inside, expects-refused, expects-there, expects-not}
 use Rattle.phrases.proofs.Laws.{reads-at, compares-at, ready-of, sound-of, counts-of, counts-sound}
 use Rattle.phrases.proofs.Atoms.{label-small}
-use Rattle.phrases.proofs.Operands.{atom-nested, atom-row, atom-none, item-ready, operand-item, operand-interval, sign-ready, operand-signed, operand-plain, comparison-inside, compared-there, compared-not, low-refused, item-refused, interval-whole}
+use Rattle.phrases.proofs.Operands.{atom-nested, atom-row, atom-none, item-ready, operand-item, operand-interval, sign-ready, sign-count, signed-refused, signed-row, operand-plain, comparison-inside, compared-there, compared-not, low-refused, item-refused, interval-whole}
 use borrow.Author.Needs.{needs}
 use native.Mathlib.Omega.{arith}
 use borrow.Author.Tests.{not-true, not-false}
@@ -79,6 +83,9 @@ abbrev μ-interval : Measures 2 interval-kinds.ps ℕ
 
 abbrev μ-operand : Measures 2 operand-kinds.ps ℕ
 μ-operand κs a = 8 * (length (a .0 .now) - a .1 .1 .0) + 1
+
+abbrev μ-signed : Measures 2 signed-kinds.ps ℕ
+μ-signed κs a = 8 * (length (a .0 .now) - a .1 .1 .0) + 0
 
 abbrev μ-sum : Measures 2 sum-kinds.ps ℕ
 μ-sum κs a = 8 * (length (a .0 .now) - a .1 .1 .0) + 4
@@ -126,6 +133,12 @@ operand-at t = and 2 operand-kinds.ps (is 2 operand-kinds.ps μ-operand t) opera
 abbrev operand-below : ℕ → In 2 operand-kinds.ps
 operand-below t = and 2 operand-kinds.ps (falls 2 operand-kinds.ps _<_ μ-operand t) operand.Pre
 
+abbrev signed-at : ℕ → In 2 signed-kinds.ps
+signed-at t = and 2 signed-kinds.ps (is 2 signed-kinds.ps μ-signed t) signed.Pre
+
+abbrev signed-below : ℕ → In 2 signed-kinds.ps
+signed-below t = and 2 signed-kinds.ps (falls 2 signed-kinds.ps _<_ μ-signed t) signed.Pre
+
 abbrev sum-at : ℕ → In 2 sum-kinds.ps
 sum-at t = and 2 sum-kinds.ps (is 2 sum-kinds.ps μ-sum t) sum.Pre
 
@@ -138,7 +151,7 @@ term-at t = and 2 term-kinds.ps (is 2 term-kinds.ps μ-term t) term.Pre
 abbrev term-below : ℕ → In 2 term-kinds.ps
 term-below t = and 2 term-kinds.ps (falls 2 term-kinds.ps _<_ μ-term t) term.Pre
 
--- src/lib.rt:296:9
+-- src/lib.rt:308:9
 atom-token-requires : (t : ℕ) → atom-lts.Need-token-requires (
   token-reads.Asked,
   token-reads.Learnt,
@@ -153,7 +166,7 @@ atom-token-requires : (t : ℕ) → atom-lts.Need-token-requires (
 ) (atom-at t) atom.Post
 atom-token-requires t c κs = search needs
 
--- src/lib.rt:298:45
+-- src/lib.rt:310:45
 atom-add-expression : (t : ℕ) → atom-lts.Need-add-expression (
   token-reads.Asked,
   token-reads.Learnt,
@@ -168,7 +181,7 @@ atom-add-expression : (t : ℕ) → atom-lts.Need-add-expression (
 ) (atom-at t) atom.Post
 atom-add-expression t c = omega (arith, c .before .before .before .before .before .pre .1 .small, c .before .before .before .before .before .pre .1 .within)
 
--- src/lib.rt:298:13
+-- src/lib.rt:310:13
 atom-expression-requires : (t : ℕ) → atom-lts.Need-expression-requires (
   token-reads.Asked,
   token-reads.Learnt,
@@ -183,7 +196,7 @@ atom-expression-requires : (t : ℕ) → atom-lts.Need-expression-requires (
 ) (atom-at t) atom.Post
 atom-expression-requires t c κs = (omega (arith, c .before .before .before .before .before .pre .0, (one-inside (c .before .before .before .before .before .args .codes .now) (c .before .before .before .before .before .args .p) (c .before .before .token .result) 24 (c .before .before .token .ensures) (c .before .if1 .taken) (omega arith))), onward (c .before .before .before .before .before .pre .1) (one-inside (c .before .before .before .before .before .args .codes .now) (c .before .before .before .before .before .args .p) (c .before .before .token .result) 24 (c .before .before .token .ensures) (c .before .if1 .taken) (omega arith)))
 
--- src/lib.rt:299:22
+-- src/lib.rt:311:22
 atom-enum-known-inner : (t : ℕ) → atom-lts.Need-enum-known-inner (
   token-reads.Asked,
   token-reads.Learnt,
@@ -198,7 +211,7 @@ atom-enum-known-inner : (t : ℕ) → atom-lts.Need-enum-known-inner (
 ) (atom-at t) atom.Post
 atom-enum-known-inner t c = search needs
 
--- src/lib.rt:300:13
+-- src/lib.rt:312:13
 atom-enum-told : (t : ℕ) → atom-lts.Need-enum-told (
   token-reads.Asked,
   token-reads.Learnt,
@@ -213,7 +226,7 @@ atom-enum-told : (t : ℕ) → atom-lts.Need-enum-told (
 ) (atom-at t) atom.Post
 atom-enum-told t c = search needs
 
--- src/lib.rt:300:13
+-- src/lib.rt:312:13
 atom-same-length : (t : ℕ) → atom-lts.Need-same-length (
   token-reads.Asked,
   token-reads.Learnt,
@@ -228,7 +241,7 @@ atom-same-length : (t : ℕ) → atom-lts.Need-same-length (
 ) (atom-at t) atom.Post
 atom-same-length t c = search needs
 
--- src/lib.rt:300:13
+-- src/lib.rt:312:13
 atom-returns : (t : ℕ) → atom-lts.Need-returns (
   token-reads.Asked,
   token-reads.Learnt,
@@ -243,7 +256,7 @@ atom-returns : (t : ℕ) → atom-lts.Need-returns (
 ) (atom-at t) atom.Post
 atom-returns t c = atom-nested (c .before .before .before .before .before .before .before .before .before .before .pre .1) (c .before .before .before .before .before .before .before .token .result) (c .before .before .before .before .before .before .before .token .ensures) (c .before .before .before .before .before .before .if1 .taken) (c .before .before .before .before .expression .ensures) (expects-refused (c .before .before .before .before .before .before .before .before .before .before .args .codes .now) (c .before .before .before .before .expression .result) 25 (c .enum-told .given .1))
 
--- src/lib.rt:302:12
+-- src/lib.rt:314:12
 atom-token-requires-2 : (t : ℕ) → atom-lts.Need-token-requires-2 (
   token-reads.Asked,
   token-reads.Learnt,
@@ -258,7 +271,7 @@ atom-token-requires-2 : (t : ℕ) → atom-lts.Need-token-requires-2 (
 ) (atom-at t) atom.Post
 atom-token-requires-2 t c κs = search needs
 
--- src/lib.rt:303:29
+-- src/lib.rt:315:29
 atom-add-t16 : (t : ℕ) → atom-lts.Need-add-t16 (
   token-reads.Asked,
   token-reads.Learnt,
@@ -273,7 +286,7 @@ atom-add-t16 : (t : ℕ) → atom-lts.Need-add-t16 (
 ) (atom-at t) atom.Post
 atom-add-t16 t c = omega (arith, c .before .before .before .before .before .before .before .before .before .before .before .before .before .pre .1 .small, reads-at (c .before .before .before .before .before .before .before .expression .ensures) (c .before .before .before .inner .given .1))
 
--- src/lib.rt:303:13
+-- src/lib.rt:315:13
 atom-same-length-2 : (t : ℕ) → atom-lts.Need-same-length-2 (
   token-reads.Asked,
   token-reads.Learnt,
@@ -288,7 +301,7 @@ atom-same-length-2 : (t : ℕ) → atom-lts.Need-same-length-2 (
 ) (atom-at t) atom.Post
 atom-same-length-2 t c = search needs
 
--- src/lib.rt:303:13
+-- src/lib.rt:315:13
 atom-returns-2 : (t : ℕ) → atom-lts.Need-returns-2 (
   token-reads.Asked,
   token-reads.Learnt,
@@ -303,7 +316,7 @@ atom-returns-2 : (t : ℕ) → atom-lts.Need-returns-2 (
 ) (atom-at t) atom.Post
 atom-returns-2 t c = atom-nested (c .before .before .before .before .before .before .before .before .before .before .before .before .before .pre .1) (c .before .before .before .before .before .before .before .before .before .before .token .result) (c .before .before .before .before .before .before .before .before .before .before .token .ensures) (c .before .before .before .before .before .before .before .before .before .if1 .taken) (c .before .before .before .before .before .before .before .expression .ensures) (expects-there (c .before .before .before .before .before .before .before .before .before .before .before .before .before .args .codes .now) (c .before .before .before .before .before .before .before .expression .result) 25 (c .before .before .before .inner .given .1) (c .before .token2 .result) (c .before .token2 .ensures) (omega arith) (sound-of (c .before .before .before .before .before .before .before .expression .result) (onward (c .before .before .before .before .before .before .before .before .before .before .before .before .before .pre .1) (one-inside (c .before .before .before .before .before .before .before .before .before .before .before .before .before .args .codes .now) (c .before .before .before .before .before .before .before .before .before .before .before .before .before .args .p) (c .before .before .before .before .before .before .before .before .before .before .token .result) 24 (c .before .before .before .before .before .before .before .before .before .before .token .ensures) (c .before .before .before .before .before .before .before .before .before .if1 .taken) (omega arith))) (c .before .before .before .before .before .before .before .expression .ensures .ahead)) (c .if2 .taken))
 
--- src/lib.rt:305:9
+-- src/lib.rt:317:9
 atom-same-length-3 : (t : ℕ) → atom-lts.Need-same-length-3 (
   token-reads.Asked,
   token-reads.Learnt,
@@ -318,7 +331,7 @@ atom-same-length-3 : (t : ℕ) → atom-lts.Need-same-length-3 (
 ) (atom-at t) atom.Post
 atom-same-length-3 t c = search needs
 
--- src/lib.rt:305:9
+-- src/lib.rt:317:9
 atom-returns-3 : (t : ℕ) → atom-lts.Need-returns-3 (
   token-reads.Asked,
   token-reads.Learnt,
@@ -333,7 +346,7 @@ atom-returns-3 : (t : ℕ) → atom-lts.Need-returns-3 (
 ) (atom-at t) atom.Post
 atom-returns-3 t c = atom-nested (c .before .before .before .before .before .before .before .before .before .before .before .before .before .pre .1) (c .before .before .before .before .before .before .before .before .before .before .token .result) (c .before .before .before .before .before .before .before .before .before .before .token .ensures) (c .before .before .before .before .before .before .before .before .before .if1 .taken) (c .before .before .before .before .before .before .before .expression .ensures) (expects-not (c .before .before .before .before .before .before .before .before .before .before .before .before .before .args .codes .now) (c .before .before .before .before .before .before .before .expression .result) 25 (c .before .before .before .inner .given .1) (c .before .token2 .result) (c .before .token2 .ensures) (c .if2 .left))
 
--- src/lib.rt:307:9
+-- src/lib.rt:319:9
 atom-atom-label-requires : (t : ℕ) → atom-lts.Need-atom-label-requires (
   token-reads.Asked,
   token-reads.Learnt,
@@ -348,7 +361,7 @@ atom-atom-label-requires : (t : ℕ) → atom-lts.Need-atom-label-requires (
 ) (atom-at t) atom.Post
 atom-atom-label-requires t c κs = search needs
 
--- src/lib.rt:309:9
+-- src/lib.rt:321:9
 atom-returns-4 : (t : ℕ) → atom-lts.Need-returns-4 (
   token-reads.Asked,
   token-reads.Learnt,
@@ -363,7 +376,7 @@ atom-returns-4 : (t : ℕ) → atom-lts.Need-returns-4 (
 ) (atom-at t) atom.Post
 atom-returns-4 t c = atom-none (c .before .before .before .before .before .before .pre .1) (c .before .before .before .token .result) (c .before .before .before .token .ensures) (c .before .atom-label .result) (c .before .before .if1 .left) (c .before .atom-label .ensures) (c .if3 .taken)
 
--- src/lib.rt:311:18
+-- src/lib.rt:323:18
 atom-packed-requires : (t : ℕ) → atom-lts.Need-packed-requires (
   token-reads.Asked,
   token-reads.Learnt,
@@ -378,7 +391,7 @@ atom-packed-requires : (t : ℕ) → atom-lts.Need-packed-requires (
 ) (atom-at t) atom.Post
 atom-packed-requires t c κs = (label-small (c .before .before .atom-label .result) (c .before .before .before .before .token .result) (c .before .before .atom-label .ensures), omega (arith, c .before .before .before .before .before .before .before .pre .1 .small, c .before .before .before .before .before .before .before .pre .1 .within), omega arith)
 
--- src/lib.rt:311:5
+-- src/lib.rt:323:5
 atom-put-requires : (t : ℕ) → atom-lts.Need-put-requires (
   token-reads.Asked,
   token-reads.Learnt,
@@ -393,7 +406,7 @@ atom-put-requires : (t : ℕ) → atom-lts.Need-put-requires (
 ) (atom-at t) atom.Post
 atom-put-requires t c κs = search needs
 
--- src/lib.rt:312:14
+-- src/lib.rt:324:14
 atom-add-t21 : (t : ℕ) → atom-lts.Need-add-t21 (
   token-reads.Asked,
   token-reads.Learnt,
@@ -408,7 +421,7 @@ atom-add-t21 : (t : ℕ) → atom-lts.Need-add-t21 (
 ) (atom-at t) atom.Post
 atom-add-t21 t c = omega (arith, c .before .before .before .before .before .before .before .before .before .before .before .pre .1 .small, c .before .before .before .before .before .before .before .before .before .before .before .pre .1 .within, c .before .before .before .before .before .before .before .before .before .before .before .pre .1 .behind)
 
--- src/lib.rt:312:21
+-- src/lib.rt:324:21
 atom-add-t22 : (t : ℕ) → atom-lts.Need-add-t22 (
   token-reads.Asked,
   token-reads.Learnt,
@@ -423,7 +436,7 @@ atom-add-t22 : (t : ℕ) → atom-lts.Need-add-t22 (
 ) (atom-at t) atom.Post
 atom-add-t22 t c = omega (arith, c .before .before .before .before .before .before .before .before .before .before .before .pre .1 .small, c .before .before .before .before .before .before .before .before .before .before .before .pre .1 .within, c .before .before .before .before .before .before .before .before .before .before .before .pre .1 .behind)
 
--- src/lib.rt:292:1
+-- src/lib.rt:304:1
 atom-same-length-4 : (t : ℕ) → atom-lts.Need-same-length-4 (
   token-reads.Asked,
   token-reads.Learnt,
@@ -438,7 +451,7 @@ atom-same-length-4 : (t : ℕ) → atom-lts.Need-same-length-4 (
 ) (atom-at t) atom.Post
 atom-same-length-4 t c = search needs
 
--- src/lib.rt:292:1
+-- src/lib.rt:304:1
 atom-returns-5 : (t : ℕ) → atom-lts.Need-returns-5 (
   token-reads.Asked,
   token-reads.Learnt,
@@ -453,7 +466,7 @@ atom-returns-5 : (t : ℕ) → atom-lts.Need-returns-5 (
 ) (atom-at t) atom.Post
 atom-returns-5 t c = atom-row (c .before .before .before .before .before .before .before .before .before .before .before .pre .1) (c .before .before .before .before .before .before .before .before .token .result) (c .before .before .before .before .before .before .before .before .token .ensures) (c .before .before .before .before .before .before .atom-label .result) (c .before .before .before .packed .result) (c .before .before .before .before .before .before .before .if1 .left) (c .before .before .before .before .before .before .atom-label .ensures) (c .before .before .before .before .before .if3 .left) (c .before .before .before .packed .ensures) (c .before .before .put .ensures)
 
--- src/lib.rt:338:22
+-- src/lib.rt:350:22
 compared-token-requires : (t : ℕ) → compared-lts.Need-token-requires (
   token-reads.Asked,
   token-reads.Learnt,
@@ -468,7 +481,7 @@ compared-token-requires : (t : ℕ) → compared-lts.Need-token-requires (
 ) (compared-at t) compared.Post
 compared-token-requires t c κs = search needs
 
--- src/lib.rt:338:8
+-- src/lib.rt:350:8
 compared-is-comparison-requires : (t : ℕ) → compared-lts.Need-is-comparison-requires (
   token-reads.Asked,
   token-reads.Learnt,
@@ -483,7 +496,7 @@ compared-is-comparison-requires : (t : ℕ) → compared-lts.Need-is-comparison-
 ) (compared-at t) compared.Post
 compared-is-comparison-requires t c κs = search needs
 
--- src/lib.rt:339:22
+-- src/lib.rt:351:22
 compared-packed-requires : (t : ℕ) → compared-lts.Need-packed-requires (
   token-reads.Asked,
   token-reads.Learnt,
@@ -498,7 +511,7 @@ compared-packed-requires : (t : ℕ) → compared-lts.Need-packed-requires (
 ) (compared-at t) compared.Post
 compared-packed-requires t c κs = (omega arith, omega (arith, c .before .before .before .before .before .before .pre .1 .small, c .before .before .before .before .before .before .pre .1 .within), omega arith)
 
--- src/lib.rt:339:9
+-- src/lib.rt:351:9
 compared-put-requires : (t : ℕ) → compared-lts.Need-put-requires (
   token-reads.Asked,
   token-reads.Learnt,
@@ -513,7 +526,7 @@ compared-put-requires : (t : ℕ) → compared-lts.Need-put-requires (
 ) (compared-at t) compared.Post
 compared-put-requires t c κs = search needs
 
--- src/lib.rt:340:33
+-- src/lib.rt:352:33
 compared-add-sum : (t : ℕ) → compared-lts.Need-add-sum (
   token-reads.Asked,
   token-reads.Learnt,
@@ -528,7 +541,7 @@ compared-add-sum : (t : ℕ) → compared-lts.Need-add-sum (
 ) (compared-at t) compared.Post
 compared-add-sum t c = omega (arith, c .before .before .before .before .before .before .before .before .before .before .before .pre .1 .small, c .before .before .before .before .before .before .before .before .before .before .before .pre .1 .within, c .before .before .before .before .before .before .before .before .before .before .before .pre .1 .behind)
 
--- src/lib.rt:340:40
+-- src/lib.rt:352:40
 compared-add-sum-2 : (t : ℕ) → compared-lts.Need-add-sum-2 (
   token-reads.Asked,
   token-reads.Learnt,
@@ -543,7 +556,7 @@ compared-add-sum-2 : (t : ℕ) → compared-lts.Need-add-sum-2 (
 ) (compared-at t) compared.Post
 compared-add-sum-2 t c = omega (arith, c .before .before .before .before .before .before .before .before .before .before .before .pre .1 .small, c .before .before .before .before .before .before .before .before .before .before .before .pre .1 .within, c .before .before .before .before .before .before .before .before .before .before .before .pre .1 .behind)
 
--- src/lib.rt:340:9
+-- src/lib.rt:352:9
 compared-sum-requires : (t : ℕ) → compared-lts.Need-sum-requires (
   token-reads.Asked,
   token-reads.Learnt,
@@ -558,7 +571,7 @@ compared-sum-requires : (t : ℕ) → compared-lts.Need-sum-requires (
 ) (compared-at t) compared.Post
 compared-sum-requires t c κs = (omega (arith, c .before .before .before .before .before .before .before .before .before .before .before .pre .0, (comparison-inside (c .before .before .before .before .before .before .before .before .before .before .before .pre .1) (c .before .before .before .before .before .before .before .is-comparison .result) (c .before .before .before .before .before .before .before .before .token .result) (c .before .before .before .before .before .before .before .before .token .ensures) (c .before .before .before .before .before .before .before .is-comparison .ensures) (c .before .before .before .before .before .before .if1 .taken))), onward-row (c .before .before .before .before .before .before .before .before .before .before .before .pre .1) (comparison-inside (c .before .before .before .before .before .before .before .before .before .before .before .pre .1) (c .before .before .before .before .before .before .before .is-comparison .result) (c .before .before .before .before .before .before .before .before .token .result) (c .before .before .before .before .before .before .before .before .token .ensures) (c .before .before .before .before .before .before .before .is-comparison .ensures) (c .before .before .before .before .before .before .if1 .taken)))
 
--- src/lib.rt:340:9
+-- src/lib.rt:352:9
 compared-same-length : (t : ℕ) → compared-lts.Need-same-length (
   token-reads.Asked,
   token-reads.Learnt,
@@ -573,7 +586,7 @@ compared-same-length : (t : ℕ) → compared-lts.Need-same-length (
 ) (compared-at t) compared.Post
 compared-same-length t c = search needs
 
--- src/lib.rt:340:9
+-- src/lib.rt:352:9
 compared-returns : (t : ℕ) → compared-lts.Need-returns (
   token-reads.Asked,
   token-reads.Learnt,
@@ -588,7 +601,7 @@ compared-returns : (t : ℕ) → compared-lts.Need-returns (
 ) (compared-at t) compared.Post
 compared-returns t c = compared-there (c .before .before .before .before .before .before .before .before .before .before .before .before .before .before .pre .1) (c .before .before .before .before .before .before .before .before .before .before .is-comparison .result) (c .before .before .before .before .before .before .before .before .before .before .before .token .result) (c .before .before .before .before .before .before .before .before .before .before .before .token .ensures) (c .before .before .before .before .before .before .before .before .before .before .is-comparison .ensures) (c .before .before .before .before .before .before .before .packed .result) (c .before .before .before .before .before .before .before .before .before .if1 .taken) (c .before .before .before .before .before .before .before .packed .ensures) (c .before .before .before .before .before .before .put .ensures) (c .before .before .sum .ensures)
 
--- src/lib.rt:334:1
+-- src/lib.rt:346:1
 compared-returns-2 : (t : ℕ) → compared-lts.Need-returns-2 (
   token-reads.Asked,
   token-reads.Learnt,
@@ -960,7 +973,7 @@ factor-loop-again : (t : ℕ) → factor-lts.Need-loop-again (
 unfolding mem
 factor-loop-again t c = (search needs, turned-again factor′ operand′ power refl (c .before .before .before .before .before .before .before .before .before .before .before .before .before .before .before .before .before .pre .1) (c .before .before .before .before .before .before .before .before .before .before .before .before .before .before .loop .inv .1) (c .before .before .before .before .before .before .before .before .before .before .before .before .operand .ensures) (c .before .before .before .before .before .before .before .before .right .given .1) (c .before .before .before .before .before .combined .ensures) (c .before .before .if1 .left) refl (seen-one (c .before .before .before .before .before .before .before .before .before .before .before .before .before .before .before .before .before .args .codes .now) (c .before .before .before .before .before .before .before .before .right .given .0 .0) 32 (c .before .token .ensures) (c .if2 .left)))
 
--- src/lib.rt:320:32
+-- src/lib.rt:332:32
 interval-add-sum : (t : ℕ) → interval-lts.Need-add-sum (
   sum-below t,
   sum.Post,
@@ -973,7 +986,7 @@ interval-add-sum : (t : ℕ) → interval-lts.Need-add-sum (
 ) (interval-at t) interval.Post
 interval-add-sum t c = omega (arith, c .before .before .before .pre .1 .0 .small, c .before .before .before .pre .1 .0 .within)
 
--- src/lib.rt:320:9
+-- src/lib.rt:332:9
 interval-sum-requires : (t : ℕ) → interval-lts.Need-sum-requires (
   sum-below t,
   sum.Post,
@@ -986,7 +999,7 @@ interval-sum-requires : (t : ℕ) → interval-lts.Need-sum-requires (
 ) (interval-at t) interval.Post
 interval-sum-requires t c κs = (omega (arith, c .before .before .before .pre .0, (one-inside (c .before .before .before .args .codes .now) (c .before .before .before .args .p) (getD (c .before .before .before .args .codes .now) (c .before .before .before .args .p) 0) 21 refl (c .before .before .before .pre .1 .1) (omega arith))), onward (c .before .before .before .pre .1 .0) (one-inside (c .before .before .before .args .codes .now) (c .before .before .before .args .p) (getD (c .before .before .before .args .codes .now) (c .before .before .before .args .p) 0) 21 refl (c .before .before .before .pre .1 .1) (omega arith)))
 
--- src/lib.rt:321:18
+-- src/lib.rt:333:18
 interval-enum-known-low : (t : ℕ) → interval-lts.Need-enum-known-low (
   sum-below t,
   sum.Post,
@@ -999,7 +1012,7 @@ interval-enum-known-low : (t : ℕ) → interval-lts.Need-enum-known-low (
 ) (interval-at t) interval.Post
 interval-enum-known-low t c = search needs
 
--- src/lib.rt:322:9
+-- src/lib.rt:334:9
 interval-enum-told : (t : ℕ) → interval-lts.Need-enum-told (
   sum-below t,
   sum.Post,
@@ -1012,7 +1025,7 @@ interval-enum-told : (t : ℕ) → interval-lts.Need-enum-told (
 ) (interval-at t) interval.Post
 interval-enum-told t c = search needs
 
--- src/lib.rt:322:9
+-- src/lib.rt:334:9
 interval-same-length : (t : ℕ) → interval-lts.Need-same-length (
   sum-below t,
   sum.Post,
@@ -1025,7 +1038,7 @@ interval-same-length : (t : ℕ) → interval-lts.Need-same-length (
 ) (interval-at t) interval.Post
 interval-same-length t c = search needs
 
--- src/lib.rt:322:9
+-- src/lib.rt:334:9
 interval-returns : (t : ℕ) → interval-lts.Need-returns (
   sum-below t,
   sum.Post,
@@ -1038,7 +1051,7 @@ interval-returns : (t : ℕ) → interval-lts.Need-returns (
 ) (interval-at t) interval.Post
 interval-returns t c = low-refused (c .before .before .before .before .before .before .before .before .pre .1 .0) (c .before .before .before .before .before .before .before .before .pre .1 .1) (c .before .before .before .before .sum .ensures) (c .enum-told .given .1)
 
--- src/lib.rt:324:9
+-- src/lib.rt:336:9
 interval-compared-requires : (t : ℕ) → interval-lts.Need-compared-requires (
   sum-below t,
   sum.Post,
@@ -1051,7 +1064,7 @@ interval-compared-requires : (t : ℕ) → interval-lts.Need-compared-requires (
 ) (interval-at t) interval.Post
 interval-compared-requires t c κs = (omega (arith, c .before .before .before .before .before .before .before .before .before .before .pre .0, reads-at (c .before .before .before .before .before .before .sum .ensures) (c .before .before .low .given .1)), (ready-of (onward (c .before .before .before .before .before .before .before .before .before .before .pre .1 .0) (one-inside (c .before .before .before .before .before .before .before .before .before .before .args .codes .now) (c .before .before .before .before .before .before .before .before .before .before .args .p) (getD (c .before .before .before .before .before .before .before .before .before .before .args .codes .now) (c .before .before .before .before .before .before .before .before .before .before .args .p) 0) 21 refl (c .before .before .before .before .before .before .before .before .before .before .pre .1 .1) (omega arith))) (c .before .before .before .before .before .before .sum .ensures .ahead) (c .before .before .low .given .1)))
 
--- src/lib.rt:325:18
+-- src/lib.rt:337:18
 interval-enum-known-item : (t : ℕ) → interval-lts.Need-enum-known-item (
   sum-below t,
   sum.Post,
@@ -1064,7 +1077,7 @@ interval-enum-known-item : (t : ℕ) → interval-lts.Need-enum-known-item (
 ) (interval-at t) interval.Post
 interval-enum-known-item t c = search needs
 
--- src/lib.rt:326:9
+-- src/lib.rt:338:9
 interval-enum-told-2 : (t : ℕ) → interval-lts.Need-enum-told-2 (
   sum-below t,
   sum.Post,
@@ -1077,7 +1090,7 @@ interval-enum-told-2 : (t : ℕ) → interval-lts.Need-enum-told-2 (
 ) (interval-at t) interval.Post
 interval-enum-told-2 t c = search needs
 
--- src/lib.rt:326:9
+-- src/lib.rt:338:9
 interval-same-length-2 : (t : ℕ) → interval-lts.Need-same-length-2 (
   sum-below t,
   sum.Post,
@@ -1090,7 +1103,7 @@ interval-same-length-2 : (t : ℕ) → interval-lts.Need-same-length-2 (
 ) (interval-at t) interval.Post
 interval-same-length-2 t c = search needs
 
--- src/lib.rt:326:9
+-- src/lib.rt:338:9
 interval-returns-2 : (t : ℕ) → interval-lts.Need-returns-2 (
   sum-below t,
   sum.Post,
@@ -1103,7 +1116,7 @@ interval-returns-2 : (t : ℕ) → interval-lts.Need-returns-2 (
 ) (interval-at t) interval.Post
 interval-returns-2 t c = item-refused (c .before .before .before .before .before .before .before .before .before .before .before .before .before .before .before .pre .1 .0) (c .before .before .before .before .before .before .before .before .before .before .before .before .before .before .before .pre .1 .1) (c .before .before .before .before .before .before .before .before .before .before .before .sum .ensures) (c .before .before .before .before .before .before .before .low .given .1) (c .before .before .before .before .compared .ensures) (c .enum-told2 .given .1)
 
--- src/lib.rt:328:9
+-- src/lib.rt:340:9
 interval-compared-requires-2 : (t : ℕ) → interval-lts.Need-compared-requires-2 (
   sum-below t,
   sum.Post,
@@ -1116,7 +1129,7 @@ interval-compared-requires-2 : (t : ℕ) → interval-lts.Need-compared-requires
 ) (interval-at t) interval.Post
 interval-compared-requires-2 t c κs = (omega (arith, c .before .before .before .before .before .before .before .before .before .before .before .before .before .before .before .before .before .pre .0, reads-at (c .before .before .before .before .before .before .before .before .before .before .before .before .before .sum .ensures) (c .before .before .before .before .before .before .before .before .before .low .given .1), compares-at (c .before .before .before .before .before .before .compared .ensures) (c .before .before .item .given .1)), (ready-of (ready-of (onward (c .before .before .before .before .before .before .before .before .before .before .before .before .before .before .before .before .before .pre .1 .0) (one-inside (c .before .before .before .before .before .before .before .before .before .before .before .before .before .before .before .before .before .args .codes .now) (c .before .before .before .before .before .before .before .before .before .before .before .before .before .before .before .before .before .args .p) (getD (c .before .before .before .before .before .before .before .before .before .before .before .before .before .before .before .before .before .args .codes .now) (c .before .before .before .before .before .before .before .before .before .before .before .before .before .before .before .before .before .args .p) 0) 21 refl (c .before .before .before .before .before .before .before .before .before .before .before .before .before .before .before .before .before .pre .1 .1) (omega arith))) (c .before .before .before .before .before .before .before .before .before .before .before .before .before .sum .ensures .ahead) (c .before .before .before .before .before .before .before .before .before .low .given .1)) (c .before .before .before .before .before .before .compared .ensures .ahead) (c .before .before .item .given .1)))
 
--- src/lib.rt:329:9
+-- src/lib.rt:341:9
 interval-expect-requires : (t : ℕ) → interval-lts.Need-expect-requires (
   sum-below t,
   sum.Post,
@@ -1129,7 +1142,7 @@ interval-expect-requires : (t : ℕ) → interval-lts.Need-expect-requires (
 ) (interval-at t) interval.Post
 interval-expect-requires t c κs = (sound-of (c .before .before .compared2 .result) (ready-of (ready-of (onward (c .before .before .before .before .before .before .before .before .before .before .before .before .before .before .before .before .before .before .before .before .pre .1 .0) (one-inside (c .before .before .before .before .before .before .before .before .before .before .before .before .before .before .before .before .before .before .before .before .args .codes .now) (c .before .before .before .before .before .before .before .before .before .before .before .before .before .before .before .before .before .before .before .before .args .p) (getD (c .before .before .before .before .before .before .before .before .before .before .before .before .before .before .before .before .before .before .before .before .args .codes .now) (c .before .before .before .before .before .before .before .before .before .before .before .before .before .before .before .before .before .before .before .before .args .p) 0) 21 refl (c .before .before .before .before .before .before .before .before .before .before .before .before .before .before .before .before .before .before .before .before .pre .1 .1) (omega arith))) (c .before .before .before .before .before .before .before .before .before .before .before .before .before .before .before .before .sum .ensures .ahead) (c .before .before .before .before .before .before .before .before .before .before .before .before .low .given .1)) (c .before .before .before .before .before .before .before .before .before .compared .ensures .ahead) (c .before .before .before .before .before .item .given .1)) (c .before .before .compared2 .ensures .ahead), omega arith)
 
--- src/lib.rt:330:5
+-- src/lib.rt:342:5
 interval-node-requires : (t : ℕ) → interval-lts.Need-node-requires (
   sum-below t,
   sum.Post,
@@ -1142,7 +1155,7 @@ interval-node-requires : (t : ℕ) → interval-lts.Need-node-requires (
 ) (interval-at t) interval.Post
 interval-node-requires t c κs = (counts-sound (c .before .before .before .before .before .before .before .before .before .before .before .before .before .before .before .before .before .before .before .before .before .before .args .codes .now) (c .before .expect .result) (c .before .expect .ensures .sound), omega arith, omega (arith, c .before .before .before .before .before .before .before .before .before .before .before .before .before .before .before .before .before .before .before .before .before .before .pre .1 .0 .small, c .before .before .before .before .before .before .before .before .before .before .before .before .before .before .before .before .before .before .before .before .before .before .pre .1 .0 .within))
 
--- src/lib.rt:316:1
+-- src/lib.rt:328:1
 interval-same-length-3 : (t : ℕ) → interval-lts.Need-same-length-3 (
   sum-below t,
   sum.Post,
@@ -1155,7 +1168,7 @@ interval-same-length-3 : (t : ℕ) → interval-lts.Need-same-length-3 (
 ) (interval-at t) interval.Post
 interval-same-length-3 t c = search needs
 
--- src/lib.rt:316:1
+-- src/lib.rt:328:1
 interval-returns-3 : (t : ℕ) → interval-lts.Need-returns-3 (
   sum-below t,
   sum.Post,
@@ -1180,10 +1193,10 @@ operand-token-requires : (t : ℕ) → operand-lts.Need-token-requires (
   interval.Post,
   is-sign-reads.Asked,
   is-sign-reads.Learnt,
+  signed-below t,
+  signed.Post,
   atom-below t,
   atom.Post,
-  node-reads.Asked,
-  node-reads.Learnt,
 ) (operand-at t) operand.Post
 operand-token-requires t c κs = search needs
 
@@ -1199,15 +1212,15 @@ operand-is-qualified-requires : (t : ℕ) → operand-lts.Need-is-qualified-requ
   interval.Post,
   is-sign-reads.Asked,
   is-sign-reads.Learnt,
+  signed-below t,
+  signed.Post,
   atom-below t,
   atom.Post,
-  node-reads.Asked,
-  node-reads.Learnt,
 ) (operand-at t) operand.Post
 operand-is-qualified-requires t c κs = omega (arith, c .before .before .before .pre .1 .small, c .before .before .before .pre .1 .within)
 
 -- src/lib.rt:268:43
-operand-add-t10 : (t : ℕ) → operand-lts.Need-add-t10 (
+operand-add-t9 : (t : ℕ) → operand-lts.Need-add-t9 (
   token-reads.Asked,
   token-reads.Learnt,
   is-qualified-reads.Asked,
@@ -1218,12 +1231,12 @@ operand-add-t10 : (t : ℕ) → operand-lts.Need-add-t10 (
   interval.Post,
   is-sign-reads.Asked,
   is-sign-reads.Learnt,
+  signed-below t,
+  signed.Post,
   atom-below t,
   atom.Post,
-  node-reads.Asked,
-  node-reads.Learnt,
 ) (operand-at t) operand.Post
-operand-add-t10 t c = omega (arith, c .before .before .before .before .before .before .pre .1 .small, c .before .before .before .before .before .before .pre .1 .within)
+operand-add-t9 t c = omega (arith, c .before .before .before .before .before .before .pre .1 .small, c .before .before .before .before .before .before .pre .1 .within)
 
 -- src/lib.rt:268:9
 operand-leaf-requires : (t : ℕ) → operand-lts.Need-leaf-requires (
@@ -1237,10 +1250,10 @@ operand-leaf-requires : (t : ℕ) → operand-lts.Need-leaf-requires (
   interval.Post,
   is-sign-reads.Asked,
   is-sign-reads.Learnt,
+  signed-below t,
+  signed.Post,
   atom-below t,
   atom.Post,
-  node-reads.Asked,
-  node-reads.Learnt,
 ) (operand-at t) operand.Post
 operand-leaf-requires t c κs = (item-ready (c .before .before .before .before .before .before .pre .1) (c .before .before .is-qualified .result) (c .before .before .is-qualified .ensures) (c .before .if1 .taken), omega arith)
 
@@ -1256,10 +1269,10 @@ operand-same-length : (t : ℕ) → operand-lts.Need-same-length (
   interval.Post,
   is-sign-reads.Asked,
   is-sign-reads.Learnt,
+  signed-below t,
+  signed.Post,
   atom-below t,
   atom.Post,
-  node-reads.Asked,
-  node-reads.Learnt,
 ) (operand-at t) operand.Post
 operand-same-length t c = search needs
 
@@ -1275,10 +1288,10 @@ operand-returns : (t : ℕ) → operand-lts.Need-returns (
   interval.Post,
   is-sign-reads.Asked,
   is-sign-reads.Learnt,
+  signed-below t,
+  signed.Post,
   atom-below t,
   atom.Post,
-  node-reads.Asked,
-  node-reads.Learnt,
 ) (operand-at t) operand.Post
 operand-returns t c = operand-item (c .before .before .before .before .before .before .before .before .before .pre .1) (c .before .before .before .before .before .is-qualified .result) (c .before .before .before .before .before .is-qualified .ensures) (c .before .before .before .before .if1 .taken) (c .before .before .leaf .ensures)
 
@@ -1294,10 +1307,10 @@ operand-interval-requires : (t : ℕ) → operand-lts.Need-interval-requires (
   interval.Post,
   is-sign-reads.Asked,
   is-sign-reads.Learnt,
+  signed-below t,
+  signed.Post,
   atom-below t,
   atom.Post,
-  node-reads.Asked,
-  node-reads.Learnt,
 ) (operand-at t) operand.Post
 operand-interval-requires t c κs = (omega (arith, c .before .before .before .before .before .before .before .pre .0), (c .before .before .before .before .before .before .before .pre .1, sym (c .before .before .before .before .token .ensures) ∙ c .before .if2 .taken))
 
@@ -1313,10 +1326,10 @@ operand-same-length-2 : (t : ℕ) → operand-lts.Need-same-length-2 (
   interval.Post,
   is-sign-reads.Asked,
   is-sign-reads.Learnt,
+  signed-below t,
+  signed.Post,
   atom-below t,
   atom.Post,
-  node-reads.Asked,
-  node-reads.Learnt,
 ) (operand-at t) operand.Post
 operand-same-length-2 t c = search needs
 
@@ -1332,10 +1345,10 @@ operand-returns-2 : (t : ℕ) → operand-lts.Need-returns-2 (
   interval.Post,
   is-sign-reads.Asked,
   is-sign-reads.Learnt,
+  signed-below t,
+  signed.Post,
   atom-below t,
   atom.Post,
-  node-reads.Asked,
-  node-reads.Learnt,
 ) (operand-at t) operand.Post
 operand-returns-2 t c = operand-interval (c .before .before .before .before .before .before .before .before .before .before .pre .1) (c .before .before .before .before .before .before .is-qualified .result) (c .before .before .before .before .before .before .is-qualified .ensures) (c .before .before .before .before .before .if1 .left) (c .before .before .before .before .before .before .before .token .result) (c .before .before .before .before .before .before .before .token .ensures) (c .before .before .before .before .if2 .taken) (c .before .before .interval .ensures)
 
@@ -1351,15 +1364,15 @@ operand-is-sign-requires : (t : ℕ) → operand-lts.Need-is-sign-requires (
   interval.Post,
   is-sign-reads.Asked,
   is-sign-reads.Learnt,
+  signed-below t,
+  signed.Post,
   atom-below t,
   atom.Post,
-  node-reads.Asked,
-  node-reads.Learnt,
 ) (operand-at t) operand.Post
 operand-is-sign-requires t c κs = search needs
 
--- src/lib.rt:274:39
-operand-add-atom : (t : ℕ) → operand-lts.Need-add-atom (
+-- src/lib.rt:274:9
+operand-signed-requires : (t : ℕ) → operand-lts.Need-signed-requires (
   token-reads.Asked,
   token-reads.Learnt,
   is-qualified-reads.Asked,
@@ -1370,52 +1383,14 @@ operand-add-atom : (t : ℕ) → operand-lts.Need-add-atom (
   interval.Post,
   is-sign-reads.Asked,
   is-sign-reads.Learnt,
+  signed-below t,
+  signed.Post,
   atom-below t,
   atom.Post,
-  node-reads.Asked,
-  node-reads.Learnt,
 ) (operand-at t) operand.Post
-operand-add-atom t c = omega (arith, c .before .before .before .before .before .before .before .before .before .pre .1 .small, c .before .before .before .before .before .before .before .before .before .pre .1 .within)
+operand-signed-requires t c κs = (omega (arith, c .before .before .before .before .before .before .before .before .before .pre .0), (c .before .before .before .before .before .before .before .before .before .pre .1, seen (c .before .before .before .before .before .before .before .before .before .args .codes .now) (c .before .before .before .before .before .before .before .before .before .args .p) signs (c .before .before .before .before .before .before .token .ensures) (c .before .before .is-sign .ensures) (c .before .if3 .taken)))
 
--- src/lib.rt:274:13
-operand-atom-requires : (t : ℕ) → operand-lts.Need-atom-requires (
-  token-reads.Asked,
-  token-reads.Learnt,
-  is-qualified-reads.Asked,
-  is-qualified-reads.Learnt,
-  leaf-reads.Asked,
-  leaf-reads.Learnt,
-  interval-below t,
-  interval.Post,
-  is-sign-reads.Asked,
-  is-sign-reads.Learnt,
-  atom-below t,
-  atom.Post,
-  node-reads.Asked,
-  node-reads.Learnt,
-) (operand-at t) operand.Post
-operand-atom-requires t c κs = (omega (arith, c .before .before .before .before .before .before .before .before .before .pre .0, (sign-ready (c .before .before .before .before .before .before .before .before .before .pre .1) (c .before .before .before .before .before .is-qualified .result) (c .before .before .before .before .before .is-qualified .ensures) (c .before .before .before .before .if1 .left) (c .before .before .before .before .before .before .token .result) (c .before .before .before .before .before .before .token .ensures) (c .before .before .before .if2 .left) (c .before .before .is-sign .result) (c .before .before .is-sign .ensures) (c .before .if3 .taken)) .within), sign-ready (c .before .before .before .before .before .before .before .before .before .pre .1) (c .before .before .before .before .before .is-qualified .result) (c .before .before .before .before .before .is-qualified .ensures) (c .before .before .before .before .if1 .left) (c .before .before .before .before .before .before .token .result) (c .before .before .before .before .before .before .token .ensures) (c .before .before .before .if2 .left) (c .before .before .is-sign .result) (c .before .before .is-sign .ensures) (c .before .if3 .taken))
-
--- src/lib.rt:275:9
-operand-node-requires : (t : ℕ) → operand-lts.Need-node-requires (
-  token-reads.Asked,
-  token-reads.Learnt,
-  is-qualified-reads.Asked,
-  is-qualified-reads.Learnt,
-  leaf-reads.Asked,
-  leaf-reads.Learnt,
-  interval-below t,
-  interval.Post,
-  is-sign-reads.Asked,
-  is-sign-reads.Learnt,
-  atom-below t,
-  atom.Post,
-  node-reads.Asked,
-  node-reads.Learnt,
-) (operand-at t) operand.Post
-operand-node-requires t c κs = (counts-of (c .before .before .before .atom .result) (sign-ready (c .before .before .before .before .before .before .before .before .before .before .before .before .before .pre .1) (c .before .before .before .before .before .before .before .before .before .is-qualified .result) (c .before .before .before .before .before .before .before .before .before .is-qualified .ensures) (c .before .before .before .before .before .before .before .before .if1 .left) (c .before .before .before .before .before .before .before .before .before .before .token .result) (c .before .before .before .before .before .before .before .before .before .before .token .ensures) (c .before .before .before .before .before .before .before .if2 .left) (c .before .before .before .before .before .before .is-sign .result) (c .before .before .before .before .before .before .is-sign .ensures) (c .before .before .before .before .before .if3 .taken)) (c .before .before .before .atom .ensures .ahead), omega arith, omega (arith, c .before .before .before .before .before .before .before .before .before .before .before .before .before .pre .1 .small, c .before .before .before .before .before .before .before .before .before .before .before .before .before .pre .1 .within))
-
--- src/lib.rt:275:9
+-- src/lib.rt:274:9
 operand-same-length-3 : (t : ℕ) → operand-lts.Need-same-length-3 (
   token-reads.Asked,
   token-reads.Learnt,
@@ -1427,14 +1402,14 @@ operand-same-length-3 : (t : ℕ) → operand-lts.Need-same-length-3 (
   interval.Post,
   is-sign-reads.Asked,
   is-sign-reads.Learnt,
+  signed-below t,
+  signed.Post,
   atom-below t,
   atom.Post,
-  node-reads.Asked,
-  node-reads.Learnt,
 ) (operand-at t) operand.Post
 operand-same-length-3 t c = search needs
 
--- src/lib.rt:275:9
+-- src/lib.rt:274:9
 operand-returns-3 : (t : ℕ) → operand-lts.Need-returns-3 (
   token-reads.Asked,
   token-reads.Learnt,
@@ -1446,15 +1421,15 @@ operand-returns-3 : (t : ℕ) → operand-lts.Need-returns-3 (
   interval.Post,
   is-sign-reads.Asked,
   is-sign-reads.Learnt,
+  signed-below t,
+  signed.Post,
   atom-below t,
   atom.Post,
-  node-reads.Asked,
-  node-reads.Learnt,
 ) (operand-at t) operand.Post
-operand-returns-3 t c = operand-signed (c .before .before .before .before .before .before .before .before .before .before .before .before .before .before .before .before .pre .1) (c .before .before .before .before .before .before .before .before .before .before .before .before .is-qualified .result) (c .before .before .before .before .before .before .before .before .before .before .before .before .is-qualified .ensures) (c .before .before .before .before .before .before .before .before .before .before .before .if1 .left) (c .before .before .before .before .before .before .before .before .before .before .before .before .before .token .result) (c .before .before .before .before .before .before .before .before .before .before .before .before .before .token .ensures) (c .before .before .before .before .before .before .before .before .before .before .if2 .left) (c .before .before .before .before .before .before .before .before .before .is-sign .result) (c .before .before .before .before .before .before .before .before .before .is-sign .ensures) (c .before .before .before .before .before .before .before .before .if3 .taken) (c .before .before .before .before .before .before .atom .ensures) (c .before .before .node .ensures)
+operand-returns-3 t c = c .before .before .signed .ensures
 
--- src/lib.rt:277:5
-operand-atom-requires-2 : (t : ℕ) → operand-lts.Need-atom-requires-2 (
+-- src/lib.rt:276:5
+operand-atom-requires : (t : ℕ) → operand-lts.Need-atom-requires (
   token-reads.Asked,
   token-reads.Learnt,
   is-qualified-reads.Asked,
@@ -1465,12 +1440,12 @@ operand-atom-requires-2 : (t : ℕ) → operand-lts.Need-atom-requires-2 (
   interval.Post,
   is-sign-reads.Asked,
   is-sign-reads.Learnt,
+  signed-below t,
+  signed.Post,
   atom-below t,
   atom.Post,
-  node-reads.Asked,
-  node-reads.Learnt,
 ) (operand-at t) operand.Post
-operand-atom-requires-2 t c κs = (omega (arith, c .before .before .before .before .before .before .before .before .before .pre .0), c .before .before .before .before .before .before .before .before .before .pre .1)
+operand-atom-requires t c κs = (omega (arith, c .before .before .before .before .before .before .before .before .before .pre .0), c .before .before .before .before .before .before .before .before .before .pre .1)
 
 -- src/lib.rt:262:1
 operand-same-length-4 : (t : ℕ) → operand-lts.Need-same-length-4 (
@@ -1484,10 +1459,10 @@ operand-same-length-4 : (t : ℕ) → operand-lts.Need-same-length-4 (
   interval.Post,
   is-sign-reads.Asked,
   is-sign-reads.Learnt,
+  signed-below t,
+  signed.Post,
   atom-below t,
   atom.Post,
-  node-reads.Asked,
-  node-reads.Learnt,
 ) (operand-at t) operand.Post
 operand-same-length-4 t c = search needs
 
@@ -1503,12 +1478,12 @@ operand-returns-4 : (t : ℕ) → operand-lts.Need-returns-4 (
   interval.Post,
   is-sign-reads.Asked,
   is-sign-reads.Learnt,
+  signed-below t,
+  signed.Post,
   atom-below t,
   atom.Post,
-  node-reads.Asked,
-  node-reads.Learnt,
 ) (operand-at t) operand.Post
-operand-returns-4 t c = operand-plain (c .before .before .before .before .before .before .before .before .before .before .before .before .pre .1) (c .before .before .before .before .before .before .before .before .is-qualified .result) (c .before .before .before .before .before .before .before .before .is-qualified .ensures) (c .before .before .before .before .before .before .before .if1 .left) (c .before .before .before .before .before .before .before .before .before .token .result) (c .before .before .before .before .before .before .before .before .before .token .ensures) (c .before .before .before .before .before .before .if2 .left) (c .before .before .before .before .before .is-sign .result) (c .before .before .before .before .before .is-sign .ensures) (c .before .before .before .before .if3 .left) (c .before .before .atom2 .ensures)
+operand-returns-4 t c = operand-plain (c .before .before .before .before .before .before .before .before .before .before .before .before .pre .1) (c .before .before .before .before .before .before .before .before .is-qualified .result) (c .before .before .before .before .before .before .before .before .is-qualified .ensures) (c .before .before .before .before .before .before .before .if1 .left) (c .before .before .before .before .before .before .before .before .before .token .result) (c .before .before .before .before .before .before .before .before .before .token .ensures) (c .before .before .before .before .before .before .if2 .left) (c .before .before .before .before .before .is-sign .result) (c .before .before .before .before .before .is-sign .ensures) (c .before .before .before .before .if3 .left) (c .before .before .atom .ensures)
 
 abbrev sum-Inv-loop : sum-lts.InvT-loop
 sum-Inv-loop codes rows₀ p n q₀ m₀ rows q m = (length rows ≡ length rows₀) × Before sum′ term′ additions (again additions term′) codes p n rows₀ q m rows
@@ -1888,8 +1863,9 @@ term-loop-again : (t : ℕ) → term-lts.Need-loop-again (
 unfolding mem
 term-loop-again t c = (search needs, often-again term′ factor′ multiplications refl (express .ok term′ .1) (c .before .before .before .before .before .before .before .before .before .before .before .before .before .before .before .before .before .pre .1) (c .before .before .before .before .before .before .before .before .before .before .before .before .before .before .loop .inv .1) (c .before .before .before .before .before .before .before .before .before .before .before .before .factor .ensures) (c .before .before .before .before .before .before .before .before .right .given .1) (c .before .before .before .before .before .combined .ensures) refl (seen (c .before .before .before .before .before .before .before .before .before .before .before .before .before .before .before .before .before .args .codes .now) (c .before .before .before .before .before .before .before .before .right .given .0 .0) multiplications (c .before .before .token .ensures) (c .before .is-multiplication .ensures) (not-false (c .before .is-multiplication .result) (c .if1 .left))))
 
-pub +atom+compared+expression+factor+interval+operand+sum+term-spec : {M : Type 1} → statement M
-+atom+compared+expression+factor+interval+operand+sum+term-spec =
+pub +atom+compared+expression+factor+interval+operand+signed+sum+term-spec :
+    {M : Type 1} → statement M
++atom+compared+expression+factor+interval+operand+signed+sum+term-spec =
     close
     μ-atom
     μ-compared
@@ -1897,6 +1873,7 @@ pub +atom+compared+expression+factor+interval+operand+sum+term-spec : {M : Type 
     μ-factor
     μ-interval
     μ-operand
+    μ-signed
     μ-sum
     μ-term
     (λ t. atom-lts.spec (
@@ -2050,16 +2027,16 @@ pub +atom+compared+expression+factor+interval+operand+sum+term-spec : {M : Type 
       interval.Post,
       is-sign-reads.Asked,
       is-sign-reads.Learnt,
+      signed-below t,
+      signed.Post,
       atom-below t,
       atom.Post,
-      node-reads.Asked,
-      node-reads.Learnt,
     )
     (operand-at t)
     operand.Post
     (operand-token-requires t)
     (operand-is-qualified-requires t)
-    (operand-add-t10 t)
+    (operand-add-t9 t)
     (operand-leaf-requires t)
     (operand-same-length t)
     (operand-returns t)
@@ -2067,14 +2044,37 @@ pub +atom+compared+expression+factor+interval+operand+sum+term-spec : {M : Type 
     (operand-same-length-2 t)
     (operand-returns-2 t)
     (operand-is-sign-requires t)
-    (operand-add-atom t)
-    (operand-atom-requires t)
-    (operand-node-requires t)
+    (operand-signed-requires t)
     (operand-same-length-3 t)
     (operand-returns-3 t)
-    (operand-atom-requires-2 t)
+    (operand-atom-requires t)
     (operand-same-length-4 t)
     (operand-returns-4 t))
+    -- Answers that name no callee behind the sign: of another reader there (must-fail) it is what it promises that is refused.
+    (λ t. signed-lts.spec (
+      atom-below t,
+      atom.Post,
+      span-reads.Asked,
+      span-reads.Learnt,
+      packed-reads.Asked,
+      packed-reads.Learnt,
+      put-reads.Asked,
+      put-reads.Learnt,
+    )
+    (signed-at t)
+    signed.Post
+    (λ c. omega (arith, c .before .before .before .pre .1 .0 .small, c .before .before .before .pre .1 .0 .within))
+    (λ c κs. (omega (arith, c .before .before .before .pre .0, (sign-ready (c .before .before .before .pre .1 .0) (c .before .before .before .pre .1 .1)) .within), sign-ready (c .before .before .before .pre .1 .0) (c .before .before .before .pre .1 .1)))
+    (λ c. search needs)
+    (λ c. search needs)
+    (λ c. search needs)
+    (λ c. signed-refused (c .before .before .before .before .before .before .before .before .pre .1 .0) (c .before .before .before .before .before .before .before .before .pre .1 .1) (search needs) (c .enum-told .given .1))
+    (λ c κs. sign-count (c .before .before .before .before .before .before .before .before .before .before .pre .1 .0) (c .before .before .before .before .before .before .before .before .before .before .pre .1 .1) (search needs) (c .before .before .inner .given .1))
+    (λ c κs. let l = sign-count (c .before .before .before .before .before .before .before .before .before .before .before .pre .1 .0) (c .before .before .before .before .before .before .before .before .before .before .before .pre .1 .1) (search needs) (c .before .before .before .inner .given .1) in (omega arith, omega (arith, c .before .before .before .before .before .before .before .before .before .before .before .pre .1 .0 .small, c .before .before .before .before .before .before .before .before .before .before .before .pre .1 .0 .within), omega (arith, c .span .ensures)))
+    (λ c κs. search needs)
+    (λ c. let l = sign-count (c .before .before .before .before .before .before .before .before .before .before .before .before .before .before .before .pre .1 .0) (c .before .before .before .before .before .before .before .before .before .before .before .before .before .before .before .pre .1 .1) (search needs) (c .before .before .before .before .before .before .before .inner .given .1) in omega arith)
+    (λ c. search needs)
+    (λ c. search (signed-row (c .before .before .before .before .before .before .before .before .before .before .before .before .before .before .before .pre .1 .0) (c .before .before .before .before .before .before .before .before .before .before .before .before .before .before .before .pre .1 .1) (c .before .before .before .before .before .before .before .inner .given .1) (c .before .before .before .before .span .ensures) (c .before .before .before .packed .ensures), c .before .before .put .ensures)))
     (λ t. sum-lts.spec (
       term-below t,
       term.Post,
