@@ -7,31 +7,31 @@ use Rattle.phrases.proofs.token.Reads as token-reads
 use Rattle.phrases.proofs.Steps.{ready-at, one-inside, expects-refused, expects-there, expects-not}
 use native.Mathlib.Omega.{arith}
 
--- src/lib.rt:51:18
+-- src/lib.rt:57:18
 enum-known-before : tie.Need-enum-known-before
 enum-known-before c = search needs
 
--- src/lib.rt:52:9
+-- src/lib.rt:58:9
 enum-told : tie.Need-enum-told
 enum-told c = search needs
 
--- src/lib.rt:52:9
+-- src/lib.rt:58:9
 returns : tie.Need-returns
 returns c = expects-refused (c .before .before .before .args .codes .now) (c .before .before .before .args .before) (c .before .before .before .args .code) (c .enum-told .given .1)
 
--- src/lib.rt:54:8
+-- src/lib.rt:60:8
 token-requires : tie.Need-token-requires
 token-requires c κs = search needs
 
--- src/lib.rt:55:25
+-- src/lib.rt:61:25
 add-t8 : tie.Need-add-t8
 add-t8 c = omega (arith, (ready-at (c .before .before .before .before .before .before .args .codes .now) (c .before .before .before .before .before .before .args .before) (c .before .before .before .before .before .before .pre .0) (c .before .before .before .before2 .given .1)) .small, (ready-at (c .before .before .before .before .before .before .args .codes .now) (c .before .before .before .before .before .before .args .before) (c .before .before .before .before .before .before .pre .0) (c .before .before .before .before2 .given .1)) .within)
 
--- src/lib.rt:55:9
+-- src/lib.rt:61:9
 returns-2 : tie.Need-returns-2
 returns-2 c = expects-there (c .before .before .before .before .before .before .args .codes .now) (c .before .before .before .before .before .before .args .before) (c .before .before .before .before .before .before .args .code) (c .before .before .before .before2 .given .1) (c .before .token .result) (c .before .token .ensures) (c .before .before .before .before .before .before .pre .1) (c .before .before .before .before .before .before .pre .0) (c .if1 .taken)
 
--- src/lib.rt:47:1
+-- src/lib.rt:53:1
 returns-3 : tie.Need-returns-3
 returns-3 c = expects-not (c .before .before .before .before .before .before .args .codes .now) (c .before .before .before .before .before .before .args .before) (c .before .before .before .before .before .before .args .code) (c .before .before .before .before2 .given .1) (c .before .token .result) (c .before .token .ensures) (c .if1 .left)
 

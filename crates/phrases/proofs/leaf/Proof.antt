@@ -9,47 +9,47 @@ use Rattle.phrases.proofs.token.Reads as token-reads
 use Rattle.phrases.proofs.Steps.{ready-at, one-inside, leaves-refused, leaves-there, leaves-not}
 use native.Mathlib.Omega.{arith}
 
--- src/lib.rt:65:18
+-- src/lib.rt:71:18
 enum-known-before : tie.Need-enum-known-before
 enum-known-before c = search needs
 
--- src/lib.rt:66:9
+-- src/lib.rt:72:9
 enum-told : tie.Need-enum-told
 enum-told c = search needs
 
--- src/lib.rt:66:9
+-- src/lib.rt:72:9
 returns : tie.Need-returns
 returns c = leaves-refused (c .before .before .before .before .args .codes .now) (c .before .before .before .before .args .before) (c .before .before .before .before .args .label) _ _ (c .enum-told .given .1)
 
--- src/lib.rt:68:8
+-- src/lib.rt:74:8
 token-requires : tie.Need-token-requires
 token-requires c κs = search needs
 
--- src/lib.rt:69:22
+-- src/lib.rt:75:22
 packed-requires : tie.Need-packed-requires
 packed-requires c κs = (c .before .before .before .before .before .before .before .before .pre .1, omega (arith, (ready-at (c .before .before .before .before .before .before .before .before .args .codes .now) (c .before .before .before .before .before .before .before .before .args .before) (c .before .before .before .before .before .before .before .before .pre .0) (c .before .before .before .before .before2 .given .1)) .small, (ready-at (c .before .before .before .before .before .before .before .before .args .codes .now) (c .before .before .before .before .before .before .before .before .args .before) (c .before .before .before .before .before .before .before .before .pre .0) (c .before .before .before .before .before2 .given .1)) .within), omega arith)
 
--- src/lib.rt:69:9
+-- src/lib.rt:75:9
 put-requires : tie.Need-put-requires
 put-requires c κs = search needs
 
--- src/lib.rt:70:25
+-- src/lib.rt:76:25
 add-t13 : tie.Need-add-t13
 add-t13 c = search needs
 
--- src/lib.rt:70:32
+-- src/lib.rt:76:32
 add-t14 : tie.Need-add-t14
 add-t14 c = omega (arith, (ready-at (c .before .before .before .before .before .before .before .before .before .before .before .before .args .codes .now) (c .before .before .before .before .before .before .before .before .before .before .before .before .args .before) (c .before .before .before .before .before .before .before .before .before .before .before .before .pre .0) (c .before .before .before .before .before .before .before .before .before2 .given .1)) .small, (ready-at (c .before .before .before .before .before .before .before .before .before .before .before .before .args .codes .now) (c .before .before .before .before .before .before .before .before .before .before .before .before .args .before) (c .before .before .before .before .before .before .before .before .before .before .before .before .pre .0) (c .before .before .before .before .before .before .before .before .before2 .given .1)) .within, (ready-at (c .before .before .before .before .before .before .before .before .before .before .before .before .args .codes .now) (c .before .before .before .before .before .before .before .before .before .before .before .before .args .before) (c .before .before .before .before .before .before .before .before .before .before .before .before .pre .0) (c .before .before .before .before .before .before .before .before .before2 .given .1)) .behind)
 
--- src/lib.rt:70:9
+-- src/lib.rt:76:9
 same-length : tie.Need-same-length
 same-length c = search needs
 
--- src/lib.rt:70:9
+-- src/lib.rt:76:9
 returns-2 : tie.Need-returns-2
 returns-2 c = leaves-there (c .before .before .before .before .before .before .before .before .before .before .before .before .args .codes .now) (c .before .before .before .before .before .before .before .before .before .before .before .before .args .before) (c .before .before .before .before .before .before .before .before .before .before .before .before .args .label) _ (c .before .before .before .before .before .before .before .before .before2 .given .1) (c .before .before .before .before .before .before .token .result) (c .before .before .before .before .before .before .token .ensures) _ (c .before .before .before .packed .result) (c .before .before .before .before .before .before .before .before .before .before .before .before .pre .0) (c .before .before .before .before .before .if1 .taken) (c .before .before .before .packed .ensures) (c .before .before .put .ensures)
 
--- src/lib.rt:61:1
+-- src/lib.rt:67:1
 returns-3 : tie.Need-returns-3
 returns-3 c = leaves-not (c .before .before .before .before .before .before .before .args .codes .now) (c .before .before .before .before .before .before .before .args .before) (c .before .before .before .before .before .before .before .args .label) _ (c .before .before .before .before2 .given .1) (c .before .token .result) (c .before .token .ensures) _ (c .if1 .left)
 

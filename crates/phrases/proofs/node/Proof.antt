@@ -9,39 +9,39 @@ use Rattle.phrases.proofs.span.Reads as span-reads
 use Rattle.phrases.proofs.Steps.{count-at, noded-refused, noded-there}
 use native.Mathlib.Omega.{arith}
 
--- src/lib.rt:91:18
+-- src/lib.rt:97:18
 enum-known-before : tie.Need-enum-known-before
 enum-known-before c = search needs
 
--- src/lib.rt:92:9
+-- src/lib.rt:98:9
 enum-told : tie.Need-enum-told
 enum-told c = search needs
 
--- src/lib.rt:92:9
+-- src/lib.rt:98:9
 returns : tie.Need-returns
 returns c = noded-refused (c .before .before .before .args .first) (c .before .before .before .args .label) (c .before .before .before .args .name) (c .before .before .before .args .before) _ _ (c .enum-told .given .1)
 
--- src/lib.rt:94:38
+-- src/lib.rt:100:38
 span-requires : tie.Need-span-requires
 span-requires c κs = count-at (c .before .before .before .before .before .args .before) (c .before .before .before .before .before .pre .0) (c .before .before .before2 .given .1)
 
--- src/lib.rt:94:18
+-- src/lib.rt:100:18
 packed-requires : tie.Need-packed-requires
 packed-requires c κs = (c .before .before .before .before .before .before .pre .1, c .before .before .before .before .before .before .pre .2, omega (arith, c .span .ensures, count-at (c .before .before .before .before .before .before .args .before) (c .before .before .before .before .before .before .pre .0) (c .before .before .before .before2 .given .1)))
 
--- src/lib.rt:94:5
+-- src/lib.rt:100:5
 put-requires : tie.Need-put-requires
 put-requires c κs = search needs
 
--- src/lib.rt:95:17
+-- src/lib.rt:101:17
 add-t12 : tie.Need-add-t12
 add-t12 c = omega (arith, count-at (c .before .before .before .before .before .before .before .before .before .before .args .before) (c .before .before .before .before .before .before .before .before .before .before .pre .0) (c .before .before .before .before .before .before .before .before2 .given .1))
 
--- src/lib.rt:87:1
+-- src/lib.rt:93:1
 same-length : tie.Need-same-length
 same-length c = search needs
 
--- src/lib.rt:87:1
+-- src/lib.rt:93:1
 returns-2 : tie.Need-returns-2
 returns-2 c = noded-there (c .before .before .before .before .before .before .before .before .before .before .args .first) (c .before .before .before .before .before .before .before .before .before .before .args .label) (c .before .before .before .before .before .before .before .before .before .before .args .name) (c .before .before .before .before .before .before .before .before .before .before .args .before) _ _ (c .before .before .before .packed .result) (c .before .before .before .before .span .result) (c .before .before .before .before .before .before .before .before2 .given .1) (c .before .before .before .before .span .ensures) (c .before .before .before .packed .ensures) (c .before .before .put .ensures)
 

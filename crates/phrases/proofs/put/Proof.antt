@@ -6,23 +6,23 @@ use Rattle.phrases.proofs.put.Tie as tie
 use Rattle.phrases.proofs.put.Reads as reads
 use Rattle.phrases.proofs.put.Lts as lts
 
--- src/lib.rt:42:9
+-- src/lib.rt:48:9
 mul-rows : tie.Need-mul-rows
 mul-rows c = search needs
 
--- src/lib.rt:42:9
+-- src/lib.rt:48:9
 slice-write-rows : tie.Need-slice-write-rows
 slice-write-rows c = search needs
 
--- src/lib.rt:38:1
+-- src/lib.rt:44:1
 same-length : tie.Need-same-length
 same-length c = search needs
 
--- src/lib.rt:38:1
+-- src/lib.rt:44:1
 returns : tie.Need-returns
 returns c = search needs
 
--- src/lib.rt:38:1
+-- src/lib.rt:44:1
 returns-2 : tie.Need-returns-2
 returns-2 c = sym (set-out _ _ _ (c .if1 .left))
 

@@ -7,15 +7,15 @@ use Rattle.scan.proofs.index.Reads as index-reads
 use Rattle.scan.proofs.Words.{table-at}
 use native.Mathlib.Omega.{arith}
 
--- src/lib.rt:145:11
+-- src/lib.rt:142:11
 index-requires : tie.Need-index-requires
 index-requires c κs = search needs
 
--- src/lib.rt:145:5
+-- src/lib.rt:142:5
 element-copy-out-result : tie.Need-element-copy-out-result
 element-copy-out-result c = search needs
 
--- src/lib.rt:141:1
+-- src/lib.rt:138:1
 returns : tie.Need-returns
 returns c = table-at _ _ _ (c .before .before .pre) (c .before .index .ensures) (omega (arith, c .before .before .fits .b))
 

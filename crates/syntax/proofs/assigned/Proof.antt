@@ -11,35 +11,35 @@ use mathlib.Core.Logic.{⊎-elim}
 use Rattle.syntax.proofs.Clauses.{assigned-reads}
 use native.Mathlib.Omega.{arith}
 
--- src/lib.rt:113:9
+-- src/lib.rt:133:9
 expect-requires : tie.Need-expect-requires
 expect-requires c κs = search needs
 
--- src/lib.rt:114:9
+-- src/lib.rt:134:9
 expect-requires-2 : tie.Need-expect-requires-2
 expect-requires-2 c κs = search needs
 
--- src/lib.rt:115:9
+-- src/lib.rt:135:9
 base-requires : tie.Need-base-requires
 base-requires c κs = search needs
 
--- src/lib.rt:116:9
+-- src/lib.rt:136:9
 expect-requires-3 : tie.Need-expect-requires-3
 expect-requires-3 c κs = search needs
 
--- src/lib.rt:117:9
+-- src/lib.rt:137:9
 value-requires : tie.Need-value-requires
 value-requires c κs = search needs
 
--- src/lib.rt:118:5
+-- src/lib.rt:138:5
 closed-requires : tie.Need-closed-requires
 closed-requires c κs = (c .before .before .before .value .ensures .sound, ⊎-elim (λ e. omega arith) (λ e. omega arith) (c .before .before .before .before .before .before .before .before .before .before .before .before .before .before .pre .1), omega (arith, c .before .before .before .before .before .before .before .before .before .before .before .before .before .before .pre .0 .small, c .before .before .before .before .before .before .before .before .before .before .before .before .before .before .pre .0 .within))
 
--- src/lib.rt:109:1
+-- src/lib.rt:129:1
 same-length : tie.Need-same-length
 same-length c = search needs
 
--- src/lib.rt:109:1
+-- src/lib.rt:129:1
 returns : tie.Need-returns
 returns c = assigned-reads (c .before .before .before .before .before .before .before .before .before .before .before .before .before .before .before .before .before .pre .0) (c .before .before .before .before .before .before .before .before .before .before .before .before .before .before .before .before .before .args .label) (c .before .before .before .before .before .before .before .before .before .before .before .before .before .before .before .before .before .pre .1) (c .before .before .before .before .before .before .before .before .before .before .before .before .before .before .expect .ensures) (c .before .before .before .before .before .before .before .before .before .before .before .before .before .expect2 .ensures) (c .before .before .before .before .before .before .before .before .before .before .before .base .ensures) (c .before .before .before .before .before .before .before .before .expect3 .ensures) (c .before .before .before .before .before .before .value .ensures) (c .before .before .closed .ensures)
 

@@ -26,67 +26,67 @@ Inv-loop codes rows₀ p n label q₀ m₀ rows q m = (length rows ≡ length ro
 abbrev μ-loop : tie.MeasureT-loop
 μ-loop codes rows₀ p n label q₀ m₀ rows q m = length codes - q
 
--- src/lib.rt:126:9
+-- src/lib.rt:146:9
 assigned-requires : tie.Need-assigned-requires Inv-loop μ-loop
 assigned-requires c κs = search needs
 
--- src/lib.rt:127:18
+-- src/lib.rt:147:18
 enum-known-first : tie.Need-enum-known-first Inv-loop μ-loop
 enum-known-first c = search needs
 
--- src/lib.rt:128:9
+-- src/lib.rt:148:9
 enum-told : tie.Need-enum-told Inv-loop μ-loop
 enum-told c = search needs
 
--- src/lib.rt:128:9
+-- src/lib.rt:148:9
 same-length : tie.Need-same-length Inv-loop μ-loop
 same-length c = search needs
 
--- src/lib.rt:128:9
+-- src/lib.rt:148:9
 returns : tie.Need-returns Inv-loop μ-loop
 returns c = list-refused (reads-goes (c .before .before .before .before .assigned .ensures)) (c .enum-told .given .1)
 
--- src/lib.rt:130:5
+-- src/lib.rt:150:5
 loop-holds : tie.Need-loop-holds Inv-loop μ-loop
 loop-holds c = (refl, ready-of (c .before .before .before .before .before .before .before .before .before .pre .0) (c .before .before .before .before .before .assigned .ensures .ahead) (c .before .first .given .1), loops-begin)
 
--- src/lib.rt:130:11
+-- src/lib.rt:150:11
 token-requires : tie.Need-token-requires Inv-loop μ-loop
 token-requires c κs = search needs
 
--- src/lib.rt:131:13
+-- src/lib.rt:151:13
 assigned-requires-2 : tie.Need-assigned-requires-2 Inv-loop μ-loop
 assigned-requires-2 c κs = (c .before .before .before .loop .inv .1, c .before .before .before .before .before .before .before .before .before .before .before .before .before .pre .1)
 
--- src/lib.rt:132:22
+-- src/lib.rt:152:22
 enum-known-next : tie.Need-enum-known-next Inv-loop μ-loop
 enum-known-next c = search needs
 
--- src/lib.rt:133:13
+-- src/lib.rt:153:13
 enum-told-2 : tie.Need-enum-told-2 Inv-loop μ-loop
 enum-told-2 c = search needs
 
--- src/lib.rt:133:13
+-- src/lib.rt:153:13
 same-length-2 : tie.Need-same-length-2 Inv-loop μ-loop
 same-length-2 c = search needs
 
--- src/lib.rt:133:13
+-- src/lib.rt:153:13
 returns-2 : tie.Need-returns-2 Inv-loop μ-loop
 returns-2 c = list-then (reads-goes (c .before .before .before .before .before .before .before .before .before .before .before .before .before .before .assigned .ensures)) (c .before .before .before .before .before .before .before .before .before .before .first .given .1) (many-refused (loops-turn (c .before .before .before .before .before .before .before .before .loop .inv .2) (assigned-ok (c .before .before .before .before .before .before .before .before .before .before .before .before .before .before .before .before .before .before .args .label) (c .before .before .before .before .before .before .before .before .before .before .before .before .before .before .before .before .before .before .pre .1)) (c .before .before .before .before .before .before .before .before .loop .inv .1) (begins-at (c .before .before .before .before .before .before .before .before .before .before .before .before .before .before .before .before .before .before .args .codes .now) (c .before .before .before .before .before .before .before .before .loop .q) (c .before .before .before .before .before .before .before .before .before .before .before .before .before .before .before .before .before .before .args .label) true (c .before .before .before .before .before .before .before .before .before .before .before .before .before .before .before .before .before .before .pre .1) (seen-one (c .before .before .before .before .before .before .before .before .before .before .before .before .before .before .before .before .before .before .args .codes .now) (c .before .before .before .before .before .before .before .before .loop .q) 1 (c .before .before .before .before .before .before .before .token .ensures) (c .before .before .before .before .before .before .if1 .taken))) (reads-goes (c .before .before .before .before .assigned2 .ensures))) (c .enum-told2 .given .1))
 
--- src/lib.rt:130:5
+-- src/lib.rt:150:5
 loop-less : tie.Need-loop-less Inv-loop μ-loop
 loop-less c = omega (arith, reads-at (c .before .before .before .before .before .assigned2 .ensures) (c .before .next .given .1))
 
--- src/lib.rt:130:5
+-- src/lib.rt:150:5
 loop-again : tie.Need-loop-again Inv-loop μ-loop
 loop-again c = (search needs, ready-of (c .before .before .before .before .before .before .before .before .before .loop .inv .1) (c .before .before .before .before .before .assigned2 .ensures .ahead) (c .before .next .given .1), loops-at (c .before .next .given .1) (loops-turn (c .before .before .before .before .before .before .before .before .before .loop .inv .2) (assigned-ok (c .before .before .before .before .before .before .before .before .before .before .before .before .before .before .before .before .before .before .before .args .label) (c .before .before .before .before .before .before .before .before .before .before .before .before .before .before .before .before .before .before .before .pre .1)) (c .before .before .before .before .before .before .before .before .before .loop .inv .1) (begins-at (c .before .before .before .before .before .before .before .before .before .before .before .before .before .before .before .before .before .before .before .args .codes .now) (c .before .before .before .before .before .before .before .before .before .loop .q) (c .before .before .before .before .before .before .before .before .before .before .before .before .before .before .before .before .before .before .before .args .label) true (c .before .before .before .before .before .before .before .before .before .before .before .before .before .before .before .before .before .before .before .pre .1) (seen-one (c .before .before .before .before .before .before .before .before .before .before .before .before .before .before .before .before .before .before .before .args .codes .now) (c .before .before .before .before .before .before .before .before .before .loop .q) 1 (c .before .before .before .before .before .before .before .before .token .ensures) (c .before .before .before .before .before .before .before .if1 .taken))) (reads-goes (c .before .before .before .before .before .assigned2 .ensures))))
 
--- src/lib.rt:122:1
+-- src/lib.rt:142:1
 same-length-3 : tie.Need-same-length-3 Inv-loop μ-loop
 same-length-3 c = search needs
 
--- src/lib.rt:122:1
+-- src/lib.rt:142:1
 returns-3 : tie.Need-returns-3 Inv-loop μ-loop
 returns-3 c = list-then (reads-goes (c .before .before .before .before .before .before .before .before .assigned .ensures)) (c .before .before .before .before .first .given .1) (many-ends (c .before .before .loop .inv .2) (assigned-ok (c .before .before .before .before .before .before .before .before .before .before .before .before .args .label) (c .before .before .before .before .before .before .before .before .before .before .before .before .pre .1)) (c .before .before .loop .inv .1) (begins-at (c .before .before .before .before .before .before .before .before .before .before .before .before .args .codes .now) (c .before .before .loop .q) (c .before .before .before .before .before .before .before .before .before .before .before .before .args .label) false (c .before .before .before .before .before .before .before .before .before .before .before .before .pre .1) (seen-other (c .before .before .before .before .before .before .before .before .before .before .before .before .args .codes .now) (c .before .before .loop .q) 1 (c .before .token .ensures) (c .if1 .left))))
 

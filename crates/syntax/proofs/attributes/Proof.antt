@@ -13,67 +13,67 @@ use Rattle.phrases.proofs.Steps.{ready-at, onward, one-inside}
 use Rattle.syntax.proofs.Clauses.{attributes-refused, attributes-optional, attributes-plain}
 use native.Mathlib.Omega.{arith}
 
--- src/lib.rt:289:9
+-- src/lib.rt:309:9
 names-requires : tie.Need-names-requires
 names-requires c κs = search needs
 
--- src/lib.rt:290:9
+-- src/lib.rt:310:9
 expect-requires : tie.Need-expect-requires
 expect-requires c κs = search needs
 
--- src/lib.rt:291:18
+-- src/lib.rt:311:18
 enum-known-colon : tie.Need-enum-known-colon
 enum-known-colon c = search needs
 
--- src/lib.rt:292:9
+-- src/lib.rt:312:9
 enum-told : tie.Need-enum-told
 enum-told c = search needs
 
--- src/lib.rt:292:9
+-- src/lib.rt:312:9
 same-length : tie.Need-same-length
 same-length c = search needs
 
--- src/lib.rt:292:9
+-- src/lib.rt:312:9
 returns : tie.Need-returns
 returns c = attributes-refused (c .before .before .before .before .before .before .before .before .before .pre) (c .before .before .before .before .before .names .ensures) (c .before .before .expect .ensures) (c .enum-told .given .1)
 
--- src/lib.rt:294:8
+-- src/lib.rt:314:8
 token-requires : tie.Need-token-requires
 token-requires c κs = search needs
 
--- src/lib.rt:295:47
+-- src/lib.rt:315:47
 add-t18 : tie.Need-add-t18
 add-t18 c = omega (arith, (ready-at (c .before .before .before .before .before .before .before .before .before .before .before .before .before .args .codes .now) (c .before .before .before .before .before .before .expect .result) (c .before .before .before .before .before .before .expect .ensures .sound) (c .before .before .before .before .colon .given .1)) .small, (ready-at (c .before .before .before .before .before .before .before .before .before .before .before .before .before .args .codes .now) (c .before .before .before .before .before .before .expect .result) (c .before .before .before .before .before .before .expect .ensures .sound) (c .before .before .before .before .colon .given .1)) .within)
 
--- src/lib.rt:295:13
+-- src/lib.rt:315:13
 base-requires : tie.Need-base-requires
 base-requires c κs = (onward (ready-at (c .before .before .before .before .before .before .before .before .before .before .before .before .before .args .codes .now) (c .before .before .before .before .before .before .expect .result) (c .before .before .before .before .before .before .expect .ensures .sound) (c .before .before .before .before .colon .given .1)) (one-inside (c .before .before .before .before .before .before .before .before .before .before .before .before .before .args .codes .now) (c .before .before .before .before .colon .given .0 .0) (c .before .before .token .result) 112 (c .before .before .token .ensures) (c .before .if1 .taken) (omega arith)), omega arith)
 
--- src/lib.rt:296:9
+-- src/lib.rt:316:9
 closed-requires : tie.Need-closed-requires
 closed-requires c κs = search needs
 
--- src/lib.rt:296:9
+-- src/lib.rt:316:9
 same-length-2 : tie.Need-same-length-2
 same-length-2 c = search needs
 
--- src/lib.rt:296:9
+-- src/lib.rt:316:9
 returns-2 : tie.Need-returns-2
 returns-2 c = attributes-optional (c .before .before .before .before .before .before .before .before .before .before .before .before .before .before .before .before .before .before .before .before .pre) (c .before .before .before .before .before .before .before .before .before .before .before .before .before .before .before .before .names .ensures) (c .before .before .before .before .before .before .before .before .before .before .before .before .before .expect .ensures) (c .before .before .before .before .before .before .before .before .before .before .before .colon .given .1) (seen-one (c .before .before .before .before .before .before .before .before .before .before .before .before .before .before .before .before .before .before .before .before .args .codes .now) (c .before .before .before .before .before .before .before .before .before .before .before .colon .given .0 .0) 112 (c .before .before .before .before .before .before .before .before .before .token .ensures) (c .before .before .before .before .before .before .before .before .if1 .taken)) (onward (ready-at (c .before .before .before .before .before .before .before .before .before .before .before .before .before .before .before .before .before .before .before .before .args .codes .now) (c .before .before .before .before .before .before .before .before .before .before .before .before .before .expect .result) (c .before .before .before .before .before .before .before .before .before .before .before .before .before .expect .ensures .sound) (c .before .before .before .before .before .before .before .before .before .before .before .colon .given .1)) (one-inside (c .before .before .before .before .before .before .before .before .before .before .before .before .before .before .before .before .before .before .before .before .args .codes .now) (c .before .before .before .before .before .before .before .before .before .before .before .colon .given .0 .0) (c .before .before .before .before .before .before .before .before .before .token .result) 112 (c .before .before .before .before .before .before .before .before .before .token .ensures) (c .before .before .before .before .before .before .before .before .if1 .taken) (omega arith))) (c .before .before .before .before .before .before .base .ensures) (c .before .before .closed .ensures)
 
--- src/lib.rt:298:9
+-- src/lib.rt:318:9
 base-requires-2 : tie.Need-base-requires-2
 base-requires-2 c κs = ((ready-at (c .before .before .before .before .before .before .before .before .before .before .before .before .before .args .codes .now) (c .before .before .before .before .before .before .expect .result) (c .before .before .before .before .before .before .expect .ensures .sound) (c .before .before .before .before .colon .given .1)), omega arith)
 
--- src/lib.rt:299:5
+-- src/lib.rt:319:5
 closed-requires-2 : tie.Need-closed-requires-2
 closed-requires-2 c κs = search needs
 
--- src/lib.rt:285:1
+-- src/lib.rt:305:1
 same-length-3 : tie.Need-same-length-3
 same-length-3 c = search needs
 
--- src/lib.rt:285:1
+-- src/lib.rt:305:1
 returns-3 : tie.Need-returns-3
 returns-3 c = attributes-plain (c .before .before .before .before .before .before .before .before .before .before .before .before .before .before .before .before .before .before .before .before .pre) (c .before .before .before .before .before .before .before .before .before .before .before .before .before .before .before .before .names .ensures) (c .before .before .before .before .before .before .before .before .before .before .before .before .before .expect .ensures) (c .before .before .before .before .before .before .before .before .before .before .before .colon .given .1) (seen-other (c .before .before .before .before .before .before .before .before .before .before .before .before .before .before .before .before .before .before .before .before .args .codes .now) (c .before .before .before .before .before .before .before .before .before .before .before .colon .given .0 .0) 112 (c .before .before .before .before .before .before .before .before .before .token .ensures) (c .before .before .before .before .before .before .before .before .if1 .left)) (ready-at (c .before .before .before .before .before .before .before .before .before .before .before .before .before .before .before .before .before .before .before .before .args .codes .now) (c .before .before .before .before .before .before .before .before .before .before .before .before .before .expect .result) (c .before .before .before .before .before .before .before .before .before .before .before .before .before .expect .ensures .sound) (c .before .before .before .before .before .before .before .before .before .before .before .colon .given .1)) (c .before .before .before .before .before .before .base2 .ensures) (c .before .before .closed2 .ensures)
 

@@ -11,51 +11,51 @@ use Rattle.phrases.proofs.Steps.{ready-at}
 use Rattle.syntax.proofs.Laws.{type-small, bases-refused, bases-none, bases-row}
 use native.Mathlib.Omega.{arith}
 
--- src/lib.rt:67:18
+-- src/lib.rt:87:18
 enum-known-before : tie.Need-enum-known-before
 enum-known-before c = search needs
 
--- src/lib.rt:68:9
+-- src/lib.rt:88:9
 enum-told : tie.Need-enum-told
 enum-told c = search needs
 
--- src/lib.rt:68:9
+-- src/lib.rt:88:9
 returns : tie.Need-returns
 returns c = bases-refused (c .before .before .before .before .args .codes .now) (c .before .before .before .before .args .before) (c .before .before .before .before .args .label) _ _ (c .enum-told .given .1)
 
--- src/lib.rt:70:25
+-- src/lib.rt:90:25
 token-requires : tie.Need-token-requires
 token-requires c κs = search needs
 
--- src/lib.rt:70:9
+-- src/lib.rt:90:9
 labelled-requires : tie.Need-labelled-requires
 labelled-requires c κs = search needs
 
--- src/lib.rt:72:9
+-- src/lib.rt:92:9
 returns-2 : tie.Need-returns-2
 returns-2 c = bases-none (c .before .before .before .before .before .before .before .before .args .codes .now) (c .before .before .before .before .before .before .before .before .args .before) (c .before .before .before .before .before .before .before .before .args .label) _ (c .before .before .before .before .before2 .given .1) (c .before .before .token .result) (c .before .labelled .result) (c .before .before .token .ensures) (c .before .labelled .ensures) _ (c .if1 .taken)
 
--- src/lib.rt:74:18
+-- src/lib.rt:94:18
 packed-requires : tie.Need-packed-requires
 packed-requires c κs = (type-small (c .before .before .before .token .result) (c .before .before .before .before .before .before .before .before .before .args .label) (c .before .before .labelled .result) (c .before .before .before .before .before .before .before .before .before .pre .1) (c .before .before .labelled .ensures), omega (arith, (ready-at (c .before .before .before .before .before .before .before .before .before .args .codes .now) (c .before .before .before .before .before .before .before .before .before .args .before) (c .before .before .before .before .before .before .before .before .before .pre .0) (c .before .before .before .before .before .before2 .given .1)) .small, (ready-at (c .before .before .before .before .before .before .before .before .before .args .codes .now) (c .before .before .before .before .before .before .before .before .before .args .before) (c .before .before .before .before .before .before .before .before .before .pre .0) (c .before .before .before .before .before .before2 .given .1)) .within), omega arith)
 
--- src/lib.rt:74:5
+-- src/lib.rt:94:5
 put-requires : tie.Need-put-requires
 put-requires c κs = search needs
 
--- src/lib.rt:75:14
+-- src/lib.rt:95:14
 add-t14 : tie.Need-add-t14
 add-t14 c = search needs
 
--- src/lib.rt:75:21
+-- src/lib.rt:95:21
 add-t15 : tie.Need-add-t15
 add-t15 c = omega (arith, (ready-at (c .before .before .before .before .before .before .before .before .before .before .before .before .before .args .codes .now) (c .before .before .before .before .before .before .before .before .before .before .before .before .before .args .before) (c .before .before .before .before .before .before .before .before .before .before .before .before .before .pre .0) (c .before .before .before .before .before .before .before .before .before .before2 .given .1)) .small, (ready-at (c .before .before .before .before .before .before .before .before .before .before .before .before .before .args .codes .now) (c .before .before .before .before .before .before .before .before .before .before .before .before .before .args .before) (c .before .before .before .before .before .before .before .before .before .before .before .before .before .pre .0) (c .before .before .before .before .before .before .before .before .before .before2 .given .1)) .within, (ready-at (c .before .before .before .before .before .before .before .before .before .before .before .before .before .args .codes .now) (c .before .before .before .before .before .before .before .before .before .before .before .before .before .args .before) (c .before .before .before .before .before .before .before .before .before .before .before .before .before .pre .0) (c .before .before .before .before .before .before .before .before .before .before2 .given .1)) .behind)
 
--- src/lib.rt:63:1
+-- src/lib.rt:83:1
 same-length : tie.Need-same-length
 same-length c = search needs
 
--- src/lib.rt:63:1
+-- src/lib.rt:83:1
 returns-3 : tie.Need-returns-3
 returns-3 c = bases-row (c .before .before .before .before .before .before .before .before .before .before .before .before .before .args .codes .now) (c .before .before .before .before .before .before .before .before .before .before .before .before .before .args .before) (c .before .before .before .before .before .before .before .before .before .before .before .before .before .args .label) _ (c .before .before .before .before .before .before .before .before .before .before2 .given .1) (c .before .before .before .before .before .before .before .token .result) (c .before .before .before .before .before .before .labelled .result) (c .before .before .before .before .before .before .before .token .ensures) (c .before .before .before .before .before .before .labelled .ensures) _ (c .before .before .before .packed .result) (c .before .before .before .before .before .before .before .before .before .before .before .before .before .pre .0) (c .before .before .before .before .before .if1 .left) (c .before .before .before .packed .ensures) (c .before .before .put .ensures)
 

@@ -28,63 +28,63 @@ Inv-loop codes rows₀ q₀ m₀ rows q m = (length rows ≡ length rows₀) × 
 abbrev μ-loop : tie.MeasureT-loop
 μ-loop codes rows₀ q₀ m₀ rows q m = length codes - q
 
--- src/lib.rt:376:18
+-- src/lib.rt:396:18
 enum-known-before : tie.Need-enum-known-before Inv-loop μ-loop
 enum-known-before c = search needs
 
--- src/lib.rt:377:9
+-- src/lib.rt:397:9
 enum-told : tie.Need-enum-told Inv-loop μ-loop
 enum-told c = search needs
 
--- src/lib.rt:377:9
+-- src/lib.rt:397:9
 returns : tie.Need-returns Inv-loop μ-loop
 returns c = steps-refused (c .before .before .before .before .args .before) (star (nt type-declaration ∣ nt entity′)) (c .enum-told .given .1)
 
--- src/lib.rt:379:5
+-- src/lib.rt:399:5
 loop-holds : tie.Need-loop-holds Inv-loop μ-loop
 loop-holds c = (refl, ready-at (c .before .before .before .before .before .args .codes .now) (c .before .before .before .before .before .args .before) (c .before .before .before .before .before .pre) (c .before .before2 .given .1), loops-begin)
 
--- src/lib.rt:379:30
+-- src/lib.rt:399:30
 token-requires : tie.Need-token-requires Inv-loop μ-loop
 token-requires c κs = search needs
 
--- src/lib.rt:379:11
+-- src/lib.rt:399:11
 begins-declaration-requires : tie.Need-begins-declaration-requires Inv-loop μ-loop
 begins-declaration-requires c κs = search needs
 
--- src/lib.rt:380:13
+-- src/lib.rt:400:13
 declaration-requires : tie.Need-declaration-requires Inv-loop μ-loop
 declaration-requires c κs = c .before .before .before .before .loop .inv .1
 
--- src/lib.rt:381:22
+-- src/lib.rt:401:22
 enum-known-next : tie.Need-enum-known-next Inv-loop μ-loop
 enum-known-next c = search needs
 
--- src/lib.rt:382:13
+-- src/lib.rt:402:13
 enum-told-2 : tie.Need-enum-told-2 Inv-loop μ-loop
 enum-told-2 c = search needs
 
--- src/lib.rt:382:13
+-- src/lib.rt:402:13
 same-length : tie.Need-same-length Inv-loop μ-loop
 same-length c = search needs
 
--- src/lib.rt:382:13
+-- src/lib.rt:402:13
 returns-2 : tie.Need-returns-2 Inv-loop μ-loop
 returns-2 c = steps-at (c .before .before .before .before .before .before .before .before .before .before .before .before .before .before .before .args .before) (c .before .before .before .before .before .before .before .before .before .before .before .before2 .given .1) (many-refused (loops-turn (c .before .before .before .before .before .before .before .before .before .loop .inv .2) declarations-ok (c .before .before .before .before .before .before .before .before .before .loop .inv .1) (seen (c .before .before .before .before .before .before .before .before .before .before .before .before .before .before .before .args .codes .now) (c .before .before .before .before .before .before .before .before .before .loop .q) (TYPE ++ ENTITY) (c .before .before .before .before .before .before .before .before .token .ensures) (c .before .before .before .before .before .before .before .begins-declaration .ensures) (c .before .before .before .before .before .before .if1 .taken)) (declared-reads (c .before .before .before .before .declaration .ensures))) (c .enum-told2 .given .1))
 
--- src/lib.rt:379:5
+-- src/lib.rt:399:5
 loop-less : tie.Need-loop-less Inv-loop μ-loop
 loop-less c = omega (arith, reads-at (c .before .before .before .before .before .declaration .ensures) (c .before .next .given .1))
 
--- src/lib.rt:379:5
+-- src/lib.rt:399:5
 loop-again : tie.Need-loop-again Inv-loop μ-loop
 loop-again c = (search needs, ready-of (c .before .before .before .before .before .before .before .before .before .before .loop .inv .1) (c .before .before .before .before .before .declaration .ensures .ahead) (c .before .next .given .1), loops-at (c .before .next .given .1) (loops-turn (c .before .before .before .before .before .before .before .before .before .before .loop .inv .2) declarations-ok (c .before .before .before .before .before .before .before .before .before .before .loop .inv .1) (seen (c .before .before .before .before .before .before .before .before .before .before .before .before .before .before .before .before .args .codes .now) (c .before .before .before .before .before .before .before .before .before .before .loop .q) (TYPE ++ ENTITY) (c .before .before .before .before .before .before .before .before .before .token .ensures) (c .before .before .before .before .before .before .before .before .begins-declaration .ensures) (c .before .before .before .before .before .before .before .if1 .taken)) (declared-reads (c .before .before .before .before .before .declaration .ensures))))
 
--- src/lib.rt:372:1
+-- src/lib.rt:392:1
 same-length-2 : tie.Need-same-length-2 Inv-loop μ-loop
 same-length-2 c = search needs
 
--- src/lib.rt:372:1
+-- src/lib.rt:392:1
 returns-3 : tie.Need-returns-3 Inv-loop μ-loop
 returns-3 c = steps-at (c .before .before .before .before .before .before .before .before .before .args .before) (c .before .before .before .before .before .before2 .given .1) (many-ends (c .before .before .before .loop .inv .2) declarations-ok (c .before .before .before .loop .inv .1) (seen (c .before .before .before .before .before .before .before .before .before .args .codes .now) (c .before .before .before .loop .q) (TYPE ++ ENTITY) (c .before .before .token .ensures) (c .before .begins-declaration .ensures) (c .if1 .left)))
 

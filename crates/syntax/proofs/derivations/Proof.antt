@@ -16,39 +16,39 @@ use Rattle.express.specs.Grammar.{derived, opt, tok, _·_}
 use Rattle.syntax.proofs.Clauses.{derivations-go}
 use native.Mathlib.Omega.{arith}
 
--- src/lib.rt:162:18
+-- src/lib.rt:182:18
 enum-known-before : tie.Need-enum-known-before
 enum-known-before c = search needs
 
--- src/lib.rt:163:9
+-- src/lib.rt:183:9
 enum-told : tie.Need-enum-told
 enum-told c = search needs
 
--- src/lib.rt:163:9
+-- src/lib.rt:183:9
 returns : tie.Need-returns
 returns c = steps-refused (c .before .before .before .before .args .before) (opt (tok DERIVE · nt derived · star (nt derived))) (c .enum-told .given .1)
 
--- src/lib.rt:165:8
+-- src/lib.rt:185:8
 token-requires : tie.Need-token-requires
 token-requires c κs = search needs
 
--- src/lib.rt:166:9
+-- src/lib.rt:186:9
 returns-2 : tie.Need-returns-2
 returns-2 c = steps-at (c .before .before .before .before .before .before .before .args .before) (c .before .before .before .before2 .given .1) (opt-absent (ready-at (c .before .before .before .before .before .before .before .args .codes .now) (c .before .before .before .before .before .before .before .args .before) (c .before .before .before .before .before .before .before .pre) (c .before .before .before .before2 .given .1)) (seen-other (c .before .before .before .before .before .before .before .args .codes .now) (c .before .before .before .before2 .given .0 .0) 57 (c .before .token .ensures) (c .if1 .taken)))
 
--- src/lib.rt:168:30
+-- src/lib.rt:188:30
 add-assignments : tie.Need-add-assignments
 add-assignments c = omega (arith, (ready-at (c .before .before .before .before .before .before .before .before .args .codes .now) (c .before .before .before .before .before .before .before .before .args .before) (c .before .before .before .before .before .before .before .before .pre) (c .before .before .before .before .before2 .given .1)) .small, (ready-at (c .before .before .before .before .before .before .before .before .args .codes .now) (c .before .before .before .before .before .before .before .before .args .before) (c .before .before .before .before .before .before .before .before .pre) (c .before .before .before .before .before2 .given .1)) .within)
 
--- src/lib.rt:168:5
+-- src/lib.rt:188:5
 assignments-requires : tie.Need-assignments-requires
 assignments-requires c κs = ((onward (ready-at (c .before .before .before .before .before .before .before .before .args .codes .now) (c .before .before .before .before .before .before .before .before .args .before) (c .before .before .before .before .before .before .before .before .pre) (c .before .before .before .before .before2 .given .1)) (one-inside (c .before .before .before .before .before .before .before .before .args .codes .now) (c .before .before .before .before .before2 .given .0 .0) (c .before .before .token .result) 57 (c .before .before .token .ensures) (c .before .if1 .left) (omega arith))), inr refl)
 
--- src/lib.rt:158:1
+-- src/lib.rt:178:1
 same-length : tie.Need-same-length
 same-length c = search needs
 
--- src/lib.rt:158:1
+-- src/lib.rt:178:1
 returns-3 : tie.Need-returns-3
 returns-3 c = steps-at (c .before .before .before .before .before .before .before .before .before .before .before .args .before) (c .before .before .before .before .before .before .before .before2 .given .1) (opt-present (seen-one (c .before .before .before .before .before .before .before .before .before .before .before .args .codes .now) (c .before .before .before .before .before .before .before .before2 .given .0 .0) 57 (c .before .before .before .before .before .token .ensures) (c .before .before .before .before .if1 .left)) (c .before .before .assignments .ensures .sound) (derivations-go (seen-one (c .before .before .before .before .before .before .before .before .before .before .before .args .codes .now) (c .before .before .before .before .before .before .before .before2 .given .0 .0) 57 (c .before .before .before .before .before .token .ensures) (c .before .before .before .before .if1 .left)) (c .before .before .assignments .ensures)))
 

@@ -12,47 +12,47 @@ use Rattle.syntax.proofs.rules.Reads as rules-reads
 use Rattle.syntax.proofs.supertypes.Reads as supertypes-reads
 use Rattle.syntax.proofs.Clauses.{entity-reads}
 
--- src/lib.rt:341:9
+-- src/lib.rt:361:9
 headed-requires : tie.Need-headed-requires
 headed-requires c κs = search needs
 
--- src/lib.rt:342:9
+-- src/lib.rt:362:9
 supertypes-requires : tie.Need-supertypes-requires
 supertypes-requires c κs = search needs
 
--- src/lib.rt:343:9
+-- src/lib.rt:363:9
 expect-requires : tie.Need-expect-requires
 expect-requires c κs = search needs
 
--- src/lib.rt:344:9
+-- src/lib.rt:364:9
 groups-requires : tie.Need-groups-requires
 groups-requires c κs = search needs
 
--- src/lib.rt:345:9
+-- src/lib.rt:365:9
 derivations-requires : tie.Need-derivations-requires
 derivations-requires c κs = search needs
 
--- src/lib.rt:346:9
+-- src/lib.rt:366:9
 rules-requires : tie.Need-rules-requires
 rules-requires c κs = search needs
 
--- src/lib.rt:347:9
+-- src/lib.rt:367:9
 expect-requires-2 : tie.Need-expect-requires-2
 expect-requires-2 c κs = search needs
 
--- src/lib.rt:348:37
+-- src/lib.rt:368:37
 add-closed : tie.Need-add-closed
 add-closed c = search needs
 
--- src/lib.rt:348:5
+-- src/lib.rt:368:5
 closed-requires : tie.Need-closed-requires
 closed-requires c κs = search needs
 
--- src/lib.rt:337:1
+-- src/lib.rt:357:1
 same-length : tie.Need-same-length
 same-length c = search needs
 
--- src/lib.rt:337:1
+-- src/lib.rt:357:1
 returns : tie.Need-returns
 returns c = entity-reads (c .before .before .before .before .before .before .before .before .before .before .before .before .before .before .before .before .before .before .before .before .before .before .before .before .before .pre) (c .before .before .before .before .before .before .before .before .before .before .before .before .before .before .before .before .before .before .before .before .before .before .headed .ensures) (c .before .before .before .before .before .before .before .before .before .before .before .before .before .before .before .before .before .before .before .before .supertypes .ensures) (c .before .before .before .before .before .before .before .before .before .before .before .before .before .before .before .before .before .expect .ensures) (c .before .before .before .before .before .before .before .before .before .before .before .before .before .before .before .groups .ensures) (c .before .before .before .before .before .before .before .before .before .before .before .derivations .ensures) (c .before .before .before .before .before .before .before .rules .ensures) (c .before .before .before .before .expect2 .ensures) (c .before .before .closed .ensures)
 

@@ -9,19 +9,19 @@ use Rattle.phrases.proofs.Laws.{counts-sound}
 use Rattle.syntax.proofs.Clauses.{file-reads}
 use native.Mathlib.Omega.{arith}
 
--- src/lib.rt:428:9
+-- src/lib.rt:448:9
 schemas-requires : tie.Need-schemas-requires
 schemas-requires c κs = search needs
 
--- src/lib.rt:429:5
+-- src/lib.rt:449:5
 node-requires : tie.Need-node-requires
 node-requires c κs = (counts-sound (c .before .before .before .before .before .before .before .args .codes .now) (c .before .before .before .schemas .result) (c .before .before .before .schemas .ensures .sound), omega arith, omega arith)
 
--- src/lib.rt:424:1
+-- src/lib.rt:444:1
 same-length : tie.Need-same-length
 same-length c = search needs
 
--- src/lib.rt:424:1
+-- src/lib.rt:444:1
 returns : tie.Need-returns
 returns c = file-reads (c .before .before .before .before .before .before .before .before .before .before .pre) (c .before .before .before .before .before .before .schemas .ensures) (c .before .before .node .ensures)
 

@@ -6,15 +6,15 @@ use Rattle.syntax.proofs.headed.Lts as lts
 use Rattle.phrases.proofs.expect.Reads as expect-reads
 use Rattle.syntax.proofs.Laws.{heads}
 
--- src/lib.rt:245:9
+-- src/lib.rt:265:9
 expect-requires : tie.Need-expect-requires
 expect-requires c κs = search needs
 
--- src/lib.rt:246:5
+-- src/lib.rt:266:5
 expect-requires-2 : tie.Need-expect-requires-2
 expect-requires-2 c κs = search needs
 
--- src/lib.rt:241:1
+-- src/lib.rt:261:1
 returns : tie.Need-returns
 returns c = heads (c .before .expect .ensures) (c .expect2 .ensures)
 

@@ -7,23 +7,23 @@ use Rattle.phrases.proofs.expect.Reads as expect-reads
 use Rattle.syntax.proofs.names.Reads as names-reads
 use Rattle.syntax.proofs.Laws.{ids-steps}
 
--- src/lib.rt:103:9
+-- src/lib.rt:123:9
 expect-requires : tie.Need-expect-requires
 expect-requires c κs = search needs
 
--- src/lib.rt:104:9
+-- src/lib.rt:124:9
 names-requires : tie.Need-names-requires
 names-requires c κs = search needs
 
--- src/lib.rt:105:5
+-- src/lib.rt:125:5
 expect-requires-2 : tie.Need-expect-requires-2
 expect-requires-2 c κs = search needs
 
--- src/lib.rt:99:1
+-- src/lib.rt:119:1
 same-length : tie.Need-same-length
 same-length c = search needs
 
--- src/lib.rt:99:1
+-- src/lib.rt:119:1
 returns : tie.Need-returns
 returns c = ids-steps (c .before .before .before .before .before .before .before .before .args .label) (c .before .before .before .before .before .expect .ensures) (c .before .before .before .names .ensures) (c .expect2 .ensures)
 

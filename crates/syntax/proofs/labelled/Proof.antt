@@ -7,19 +7,19 @@ use Rattle.syntax.proofs.is_simple.Reads as is-simple-reads
 use mathlib.Core.Path.{refl, sym, _∙_}
 use Rattle.phrases.proofs.Terminals.{is-one, not-one}
 
--- src/lib.rt:53:8
+-- src/lib.rt:73:8
 is-simple-requires : tie.Need-is-simple-requires
 is-simple-requires c κs = search needs
 
--- src/lib.rt:54:9
+-- src/lib.rt:74:9
 returns : tie.Need-returns
 returns c = rw (sym (c .before .is-simple .ensures) ∙ c .if1 .taken) refl
 
--- src/lib.rt:57:9
+-- src/lib.rt:77:9
 returns-2 : tie.Need-returns-2
 returns-2 c = rw (sym (c .before .before .is-simple .ensures) ∙ c .before .if1 .left, is-one (c .before .before .before .args .c) 1 (c .if2 .taken)) refl
 
--- src/lib.rt:50:1
+-- src/lib.rt:70:1
 returns-3 : tie.Need-returns-3
 returns-3 c = rw (sym (c .before .before .is-simple .ensures) ∙ c .before .if1 .left, not-one (c .before .before .before .args .c) 1 (c .if2 .left)) refl
 

@@ -24,71 +24,71 @@ Inv-loop codes rows₀ label q₀ m₀ rows q m = (length rows ≡ length rows�
 abbrev μ-loop : tie.MeasureT-loop
 μ-loop codes rows₀ label q₀ m₀ rows q m = length codes - q
 
--- src/lib.rt:83:9
+-- src/lib.rt:103:9
 leaf-requires : tie.Need-leaf-requires Inv-loop μ-loop
 leaf-requires c κs = search needs
 
--- src/lib.rt:84:18
+-- src/lib.rt:104:18
 enum-known-first : tie.Need-enum-known-first Inv-loop μ-loop
 enum-known-first c = search needs
 
--- src/lib.rt:85:9
+-- src/lib.rt:105:9
 enum-told : tie.Need-enum-told Inv-loop μ-loop
 enum-told c = search needs
 
--- src/lib.rt:85:9
+-- src/lib.rt:105:9
 same-length : tie.Need-same-length Inv-loop μ-loop
 same-length c = search needs
 
--- src/lib.rt:85:9
+-- src/lib.rt:105:9
 returns : tie.Need-returns Inv-loop μ-loop
 returns c = list-refused (leaf-goes (c .before .before .before .before .before .before .before .before .pre .1) (c .before .before .before .before .before .before .before .before .pre .0) (c .before .before .before .before .leaf .ensures)) (c .enum-told .given .1)
 
--- src/lib.rt:87:5
+-- src/lib.rt:107:5
 loop-holds : tie.Need-loop-holds Inv-loop μ-loop
 loop-holds c = (refl, ready-at (c .before .before .before .before .before .before .before .before .before .args .codes .now) (c .before .before .before .before .before .leaf .result) (c .before .before .before .before .before .leaf .ensures .sound) (c .before .first .given .1), loops-begin)
 
--- src/lib.rt:87:11
+-- src/lib.rt:107:11
 token-requires : tie.Need-token-requires Inv-loop μ-loop
 token-requires c κs = search needs
 
--- src/lib.rt:88:47
+-- src/lib.rt:108:47
 add-t17 : tie.Need-add-t17 Inv-loop μ-loop
 add-t17 c = search needs
 
--- src/lib.rt:88:13
+-- src/lib.rt:108:13
 leaf-requires-2 : tie.Need-leaf-requires-2 Inv-loop μ-loop
 leaf-requires-2 c κs = (onward (c .before .before .before .loop .inv .1) (one-inside (c .before .before .before .before .before .before .before .before .before .before .before .before .before .args .codes .now) (c .before .before .before .loop .q) (c .before .before .token .result) 8 (c .before .before .token .ensures) (c .before .if1 .taken) (omega arith)), c .before .before .before .before .before .before .before .before .before .before .before .before .before .pre .1)
 
--- src/lib.rt:89:22
+-- src/lib.rt:109:22
 enum-known-next : tie.Need-enum-known-next Inv-loop μ-loop
 enum-known-next c = search needs
 
--- src/lib.rt:90:13
+-- src/lib.rt:110:13
 enum-told-2 : tie.Need-enum-told-2 Inv-loop μ-loop
 enum-told-2 c = search needs
 
--- src/lib.rt:90:13
+-- src/lib.rt:110:13
 same-length-2 : tie.Need-same-length-2 Inv-loop μ-loop
 same-length-2 c = search needs
 
--- src/lib.rt:90:13
+-- src/lib.rt:110:13
 returns-2 : tie.Need-returns-2 Inv-loop μ-loop
 returns-2 c = list-then (leaf-goes (c .before .before .before .before .before .before .before .before .before .before .before .before .before .before .before .before .before .before .pre .1) (c .before .before .before .before .before .before .before .before .before .before .before .before .before .before .before .before .before .before .pre .0) (c .before .before .before .before .before .before .before .before .before .before .before .before .before .before .leaf .ensures)) (c .before .before .before .before .before .before .before .before .before .before .first .given .1) (many-refused (loops-turn (c .before .before .before .before .before .before .before .before .loop .inv .2) (names-ok (c .before .before .before .before .before .before .before .before .before .before .before .before .before .before .before .before .before .before .args .label)) (c .before .before .before .before .before .before .before .before .loop .inv .1) (seen-one (c .before .before .before .before .before .before .before .before .before .before .before .before .before .before .before .before .before .before .args .codes .now) (c .before .before .before .before .before .before .before .before .loop .q) 8 (c .before .before .before .before .before .before .before .token .ensures) (c .before .before .before .before .before .before .if1 .taken)) (comma-goes (c .before .before .before .before .before .before .before .before .before .before .before .before .before .before .before .before .before .before .pre .1) (onward (c .before .before .before .before .before .before .before .before .loop .inv .1) (one-inside (c .before .before .before .before .before .before .before .before .before .before .before .before .before .before .before .before .before .before .args .codes .now) (c .before .before .before .before .before .before .before .before .loop .q) (c .before .before .before .before .before .before .before .token .result) 8 (c .before .before .before .before .before .before .before .token .ensures) (c .before .before .before .before .before .before .if1 .taken) (omega arith))) (seen-one (c .before .before .before .before .before .before .before .before .before .before .before .before .before .before .before .before .before .before .args .codes .now) (c .before .before .before .before .before .before .before .before .loop .q) 8 (c .before .before .before .before .before .before .before .token .ensures) (c .before .before .before .before .before .before .if1 .taken)) (c .before .before .before .before .leaf2 .ensures))) (c .enum-told2 .given .1))
 
--- src/lib.rt:87:5
+-- src/lib.rt:107:5
 loop-less : tie.Need-loop-less Inv-loop μ-loop
 loop-less c = omega (arith, leaf-onward (c .before .before .before .before .before .leaf2 .ensures) (c .before .next .given .1), (ready-at (c .before .before .before .before .before .before .before .before .before .before .before .before .before .before .before .before .before .before .before .args .codes .now) (c .before .before .before .before .before .leaf2 .result) (c .before .before .before .before .before .leaf2 .ensures .sound) (c .before .next .given .1)) .within)
 
--- src/lib.rt:87:5
+-- src/lib.rt:107:5
 loop-again : tie.Need-loop-again Inv-loop μ-loop
 loop-again c = (search needs, ready-at (c .before .before .before .before .before .before .before .before .before .before .before .before .before .before .before .before .before .before .before .args .codes .now) (c .before .before .before .before .before .leaf2 .result) (c .before .before .before .before .before .leaf2 .ensures .sound) (c .before .next .given .1), loops-at (c .before .next .given .1) (loops-turn (c .before .before .before .before .before .before .before .before .before .loop .inv .2) (names-ok (c .before .before .before .before .before .before .before .before .before .before .before .before .before .before .before .before .before .before .before .args .label)) (c .before .before .before .before .before .before .before .before .before .loop .inv .1) (seen-one (c .before .before .before .before .before .before .before .before .before .before .before .before .before .before .before .before .before .before .before .args .codes .now) (c .before .before .before .before .before .before .before .before .before .loop .q) 8 (c .before .before .before .before .before .before .before .before .token .ensures) (c .before .before .before .before .before .before .before .if1 .taken)) (comma-goes (c .before .before .before .before .before .before .before .before .before .before .before .before .before .before .before .before .before .before .before .pre .1) (onward (c .before .before .before .before .before .before .before .before .before .loop .inv .1) (one-inside (c .before .before .before .before .before .before .before .before .before .before .before .before .before .before .before .before .before .before .before .args .codes .now) (c .before .before .before .before .before .before .before .before .before .loop .q) (c .before .before .before .before .before .before .before .before .token .result) 8 (c .before .before .before .before .before .before .before .before .token .ensures) (c .before .before .before .before .before .before .before .if1 .taken) (omega arith))) (seen-one (c .before .before .before .before .before .before .before .before .before .before .before .before .before .before .before .before .before .before .before .args .codes .now) (c .before .before .before .before .before .before .before .before .before .loop .q) 8 (c .before .before .before .before .before .before .before .before .token .ensures) (c .before .before .before .before .before .before .before .if1 .taken)) (c .before .before .before .before .before .leaf2 .ensures))))
 
--- src/lib.rt:79:1
+-- src/lib.rt:99:1
 same-length-3 : tie.Need-same-length-3 Inv-loop μ-loop
 same-length-3 c = search needs
 
--- src/lib.rt:79:1
+-- src/lib.rt:99:1
 returns-3 : tie.Need-returns-3 Inv-loop μ-loop
 returns-3 c = list-then (leaf-goes (c .before .before .before .before .before .before .before .before .before .before .before .before .pre .1) (c .before .before .before .before .before .before .before .before .before .before .before .before .pre .0) (c .before .before .before .before .before .before .before .before .leaf .ensures)) (c .before .before .before .before .first .given .1) (many-ends (c .before .before .loop .inv .2) (names-ok (c .before .before .before .before .before .before .before .before .before .before .before .before .args .label)) (c .before .before .loop .inv .1) (seen-other (c .before .before .before .before .before .before .before .before .before .before .before .before .args .codes .now) (c .before .before .loop .q) 8 (c .before .token .ensures) (c .if1 .left)))
 

@@ -10,43 +10,43 @@ use Rattle.phrases.proofs.Laws.{sound-of}
 use Rattle.syntax.proofs.Clauses.{label-ready, rule-labelled, rule-plain}
 use native.Mathlib.Omega.{arith}
 
--- src/lib.rt:187:8
+-- src/lib.rt:207:8
 is-labelled-requires : tie.Need-is-labelled-requires
 is-labelled-requires c κs = search needs
 
--- src/lib.rt:188:45
+-- src/lib.rt:208:45
 add-expression : tie.Need-add-expression
 add-expression c = search needs
 
--- src/lib.rt:188:13
+-- src/lib.rt:208:13
 expression-requires : tie.Need-expression-requires
 expression-requires c κs = label-ready (c .before .before .before .before .before .pre) (c .before .before .is-labelled .result) (c .before .before .is-labelled .ensures) (c .before .if1 .taken)
 
--- src/lib.rt:189:9
+-- src/lib.rt:209:9
 closed-requires : tie.Need-closed-requires
 closed-requires c κs = (sound-of (c .before .before .before .expression .result) (label-ready (c .before .before .before .before .before .before .before .before .before .pre) (c .before .before .before .before .before .before .is-labelled .result) (c .before .before .before .before .before .before .is-labelled .ensures) (c .before .before .before .before .before .if1 .taken)) (c .before .before .before .expression .ensures .ahead), omega arith, omega (arith, c .before .before .before .before .before .before .before .before .before .pre .small, c .before .before .before .before .before .before .before .before .before .pre .within))
 
--- src/lib.rt:189:9
+-- src/lib.rt:209:9
 same-length : tie.Need-same-length
 same-length c = search needs
 
--- src/lib.rt:189:9
+-- src/lib.rt:209:9
 returns : tie.Need-returns
 returns c = rule-labelled (c .before .before .before .before .before .before .before .before .before .before .before .before .pre) (c .before .before .before .before .before .before .before .before .before .is-labelled .result) (c .before .before .before .before .before .before .before .before .before .is-labelled .ensures) (c .before .before .before .before .before .before .before .before .if1 .taken) (c .before .before .before .before .before .before .expression .ensures) (c .before .before .closed .ensures)
 
--- src/lib.rt:191:9
+-- src/lib.rt:211:9
 expression-requires-2 : tie.Need-expression-requires-2
 expression-requires-2 c κs = search needs
 
--- src/lib.rt:192:5
+-- src/lib.rt:212:5
 closed-requires-2 : tie.Need-closed-requires-2
 closed-requires-2 c κs = (sound-of (c .before .before .before .expression2 .result) (c .before .before .before .before .before .before .before .before .before .pre) (c .before .before .before .expression2 .ensures .ahead), omega arith, omega (arith, c .before .before .before .before .before .before .before .before .before .pre .small, c .before .before .before .before .before .before .before .before .before .pre .within))
 
--- src/lib.rt:183:1
+-- src/lib.rt:203:1
 same-length-2 : tie.Need-same-length-2
 same-length-2 c = search needs
 
--- src/lib.rt:183:1
+-- src/lib.rt:203:1
 returns-2 : tie.Need-returns-2
 returns-2 c = rule-plain (c .before .before .before .before .before .before .before .before .before .before .before .before .pre) (c .before .before .before .before .before .before .before .before .before .is-labelled .result) (c .before .before .before .before .before .before .before .before .before .is-labelled .ensures) (c .before .before .before .before .before .before .before .before .if1 .left) (c .before .before .before .before .before .before .expression2 .ensures) (c .before .before .closed2 .ensures)
 

@@ -10,39 +10,39 @@ use Rattle.syntax.proofs.declarations.Reads as declarations-reads
 use Rattle.syntax.proofs.headed.Reads as headed-reads
 use Rattle.syntax.proofs.Clauses.{schema-reads}
 
--- src/lib.rt:395:9
+-- src/lib.rt:415:9
 headed-requires : tie.Need-headed-requires
 headed-requires c κs = search needs
 
--- src/lib.rt:396:9
+-- src/lib.rt:416:9
 expect-requires : tie.Need-expect-requires
 expect-requires c κs = search needs
 
--- src/lib.rt:397:9
+-- src/lib.rt:417:9
 constants-requires : tie.Need-constants-requires
 constants-requires c κs = search needs
 
--- src/lib.rt:398:9
+-- src/lib.rt:418:9
 declarations-requires : tie.Need-declarations-requires
 declarations-requires c κs = search needs
 
--- src/lib.rt:399:9
+-- src/lib.rt:419:9
 expect-requires-2 : tie.Need-expect-requires-2
 expect-requires-2 c κs = search needs
 
--- src/lib.rt:400:37
+-- src/lib.rt:420:37
 add-closed : tie.Need-add-closed
 add-closed c = search needs
 
--- src/lib.rt:400:5
+-- src/lib.rt:420:5
 closed-requires : tie.Need-closed-requires
 closed-requires c κs = search needs
 
--- src/lib.rt:391:1
+-- src/lib.rt:411:1
 same-length : tie.Need-same-length
 same-length c = search needs
 
--- src/lib.rt:391:1
+-- src/lib.rt:411:1
 returns : tie.Need-returns
 returns c = schema-reads (c .before .before .before .before .before .before .before .before .before .before .before .before .before .before .before .before .before .pre) (c .before .before .before .before .before .before .before .before .before .before .before .before .before .before .headed .ensures) (c .before .before .before .before .before .before .before .before .before .before .before .before .before .expect .ensures) (c .before .before .before .before .before .before .before .before .before .before .before .constants .ensures) (c .before .before .before .before .before .before .before .declarations .ensures) (c .before .before .before .before .expect2 .ensures) (c .before .before .closed .ensures)
 

@@ -25,67 +25,67 @@ Inv-loop codes rows₀ p n q₀ m₀ rows q m = (length rows ≡ length rows₀)
 abbrev μ-loop : tie.MeasureT-loop
 μ-loop codes rows₀ p n q₀ m₀ rows q m = length codes - q
 
--- src/lib.rt:408:9
+-- src/lib.rt:428:9
 schema-requires : tie.Need-schema-requires Inv-loop μ-loop
 schema-requires c κs = search needs
 
--- src/lib.rt:409:18
+-- src/lib.rt:429:18
 enum-known-first : tie.Need-enum-known-first Inv-loop μ-loop
 enum-known-first c = search needs
 
--- src/lib.rt:410:9
+-- src/lib.rt:430:9
 enum-told : tie.Need-enum-told Inv-loop μ-loop
 enum-told c = search needs
 
--- src/lib.rt:410:9
+-- src/lib.rt:430:9
 same-length : tie.Need-same-length Inv-loop μ-loop
 same-length c = search needs
 
--- src/lib.rt:410:9
+-- src/lib.rt:430:9
 returns : tie.Need-returns Inv-loop μ-loop
 returns c = list-refused (reads-goes (c .before .before .before .before .schema .ensures)) (c .enum-told .given .1)
 
--- src/lib.rt:412:5
+-- src/lib.rt:432:5
 loop-holds : tie.Need-loop-holds Inv-loop μ-loop
 loop-holds c = (refl, ready-of (c .before .before .before .before .before .before .before .before .before .pre) (c .before .before .before .before .before .schema .ensures .ahead) (c .before .first .given .1), loops-begin)
 
--- src/lib.rt:412:11
+-- src/lib.rt:432:11
 token-requires : tie.Need-token-requires Inv-loop μ-loop
 token-requires c κs = search needs
 
--- src/lib.rt:413:13
+-- src/lib.rt:433:13
 schema-requires-2 : tie.Need-schema-requires-2 Inv-loop μ-loop
 schema-requires-2 c κs = c .before .before .before .loop .inv .1
 
--- src/lib.rt:414:22
+-- src/lib.rt:434:22
 enum-known-next : tie.Need-enum-known-next Inv-loop μ-loop
 enum-known-next c = search needs
 
--- src/lib.rt:415:13
+-- src/lib.rt:435:13
 enum-told-2 : tie.Need-enum-told-2 Inv-loop μ-loop
 enum-told-2 c = search needs
 
--- src/lib.rt:415:13
+-- src/lib.rt:435:13
 same-length-2 : tie.Need-same-length-2 Inv-loop μ-loop
 same-length-2 c = search needs
 
--- src/lib.rt:415:13
+-- src/lib.rt:435:13
 returns-2 : tie.Need-returns-2 Inv-loop μ-loop
 returns-2 c = list-then (reads-goes (c .before .before .before .before .before .before .before .before .before .before .before .before .before .before .schema .ensures)) (c .before .before .before .before .before .before .before .before .before .before .first .given .1) (many-refused (loops-turn (c .before .before .before .before .before .before .before .before .loop .inv .2) schemas-ok (c .before .before .before .before .before .before .before .before .loop .inv .1) (seen-one (c .before .before .before .before .before .before .before .before .before .before .before .before .before .before .before .before .before .before .args .codes .now) (c .before .before .before .before .before .before .before .before .loop .q) 125 (c .before .before .before .before .before .before .before .token .ensures) (c .before .before .before .before .before .before .if1 .taken)) (reads-goes (c .before .before .before .before .schema2 .ensures))) (c .enum-told2 .given .1))
 
--- src/lib.rt:412:5
+-- src/lib.rt:432:5
 loop-less : tie.Need-loop-less Inv-loop μ-loop
 loop-less c = omega (arith, reads-at (c .before .before .before .before .before .schema2 .ensures) (c .before .next .given .1))
 
--- src/lib.rt:412:5
+-- src/lib.rt:432:5
 loop-again : tie.Need-loop-again Inv-loop μ-loop
 loop-again c = (search needs, ready-of (c .before .before .before .before .before .before .before .before .before .loop .inv .1) (c .before .before .before .before .before .schema2 .ensures .ahead) (c .before .next .given .1), loops-at (c .before .next .given .1) (loops-turn (c .before .before .before .before .before .before .before .before .before .loop .inv .2) schemas-ok (c .before .before .before .before .before .before .before .before .before .loop .inv .1) (seen-one (c .before .before .before .before .before .before .before .before .before .before .before .before .before .before .before .before .before .before .before .args .codes .now) (c .before .before .before .before .before .before .before .before .before .loop .q) 125 (c .before .before .before .before .before .before .before .before .token .ensures) (c .before .before .before .before .before .before .before .if1 .taken)) (reads-goes (c .before .before .before .before .before .schema2 .ensures))))
 
--- src/lib.rt:404:1
+-- src/lib.rt:424:1
 same-length-3 : tie.Need-same-length-3 Inv-loop μ-loop
 same-length-3 c = search needs
 
--- src/lib.rt:404:1
+-- src/lib.rt:424:1
 returns-3 : tie.Need-returns-3 Inv-loop μ-loop
 returns-3 c = list-then (reads-goes (c .before .before .before .before .before .before .before .before .schema .ensures)) (c .before .before .before .before .first .given .1) (many-ends (c .before .before .loop .inv .2) schemas-ok (c .before .before .loop .inv .1) (seen-other (c .before .before .before .before .before .before .before .before .before .before .before .before .args .codes .now) (c .before .before .loop .q) 125 (c .before .token .ensures) (c .if1 .left)))
 

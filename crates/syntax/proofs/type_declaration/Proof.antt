@@ -10,43 +10,43 @@ use Rattle.syntax.proofs.rules.Reads as rules-reads
 use Rattle.syntax.proofs.underlying.Reads as underlying-reads
 use Rattle.syntax.proofs.Clauses.{type-reads}
 
--- src/lib.rt:275:9
+-- src/lib.rt:295:9
 headed-requires : tie.Need-headed-requires
 headed-requires c κs = search needs
 
--- src/lib.rt:276:9
+-- src/lib.rt:296:9
 expect-requires : tie.Need-expect-requires
 expect-requires c κs = search needs
 
--- src/lib.rt:277:9
+-- src/lib.rt:297:9
 underlying-requires : tie.Need-underlying-requires
 underlying-requires c κs = search needs
 
--- src/lib.rt:278:9
+-- src/lib.rt:298:9
 expect-requires-2 : tie.Need-expect-requires-2
 expect-requires-2 c κs = search needs
 
--- src/lib.rt:279:9
+-- src/lib.rt:299:9
 rules-requires : tie.Need-rules-requires
 rules-requires c κs = search needs
 
--- src/lib.rt:280:9
+-- src/lib.rt:300:9
 expect-requires-3 : tie.Need-expect-requires-3
 expect-requires-3 c κs = search needs
 
--- src/lib.rt:281:37
+-- src/lib.rt:301:37
 add-closed : tie.Need-add-closed
 add-closed c = search needs
 
--- src/lib.rt:281:5
+-- src/lib.rt:301:5
 closed-requires : tie.Need-closed-requires
 closed-requires c κs = search needs
 
--- src/lib.rt:271:1
+-- src/lib.rt:291:1
 same-length : tie.Need-same-length
 same-length c = search needs
 
--- src/lib.rt:271:1
+-- src/lib.rt:291:1
 returns : tie.Need-returns
 returns c = type-reads (c .before .before .before .before .before .before .before .before .before .before .before .before .before .before .before .before .before .before .pre) (c .before .before .before .before .before .before .before .before .before .before .before .before .before .before .before .headed .ensures) (c .before .before .before .before .before .before .before .before .before .before .before .before .before .before .expect .ensures) (c .before .before .before .before .before .before .before .before .before .before .before .before .underlying .ensures) (c .before .before .before .before .before .before .before .before .before .expect2 .ensures) (c .before .before .before .before .before .before .before .rules .ensures) (c .before .before .before .before .expect3 .ensures) (c .before .before .closed .ensures)
 

@@ -14,75 +14,75 @@ use Rattle.syntax.proofs.Laws.{takes-refused, takes-at}
 use Rattle.syntax.proofs.Clauses.{enumeration-reads, select-reads, renamed-reads}
 use native.Mathlib.Omega.{arith}
 
--- src/lib.rt:254:18
+-- src/lib.rt:274:18
 enum-known-before : tie.Need-enum-known-before
 enum-known-before c = search needs
 
--- src/lib.rt:255:9
+-- src/lib.rt:275:9
 enum-told : tie.Need-enum-told
 enum-told c = search needs
 
--- src/lib.rt:255:9
+-- src/lib.rt:275:9
 returns : tie.Need-returns
 returns c = takes-refused (c .enum-told .given .1)
 
--- src/lib.rt:257:9
+-- src/lib.rt:277:9
 token-requires : tie.Need-token-requires
 token-requires c κs = search needs
 
--- src/lib.rt:259:41
+-- src/lib.rt:279:41
 add-t11 : tie.Need-add-t11
 add-t11 c = omega (arith, (ready-at (c .before .before .before .before .before .before .before .args .codes .now) (c .before .before .before .before .before .before .before .args .before) (c .before .before .before .before .before .before .before .pre) (c .before .before .before .before2 .given .1)) .small, (ready-at (c .before .before .before .before .before .before .before .args .codes .now) (c .before .before .before .before .before .before .before .args .before) (c .before .before .before .before .before .before .before .pre) (c .before .before .before .before2 .given .1)) .within)
 
--- src/lib.rt:259:13
+-- src/lib.rt:279:13
 expect-requires : tie.Need-expect-requires
 expect-requires c κs = (onward (ready-at (c .before .before .before .before .before .before .before .args .codes .now) (c .before .before .before .before .before .before .before .args .before) (c .before .before .before .before .before .before .before .pre) (c .before .before .before .before2 .given .1)) (one-inside (c .before .before .before .before .before .before .before .args .codes .now) (c .before .before .before .before2 .given .0 .0) (c .before .token .result) 76 (c .before .token .ensures) (c .if1 .taken) (omega arith)), omega arith)
 
--- src/lib.rt:260:13
+-- src/lib.rt:280:13
 ids-requires : tie.Need-ids-requires
 ids-requires c κs = search needs
 
--- src/lib.rt:261:9
+-- src/lib.rt:281:9
 node-requires : tie.Need-node-requires
 node-requires c κs = (counts-sound (c .before .before .before .before .before .before .before .before .before .before .before .before .before .args .codes .now) (c .before .before .before .ids .result) (c .before .before .before .ids .ensures .sound), omega arith, omega (arith, (ready-at (c .before .before .before .before .before .before .before .before .before .before .before .before .before .args .codes .now) (c .before .before .before .before .before .before .before .before .before .before .before .before .before .args .before) (c .before .before .before .before .before .before .before .before .before .before .before .before .before .pre) (c .before .before .before .before .before .before .before .before .before .before2 .given .1)) .small, (ready-at (c .before .before .before .before .before .before .before .before .before .before .before .before .before .args .codes .now) (c .before .before .before .before .before .before .before .before .before .before .before .before .before .args .before) (c .before .before .before .before .before .before .before .before .before .before .before .before .before .pre) (c .before .before .before .before .before .before .before .before .before .before2 .given .1)) .within))
 
--- src/lib.rt:261:9
+-- src/lib.rt:281:9
 same-length : tie.Need-same-length
 same-length c = search needs
 
--- src/lib.rt:261:9
+-- src/lib.rt:281:9
 returns-2 : tie.Need-returns-2
 returns-2 c = takes-at (c .before .before .before .before .before .before .before .before .before .before .before .before .before2 .given .1) (ready-at (c .before .before .before .before .before .before .before .before .before .before .before .before .before .before .before .before .args .codes .now) (c .before .before .before .before .before .before .before .before .before .before .before .before .before .before .before .before .args .before) (c .before .before .before .before .before .before .before .before .before .before .before .before .before .before .before .before .pre) (c .before .before .before .before .before .before .before .before .before .before .before .before .before2 .given .1)) (enumeration-reads (ready-at (c .before .before .before .before .before .before .before .before .before .before .before .before .before .before .before .before .args .codes .now) (c .before .before .before .before .before .before .before .before .before .before .before .before .before .before .before .before .args .before) (c .before .before .before .before .before .before .before .before .before .before .before .before .before .before .before .before .pre) (c .before .before .before .before .before .before .before .before .before .before .before .before .before2 .given .1)) (c .before .before .before .before .before .before .before .before .before .before .token .result) (c .before .before .before .before .before .before .before .before .before .before .token .ensures) (c .before .before .before .before .before .before .before .before .before .if1 .taken) (c .before .before .before .before .before .before .before .before .expect .ensures) (c .before .before .before .before .before .before .ids .ensures) (c .before .before .node .ensures))
 
--- src/lib.rt:264:50
+-- src/lib.rt:284:50
 add-t19 : tie.Need-add-t19
 add-t19 c = omega (arith, (ready-at (c .before .before .before .before .before .before .before .before .before .args .codes .now) (c .before .before .before .before .before .before .before .before .before .args .before) (c .before .before .before .before .before .before .before .before .before .pre) (c .before .before .before .before .before .before2 .given .1)) .small, (ready-at (c .before .before .before .before .before .before .before .before .before .args .codes .now) (c .before .before .before .before .before .before .before .before .before .args .before) (c .before .before .before .before .before .before .before .before .before .pre) (c .before .before .before .before .before .before2 .given .1)) .within)
 
--- src/lib.rt:264:13
+-- src/lib.rt:284:13
 ids-requires-2 : tie.Need-ids-requires-2
 ids-requires-2 c κs = (onward (ready-at (c .before .before .before .before .before .before .before .before .before .args .codes .now) (c .before .before .before .before .before .before .before .before .before .args .before) (c .before .before .before .before .before .before .before .before .before .pre) (c .before .before .before .before .before .before2 .given .1)) (one-inside (c .before .before .before .before .before .before .before .before .before .args .codes .now) (c .before .before .before .before .before .before2 .given .0 .0) (c .before .before .before .token .result) 126 (c .before .before .before .token .ensures) (c .before .if2 .taken) (omega arith)), omega arith)
 
--- src/lib.rt:265:9
+-- src/lib.rt:285:9
 node-requires-2 : tie.Need-node-requires-2
 node-requires-2 c κs = (counts-sound (c .before .before .before .before .before .before .before .before .before .before .before .before .before .args .codes .now) (c .before .before .before .ids2 .result) (c .before .before .before .ids2 .ensures .sound), omega arith, omega (arith, (ready-at (c .before .before .before .before .before .before .before .before .before .before .before .before .before .args .codes .now) (c .before .before .before .before .before .before .before .before .before .before .before .before .before .args .before) (c .before .before .before .before .before .before .before .before .before .before .before .before .before .pre) (c .before .before .before .before .before .before .before .before .before .before2 .given .1)) .small, (ready-at (c .before .before .before .before .before .before .before .before .before .before .before .before .before .args .codes .now) (c .before .before .before .before .before .before .before .before .before .before .before .before .before .args .before) (c .before .before .before .before .before .before .before .before .before .before .before .before .before .pre) (c .before .before .before .before .before .before .before .before .before .before2 .given .1)) .within))
 
--- src/lib.rt:265:9
+-- src/lib.rt:285:9
 same-length-2 : tie.Need-same-length-2
 same-length-2 c = search needs
 
--- src/lib.rt:265:9
+-- src/lib.rt:285:9
 returns-3 : tie.Need-returns-3
 returns-3 c = takes-at (c .before .before .before .before .before .before .before .before .before .before .before .before .before2 .given .1) (ready-at (c .before .before .before .before .before .before .before .before .before .before .before .before .before .before .before .before .args .codes .now) (c .before .before .before .before .before .before .before .before .before .before .before .before .before .before .before .before .args .before) (c .before .before .before .before .before .before .before .before .before .before .before .before .before .before .before .before .pre) (c .before .before .before .before .before .before .before .before .before .before .before .before .before2 .given .1)) (select-reads (ready-at (c .before .before .before .before .before .before .before .before .before .before .before .before .before .before .before .before .args .codes .now) (c .before .before .before .before .before .before .before .before .before .before .before .before .before .before .before .before .args .before) (c .before .before .before .before .before .before .before .before .before .before .before .before .before .before .before .before .pre) (c .before .before .before .before .before .before .before .before .before .before .before .before .before2 .given .1)) (c .before .before .before .before .before .before .before .before .before .before .token .result) (c .before .before .before .before .before .before .before .before .before .before .token .ensures) (c .before .before .before .before .before .before .before .before .if2 .taken) (c .before .before .before .before .before .before .ids2 .ensures) (c .before .before .node2 .ensures))
 
--- src/lib.rt:267:5
+-- src/lib.rt:287:5
 base-requires : tie.Need-base-requires
 base-requires c κs = ((ready-at (c .before .before .before .before .before .before .before .before .before .args .codes .now) (c .before .before .before .before .before .before .before .before .before .args .before) (c .before .before .before .before .before .before .before .before .before .pre) (c .before .before .before .before .before .before2 .given .1)), omega arith)
 
--- src/lib.rt:250:1
+-- src/lib.rt:270:1
 same-length-3 : tie.Need-same-length-3
 same-length-3 c = search needs
 
--- src/lib.rt:250:1
+-- src/lib.rt:270:1
 returns-4 : tie.Need-returns-4
 returns-4 c = takes-at (c .before .before .before .before .before .before .before .before .before2 .given .1) (ready-at (c .before .before .before .before .before .before .before .before .before .before .before .before .args .codes .now) (c .before .before .before .before .before .before .before .before .before .before .before .before .args .before) (c .before .before .before .before .before .before .before .before .before .before .before .before .pre) (c .before .before .before .before .before .before .before .before .before2 .given .1)) (renamed-reads (ready-at (c .before .before .before .before .before .before .before .before .before .before .before .before .args .codes .now) (c .before .before .before .before .before .before .before .before .before .before .before .before .args .before) (c .before .before .before .before .before .before .before .before .before .before .before .before .pre) (c .before .before .before .before .before .before .before .before .before2 .given .1)) (c .before .before .before .before .before .before .token .result) (c .before .before .before .before .before .before .token .ensures) (c .before .before .before .before .before .if1 .left) (c .before .before .before .before .if2 .left) (c .before .before .base .ensures .typed))
 

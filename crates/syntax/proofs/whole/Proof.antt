@@ -13,31 +13,31 @@ use Rattle.express.specs.Grammar.{file as file′}
 use Rattle.phrases.proofs.Limit.{end-within, whole-ready, judges}
 use Rattle.phrases.proofs.Columns.{judged-few}
 
--- src/lib.rt:437:9
+-- src/lib.rt:457:9
 first-deep-requires : tie.Need-first-deep-requires
 first-deep-requires c κs = search needs
 
--- src/lib.rt:438:9
+-- src/lib.rt:458:9
 end-of-requires : tie.Need-end-of-requires
 end-of-requires c κs = search needs
 
--- src/lib.rt:439:21
+-- src/lib.rt:459:21
 slice-aggregate-file : tie.Need-slice-aggregate-file
 slice-aggregate-file c = sym (length-take-le (c .before .end-of .result) (c .before .before .before .before .before .args .codes .now) (end-within (c .before .before .before .before .before .args .codes .now) (c .before .before .first-deep .result) (c .before .end-of .result) (c .before .end-of .ensures)))
 
--- src/lib.rt:439:9
+-- src/lib.rt:459:9
 file-requires : tie.Need-file-requires
 file-requires c κs = whole-ready (c .before .before .before .before .before .before .args .codes .now) (c .before .before .end-of .result) (end-within (c .before .before .before .before .before .before .args .codes .now) (c .before .before .before .first-deep .result) (c .before .before .end-of .result) (c .before .before .end-of .ensures)) (c .before .before .before .before .before .before .pre)
 
--- src/lib.rt:440:5
+-- src/lib.rt:460:5
 judged-requires : tie.Need-judged-requires
 judged-requires c κs = search needs
 
--- src/lib.rt:433:1
+-- src/lib.rt:453:1
 same-length : tie.Need-same-length
 same-length c = search needs
 
--- src/lib.rt:433:1
+-- src/lib.rt:453:1
 returns : tie.Need-returns
 returns c = record { judges = judges (c .before .before .before .before .before .before .before .before .before .before .args .codes .now) file′ (c .before .before .before .file .result) _ _ (c .before .before .before .before .before .before .before .first-deep .result) (c .before .before .before .before .before .before .end-of .result) (c .judged .result) (c .before .before .before .before .before .before .before .first-deep .ensures) (c .before .before .before .before .before .before .end-of .ensures) (c .before .before .before .file .ensures) (c .judged .ensures); few = judged-few (c .before .before .before .before .before .before .before .before .before .before .args .codes .now) (c .before .before .before .file .result) (c .before .before .before .before .before .before .before .first-deep .result) (c .before .before .before .before .before .before .end-of .result) (c .judged .result) (end-within (c .before .before .before .before .before .before .before .before .before .before .args .codes .now) (c .before .before .before .before .before .before .before .first-deep .result) (c .before .before .before .before .before .before .end-of .result) (c .before .before .before .before .before .before .end-of .ensures)) (c .judged .ensures) (c .before .before .before .file .ensures .ahead) }
 
