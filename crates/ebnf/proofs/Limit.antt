@@ -59,7 +59,7 @@ module _ (opening closing : List ℕ) (limit : ℕ) where
   Is-first d ts nowhere = (m : ℕ) → ¬ (Deep′ d ts m)
 
   abbrev then-open : ℕ → ℕ → ℕ
-  then-open = opened opening closing limit
+  then-open = opened opening closing
 
   later : (d c : ℕ) (ts : List ℕ) → ¬ (Deep′ d (c ∷ ts) 0) → (o : Option ℕ) → Is-first (then-open d c) ts o → Is-first d (c ∷ ts) (next o)
   later d c ts n (some k) p = (p .0, before)

@@ -14,7 +14,7 @@ abbrev pub next : Option ℕ → Option ℕ
 next (some k) = some (suc k)
 next nowhere = nowhere
 
-module _ (opening closing : List ℕ) (limit : ℕ) where
+module _ (opening closing : List ℕ) where
   -- how many brackets are open after one more token
   abbrev pub opened : ℕ → ℕ → ℕ
   opened d c = cond (mem c opening) (suc d) (cond (mem c closing) (d - 1) d)
@@ -25,17 +25,18 @@ module _ (opening closing : List ℕ) (limit : ℕ) where
   open-at d [] (suc n) = d
   open-at d (c ∷ ts) (suc n) = open-at (opened d c) ts n
 
-  -- The token at n opens one more than the limit allows.
-  abbrev pub Deep-from : ℕ → List ℕ → ℕ → Type 0
-  Deep-from d ts n = (mem (getD ts n 0) opening ≡ true) × (limit ≤ open-at d ts n)
+  module _ (limit : ℕ) where
+    -- The token at n opens one more than the limit allows.
+    abbrev pub Deep-from : ℕ → List ℕ → ℕ → Type 0
+    Deep-from d ts n = (mem (getD ts n 0) opening ≡ true) × (limit ≤ open-at d ts n)
 
-  abbrev pub Deep : List ℕ → ℕ → Type 0
-  Deep ts n = Deep-from 0 ts n
+    abbrev pub Deep : List ℕ → ℕ → Type 0
+    Deep ts n = Deep-from 0 ts n
 
-  -- the first such token
-  unfoldable pub first-deep : ℕ → List ℕ → Option ℕ
-  first-deep d [] = nowhere
-  first-deep d (c ∷ ts) = let o = next (first-deep (opened d c) ts) in cond (mem c opening && leb limit d) (some 0) o
+    -- the first such token
+    unfoldable pub first-deep : ℕ → List ℕ → Option ℕ
+    first-deep d [] = nowhere
+    first-deep d (c ∷ ts) = let o = next (first-deep (opened d c) ts) in cond (mem c opening && leb limit d) (some 0) o
 
 -- What is said of a list: its value, the first token that cannot stand, or the first that nests too deep.
 pub data Outcome (W : Type 0) : Type 0 where

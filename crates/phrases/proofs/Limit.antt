@@ -31,14 +31,14 @@ use Rattle.phrases.specs.Outcome.{steps-from, steps, or-end, deep-or-end
 
 -- ---- how many brackets are open
 
-steps-at : (n c k : ℕ) → k < n → getD (steps-from n c) k 0 ≡ opened opening closing nesting 1 (c + k)
+steps-at : (n c k : ℕ) → k < n → getD (steps-from n c) k 0 ≡ opened opening closing 1 (c + k)
 unfolding steps-from
 steps-at zero c k h = absurd (omega arith)
-steps-at (suc n) c zero h = ap (opened opening closing nesting 1) (omega arith)
-steps-at (suc n) c (suc k) h = let e : suc c + k ≡ c + suc k = omega arith in steps-at n (suc c) k (omega arith) ∙ ap (opened opening closing nesting 1) e
+steps-at (suc n) c zero h = ap (opened opening closing 1) (omega arith)
+steps-at (suc n) c (suc k) h = let e : suc c + k ≡ c + suc k = omega arith in steps-at n (suc c) k (omega arith) ∙ ap (opened opening closing 1) e
 
 -- the table's entry tells what a token does, however many are open
-pub opened-by : (d : ℕ) {table : List ℕ} {c k s r : ℕ} → table ≡ steps → k ≡ c → k ≤ 255 → s ≡ getD table k 0 → r ≡ d + s - 1 → r ≡ opened opening closing nesting d c
+pub opened-by : (d : ℕ) {table : List ℕ} {c k s r : ℕ} → table ≡ steps → k ≡ c → k ≤ 255 → s ≡ getD table k 0 → r ≡ d + s - 1 → r ≡ opened opening closing d c
 opened-by d {table} {c} {k} {s} {r} t e l h g = let z : 0 + k ≡ c = omega arith in rw (g, h, t, steps-at 256 0 k (omega arith), z) (go (mem c opening) (mem c closing))
   where
     go : (b t : Bool) → d + cond b 2 (cond t (1 - 1) 1) - 1 ≡ cond b (suc d) (cond t (d - 1) d)
@@ -59,7 +59,7 @@ next-end (some k) l = refl
 next-end nowhere l = refl
 
 module _ (c : ℕ) where
-  not-opened : (d : ℕ) → mem c opening ≡ false → opened opening closing nesting d c ≤ d
+  not-opened : (d : ℕ) → mem c opening ≡ false → opened opening closing d c ≤ d
   not-opened d h = rw h (go (mem c closing))
     where
       go : (b : Bool) → cond b (d - 1) d ≤ d
@@ -67,14 +67,14 @@ module _ (c : ℕ) where
       go false = omega arith
 
   -- a token that is too deep opens one, with all open
-  deep-test : (d : ℕ) → d ≤ 64 → 64 < opened opening closing nesting d c → (mem c opening && leb nesting d) ≡ true
+  deep-test : (d : ℕ) → d ≤ 64 → 64 < opened opening closing d c → (mem c opening && leb nesting d) ≡ true
   deep-test d l h = go (mem c opening) refl
     where
       go : (b : Bool) → mem c opening ≡ b → (b && leb nesting d) ≡ true
       go true e = let h₂ : 64 < suc d = rw e at h in le-leb nesting d (omega arith)
       go false e = let n = not-opened d e in absurd (omega arith)
 
-  not-deep : (d : ℕ) → opened opening closing nesting d c ≤ 64 → (mem c opening && leb nesting d) ≡ false
+  not-deep : (d : ℕ) → opened opening closing d c ≤ 64 → (mem c opening && leb nesting d) ≡ false
   not-deep d h = go (mem c opening) refl
     where
       go : (b : Bool) → mem c opening ≡ b → (b && leb nesting d) ≡ false
@@ -89,16 +89,16 @@ module _ (ts : List ℕ) (i d c : ℕ) (l : i < length ts) (e : c ≡ getD ts i 
   rest-is : drop i ts ≡ c ∷ drop (suc i) ts
   rest-is = drop-cons ts i 0 l ∙ ap (λ (x : ℕ). x ∷ drop (suc i) ts) (sym e)
 
-  pub deep-here : (z : ℕ) → z ≡ opened opening closing nesting d c → d ≤ 64 → 64 < z → i ≡ deep-from ts i d
+  pub deep-here : (z : ℕ) → z ≡ opened opening closing d c → d ≤ 64 → 64 < z → i ≡ deep-from ts i d
   unfolding first-deep
   deep-here z f k h =
       let t = deep-test c d k (subst (λ (x : ℕ). 64 < x) f h) in
       rw (rest-is, t) (omega arith)
 
-  pub deep-on : (z : ℕ) → z ≡ opened opening closing nesting d c → (64 < z → ⊥) → deep-from ts i d ≡ deep-from ts (i + 1) z
+  pub deep-on : (z : ℕ) → z ≡ opened opening closing d c → (64 < z → ⊥) → deep-from ts i d ≡ deep-from ts (i + 1) z
   unfolding first-deep
   deep-on z f h =
-      let k : opened opening closing nesting d c ≤ 64 = subst (λ (x : ℕ). x ≤ 64) f (omega arith) in
+      let k : opened opening closing d c ≤ 64 = subst (λ (x : ℕ). x ≤ 64) f (omega arith) in
       let t = not-deep c d k in
       let n : length ts - i ≡ suc (length ts - suc i) = omega arith in
       rw (rest-is, t, n, next-end, add-one, f) (omega arith)
@@ -114,7 +114,7 @@ deep-end ts i d l k =
 deep-inside : (d : ℕ) (ts : List ℕ) (k : ℕ) → first-deep opening closing nesting d ts ≡ some k → k < length ts
 unfolding first-deep
 deep-inside d [] k h = let z : _≡_ {A = ℕ} 0 1 = cc in absurd (omega arith)
-deep-inside d (c ∷ ts) k h = go (mem c opening && leb nesting d) (first-deep opening closing nesting (opened opening closing nesting d c) ts) (λ j. deep-inside (opened opening closing nesting d c) ts j) h
+deep-inside d (c ∷ ts) k h = go (mem c opening && leb nesting d) (first-deep opening closing nesting (opened opening closing d c) ts) (λ j. deep-inside (opened opening closing d c) ts j) h
   where
     go : (b : Bool) (o : Option ℕ) → ((j : ℕ) → o ≡ some j → j < length ts) → cond b (some 0) (next o) ≡ some k → k < suc (length ts)
     go true o f e = let y : 0 ≡ k = cc in omega arith

@@ -25,7 +25,7 @@ use Rattle.phrases.specs.Parsing.{entries}
 -- how many brackets are open after each of n terminals, from c on, where one is before it
 unfoldable pub steps-from : ℕ → ℕ → List ℕ
 steps-from zero c = []
-steps-from (suc n) c = opened opening closing nesting 1 c ∷ steps-from n (suc c)
+steps-from (suc n) c = opened opening closing 1 c ∷ steps-from n (suc c)
 
 -- for every byte
 abbrev pub steps : List ℕ

@@ -8,7 +8,7 @@ ghost use Rattle.ebnf.specs.Set.{mem};
 ghost use Rattle.express.specs.Terminal.{identifier, dot};
 ghost use Rattle.express.specs.Grammar.{expression, sum, term, factor, operand, atom, interval, relations, additions, multiplications, signs, comparisons};
 ghost use Rattle.ebnf.specs.Depth.{opened};
-ghost use Rattle.express.specs.Syntax.{opening, closing, nesting};
+ghost use Rattle.express.specs.Syntax.{opening, closing};
 ghost use Rattle.phrases.specs.Reading.{word, atom-label, Ready, Sound, Reads, Expects, Leaves, Compares, Noded, Combined, Counts};
 ghost use Rattle.phrases.specs.Parsing.{most, Parsing};
 ghost use Rattle.phrases.specs.Outcome.{steps as stepList, deep-or-end, end-of, judged, Judging, answered, kind-in, role-in, token-in, size-in, Unpacked, count, Settles};
@@ -395,7 +395,7 @@ fn predecessor(n: usize) -> usize
 // How many brackets are open after one more token.
 fn nested(steps: &[u8; 256], depth: usize, c: u8) -> usize
     requires { ⌜ (now steps ≡ stepList) × (depth ≤ 64) ⌝ }
-    ensures { λ r. ⌜ r ≡ opened opening closing nesting depth c ⌝ }
+    ensures { λ r. ⌜ r ≡ opened opening closing depth c ⌝ }
 {
     predecessor(depth + wide(steps[wide(c)]))
 }
