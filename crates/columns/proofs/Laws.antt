@@ -7,7 +7,7 @@ use native.Mathlib.Numerals.{add-one}
 use native.Mathlib.Nat.{add-zero, zero-add}
 use lib.ListN.{length, take, drop, set, getD, replicate, length-set, length-append, length-take, length-drop, length-replicate}
 use lib.Seq.{sets, length-sets, sets-eq, take-all, take-at, take-take, take-suc-set, append-snoc, set-out, getD-set-same, getD-set-other, getD-take}
-use Rattle.columns.specs.Column.{cleared, padded}
+use Rattle.columns.specs.Column.{cleared, padded, tabulated}
 
 module _ {A : Type 0} where
   -- ---- stores in a row
@@ -94,3 +94,11 @@ module _ {A : Type 0} {z : A} {was : List A} {from : ℕ} where
 
   pub clearing-ends : {c : List A} {i : ℕ} → length c ≤ i → Clearing z was from c i → c ≡ cleared z from was
   clearing-ends {c} {i} h k = sym (clear-over z c i h) ∙ k .is
+
+-- ---- constant tables
+
+pub tabulated-at : (f : ℕ → ℕ) (p n i : ℕ) → i < n → getD (tabulated f p n) i 0 ≡ f (p + i)
+unfolding tabulated
+tabulated-at f p zero i h = absurd (omega arith)
+tabulated-at f p (suc n) zero h = ap f (omega arith)
+tabulated-at f p (suc n) (suc i) h = tabulated-at f (p + 1) n i (omega arith) ∙ ap f (omega arith)

@@ -1,6 +1,6 @@
 -- Columns: a table lent as columns is as long as its shortest column, and what is past its rows is zero.
-use Prim.Native.Nat.{ℕ, _-_}
-use mathlib.Core.List.{List, _++_}
+use Prim.Native.Nat.{ℕ, zero, suc, _+_, _-_}
+use mathlib.Core.List.{List, [], _∷_, _++_}
 use lib.ListN.{length, replicate, take}
 
 -- a column with zeros from an index on
@@ -10,3 +10,8 @@ cleared z n c = take n c ++ replicate (length c - n) z
 -- values, and zeros behind them up to n entries
 abbrev pub padded : {A : Type 0} → A → ℕ → List A → List A
 padded z n vs = vs ++ replicate (n - length vs) z
+
+-- what f gives for n numbers from p on: the rule of a constant table
+unfoldable pub tabulated : (ℕ → ℕ) → ℕ → ℕ → List ℕ
+tabulated f p zero = []
+tabulated f p (suc n) = f p ∷ tabulated f (p + 1) n

@@ -14,6 +14,7 @@ use borrow.Author.Tests.{eq-eqb, ne-eqb, lt-ltb, le-ltb, leb-true, leb-false, le
 use Rattle.ebnf.specs.Set.{mem}
 use Rattle.ebnf.specs.Rows.{Row, Rows}
 use Rattle.ebnf.specs.Parse.{Result, at, refused, starved, bind, accepted, refused-at, verdict, parse}
+use Rattle.columns.proofs.Laws.{tabulated-at}
 use Rattle.ebnf.specs.Depth.{next, opened, first-deep, Outcome, good, unexpected, too-deep, uncut, cut-at, outcome-to}
 use Rattle.ebnf.specs.Rows.{in-rows}
 use Rattle.ebnf.proofs.Sets.{lt-or-le}
@@ -27,19 +28,13 @@ use Rattle.phrases.specs.declared.Read.{Read}
 use Rattle.phrases.specs.declared.Judgement.{Judgement}
 use Rattle.phrases.specs.declared.Judgement.the-variants.{Good, Unexpected, TooDeep}
 use Rattle.phrases.specs.Reading.{Ready, Found, Reads}
-use Rattle.phrases.specs.Outcome.{steps-from, steps, or-end, deep-or-end, end-of, judged, Judges}
+use Rattle.phrases.specs.Outcome.{steps, or-end, deep-or-end, end-of, judged, Judges}
 
 -- ---- how many brackets are open
 
-steps-at : (n c k : ℕ) → k < n → getD (steps-from n c) k 0 ≡ opened opening closing 1 (c + k)
-unfolding steps-from
-steps-at zero c k h = absurd (omega arith)
-steps-at (suc n) c zero h = ap (opened opening closing 1) (omega arith)
-steps-at (suc n) c (suc k) h = let e : suc c + k ≡ c + suc k = omega arith in steps-at n (suc c) k (omega arith) ∙ ap (opened opening closing 1) e
-
 -- the table's entry tells what a token does, however many are open
 pub opened-by : (d : ℕ) {table : List ℕ} {c k s r : ℕ} → table ≡ steps → k ≡ c → k ≤ 255 → s ≡ getD table k 0 → r ≡ d + s - 1 → r ≡ opened opening closing d c
-opened-by d {table} {c} {k} {s} {r} t e l h g = let z : 0 + k ≡ c = omega arith in rw (g, h, t, steps-at 256 0 k (omega arith), z) (go (mem c opening) (mem c closing))
+opened-by d {table} {c} {k} {s} {r} t e l h g = let z : 0 + k ≡ c = omega arith in rw (g, h, t, tabulated-at (opened opening closing 1) 0 256 k (omega arith), z) (go (mem c opening) (mem c closing))
   where
     go : (b t : Bool) → d + cond b 2 (cond t (1 - 1) 1) - 1 ≡ cond b (suc d) (cond t (d - 1) d)
     go true t = omega arith

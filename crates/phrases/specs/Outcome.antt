@@ -1,12 +1,13 @@
 -- The stages between the readers and the columns: the outcome of a list whose rows stand in words, and the words in columns.
 use mathlib.Core.Bool.{Bool, true, false, not, cond}
-use mathlib.Core.List.{List, [], _∷_, map}
+use mathlib.Core.List.{List, map}
 use mathlib.Core.Option.{Option, some, none as nowhere}
 use mathlib.Core.Path.{_≡_}
-use Prim.Native.Nat.{ℕ, zero, suc, _+_, _/_, _%_, _≤_}
+use Prim.Native.Nat.{ℕ, _+_, _/_, _%_, _≤_}
 use lib.ListN.{length, take}
 use lib.Seq.{sets}
 use lib.Dec.{eqb, ltb, leb}
+use Rattle.columns.specs.Column.{tabulated}
 use Rattle.ebnf.specs.Rows.{Row, Rows}
 use Rattle.ebnf.specs.Depth.{Outcome, good, unexpected, too-deep, opened, first-deep}
 use Rattle.express.specs.Grammar.{Nonterminal}
@@ -22,14 +23,9 @@ use Rattle.phrases.specs.Parsing.{entries}
 
 -- ---- the limit on nesting
 
--- how many brackets are open after each of n terminals, from c on, where one is before it
-unfoldable pub steps-from : ℕ → ℕ → List ℕ
-steps-from zero c = []
-steps-from (suc n) c = opened opening closing 1 c ∷ steps-from n (suc c)
-
--- for every byte
+-- how many brackets are open after each terminal, where one is before it
 abbrev pub steps : List ℕ
-steps = steps-from 256 0
+steps = tabulated (opened opening closing 1) 0 256
 
 -- a token, or the length where there is none
 abbrev pub or-end : Option ℕ → ℕ → ℕ

@@ -4,23 +4,17 @@ use mathlib.Core.Bool.{Bool, true, false, _&&_}
 use mathlib.Core.List.{List}
 use Prim.Native.Nat.{ℕ, zero, suc, _+_, _<_, _≤_}
 use native.Mathlib.Omega.{arith}
-use native.Mathlib.Nat.{not-suc-le-zero}
 use lib.ListN.{length, getD}
 use lib.Bits.{bitAnd}
 use Rattle.express.specs.Bytes.{wordByte}
 use Rattle.express.specs.Lexis.{run}
-use Rattle.scan.specs.Scan.{one, column, wordTable}
+use Rattle.columns.proofs.Laws.{tabulated-at}
+use Rattle.scan.specs.Scan.{one, wordTable}
 use Rattle.scan.proofs.Turns.{run-more, run-stop, run-over}
-
-column-at : (f : ℕ → ℕ) (p n i : ℕ) → i < n → getD (column f p n) i 0 ≡ f (p + i)
-unfolding column
-column-at f p zero i h = absurd (not-suc-le-zero h)
-column-at f p (suc n) zero h = ap f (omega arith)
-column-at f p (suc n) (suc i) h = column-at f (p + 1) n i (omega (arith, h)) ∙ ap f (omega arith)
 
 pub table-at : (t : List ℕ) (b i : ℕ) → t ≡ wordTable → i ≡ b → b < 256 → getD t i 0 ≡ one (wordByte b)
 unfolding wordTable
-table-at t b i is at h = rw (is, at) (column-at (λ x. one (wordByte x)) 0 256 b h ∙ ap (λ (x : ℕ). one (wordByte x)) (omega arith))
+table-at t b i is at h = rw (is, at) (tabulated-at (λ x. one (wordByte x)) 0 256 b h ∙ ap (λ (x : ℕ). one (wordByte x)) (omega arith))
 
 none : (x : Bool) → one x ≡ 0 → x ≡ false
 none true e = absurd (omega (arith, e))

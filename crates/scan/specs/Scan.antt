@@ -1,11 +1,12 @@
 -- What the steps of the token reader mean, and what its calls promise.
-use Prim.Native.Nat.{ℕ, zero, suc, min, _+_, _/_, _%_, _^_}
+use Prim.Native.Nat.{ℕ, min, _/_, _%_, _^_}
 use mathlib.Core.Bool.{Bool, cond}
 use lib.Dec.{eqb, ltb}
 use mathlib.Core.Path.{_≡_}
-use mathlib.Core.List.{List, [], _∷_}
+use mathlib.Core.List.{List}
 use lib.ListN.{length}
 use lib.Seq.{sets}
+use Rattle.columns.specs.Column.{tabulated}
 use Rattle.express.specs.Bytes.{digit, wordByte}
 use Rattle.express.specs.Lexis as Lexis
 use Rattle.express.specs.Lexis.{Reading, at, refused, Lexed, inLine, bit, kindAt, tokenEnd, lexed, tokens}
@@ -30,14 +31,9 @@ inSet low high b = eqb (halfOf low high b / 2 ^ (b % 64) % 2) 1
 abbrev pub one : Bool → ℕ
 one x = cond x 1 0
 
--- what f gives for n numbers from p on
-unfoldable pub column : (ℕ → ℕ) → ℕ → ℕ → List ℕ
-column f p zero = []
-column f p (suc n) = f p ∷ column f (p + 1) n
-
 -- by its byte: 1 for what a word goes on with
 unfoldable pub wordTable : List ℕ
-wordTable = column (λ b. one (wordByte b)) 0 256
+wordTable = tabulated (λ b. one (wordByte b)) 0 256
 
 -- what a token's kind and end are together
 abbrev pub tokenOf : ℕ → Reading → Found

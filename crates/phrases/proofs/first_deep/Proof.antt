@@ -7,7 +7,8 @@ use Prim.Native.Nat.{_≤_, _-_}
 use mathlib.Core.Path.{_≡_, refl, sym, _∙_}
 use lib.ListN.{length}
 use Rattle.ebnf.specs.Set.{mem}
-use Rattle.phrases.specs.Outcome.{steps-from, deep-or-end}
+use Rattle.columns.specs.Column.{tabulated}
+use Rattle.phrases.specs.Outcome.{deep-or-end}
 use Rattle.phrases.proofs.Limit.{deep-from, deep-start, deep-here, deep-on, deep-end}
 use native.Mathlib.Omega.{arith}
 
@@ -27,7 +28,7 @@ shared-slice-read-nested c = omega arith
 
 -- src/lib.rt:412:9
 nested-requires : tie.Need-nested-requires Inv-loop μ-loop
-unfolding mem steps-from
+unfolding mem tabulated
 nested-requires c κs = (refl, c .before .before .before .loop .inv .1)
 
 -- src/lib.rt:414:13

@@ -10,7 +10,8 @@ use mathlib.Core.Path.{_≡_, refl, sym, _∙_, ap}
 use Prim.Native.Nat.{_≤_, _-_, _+_}
 use lib.ListN.{length}
 use Rattle.express.specs.Bytes.{wordByte}
-use Rattle.scan.specs.Scan.{column, wordTable}
+use Rattle.columns.specs.Column.{tabulated}
+use Rattle.scan.specs.Scan.{wordTable}
 use Rattle.scan.proofs.Rows.{Progress, too-long, progress-first, skip-refused, all-read, token-refused, places, row-read}
 use borrow.Author.Needs.{needs}
 use native.Mathlib.Omega.{arith}
@@ -75,7 +76,7 @@ returns-3 c = all-read (c .before .before .before .before .before .loop .inv) _ 
 
 -- src/lib.rt:507:13
 token-requires : tie.Need-token-requires Inv-loop μ-loop
-unfolding wordTable column wordByte
+unfolding wordTable tabulated wordByte
 token-requires c κs = (c .before .if2 .left, refl)
 
 -- src/lib.rt:508:23
