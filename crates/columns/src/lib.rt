@@ -1,6 +1,6 @@
 // Lent columns: a number stored as far as it fits, zeros from an index on, and the cast of an index.
 ghost use mathlib.Core.Path.{_≡_};
-ghost use Prim.Native.Nat.{min};
+ghost use Prim.Native.Nat.{min, _≤_};
 ghost use lib.IntN.{pos};
 ghost use lib.ListN.{set};
 ghost use Rattle.columns.specs.Column.{cleared};
@@ -10,6 +10,13 @@ pub fn index(x: u32) -> usize
     ensures { λ r. ⌜ r ≡ x ⌝ }
 {
     x as usize
+}
+
+// A byte as an index, of a table of 256 entries.
+pub fn byte_index(b: u8) -> usize
+    ensures { λ r. ⌜ (r ≡ b) × (r ≤ 255) ⌝ }
+{
+    b as usize
 }
 
 // The smaller of two lengths: a table lent as columns is as long as its shortest column.

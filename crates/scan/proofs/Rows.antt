@@ -16,7 +16,7 @@ use Rattle.scan.specs.Scan.{reading, stepOf, tokenAt, ended, Filled, Sca
 use Rattle.scan.specs.declared.Step.{Step}
 use Rattle.scan.specs.declared.Step.the-variants.{At, Refused}
 use Rattle.scan.specs.declared.Found.{Found}
-use Rattle.scan.specs.declared.Found.the-variants.{Of, Not}
+use Rattle.scan.specs.declared.Found.the-variants.{Token, Refusal}
 use Rattle.scan.proofs.Tokens.{of-is, not-is}
 
 -- n rows are written and p is reached; what is left from there, in enough turns, completes them
@@ -88,10 +88,10 @@ module _ {src k₀ s₀ z₀ k s z : List ℕ} {n p : ℕ} (c : Progress src k�
         token-of : {r : Reading} → r ≡ tokenEnd src q (kindAt src q) → lexIn (suc (length src - n)) src p ≡ afterToken (kindAt src q) q r (λ r. lexIn (length src - n) src r)
         token-of r-is = after ∙ rw (lt-ltb q (length src) h, r-is)
 
-        pub token-refused : {m o : ℕ} → found ≡ Not m o → (r : Step) → r ≡ stepOf found → Filled (lexed src) k₀ s₀ z₀ r k s z
+        pub token-refused : {m o : ℕ} → found ≡ Refusal m o → (r : Step) → r ≡ stepOf found → Filled (lexed src) k₀ s₀ z₀ r k s z
         token-refused {m} {o} e r r-is = ends (refused m o) r (token-of (not-is src q (sym e ∙ found-is))) (ap reading (r-is ∙ ap stepOf e))
 
-        module _ {kind e : ℕ} (of-e : found ≡ Of kind e) where
+        module _ {kind e : ℕ} (of-e : found ≡ Token kind e) where
           parts : (kind ≡ kindAt src q) × (at e ≡ tokenEnd src q (kindAt src q))
           parts = of-is src q (sym of-e ∙ found-is)
 

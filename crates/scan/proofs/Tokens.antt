@@ -10,7 +10,7 @@ use Rattle.express.specs.Bytes.{letter, digit, wordByte}
 use Rattle.express.specs.Lexis.{Reading, at, refused, run, lone, symbolSize, symbolEnd, stringEnd, binaryEnd, integerEnd, realEnd, exponentEnd, kindAt, tokenEnd}
 use Rattle.scan.specs.Scan.{tokenOf, tokenAt}
 use Rattle.scan.specs.declared.Found.{Found}
-use Rattle.scan.specs.declared.Found.the-variants.{Of, Not}
+use Rattle.scan.specs.declared.Found.the-variants.{Token, Refusal}
 use Rattle.scan.proofs.Bits.{lone-kind}
 use Rattle.scan.proofs.Turns.{run-more}
 
@@ -25,16 +25,16 @@ module _ (s : List ℕ) (p : ℕ) where
   unfolding tokenAt
   token-is k e k-is e-is = rw (k-is, e-is)
 
-  pub lone-token : first < 256 → lone first ≡ true → Of 6 (p + 1) ≡ tokenAt s p
+  pub lone-token : first < 256 → lone first ≡ true → Token 6 (p + 1) ≡ tokenAt s p
   unfolding tokenEnd symbolEnd symbolSize
   lone-token h l = token-is 6 (at (p + 1)) (lone-kind s p first refl h l) (rw l)
 
-  pub word-token : p < length s → letter first ≡ true → (e : ℕ) → e ≡ run wordByte s (p + 1) → Of 1 e ≡ tokenAt s p
+  pub word-token : p < length s → letter first ≡ true → (e : ℕ) → e ≡ run wordByte s (p + 1) → Token 1 e ≡ tokenAt s p
   unfolding kindAt tokenEnd wordByte
   word-token h l e is = token-is 1 (at e) (rw l) (ap at (run-more wordByte s p h (rw l) ∙ sym is))
 
   module _ (n : letter first ≡ false) where
-    pub real-token : digit first ≡ true → point ≡ 46 → (e : ℕ) → e ≡ exponentEnd s (run digit s (run digit s p + 1)) → Of 3 e ≡ tokenAt s p
+    pub real-token : digit first ≡ true → point ≡ 46 → (e : ℕ) → e ≡ exponentEnd s (run digit s (run digit s p + 1)) → Token 3 e ≡ tokenAt s p
     unfolding kindAt tokenEnd realEnd
     real-token d q e is = token-is 3 (at e) (rw (n, d, eq-eqb _ _ q)) (ap at (sym is))
 
@@ -57,18 +57,18 @@ module _ (s : List ℕ) (p : ℕ) where
         symbol-token r = token-is 6 (symbolEnd s p) (rw (n, d, ne-eqb _ _ q, ne-eqb _ _ r)) refl
 
   -- and back
-  pub of-is : {k e : ℕ} → Of k e ≡ tokenAt s p → (k ≡ kindAt s p) × (at e ≡ tokenEnd s p (kindAt s p))
+  pub of-is : {k e : ℕ} → Token k e ≡ tokenAt s p → (k ≡ kindAt s p) × (at e ≡ tokenEnd s p (kindAt s p))
   unfolding tokenAt
   of-is {k} {e} is = go (tokenEnd s p (kindAt s p)) is
     where
-      go : (r : Reading) → Of k e ≡ tokenOf (kindAt s p) r → (k ≡ kindAt s p) × (at e ≡ r)
+      go : (r : Reading) → Token k e ≡ tokenOf (kindAt s p) r → (k ≡ kindAt s p) × (at e ≡ r)
       go (at f) q = (cc, ap at (cc))
       go (refused m o) q = let z : _≡_ {A = ℕ} 0 1 = cc in absurd (omega (arith, z))
 
-  pub not-is : {m o : ℕ} → Not m o ≡ tokenAt s p → refused m o ≡ tokenEnd s p (kindAt s p)
+  pub not-is : {m o : ℕ} → Refusal m o ≡ tokenAt s p → refused m o ≡ tokenEnd s p (kindAt s p)
   unfolding tokenAt
   not-is {m} {o} is = go (tokenEnd s p (kindAt s p)) is
     where
-      go : (r : Reading) → Not m o ≡ tokenOf (kindAt s p) r → refused m o ≡ r
+      go : (r : Reading) → Refusal m o ≡ tokenOf (kindAt s p) r → refused m o ≡ r
       go (at f) q = let z : _≡_ {A = ℕ} 0 1 = cc in absurd (omega (arith, z))
       go (refused i j) q = let a : m ≡ i = cc in let b : o ≡ j = cc in rw (a, b)

@@ -13,7 +13,7 @@ use Rattle.express.specs.Lexis.{Reading, at, refused, Lexed, inLine, bit, kindA
 use Rattle.scan.specs.declared.Step.{Step}
 use Rattle.scan.specs.declared.Step.the-variants.{At, Refused}
 use Rattle.scan.specs.declared.Found.{Found}
-use Rattle.scan.specs.declared.Found.the-variants.{Of, Not}
+use Rattle.scan.specs.declared.Found.the-variants.{Token, Refusal}
 use Rattle.scan.specs.declared.Class.{Class}
 use Rattle.scan.specs.declared.Class.the-variants.{Digit, Bit, Line}
 
@@ -37,12 +37,12 @@ wordTable = tabulated (λ b. one (wordByte b)) 0 256
 
 -- what a token's kind and end are together
 abbrev pub tokenOf : ℕ → Reading → Found
-tokenOf k (at e) = Of k e
-tokenOf k (refused n o) = Not n o
+tokenOf k (at e) = Token k e
+tokenOf k (refused n o) = Refusal n o
 
 abbrev pub stepOf : Found → Step
-stepOf (Of k e) = At e
-stepOf (Not n o) = Refused n o
+stepOf (Token k e) = At e
+stepOf (Refusal n o) = Refused n o
 
 unfoldable pub tokenAt : List ℕ → ℕ → Found
 tokenAt s p = tokenOf (kindAt s p) (tokenEnd s p (kindAt s p))

@@ -15,8 +15,8 @@ pub enum Step {
 
 // A token gives its kind and its end, or a located refusal.
 enum Found {
-    Of(u8, usize),
-    Not(u8, usize),
+    Token(u8, usize),
+    Refusal(u8, usize),
 }
 
 // 1 for each byte that a word goes on with, 0 for the others: specs/Scan has the rule.
@@ -128,18 +128,12 @@ fn run_end(s: &[u8], at: usize, class: Class) -> usize
     i
 }
 
-fn index(b: u8) -> usize
-    ensures { λ r. ⌜ r ≡ b ⌝ }
-{
-    b as usize
-}
-
 // 1 where a word goes on with a byte, 0 where it does not.
 fn goes_on(words: &[u8; 256], b: u8) -> u8
     requires { ⌜ now words ≡ wordTable ⌝ }
     ensures { λ r. ⌜ r ≡ one (wordByte b) ⌝ }
 {
-    words[index(b)]
+    words[columns::byte_index(b)]
 }
 
 // The end of the word that goes on at a place. Two bytes a turn: half the jumps, and lengths 1 apart are alike to them.
@@ -160,7 +154,7 @@ fn word_end(s: &[u8], at: usize, words: &[u8; 256]) -> usize
         i += 2;
     }
     if i < s.len() {
-        return i + index(goes_on(words, s[i]));
+        return i + columns::byte_index(goes_on(words, s[i]));
     }
     i
 }
@@ -226,7 +220,7 @@ fn skip(s: &[u8], at: usize) -> Step
     Step::At(i)
 }
 
-// Of the integer whose digits end at a place.
+// The end of the integer whose digits end at a place, unless it is too large.
 fn integer_end(s: &[u8], at: usize, end: usize) -> Step
     requires { ⌜ end ≡ run digit (now s) at ⌝ }
     ensures { λ r. ⌜ reading r ≡ integerEnd (now (s .entry)) at ⌝ }
@@ -267,7 +261,7 @@ fn exponent_end(s: &[u8], at: usize) -> usize
     run_end(s, digits, Class::Digit)
 }
 
-// Of the real whose point is at a place.
+// The end of the real whose point is at a place.
 fn real_end(s: &[u8], point: usize) -> usize
     requires { ⌜ point ≤ length (now s) ⌝ }
     ensures { λ r. ⌜ r ≡ exponentEnd (now (s .entry)) (run digit (now (s .entry)) (point + 1)) ⌝ }
@@ -406,31 +400,34 @@ fn symbol_end(s: &[u8], at: usize) -> Step
     Step::At(at + size)
 }
 
+// A token of a kind, by the step that reads it.
 fn named(kind: u8, step: Step) -> Found
     ensures { λ r. ⌜ r ≡ tokenOf kind (reading step) ⌝ }
 {
     match step {
-        Step::At(e) => Found::Of(kind, e),
-        Step::Refused(n, o) => Found::Not(n, o),
+        Step::At(e) => Found::Token(kind, e),
+        Step::Refused(n, o) => Found::Refusal(n, o),
     }
 }
 
+// The refusal of a token, as one of a step.
 fn refusal(found: Found) -> Step
     ensures { λ r. ⌜ r ≡ stepOf found ⌝ }
 {
     match found {
-        Found::Of(_, e) => Step::At(e),
-        Found::Not(n, o) => Step::Refused(n, o),
+        Found::Token(_, e) => Step::At(e),
+        Found::Refusal(n, o) => Step::Refused(n, o),
     }
 }
 
+// An integer, or a real where a point ends its digits.
 fn number(s: &[u8], at: usize) -> Found
     requires { ⌜ (at < length (now s)) × (letter (getD (now s) at 0) ≡ false) × (digit (getD (now s) at 0) ≡ true) ⌝ }
     ensures { λ r. ⌜ r ≡ tokenAt (now (s .entry)) at ⌝ }
 {
     let end = run_end(s, at, Class::Digit);
     if byte(s, end) == 46 {
-        return Found::Of(3, real_end(s, end));
+        return Found::Token(3, real_end(s, end));
     }
     named(2, integer_end(s, at, end))
 }
@@ -442,10 +439,10 @@ fn token(s: &[u8], at: usize, words: &[u8; 256]) -> Found
 {
     let b = s[at];
     if is_lone(b) {
-        return Found::Of(6, at + 1);
+        return Found::Token(6, at + 1);
     }
     if is_letter(b) {
-        return Found::Of(1, word_end(s, at + 1, words));
+        return Found::Token(1, word_end(s, at + 1, words));
     }
     if is_within(48, 57, b) {
         return number(s, at);
@@ -505,7 +502,7 @@ fn fill(src: &[u8], kinds: &mut [u8], starts: &mut [u32], lengths: &mut [u32], r
             return Step::At(n);
         }
         let found = token(src, p, &words);
-        let Found::Of(kind, e) = found else {
+        let Found::Token(kind, e) = found else {
             return refusal(found);
         };
         push(

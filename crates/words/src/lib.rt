@@ -12,12 +12,6 @@ ghost use Rattle.express.specs.Spelling.{same as sameBytes};
 ghost use Rattle.express.specs.Terminal.{wordTerminal, symbolTerminal, terminalOf, terminals as terminalsOf};
 ghost use Rattle.words.specs.Lookup.{folded, hash, slots as slotList, froms as fromList, text as textList, Named};
 
-fn wide(b: u8) -> usize
-    ensures { λ r. ⌜ (r ≡ b) × (r ≤ 255) ⌝ }
-{
-    b as usize
-}
-
 fn back(n: usize, k: usize) -> usize
     ensures { λ r. ⌜ r ≡ n - k ⌝ }
 {
@@ -58,9 +52,9 @@ fn hash_of(s: &[u8], start: usize, n: usize, fold: bool) -> usize
     requires { ⌜ (n ≤ length (now s) - start) × (n ≤ 13) ⌝ }
     ensures { λ r. ⌜ r ≡ hash (folded fold (take n (drop start (now (s .entry))))) ⌝ }
 {
-    let first = wide(letter(s, start, n, fold, 0));
-    let last = wide(letter(s, start, n, fold, back(n, 1)));
-    let before = wide(letter(s, start, n, fold, back(n, 2)));
+    let first = columns::byte_index(letter(s, start, n, fold, 0));
+    let last = columns::byte_index(letter(s, start, n, fold, back(n, 1)));
+    let before = columns::byte_index(letter(s, start, n, fold, back(n, 2)));
     (first * 462 + n * 300 + last * 447 + before * 332) % 1024
 }
 
@@ -97,7 +91,7 @@ fn number(
         return 0;
     }
     let h = hash_of(s, start, n, fold);
-    let k = wide(slots[h]);
+    let k = columns::byte_index(slots[h]);
     if k == 0 {
         return 0;
     }

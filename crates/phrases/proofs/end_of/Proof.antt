@@ -7,15 +7,15 @@ use mathlib.Core.Path.{refl}
 use borrow.Author.Tests.{lt-ltb, le-ltb}
 use native.Mathlib.Omega.{arith}
 
--- src/lib.rt:426:16
+-- src/lib.rt:420:16
 add-result : tie.Need-add-result
 add-result c = search needs
 
--- src/lib.rt:426:9
+-- src/lib.rt:420:9
 returns : tie.Need-returns
 returns c = rw (lt-ltb (c .before .args .deep) (c .before .args .length) (c .if1 .taken)) refl
 
--- src/lib.rt:422:1
+-- src/lib.rt:416:1
 returns-2 : tie.Need-returns-2
 returns-2 c = rw (le-ltb (c .before .args .deep) (c .before .args .length) (omega arith)) refl
 

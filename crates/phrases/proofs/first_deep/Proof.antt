@@ -18,36 +18,36 @@ Inv-loop codes steps depth₀ i₀ depth i = (i ≤ length codes) × (depth ≤ 
 abbrev μ-loop : tie.MeasureT-loop
 μ-loop codes steps depth₀ i₀ depth i = length codes - i
 
--- src/lib.rt:411:5
+-- src/lib.rt:405:5
 loop-holds : tie.Need-loop-holds Inv-loop μ-loop
 loop-holds c = (omega arith, omega arith, deep-start (c .before .args .codes .now))
 
--- src/lib.rt:412:39
+-- src/lib.rt:406:39
 shared-slice-read-nested : tie.Need-shared-slice-read-nested Inv-loop μ-loop
 shared-slice-read-nested c = omega arith
 
--- src/lib.rt:412:9
+-- src/lib.rt:406:9
 nested-requires : tie.Need-nested-requires Inv-loop μ-loop
 unfolding mem tabulated
 nested-requires c κs = (refl, c .before .before .before .loop .inv .1)
 
--- src/lib.rt:414:13
+-- src/lib.rt:408:13
 returns : tie.Need-returns Inv-loop μ-loop
 returns c = deep-here (c .before .before .before .before .before .before .before .args .codes .now) (c .before .before .before .before .before .loop .i) (c .before .before .before .before .before .loop .depth) _ (c .before .before .before .before .loop-test .taken) refl (c .before .nested .result) (c .before .nested .ensures) (c .before .before .before .before .before .loop .inv .1) (c .if1 .taken) ∙ c .before .before .before .before .before .loop .inv .2
 
--- src/lib.rt:416:9
+-- src/lib.rt:410:9
 add-i : tie.Need-add-i Inv-loop μ-loop
 add-i c = omega arith
 
--- src/lib.rt:411:5
+-- src/lib.rt:405:5
 loop-less : tie.Need-loop-less Inv-loop μ-loop
 loop-less c = omega arith
 
--- src/lib.rt:411:5
+-- src/lib.rt:405:5
 loop-again : tie.Need-loop-again Inv-loop μ-loop
 loop-again c = (omega arith, omega arith, sym (deep-on (c .before .before .before .before .before .before .before .args .codes .now) (c .before .before .before .before .before .loop .i) (c .before .before .before .before .before .loop .depth) _ (c .before .before .before .before .loop-test .taken) refl (c .before .nested .result) (c .before .nested .ensures) (λ h. omega arith)) ∙ c .before .before .before .before .before .loop .inv .2)
 
--- src/lib.rt:404:1
+-- src/lib.rt:398:1
 returns-2 : tie.Need-returns-2 Inv-loop μ-loop
 returns-2 c = deep-end (c .before .before .before .args .codes .now) (c .before .loop .i) (c .before .loop .depth) (omega arith) (omega arith) ∙ c .before .loop .inv .2
 

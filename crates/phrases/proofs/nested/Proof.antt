@@ -4,40 +4,40 @@ use Rattle.phrases.proofs.nested.Tie as tie
 use Rattle.phrases.proofs.nested.Reads as reads
 use Rattle.phrases.proofs.nested.Lts as lts
 use Rattle.phrases.proofs.predecessor.Reads as predecessor-reads
-use Rattle.phrases.proofs.wide.Reads as wide-reads
+use Rattle.columns.proofs.byte_index.Reads as byte-index-reads
 use Rattle.phrases.proofs.Limit.{opened-by}
 
--- src/lib.rt:400:36
-wide-requires : tie.Need-wide-requires
-wide-requires c κs = search needs
+-- src/lib.rt:394:36
+byte-index-requires : tie.Need-byte-index-requires
+byte-index-requires c κs = search needs
 
--- src/lib.rt:400:30
-element-copy-out-wide : tie.Need-element-copy-out-wide
-element-copy-out-wide c = search needs
+-- src/lib.rt:394:30
+element-copy-out-byte-index : tie.Need-element-copy-out-byte-index
+element-copy-out-byte-index c = search needs
 
--- src/lib.rt:400:25
-wide-requires-2 : tie.Need-wide-requires-2
-wide-requires-2 c κs = search needs
+-- src/lib.rt:394:25
+byte-index-requires-2 : tie.Need-byte-index-requires-2
+byte-index-requires-2 c κs = search needs
 
--- src/lib.rt:400:17
+-- src/lib.rt:394:17
 add-predecessor : tie.Need-add-predecessor
 add-predecessor c = search needs
 
--- src/lib.rt:400:5
+-- src/lib.rt:394:5
 predecessor-requires : tie.Need-predecessor-requires
 predecessor-requires c κs = search needs
 
--- src/lib.rt:396:1
+-- src/lib.rt:390:1
 returns : tie.Need-returns
-returns c = opened-by (c .before .before .before .before .args .depth) (c .before .before .before .before .pre .0) (c .before .before .before .wide .ensures .0) (c .before .before .before .wide .ensures .1) (c .before .wide2 .ensures .0) (c .predecessor .ensures)
+returns c = opened-by (c .before .before .before .before .args .depth) (c .before .before .before .before .pre .0) (c .before .before .before .byte-index .ensures .0) (c .before .before .before .byte-index .ensures .1) (c .before .byte-index2 .ensures .0) (c .predecessor .ensures)
 
 pub nested-spec : {M : Type 1} → statement M
 nested-spec =
     tie.close
     (tie.spec
-    wide-requires
-    element-copy-out-wide
-    wide-requires-2
+    byte-index-requires
+    element-copy-out-byte-index
+    byte-index-requires-2
     add-predecessor
     predecessor-requires
     returns)

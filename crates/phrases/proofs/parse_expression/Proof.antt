@@ -9,79 +9,79 @@ use Rattle.phrases.proofs.parse_small.Reads as parse-small-reads
 use Rattle.express.specs.Grammar.{expression as expression′}
 use Rattle.phrases.proofs.Columns.{too-long}
 
--- src/lib.rt:635:9
+-- src/lib.rt:629:9
 returns : tie.Need-returns
 returns c = too-long expression′ (c .if1 .taken)
 
--- src/lib.rt:638:9
+-- src/lib.rt:632:9
 parse-large-requires : tie.Need-parse-large-requires
 parse-large-requires c κs = search needs
 
--- src/lib.rt:638:9
+-- src/lib.rt:632:9
 same-length : tie.Need-same-length
 same-length c = search needs
 
--- src/lib.rt:638:9
+-- src/lib.rt:632:9
 same-length-2 : tie.Need-same-length-2
 same-length-2 c = search needs
 
--- src/lib.rt:638:9
+-- src/lib.rt:632:9
 same-length-3 : tie.Need-same-length-3
 same-length-3 c = search needs
 
--- src/lib.rt:638:9
+-- src/lib.rt:632:9
 same-length-4 : tie.Need-same-length-4
 same-length-4 c = search needs
 
--- src/lib.rt:638:9
+-- src/lib.rt:632:9
 returns-2 : tie.Need-returns-2
 returns-2 c = search needs
 
--- src/lib.rt:641:9
+-- src/lib.rt:635:9
 parse-middle-requires : tie.Need-parse-middle-requires
 parse-middle-requires c κs = search needs
 
--- src/lib.rt:641:9
+-- src/lib.rt:635:9
 same-length-5 : tie.Need-same-length-5
 same-length-5 c = search needs
 
--- src/lib.rt:641:9
+-- src/lib.rt:635:9
 same-length-6 : tie.Need-same-length-6
 same-length-6 c = search needs
 
--- src/lib.rt:641:9
+-- src/lib.rt:635:9
 same-length-7 : tie.Need-same-length-7
 same-length-7 c = search needs
 
--- src/lib.rt:641:9
+-- src/lib.rt:635:9
 same-length-8 : tie.Need-same-length-8
 same-length-8 c = search needs
 
--- src/lib.rt:641:9
+-- src/lib.rt:635:9
 returns-3 : tie.Need-returns-3
 returns-3 c = search needs
 
--- src/lib.rt:643:5
+-- src/lib.rt:637:5
 parse-small-requires : tie.Need-parse-small-requires
 parse-small-requires c κs = search needs
 
--- src/lib.rt:625:1
+-- src/lib.rt:619:1
 same-length-9 : tie.Need-same-length-9
 same-length-9 c = search needs
 
--- src/lib.rt:625:1
+-- src/lib.rt:619:1
 same-length-10 : tie.Need-same-length-10
 same-length-10 c = search needs
 
--- src/lib.rt:625:1
+-- src/lib.rt:619:1
 same-length-11 : tie.Need-same-length-11
 same-length-11 c = search needs
 
--- src/lib.rt:625:1
+-- src/lib.rt:619:1
 same-length-12 : tie.Need-same-length-12
 same-length-12 c = search needs
 
--- src/lib.rt:625:1
+-- src/lib.rt:619:1
 returns-4 : tie.Need-returns-4
 returns-4 c = search needs
 

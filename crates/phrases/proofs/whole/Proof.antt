@@ -13,31 +13,31 @@ use mathlib.Core.Path.{sym}
 use lib.Seq.{length-take-le}
 use Rattle.phrases.proofs.Columns.{judged-few}
 
--- src/lib.rt:459:9
+-- src/lib.rt:453:9
 first-deep-requires : tie.Need-first-deep-requires
 first-deep-requires c κs = search needs
 
--- src/lib.rt:460:9
+-- src/lib.rt:454:9
 end-of-requires : tie.Need-end-of-requires
 end-of-requires c κs = search needs
 
--- src/lib.rt:461:27
+-- src/lib.rt:455:27
 slice-aggregate-expression : tie.Need-slice-aggregate-expression
 slice-aggregate-expression c = sym (length-take-le (c .before .end-of .result) (c .before .before .before .before .before .args .codes .now) (end-within (c .before .before .before .before .before .args .codes .now) (c .before .before .first-deep .result) (c .before .end-of .result) (c .before .end-of .ensures)))
 
--- src/lib.rt:461:9
+-- src/lib.rt:455:9
 expression-requires : tie.Need-expression-requires
 expression-requires c κs = whole-ready (c .before .before .before .before .before .before .args .codes .now) (c .before .before .end-of .result) (end-within (c .before .before .before .before .before .before .args .codes .now) (c .before .before .before .first-deep .result) (c .before .before .end-of .result) (c .before .before .end-of .ensures)) (c .before .before .before .before .before .before .pre)
 
--- src/lib.rt:462:5
+-- src/lib.rt:456:5
 judged-requires : tie.Need-judged-requires
 judged-requires c κs = search needs
 
--- src/lib.rt:455:1
+-- src/lib.rt:449:1
 same-length : tie.Need-same-length
 same-length c = search needs
 
--- src/lib.rt:455:1
+-- src/lib.rt:449:1
 returns : tie.Need-returns
 returns c = record { judges = judges (c .before .before .before .before .before .before .before .before .before .before .args .codes .now) expression′ (c .before .before .before .expression .result) _ _ (c .before .before .before .before .before .before .before .first-deep .result) (c .before .before .before .before .before .before .end-of .result) (c .judged .result) (c .before .before .before .before .before .before .before .first-deep .ensures) (c .before .before .before .before .before .before .end-of .ensures) (c .before .before .before .expression .ensures) (c .judged .ensures); few = judged-few (c .before .before .before .before .before .before .before .before .before .before .args .codes .now) (c .before .before .before .expression .result) (c .before .before .before .before .before .before .before .first-deep .result) (c .before .before .before .before .before .before .end-of .result) (c .judged .result) (end-within (c .before .before .before .before .before .before .before .before .before .before .args .codes .now) (c .before .before .before .before .before .before .before .first-deep .result) (c .before .before .before .before .before .before .end-of .result) (c .before .before .before .before .before .before .end-of .ensures)) (c .judged .ensures) (c .before .before .before .expression .ensures .ahead) }
 

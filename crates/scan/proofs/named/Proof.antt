@@ -6,19 +6,19 @@ use Rattle.scan.proofs.named.Lts as lts
 use mathlib.Core.Path.{sym, ap}
 use Rattle.scan.specs.Scan.{reading, tokenOf}
 
--- src/lib.rt:413:18
+-- src/lib.rt:408:18
 enum-known-step : tie.Need-enum-known-step
 enum-known-step c = search needs
 
--- src/lib.rt:414:23
+-- src/lib.rt:409:23
 enum-known-step-2 : tie.Need-enum-known-step-2
 enum-known-step-2 c = search needs
 
--- src/lib.rt:409:1
+-- src/lib.rt:404:1
 returns : tie.Need-returns
 returns c = sym (ap (λ x. tokenOf (c .before .before .before .args .kind) (reading x)) (c .before .step .given .1))
 
--- src/lib.rt:409:1
+-- src/lib.rt:404:1
 returns-2 : tie.Need-returns-2
 returns-2 c = sym (ap (λ x. tokenOf (c .before .before .before .args .kind) (reading x)) (c .before .step2 .given .1))
 

@@ -8,19 +8,19 @@ use Rattle.scan.proofs.run_end.Reads as run-end-reads
 use mathlib.Core.Path.{_∙_, ap}
 use Rattle.express.specs.Lexis.{exponentEnd}
 
--- src/lib.rt:275:32
+-- src/lib.rt:269:32
 add-run-end : tie.Need-add-run-end
 add-run-end c = search needs
 
--- src/lib.rt:275:21
+-- src/lib.rt:269:21
 run-end-requires : tie.Need-run-end-requires
 run-end-requires c κs = search needs
 
--- src/lib.rt:275:5
+-- src/lib.rt:269:5
 exponent-end-requires : tie.Need-exponent-end-requires
 exponent-end-requires c κs = search needs
 
--- src/lib.rt:271:1
+-- src/lib.rt:265:1
 returns : tie.Need-returns
 returns c = c .exponent-end .ensures ∙ ap (exponentEnd (c .before .before .before .args .s .now)) (c .before .run-end .ensures)
 

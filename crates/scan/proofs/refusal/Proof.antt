@@ -6,19 +6,19 @@ use Rattle.scan.proofs.refusal.Lts as lts
 use mathlib.Core.Path.{sym, ap}
 use Rattle.scan.specs.Scan.{stepOf}
 
--- src/lib.rt:422:22
+-- src/lib.rt:418:25
 enum-known-found : tie.Need-enum-known-found
 enum-known-found c = search needs
 
--- src/lib.rt:423:20
+-- src/lib.rt:419:24
 enum-known-found-2 : tie.Need-enum-known-found-2
 enum-known-found-2 c = search needs
 
--- src/lib.rt:418:1
+-- src/lib.rt:414:1
 returns : tie.Need-returns
 returns c = sym (ap stepOf (c .before .found .given .1))
 
--- src/lib.rt:418:1
+-- src/lib.rt:414:1
 returns-2 : tie.Need-returns-2
 returns-2 c = sym (ap stepOf (c .before .found2 .given .1))
 

@@ -5,86 +5,86 @@ use Rattle.words.proofs.hash_of.Reads as reads
 use Rattle.words.proofs.hash_of.Lts as lts
 use Rattle.words.proofs.back.Reads as back-reads
 use Rattle.words.proofs.letter.Reads as letter-reads
-use Rattle.words.proofs.wide.Reads as wide-reads
+use Rattle.columns.proofs.byte_index.Reads as byte-index-reads
 use mathlib.Core.Path.{sym, _∙_, ap}
 use Rattle.words.proofs.Parts.{hash-is}
 
--- src/lib.rt:61:22
+-- src/lib.rt:55:37
 letter-requires : tie.Need-letter-requires
 letter-requires c κs = search needs
 
--- src/lib.rt:61:9
-wide-requires : tie.Need-wide-requires
-wide-requires c κs = search needs
+-- src/lib.rt:55:9
+byte-index-requires : tie.Need-byte-index-requires
+byte-index-requires c κs = search needs
 
--- src/lib.rt:62:47
+-- src/lib.rt:56:62
 back-requires : tie.Need-back-requires
 back-requires c κs = search needs
 
--- src/lib.rt:62:21
+-- src/lib.rt:56:36
 letter-requires-2 : tie.Need-letter-requires-2
 letter-requires-2 c κs = search needs
 
--- src/lib.rt:62:9
-wide-requires-2 : tie.Need-wide-requires-2
-wide-requires-2 c κs = search needs
+-- src/lib.rt:56:9
+byte-index-requires-2 : tie.Need-byte-index-requires-2
+byte-index-requires-2 c κs = search needs
 
--- src/lib.rt:63:49
+-- src/lib.rt:57:64
 back-requires-2 : tie.Need-back-requires-2
 back-requires-2 c κs = search needs
 
--- src/lib.rt:63:23
+-- src/lib.rt:57:38
 letter-requires-3 : tie.Need-letter-requires-3
 letter-requires-3 c κs = search needs
 
--- src/lib.rt:63:9
-wide-requires-3 : tie.Need-wide-requires-3
-wide-requires-3 c κs = search needs
+-- src/lib.rt:57:9
+byte-index-requires-3 : tie.Need-byte-index-requires-3
+byte-index-requires-3 c κs = search needs
 
--- src/lib.rt:64:6
+-- src/lib.rt:58:6
 mul-result : tie.Need-mul-result
 mul-result c = search needs
 
--- src/lib.rt:64:19
+-- src/lib.rt:58:19
 mul-result-2 : tie.Need-mul-result-2
 mul-result-2 c = search needs
 
--- src/lib.rt:64:6
+-- src/lib.rt:58:6
 add-result : tie.Need-add-result
 add-result c = search needs
 
--- src/lib.rt:64:29
+-- src/lib.rt:58:29
 mul-result-3 : tie.Need-mul-result-3
 mul-result-3 c = search needs
 
--- src/lib.rt:64:6
+-- src/lib.rt:58:6
 add-result-2 : tie.Need-add-result-2
 add-result-2 c = search needs
 
--- src/lib.rt:64:42
+-- src/lib.rt:58:42
 mul-result-4 : tie.Need-mul-result-4
 mul-result-4 c = search needs
 
--- src/lib.rt:64:6
+-- src/lib.rt:58:6
 add-result-3 : tie.Need-add-result-3
 add-result-3 c = search needs
 
--- src/lib.rt:57:1
+-- src/lib.rt:51:1
 returns : tie.Need-returns
-returns c = hash-is (c .before .before .before .before .before .before .before .before .before .args .s .now) (c .before .before .before .before .before .before .before .before .before .args .start) (c .before .before .before .before .before .before .before .before .before .args .n) (c .before .before .before .before .before .before .before .before .before .pre .0) (c .before .before .before .before .before .before .before .before .before .args .fold) _ _ _ _ _ (c .before .before .before .before .before .before .wide .ensures .0 ∙ c .before .before .before .before .before .before .before .letter .ensures) (c .before .before .before .wide2 .ensures .0 ∙ c .before .before .before .before .letter2 .ensures) (c .before .before .before .before .before .back .ensures) (c .wide3 .ensures .0 ∙ c .before .letter3 .ensures) (c .before .before .back2 .ensures)
+returns c = hash-is (c .before .before .before .before .before .before .before .before .before .args .s .now) (c .before .before .before .before .before .before .before .before .before .args .start) (c .before .before .before .before .before .before .before .before .before .args .n) (c .before .before .before .before .before .before .before .before .before .pre .0) (c .before .before .before .before .before .before .before .before .before .args .fold) _ _ _ _ _ (c .before .before .before .before .before .before .byte-index .ensures .0 ∙ c .before .before .before .before .before .before .before .letter .ensures) (c .before .before .before .byte-index2 .ensures .0 ∙ c .before .before .before .before .letter2 .ensures) (c .before .before .before .before .before .back .ensures) (c .byte-index3 .ensures .0 ∙ c .before .letter3 .ensures) (c .before .before .back2 .ensures)
 
 pub hash-of-spec : {M : Type 1} → statement M
 hash-of-spec =
     tie.close
     (tie.spec
     letter-requires
-    wide-requires
+    byte-index-requires
     back-requires
     letter-requires-2
-    wide-requires-2
+    byte-index-requires-2
     back-requires-2
     letter-requires-3
-    wide-requires-3
+    byte-index-requires-3
     mul-result
     mul-result-2
     add-result

@@ -5,7 +5,7 @@ use Rattle.words.proofs.number.Reads as reads
 use Rattle.words.proofs.number.Lts as lts
 use Rattle.words.proofs.hash_of.Reads as hash-of-reads
 use Rattle.words.proofs.matches.Reads as matches-reads
-use Rattle.words.proofs.wide.Reads as wide-reads
+use Rattle.columns.proofs.byte_index.Reads as byte-index-reads
 use mathlib.Core.Path.{_≡_, sym, _∙_, ap}
 use borrow.Author.Tests.{not-true, not-false}
 use Rattle.words.specs.Lookup.{folded}
@@ -14,65 +14,65 @@ use Rattle.words.proofs.Parts.{length-folded}
 use Rattle.words.proofs.Entries.{miss-long, few, no-slot, rises, no-length, inside, no-text, yes-text}
 use native.Mathlib.Omega.{arith}
 
--- src/lib.rt:97:9
+-- src/lib.rt:91:9
 returns : tie.Need-returns
 returns c = miss-long _ (omega (arith, length-folded (c .before .before .args .s .now) (c .before .before .args .start) (c .before .before .args .n) (c .before .before .pre .0) (c .before .before .args .fold), c .if1 .taken))
 
--- src/lib.rt:99:9
+-- src/lib.rt:93:9
 hash-of-requires : tie.Need-hash-of-requires
 hash-of-requires c κs = search needs
 
--- src/lib.rt:100:18
-element-copy-out-wide : tie.Need-element-copy-out-wide
-element-copy-out-wide c = search needs
+-- src/lib.rt:94:18
+element-copy-out-byte-index : tie.Need-element-copy-out-byte-index
+element-copy-out-byte-index c = search needs
 
--- src/lib.rt:100:9
-wide-requires : tie.Need-wide-requires
-wide-requires c κs = search needs
+-- src/lib.rt:94:9
+byte-index-requires : tie.Need-byte-index-requires
+byte-index-requires c κs = search needs
 
--- src/lib.rt:102:9
+-- src/lib.rt:96:9
 returns-2 : tie.Need-returns-2
-returns-2 c = no-slot _ _ _ (folded (c .before .before .before .before .before .before .args .fold) (take (c .before .before .before .before .before .before .args .n) (drop (c .before .before .before .before .before .before .args .start) (c .before .before .before .before .before .before .args .s .now)))) _ _ _ (c .before .before .before .before .before .before .pre .1) (c .before .before .before .before .before .before .pre .2) (c .before .before .before .before .before .before .pre .3) (length-folded (c .before .before .before .before .before .before .args .s .now) (c .before .before .before .before .before .before .args .start) (c .before .before .before .before .before .before .args .n) (c .before .before .before .before .before .before .pre .0) (c .before .before .before .before .before .before .args .fold)) (c .before .before .before .hash-of .ensures) (c .before .wide .ensures .0) (c .if2 .taken)
+returns-2 c = no-slot _ _ _ (folded (c .before .before .before .before .before .before .args .fold) (take (c .before .before .before .before .before .before .args .n) (drop (c .before .before .before .before .before .before .args .start) (c .before .before .before .before .before .before .args .s .now)))) _ _ _ (c .before .before .before .before .before .before .pre .1) (c .before .before .before .before .before .before .pre .2) (c .before .before .before .before .before .before .pre .3) (length-folded (c .before .before .before .before .before .before .args .s .now) (c .before .before .before .before .before .before .args .start) (c .before .before .before .before .before .before .args .n) (c .before .before .before .before .before .before .pre .0) (c .before .before .before .before .before .before .args .fold)) (c .before .before .before .hash-of .ensures) (c .before .byte-index .ensures .0) (c .if2 .taken)
 
--- src/lib.rt:104:22
+-- src/lib.rt:98:22
 sub-from : tie.Need-sub-from
 sub-from c = search needs
 
--- src/lib.rt:104:16
+-- src/lib.rt:98:16
 mul-from : tie.Need-mul-from
 mul-from c = search needs
 
--- src/lib.rt:104:16
+-- src/lib.rt:98:16
 element-copy-out-from : tie.Need-element-copy-out-from
-element-copy-out-from c = omega (arith, few _ _ _ (folded (c .before .before .before .before .before .before .args .fold) (take (c .before .before .before .before .before .before .args .n) (drop (c .before .before .before .before .before .before .args .start) (c .before .before .before .before .before .before .args .s .now)))) _ _ _ (c .before .before .before .before .before .before .pre .1) (c .before .before .before .before .before .before .pre .2) (c .before .before .before .before .before .before .pre .3) (length-folded (c .before .before .before .before .before .before .args .s .now) (c .before .before .before .before .before .before .args .start) (c .before .before .before .before .before .before .args .n) (c .before .before .before .before .before .before .pre .0) (c .before .before .before .before .before .before .args .fold)) (c .before .before .before .hash-of .ensures) (c .before .wide .ensures .0))
+element-copy-out-from c = omega (arith, few _ _ _ (folded (c .before .before .before .before .before .before .args .fold) (take (c .before .before .before .before .before .before .args .n) (drop (c .before .before .before .before .before .before .args .start) (c .before .before .before .before .before .before .args .s .now)))) _ _ _ (c .before .before .before .before .before .before .pre .1) (c .before .before .before .before .before .before .pre .2) (c .before .before .before .before .before .before .pre .3) (length-folded (c .before .before .before .before .before .before .args .s .now) (c .before .before .before .before .before .before .args .start) (c .before .before .before .before .before .before .args .n) (c .before .before .before .before .before .before .pre .0) (c .before .before .before .before .before .before .args .fold)) (c .before .before .before .hash-of .ensures) (c .before .byte-index .ensures .0))
 
--- src/lib.rt:105:8
+-- src/lib.rt:99:8
 mul-if3 : tie.Need-mul-if3
 mul-if3 c = search needs
 
--- src/lib.rt:105:8
+-- src/lib.rt:99:8
 element-copy-out-if3 : tie.Need-element-copy-out-if3
-element-copy-out-if3 c = omega (arith, few _ _ _ (folded (c .before .before .before .before .before .before .before .args .fold) (take (c .before .before .before .before .before .before .before .args .n) (drop (c .before .before .before .before .before .before .before .args .start) (c .before .before .before .before .before .before .before .args .s .now)))) _ _ _ (c .before .before .before .before .before .before .before .pre .1) (c .before .before .before .before .before .before .before .pre .2) (c .before .before .before .before .before .before .before .pre .3) (length-folded (c .before .before .before .before .before .before .before .args .s .now) (c .before .before .before .before .before .before .before .args .start) (c .before .before .before .before .before .before .before .args .n) (c .before .before .before .before .before .before .before .pre .0) (c .before .before .before .before .before .before .before .args .fold)) (c .before .before .before .before .hash-of .ensures) (c .before .before .wide .ensures .0))
+element-copy-out-if3 c = omega (arith, few _ _ _ (folded (c .before .before .before .before .before .before .before .args .fold) (take (c .before .before .before .before .before .before .before .args .n) (drop (c .before .before .before .before .before .before .before .args .start) (c .before .before .before .before .before .before .before .args .s .now)))) _ _ _ (c .before .before .before .before .before .before .before .pre .1) (c .before .before .before .before .before .before .before .pre .2) (c .before .before .before .before .before .before .before .pre .3) (length-folded (c .before .before .before .before .before .before .before .args .s .now) (c .before .before .before .before .before .before .before .args .start) (c .before .before .before .before .before .before .before .args .n) (c .before .before .before .before .before .before .before .pre .0) (c .before .before .before .before .before .before .before .args .fold)) (c .before .before .before .before .hash-of .ensures) (c .before .before .byte-index .ensures .0))
 
--- src/lib.rt:105:8
+-- src/lib.rt:99:8
 sub-if3 : tie.Need-sub-if3
-sub-if3 c = rises _ _ _ (folded (c .before .before .before .before .before .before .before .before .args .fold) (take (c .before .before .before .before .before .before .before .before .args .n) (drop (c .before .before .before .before .before .before .before .before .args .start) (c .before .before .before .before .before .before .before .before .args .s .now)))) _ _ _ (c .before .before .before .before .before .before .before .before .pre .1) (c .before .before .before .before .before .before .before .before .pre .2) (c .before .before .before .before .before .before .before .before .pre .3) (length-folded (c .before .before .before .before .before .before .before .before .args .s .now) (c .before .before .before .before .before .before .before .before .args .start) (c .before .before .before .before .before .before .before .before .args .n) (c .before .before .before .before .before .before .before .before .pre .0) (c .before .before .before .before .before .before .before .before .args .fold)) (c .before .before .before .before .before .hash-of .ensures) (c .before .before .before .wide .ensures .0) (c .before .before .if2 .left)
+sub-if3 c = rises _ _ _ (folded (c .before .before .before .before .before .before .before .before .args .fold) (take (c .before .before .before .before .before .before .before .before .args .n) (drop (c .before .before .before .before .before .before .before .before .args .start) (c .before .before .before .before .before .before .before .before .args .s .now)))) _ _ _ (c .before .before .before .before .before .before .before .before .pre .1) (c .before .before .before .before .before .before .before .before .pre .2) (c .before .before .before .before .before .before .before .before .pre .3) (length-folded (c .before .before .before .before .before .before .before .before .args .s .now) (c .before .before .before .before .before .before .before .before .args .start) (c .before .before .before .before .before .before .before .before .args .n) (c .before .before .before .before .before .before .before .before .pre .0) (c .before .before .before .before .before .before .before .before .args .fold)) (c .before .before .before .before .before .hash-of .ensures) (c .before .before .before .byte-index .ensures .0) (c .before .before .if2 .left)
 
--- src/lib.rt:106:9
+-- src/lib.rt:100:9
 returns-3 : tie.Need-returns-3
-returns-3 c = no-length _ _ _ (folded (c .before .before .before .before .before .before .before .before .before .args .fold) (take (c .before .before .before .before .before .before .before .before .before .args .n) (drop (c .before .before .before .before .before .before .before .before .before .args .start) (c .before .before .before .before .before .before .before .before .before .args .s .now)))) _ _ _ (c .before .before .before .before .before .before .before .before .before .pre .1) (c .before .before .before .before .before .before .before .before .before .pre .2) (c .before .before .before .before .before .before .before .before .before .pre .3) (length-folded (c .before .before .before .before .before .before .before .before .before .args .s .now) (c .before .before .before .before .before .before .before .before .before .args .start) (c .before .before .before .before .before .before .before .before .before .args .n) (c .before .before .before .before .before .before .before .before .before .pre .0) (c .before .before .before .before .before .before .before .before .before .args .fold)) (c .before .before .before .before .before .before .hash-of .ensures) (c .before .before .before .before .wide .ensures .0) (c .before .before .before .if2 .left) (c .if3 .taken)
+returns-3 c = no-length _ _ _ (folded (c .before .before .before .before .before .before .before .before .before .args .fold) (take (c .before .before .before .before .before .before .before .before .before .args .n) (drop (c .before .before .before .before .before .before .before .before .before .args .start) (c .before .before .before .before .before .before .before .before .before .args .s .now)))) _ _ _ (c .before .before .before .before .before .before .before .before .before .pre .1) (c .before .before .before .before .before .before .before .before .before .pre .2) (c .before .before .before .before .before .before .before .before .before .pre .3) (length-folded (c .before .before .before .before .before .before .before .before .before .args .s .now) (c .before .before .before .before .before .before .before .before .before .args .start) (c .before .before .before .before .before .before .before .before .before .args .n) (c .before .before .before .before .before .before .before .before .before .pre .0) (c .before .before .before .before .before .before .before .before .before .args .fold)) (c .before .before .before .before .before .before .hash-of .ensures) (c .before .before .before .before .byte-index .ensures .0) (c .before .before .before .if2 .left) (c .if3 .taken)
 
--- src/lib.rt:108:9
+-- src/lib.rt:102:9
 matches-requires : tie.Need-matches-requires
-matches-requires c κs = (c .before .before .before .before .before .before .before .before .before .pre .0, inside _ _ _ (folded (c .before .before .before .before .before .before .before .before .before .args .fold) (take (c .before .before .before .before .before .before .before .before .before .args .n) (drop (c .before .before .before .before .before .before .before .before .before .args .start) (c .before .before .before .before .before .before .before .before .before .args .s .now)))) _ _ _ (c .before .before .before .before .before .before .before .before .before .pre .1) (c .before .before .before .before .before .before .before .before .before .pre .2) (c .before .before .before .before .before .before .before .before .before .pre .3) (length-folded (c .before .before .before .before .before .before .before .before .before .args .s .now) (c .before .before .before .before .before .before .before .before .before .args .start) (c .before .before .before .before .before .before .before .before .before .args .n) (c .before .before .before .before .before .before .before .before .before .pre .0) (c .before .before .before .before .before .before .before .before .before .args .fold)) (c .before .before .before .before .before .before .hash-of .ensures) (c .before .before .before .before .wide .ensures .0) (c .before .before .before .if2 .left) (c .if3 .left), c .before .before .before .before .before .before .before .before .before .pre .3)
+matches-requires c κs = (c .before .before .before .before .before .before .before .before .before .pre .0, inside _ _ _ (folded (c .before .before .before .before .before .before .before .before .before .args .fold) (take (c .before .before .before .before .before .before .before .before .before .args .n) (drop (c .before .before .before .before .before .before .before .before .before .args .start) (c .before .before .before .before .before .before .before .before .before .args .s .now)))) _ _ _ (c .before .before .before .before .before .before .before .before .before .pre .1) (c .before .before .before .before .before .before .before .before .before .pre .2) (c .before .before .before .before .before .before .before .before .before .pre .3) (length-folded (c .before .before .before .before .before .before .before .before .before .args .s .now) (c .before .before .before .before .before .before .before .before .before .args .start) (c .before .before .before .before .before .before .before .before .before .args .n) (c .before .before .before .before .before .before .before .before .before .pre .0) (c .before .before .before .before .before .before .before .before .before .args .fold)) (c .before .before .before .before .before .before .hash-of .ensures) (c .before .before .before .before .byte-index .ensures .0) (c .before .before .before .if2 .left) (c .if3 .left), c .before .before .before .before .before .before .before .before .before .pre .3)
 
--- src/lib.rt:109:9
+-- src/lib.rt:103:9
 returns-4 : tie.Need-returns-4
-returns-4 c = no-text _ _ _ (folded (c .before .before .before .before .before .before .before .before .before .before .before .args .fold) (take (c .before .before .before .before .before .before .before .before .before .before .before .args .n) (drop (c .before .before .before .before .before .before .before .before .before .before .before .args .start) (c .before .before .before .before .before .before .before .before .before .before .before .args .s .now)))) _ _ _ (c .before .before .before .before .before .before .before .before .before .before .before .pre .1) (c .before .before .before .before .before .before .before .before .before .before .before .pre .2) (c .before .before .before .before .before .before .before .before .before .before .before .pre .3) (length-folded (c .before .before .before .before .before .before .before .before .before .before .before .args .s .now) (c .before .before .before .before .before .before .before .before .before .before .before .args .start) (c .before .before .before .before .before .before .before .before .before .before .before .args .n) (c .before .before .before .before .before .before .before .before .before .before .before .pre .0) (c .before .before .before .before .before .before .before .before .before .before .before .args .fold)) (c .before .before .before .before .before .before .before .before .hash-of .ensures) (c .before .before .before .before .before .before .wide .ensures .0) (c .before .before .before .before .before .if2 .left) (c .before .before .if3 .left) (sym (c .before .matches .ensures) ∙ not-true _ (c .if4 .taken))
+returns-4 c = no-text _ _ _ (folded (c .before .before .before .before .before .before .before .before .before .before .before .args .fold) (take (c .before .before .before .before .before .before .before .before .before .before .before .args .n) (drop (c .before .before .before .before .before .before .before .before .before .before .before .args .start) (c .before .before .before .before .before .before .before .before .before .before .before .args .s .now)))) _ _ _ (c .before .before .before .before .before .before .before .before .before .before .before .pre .1) (c .before .before .before .before .before .before .before .before .before .before .before .pre .2) (c .before .before .before .before .before .before .before .before .before .before .before .pre .3) (length-folded (c .before .before .before .before .before .before .before .before .before .before .before .args .s .now) (c .before .before .before .before .before .before .before .before .before .before .before .args .start) (c .before .before .before .before .before .before .before .before .before .before .before .args .n) (c .before .before .before .before .before .before .before .before .before .before .before .pre .0) (c .before .before .before .before .before .before .before .before .before .before .before .args .fold)) (c .before .before .before .before .before .before .before .before .hash-of .ensures) (c .before .before .before .before .before .before .byte-index .ensures .0) (c .before .before .before .before .before .if2 .left) (c .before .before .if3 .left) (sym (c .before .matches .ensures) ∙ not-true _ (c .if4 .taken))
 
--- src/lib.rt:84:1
+-- src/lib.rt:78:1
 returns-5 : tie.Need-returns-5
-returns-5 c = yes-text _ _ _ (folded (c .before .before .before .before .before .before .before .before .before .before .before .args .fold) (take (c .before .before .before .before .before .before .before .before .before .before .before .args .n) (drop (c .before .before .before .before .before .before .before .before .before .before .before .args .start) (c .before .before .before .before .before .before .before .before .before .before .before .args .s .now)))) _ _ _ (c .before .before .before .before .before .before .before .before .before .before .before .pre .1) (c .before .before .before .before .before .before .before .before .before .before .before .pre .2) (c .before .before .before .before .before .before .before .before .before .before .before .pre .3) (length-folded (c .before .before .before .before .before .before .before .before .before .before .before .args .s .now) (c .before .before .before .before .before .before .before .before .before .before .before .args .start) (c .before .before .before .before .before .before .before .before .before .before .before .args .n) (c .before .before .before .before .before .before .before .before .before .before .before .pre .0) (c .before .before .before .before .before .before .before .before .before .before .before .args .fold)) (c .before .before .before .before .before .before .before .before .hash-of .ensures) (c .before .before .before .before .before .before .wide .ensures .0) (c .before .before .before .before .before .if2 .left) (c .before .before .if3 .left) (sym (c .before .matches .ensures) ∙ not-false _ (c .if4 .left))
+returns-5 c = yes-text _ _ _ (folded (c .before .before .before .before .before .before .before .before .before .before .before .args .fold) (take (c .before .before .before .before .before .before .before .before .before .before .before .args .n) (drop (c .before .before .before .before .before .before .before .before .before .before .before .args .start) (c .before .before .before .before .before .before .before .before .before .before .before .args .s .now)))) _ _ _ (c .before .before .before .before .before .before .before .before .before .before .before .pre .1) (c .before .before .before .before .before .before .before .before .before .before .before .pre .2) (c .before .before .before .before .before .before .before .before .before .before .before .pre .3) (length-folded (c .before .before .before .before .before .before .before .before .before .before .before .args .s .now) (c .before .before .before .before .before .before .before .before .before .before .before .args .start) (c .before .before .before .before .before .before .before .before .before .before .before .args .n) (c .before .before .before .before .before .before .before .before .before .before .before .pre .0) (c .before .before .before .before .before .before .before .before .before .before .before .args .fold)) (c .before .before .before .before .before .before .before .before .hash-of .ensures) (c .before .before .before .before .before .before .byte-index .ensures .0) (c .before .before .before .before .before .if2 .left) (c .before .before .if3 .left) (sym (c .before .matches .ensures) ∙ not-false _ (c .if4 .left))
 
 pub number-spec : {M : Type 1} → statement M
 number-spec =
@@ -80,8 +80,8 @@ number-spec =
     (tie.spec
     returns
     hash-of-requires
-    element-copy-out-wide
-    wide-requires
+    element-copy-out-byte-index
+    byte-index-requires
     returns-2
     sub-from
     mul-from

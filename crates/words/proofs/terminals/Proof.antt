@@ -17,79 +17,79 @@ Inv-loop src kinds starts lengths out₀ slots froms text i₀ out i = Progress 
 abbrev μ-loop : tie.MeasureT-loop
 μ-loop src kinds starts lengths out₀ slots froms text i₀ out i = length kinds - i
 
--- src/lib.rt:236:5
+-- src/lib.rt:230:5
 loop-holds : tie.Need-loop-holds Inv-loop μ-loop
 loop-holds c = progress-first _ _ _ _ _
 
--- src/lib.rt:238:13
+-- src/lib.rt:232:13
 same-length : tie.Need-same-length Inv-loop μ-loop
 same-length c = c .before .before .loop .inv .kept
 
--- src/lib.rt:238:13
+-- src/lib.rt:232:13
 returns : tie.Need-returns Inv-loop μ-loop
 returns c = no-start (c .before .before .loop .inv) (c .before .loop-test .taken) (c .if1 .taken)
 
--- src/lib.rt:241:13
+-- src/lib.rt:235:13
 same-length-2 : tie.Need-same-length-2 Inv-loop μ-loop
 same-length-2 c = c .before .before .before .loop .inv .kept
 
--- src/lib.rt:241:13
+-- src/lib.rt:235:13
 returns-2 : tie.Need-returns-2 Inv-loop μ-loop
 returns-2 c = no-size (c .before .before .before .loop .inv) (c .before .before .loop-test .taken) (c .before .if1 .left) (c .if2 .taken)
 
--- src/lib.rt:243:36
+-- src/lib.rt:237:36
 mul-index : tie.Need-mul-index Inv-loop μ-loop
 mul-index c = omega arith
 
--- src/lib.rt:243:36
+-- src/lib.rt:237:36
 shared-slice-read-index : tie.Need-shared-slice-read-index Inv-loop μ-loop
 shared-slice-read-index c = omega arith
 
--- src/lib.rt:243:13
+-- src/lib.rt:237:13
 index-requires : tie.Need-index-requires Inv-loop μ-loop
 index-requires c κs = tt
 
--- src/lib.rt:244:35
+-- src/lib.rt:238:35
 mul-index-2 : tie.Need-mul-index-2 Inv-loop μ-loop
 mul-index-2 c = omega arith
 
--- src/lib.rt:244:35
+-- src/lib.rt:238:35
 shared-slice-read-index-2 : tie.Need-shared-slice-read-index-2 Inv-loop μ-loop
 shared-slice-read-index-2 c = omega arith
 
--- src/lib.rt:244:13
+-- src/lib.rt:238:13
 index-requires-2 : tie.Need-index-requires-2 Inv-loop μ-loop
 index-requires-2 c κs = tt
 
--- src/lib.rt:245:45
+-- src/lib.rt:239:45
 shared-slice-read-terminal : tie.Need-shared-slice-read-terminal Inv-loop μ-loop
 shared-slice-read-terminal c = omega arith
 
--- src/lib.rt:245:31
+-- src/lib.rt:239:31
 terminal-requires : tie.Need-terminal-requires Inv-loop μ-loop
 terminal-requires c κs = (refl, refl, refl)
 
--- src/lib.rt:245:9
+-- src/lib.rt:239:9
 put8-requires : tie.Need-put8-requires Inv-loop μ-loop
 put8-requires c κs = tt
 
--- src/lib.rt:246:9
+-- src/lib.rt:240:9
 add-i : tie.Need-add-i Inv-loop μ-loop
 add-i c = omega arith
 
--- src/lib.rt:236:5
+-- src/lib.rt:230:5
 loop-less : tie.Need-loop-less Inv-loop μ-loop
 loop-less c = omega arith
 
--- src/lib.rt:236:5
+-- src/lib.rt:230:5
 loop-again : tie.Need-loop-again Inv-loop μ-loop
 loop-again c = one-more (c .before .before .before .before .before .before .before .before .before .before .before .before .before .before .before .before .loop .inv) (c .before .before .before .before .before .before .before .before .before .before .before .before .before .before .before .loop-test .taken) (c .before .before .before .before .before .before .before .before .before .before .before .before .before .before .if1 .left) (c .before .before .before .before .before .before .before .before .before .before .before .before .before .if2 .left) (c .before .before .before .before .before .before .before .before .before .before .before .index .ensures) (c .before .before .before .before .before .before .before .before .before .index2 .ensures) (c .before .before .before .terminal .ensures) (c .before .before .put8 .ensures)
 
--- src/lib.rt:228:1
+-- src/lib.rt:222:1
 same-length-3 : tie.Need-same-length-3 Inv-loop μ-loop
 same-length-3 c = c .before .loop .inv .kept
 
--- src/lib.rt:228:1
+-- src/lib.rt:222:1
 returns-3 : tie.Need-returns-3 Inv-loop μ-loop
 returns-3 c = no-kind (c .before .loop .inv) (c .loop-test .left)
 

@@ -8,23 +8,23 @@ use lib.ListN.{take, drop}
 use Rattle.words.proofs.Entries.{word-low, word-high, named-few}
 use native.Mathlib.Omega.{arith}
 
--- src/lib.rt:126:9
+-- src/lib.rt:120:9
 number-requires : tie.Need-number-requires
 number-requires c κs = search needs
 
--- src/lib.rt:128:9
+-- src/lib.rt:122:9
 returns : tie.Need-returns
 returns c = word-low (take (c .before .before .before .args .n) (drop (c .before .before .before .args .start) (c .before .before .before .args .s .now))) _ (c .before .number .ensures) (c .if1 .taken)
 
--- src/lib.rt:130:6
+-- src/lib.rt:124:6
 add-result : tie.Need-add-result
 add-result c = omega (arith, named-few _ _ (c .before .number .ensures))
 
--- src/lib.rt:130:5
+-- src/lib.rt:124:5
 cast-result : tie.Need-cast-result
 cast-result c = omega (arith, named-few _ _ (c .before .number .ensures))
 
--- src/lib.rt:115:1
+-- src/lib.rt:109:1
 returns-2 : tie.Need-returns-2
 returns-2 c = word-high (take (c .before .before .before .args .n) (drop (c .before .before .before .args .start) (c .before .before .before .args .s .now))) _ (c .before .number .ensures) (c .if1 .left)
 
