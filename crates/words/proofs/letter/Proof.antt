@@ -10,27 +10,27 @@ use Rattle.words.specs.Lookup.{folded}
 use Rattle.words.proofs.Parts.{letter-over, letter-plain, letter-upper}
 use native.Mathlib.Omega.{arith}
 
--- src/lib.rt:48:9
+-- src/lib.rt:42:9
 returns : tie.Need-returns
 returns c = sym (letter-over (c .before .before .args .s .now) (c .before .before .args .start) (c .before .before .args .n) (c .before .before .pre) (c .before .before .args .fold) (c .before .before .args .i) (c .if1 .taken))
 
--- src/lib.rt:50:15
+-- src/lib.rt:44:15
 add-b : tie.Need-add-b
 add-b c = omega arith
 
--- src/lib.rt:50:13
+-- src/lib.rt:44:13
 shared-slice-read-b : tie.Need-shared-slice-read-b
 shared-slice-read-b c = omega arith
 
--- src/lib.rt:52:9
+-- src/lib.rt:46:9
 upper-requires : tie.Need-upper-requires
 upper-requires c κs = tt
 
--- src/lib.rt:52:9
+-- src/lib.rt:46:9
 returns-2 : tie.Need-returns-2
 returns-2 c = rw (c .before .if2 .taken) (c .upper .ensures ∙ sym (letter-upper (c .before .before .before .before .before .args .s .now) (c .before .before .before .before .before .args .start) (c .before .before .before .before .before .args .n) (c .before .before .before .before .before .pre) (c .before .before .before .before .before .args .i) (c .before .before .before .if1 .left)))
 
--- src/lib.rt:43:1
+-- src/lib.rt:37:1
 returns-3 : tie.Need-returns-3
 returns-3 c = rw (c .if2 .left) (sym (letter-plain (c .before .before .before .before .args .s .now) (c .before .before .before .before .args .start) (c .before .before .before .before .args .n) (c .before .before .before .before .pre) (c .before .before .before .before .args .i) (c .before .before .if1 .left)))
 
