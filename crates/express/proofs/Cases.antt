@@ -22,8 +22,8 @@ use Rattle.express.specs.Integer.{exact, quotient, remainder, DIV, MOD, 
 use Rattle.express.specs.Logic.{AND, OR, XOR}
 use Rattle.express.specs.Bits.{join, compareBits}
 use Rattle.express.specs.Declared.{simple, declared-in}
-use Rattle.express.specs.Shape.{operator-of, shape}
-use Rattle.express.specs.Kind.{type-nodes, typing}
+use Rattle.express.specs.Shape.{operator-of, shape, shape-in}
+use Rattle.express.specs.Kind.{type-nodes, type-nodes-in, typing}
 use Rattle.express.specs.Evaluate.{run, answers}
 use Rattle.express.specs.Order.{order}
 use Rattle.express.specs.Reply.{checked}
@@ -40,7 +40,7 @@ abbrev Listings : Type 0
 Listings = map (λ (f : File). listing (checked (f .text) (f .tokens) (f .nodes) (f .answers))) files ≡ map (λ (f : File). f .listing) files
 
 computed : Cases × Listings
-unfolding wordByte space upper lower runEnd remarkEnd skipIn skipped numeral integerEnd exponentEnd realEnd stringEnd binaryEnd lone symbolSize symbolEnd kindAt tokenEnd lexIn lexed terminalOf among same symbolOf symbolsOf parsed first-deep parse descend mem budget span firstFrom keep any owner schemaOf added closure declared items own superEdges renamingEdges typeEdges inherited candidates typeMeant itemsOf itemMeant means binding bindings flatMap names stages least firstFault sort scope repeated typeName cyclic qualified expression constantEdges integerValue binaryBits exact quotient remainder DIV MOD power pow one AND OR XOR join compareBits simple declared-in operator-of shape type-nodes typing run answers tokens order checked digits listing
+unfolding wordByte space upper lower runEnd remarkEnd skipIn skipped numeral integerEnd exponentEnd realEnd stringEnd binaryEnd lone symbolSize symbolEnd kindAt tokenEnd lexIn lexed terminalOf among same symbolOf symbolsOf parsed first-deep parse descend mem budget span firstFrom keep any owner schemaOf added closure declared items own superEdges renamingEdges typeEdges inherited candidates typeMeant itemsOf itemMeant means binding bindings flatMap names stages least firstFault sort scope repeated typeName cyclic qualified expression constantEdges integerValue binaryBits exact quotient remainder DIV MOD power pow one AND OR XOR join compareBits simple declared-in operator-of shape-in type-nodes-in typing run answers tokens order checked digits listing
 computed = (refl, refl)
 
 pub all-cases : Cases

@@ -20,7 +20,7 @@ use Rattle.express.specs.Names.{WellNamed}
 use Rattle.express.specs.Grammar.{Nonterminal}
 use Rattle.express.specs.Syntax.{Read}
 use Rattle.express.specs.Declared.{declaration, bound, declared}
-use Rattle.express.specs.Shape.{Shape, Operator, name, shape, named, operator-of, evaluated}
+use Rattle.express.specs.Shape.{Shape, Operator, name, shape, shape-in, named, operator-of, evaluated}
 use Rattle.express.specs.Order.{Ordered, done, next, Order, order}
 use Rattle.express.proofs.Select.{and-fst, and-snd, and-both, or-cases, or-left, untrue, le-or, mem-upto, keep-mem, mem-keep, flat-mem, mem-flat, column-at}
 use Rattle.express.proofs.Reach.{reaches-iff}
@@ -57,7 +57,7 @@ named-is t b n c h e = by (bound t b node.enumeration-item n) (bound t b node.co
     by false false q e = let z : _≡_ {A = ℕ} 0 1 = cc in absurd (omega arith)
 
 shape-named : (t : Table) (b : List ℕ) (n c : ℕ) → shape t b n ≡ name c → Named t b n c
-unfolding shape
+unfolding shape-in
 shape-named t b n c e =
     let e₁ = skip (is t node.integer-literal n) _ _ (λ q. let z : _≡_ {A = ℕ} 0 1 = cc in omega arith) e in
     let e₂ = skip (is t node.binary-literal n) _ _ (λ q. let z : _≡_ {A = ℕ} 0 1 = cc in omega arith) e₁ in

@@ -27,13 +27,13 @@ use Rattle.express.specs.Integer.{exact, quotient, remainder, DIV, MOD, 
 use Rattle.express.specs.Logic.{AND, OR, XOR}
 use Rattle.express.specs.Bits.{join, compareBits}
 use Rattle.express.specs.Declared.{simple, declared-in}
-use Rattle.express.specs.Shape.{operator-of, shape}
+use Rattle.express.specs.Shape.{operator-of, shape, shape-in}
 use Rattle.express.specs.Fault.{sort, scope, repeated, typeName, cyclic, qualified, expression, constantEdges}
 use Rattle.express.specs.Names.{stages, least, firstFault, names}
 use Rattle.express.specs.Scanned.{Scanned}
 use Rattle.express.specs.Rule.{Exactly}
 use Rattle.express.specs.Operate.{Kind}
-use Rattle.express.specs.Kind.{Typing, typed, refused, type-nodes, typing}
+use Rattle.express.specs.Kind.{Typing, typed, refused, type-nodes, type-nodes-in, typing}
 use Rattle.express.specs.Evaluate.{run, answers, answer-at}
 use Rattle.express.proofs.Syntax.{read-good}
 use Rattle.express.proofs.Names.{names-passes}
@@ -107,11 +107,11 @@ unfolding span firstFrom keep any owner schemaOf added closure declared items ow
 press-named = refl
 
 press-typed : typing press press-bindings ≡ typed (kinds-in (typing press press-bindings))
-unfolding typing type-nodes span keep flatMap numeral integerValue binaryBits exact quotient remainder DIV MOD power AND OR XOR join compareBits simple declared-in operator-of shape run answers owner firstFrom
+unfolding typing type-nodes-in span keep flatMap numeral integerValue binaryBits exact quotient remainder DIV MOD power AND OR XOR join compareBits simple declared-in operator-of shape-in run answers owner firstFrom
 press-typed = refl
 
 press-order : (in-order press press-bindings [] press-plan ≡ true) × (every (λ c. not (is press constant c) || order.among press-plan c) (nodes press) ≡ true)
-unfolding in-order every any span keep flatMap numeral integerValue binaryBits exact quotient remainder DIV MOD power AND OR XOR join compareBits simple declared-in operator-of shape run answers owner firstFrom
+unfolding in-order every any span keep flatMap numeral integerValue binaryBits exact quotient remainder DIV MOD power AND OR XOR join compareBits simple declared-in operator-of shape-in run answers owner firstFrom
 press-order = (refl, refl)
 
 press-file : (c : ℕ) → c < 28 → kind press c ≡ constant → Exactly press (bindings press) c (answer-at (answers press press-bindings press-plan) c)
@@ -125,7 +125,7 @@ pub press-exact :
     Exactly press (bindings press) 10 (integer (negsuc 3)) ×
     Exactly press (bindings press) 20 (logical UNKNOWN) ×
     Exactly press (bindings press) 25 (binary (true ∷ false ∷ false ∷ true ∷ true ∷ []))
-unfolding span keep flatMap numeral integerValue binaryBits exact quotient remainder DIV MOD power AND OR XOR join compareBits simple declared-in operator-of shape run answers owner firstFrom
+unfolding span keep flatMap numeral integerValue binaryBits exact quotient remainder DIV MOD power AND OR XOR join compareBits simple declared-in operator-of shape-in run answers owner firstFrom
 press-exact = (press-file 4 (omega arith) refl, press-file 10 (omega arith) refl, press-file 20 (omega arith) refl, press-file 25 (omega arith) refl)
 
 -- an enumeration, a renaming of it, UNKNOWN for a BOOLEAN, and the first of two ends
@@ -192,11 +192,11 @@ unfolding span firstFrom keep any owner schemaOf added closure declared items ow
 shade-named = refl
 
 shade-typed : typing shade shade-bindings ≡ typed (kinds-in (typing shade shade-bindings))
-unfolding typing type-nodes span keep flatMap numeral integerValue binaryBits exact quotient remainder DIV MOD power AND OR XOR join compareBits simple declared-in operator-of shape run answers owner firstFrom
+unfolding typing type-nodes-in span keep flatMap numeral integerValue binaryBits exact quotient remainder DIV MOD power AND OR XOR join compareBits simple declared-in operator-of shape-in run answers owner firstFrom
 shade-typed = refl
 
 shade-order : (in-order shade shade-bindings [] shade-plan ≡ true) × (every (λ c. not (is shade constant c) || order.among shade-plan c) (nodes shade) ≡ true)
-unfolding in-order every any span keep flatMap numeral integerValue binaryBits exact quotient remainder DIV MOD power AND OR XOR join compareBits simple declared-in operator-of shape run answers owner firstFrom
+unfolding in-order every any span keep flatMap numeral integerValue binaryBits exact quotient remainder DIV MOD power AND OR XOR join compareBits simple declared-in operator-of shape-in run answers owner firstFrom
 shade-order = (refl, refl)
 
 shade-file : (c : ℕ) → c < 31 → kind shade c ≡ constant → Exactly shade (bindings shade) c (answer-at (answers shade shade-bindings shade-plan) c)
@@ -210,5 +210,5 @@ pub shade-exact :
     Exactly shade (bindings shade) 8 (item 23) ×
     Exactly shade (bindings shade) 13 (end 19) ×
     Exactly shade (bindings shade) 22 (end 19)
-unfolding span keep flatMap numeral integerValue binaryBits exact quotient remainder DIV MOD power AND OR XOR join compareBits simple declared-in operator-of shape run answers owner firstFrom
+unfolding span keep flatMap numeral integerValue binaryBits exact quotient remainder DIV MOD power AND OR XOR join compareBits simple declared-in operator-of shape-in run answers owner firstFrom
 shade-exact = (shade-file 5 (omega arith) refl, shade-file 8 (omega arith) refl, shade-file 13 (omega arith) refl, shade-file 22 (omega arith) refl)

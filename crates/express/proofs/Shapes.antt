@@ -11,7 +11,7 @@ use Rattle.express.specs.Lexis.{integerValue, binaryBits}
 use Rattle.express.specs.NodeKind as node
 use Rattle.express.specs.Tree.{Table, kind, terminal, is, left}
 use Rattle.express.specs.Declared.{declaration, bound, declared}
-use Rattle.express.specs.Shape.{Operator, Shape, integer-literal, logical-literal, binary-literal, question, item, name, unary, operator, interval, interval-operator, type, constant, unevaluated, text, operator-of, evaluated, named, shape}
+use Rattle.express.specs.Shape.{Operator, Shape, integer-literal, logical-literal, binary-literal, question, item, name, unary, operator, interval, interval-operator, type, constant, unevaluated, text, operator-of, evaluated, named, shape, shape-in}
 use Rattle.express.proofs.Select.{and-snd}
 
 abbrev pub Told : Table → List ℕ → ℕ → Shape → Type 0
@@ -51,7 +51,7 @@ module _ (t : Table) (b : List ℕ) (n : ℕ) where
   is-kind k = eqb-true (kind t n) k
 
   pub told : Told t b n (shape t b n)
-  unfolding shape
+  unfolding shape-in
   told =
       choose (Told t b n) (is t node.integer-literal n) (λ e. (is-kind node.integer-literal e, refl))
       (choose (Told t b n) (is t node.binary-literal n) (λ e. (is-kind node.binary-literal e, refl))
@@ -67,5 +67,5 @@ module _ (t : Table) (b : List ℕ) (n : ℕ) where
 
   -- and a constant has the shape of one
   pub constant-shape : kind t n ≡ node.constant → shape t b n ≡ constant (declared t b (left t n))
-  unfolding shape
+  unfolding shape-in
   constant-shape e = rw e

@@ -15,7 +15,7 @@ use Rattle.express.specs.Tree.{Table, count, kind, size, first, last, no
 use Rattle.express.proofs.Formed.{Formed}
 use Rattle.express.specs.Shape.{Shape, integer-literal, logical-literal, binary-literal, question, item, name, unary, operator, interval, interval-operator, type, constant, unevaluated, shape}
 use Rattle.express.specs.Operate.{Kind, untyped}
-use Rattle.express.specs.Kind.{Finding, fault, finding, kind-at, Typing, typed, refused, then, type-nodes, within, all-within, constants, typing, Constant, Fits, WellTyped, FirstFault}
+use Rattle.express.specs.Kind.{Finding, fault, finding, kind-at, Typing, typed, refused, then, type-nodes, type-nodes-in, within, all-within, constants, typing, Constant, Fits, WellTyped, FirstFault}
 use Rattle.express.specs.Kind as found
 use Rattle.express.proofs.Select.{mem-span, span-mem, mem-keep, keep-mem, mem-flat, flat-mem}
 use Rattle.express.proofs.Shapes.{Told, told}
@@ -153,7 +153,7 @@ module _ (t : Table) (b : List ℕ) (f : Formed t) where
   fitted :
       (lo : ℕ) (ns : List ℕ) (ks js : List Kind) → Rising (count t) lo ns → length ks ≡ count t → type-nodes t b ns ks ≡ typed js →
       Fitted lo ns ks js
-  unfolding type-nodes
+  unfolding type-nodes-in
   fitted lo [] ks js r l e =
       let q : ks ≡ js = cc in
       record {
@@ -191,7 +191,7 @@ module _ (t : Table) (b : List ℕ) (f : Formed t) where
   stopped :
       (lo : ℕ) (ns : List ℕ) (ks : List Kind) (p n : ℕ) → Rising (count t) lo ns → length ks ≡ count t → type-nodes t b ns ks ≡ refused p n →
       Stopped lo ns ks p n
-  unfolding type-nodes
+  unfolding type-nodes-in
   stopped lo [] ks p n r l e = absurd (let z : _≡_ {A = ℕ} 0 1 = cc in omega arith)
   stopped lo (d ∷ ns) ks p n (cons a c r) l e =
       by (finding t b (kind-at ks) d (shape t b d)) refl e (λ k i. stopped (suc d) ns (set ks d k) p n r (rw length-set l) i)

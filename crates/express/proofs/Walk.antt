@@ -8,7 +8,7 @@ use Rattle.express.specs.Select.{span}
 use Rattle.express.specs.Tree.{Table}
 use Rattle.express.specs.Shape.{shape}
 use Rattle.express.specs.Operate.{Kind}
-use Rattle.express.specs.Kind.{finding, kind-at, then, type-nodes, within, all-within}
+use Rattle.express.specs.Kind.{finding, kind-at, then, type-nodes, type-nodes-in, within, all-within}
 use Rattle.express.specs.Evaluate.{answer-of, answer-at, run}
 use Rattle.express.proofs.Select.{span-step}
 
@@ -33,7 +33,7 @@ pub type-step :
     (t : Table) (b : List ℕ) (e n : ℕ) (ns : List ℕ) (ks : List Kind) → n < e →
     type-nodes t b (span n (e - n) ++ ns) ks ≡
     then (finding t b (kind-at ks) n (shape t b n)) n (λ k. type-nodes t b (span (n + 1) (e - (n + 1)) ++ ns) (set ks n k))
-unfolding type-nodes
+unfolding type-nodes-in
 type-step t b e n ns ks l = rw (span-step e n l)
 
 -- one more constant, and the constants of one schema and those of the next

@@ -6,7 +6,7 @@ use lib.IntN.{pos}
 use Rattle.express.specs.Answer.{Logical, FALSE, UNKNOWN, TRUE, Answer, indeterminate, integer, logical, binary, item, end}
 use Rattle.express.specs.Tree.{Table, count, last, left, middle, low}
 use Rattle.express.specs.Declared.{Declared, INTEGER, BOOLEAN, LOGICAL, BINARY, enumeration, other}
-use Rattle.express.specs.Shape.{Shape, integer-literal, logical-literal, binary-literal, question, name, unary, operator, interval, interval-operator, type, constant, unevaluated, shape}
+use Rattle.express.specs.Shape.{Shape, integer-literal, logical-literal, binary-literal, question, name, unary, operator, interval, interval-operator, type, constant, unevaluated, shape-in, shape}
 use Rattle.express.specs.Shape as shapes
 use Rattle.express.specs.Operate.{logical-in, given, combined, signed, between}
 use Rattle.express.specs.Kind.{all-within}
@@ -25,21 +25,25 @@ held BINARY a = a
 held (enumeration y) a = a
 held other a = a
 
--- The answer of a node of a given shape, from those of the nodes that it names
+-- The answer of a node n of a given shape in a table e: f gives those of its children, g those of the constants of the file
+abbrev pub answer-in : Table → (ℕ → Answer) → (ℕ → Answer) → ℕ → Shape → Answer
+answer-in e f g n (integer-literal v) = integer (pos v)
+answer-in e f g n (logical-literal l) = logical l
+answer-in e f g n (binary-literal s) = binary s
+answer-in e f g n (shapes.item m) = item m
+answer-in e f g n (name c) = g c
+answer-in e f g n (unary o) = signed o (f (last n))
+answer-in e f g n (operator o) = combined o (f (left e n)) (f (last n))
+answer-in e f g n (interval o p) = between o p (f (low e n)) (f (middle e n)) (f (last n))
+answer-in e f g n (constant d) = held d (f (last n))
+answer-in e f g n question = indeterminate
+answer-in e f g n interval-operator = indeterminate
+answer-in e f g n (type d) = indeterminate
+answer-in e f g n unevaluated = indeterminate
+
+-- of a node of the file: one numbering serves both
 abbrev pub answer-of : Table → (ℕ → Answer) → ℕ → Shape → Answer
-answer-of t f n (integer-literal v) = integer (pos v)
-answer-of t f n (logical-literal l) = logical l
-answer-of t f n (binary-literal s) = binary s
-answer-of t f n (shapes.item m) = item m
-answer-of t f n (name c) = f c
-answer-of t f n (unary o) = signed o (f (last n))
-answer-of t f n (operator o) = combined o (f (left t n)) (f (last n))
-answer-of t f n (interval o p) = between o p (f (low t n)) (f (middle t n)) (f (last n))
-answer-of t f n (constant d) = held d (f (last n))
-answer-of t f n question = indeterminate
-answer-of t f n interval-operator = indeterminate
-answer-of t f n (type d) = indeterminate
-answer-of t f n unevaluated = indeterminate
+answer-of t f n s = answer-in t f f n s
 
 abbrev pub answer-at : List Answer → ℕ → Answer
 answer-at xs n = getD xs n indeterminate
@@ -47,6 +51,11 @@ answer-at xs n = getD xs n indeterminate
 unfoldable pub run : Table → List ℕ → List ℕ → List Answer → List Answer
 run t b [] xs = xs
 run t b (n ∷ ns) xs = run t b ns (set xs n (answer-of t (answer-at xs) n (shape t b n)))
+
+-- the nodes ns of a table e, whose names are bound by c to nodes of the file's table t; g gives the answers of its constants
+unfoldable pub run-in : Table → Table → List ℕ → (ℕ → Answer) → List ℕ → List Answer → List Answer
+run-in t e c g [] xs = xs
+run-in t e c g (n ∷ ns) xs = run-in t e c g ns (set xs n (answer-in e (answer-at xs) g n (shape-in t e c n)))
 
 -- the answers of all nodes, after the constants of an order
 unfoldable pub answers : Table → List ℕ → List ℕ → List Answer

@@ -10,7 +10,7 @@ use Rattle.express.specs.Select.{span, keep}
 use Rattle.express.specs.Tree.{Table, count, size, first, last, nodes, is, owner, left, middle, low}
 use Rattle.express.specs.Tree as tree
 use Rattle.express.specs.Declared.{Declared, INTEGER, BOOLEAN, LOGICAL, BINARY, enumeration, other, declared}
-use Rattle.express.specs.Shape.{Operator, plus, arithmetic, relation, connective, Sign, positive, negative, not, Shape, integer-literal, logical-literal, binary-literal, question, item, name, unary, operator, interval, interval-operator, type, constant, unevaluated, shape}
+use Rattle.express.specs.Shape.{Operator, plus, arithmetic, relation, connective, Sign, positive, negative, not, Shape, integer-literal, logical-literal, binary-literal, question, item, name, unary, operator, interval, interval-operator, type, constant, unevaluated, shape-in, shape}
 use Rattle.express.specs.Operate.{Kind, integers, logicals, binaries, items, undetermined, untyped, takes, takes-one, comparable}
 
 -- Kinds by number
@@ -63,22 +63,27 @@ if-fits p k = cond p (kind k) (fault 15)
 abbrev pub if-evaluated : Declared → Kind → Finding
 if-evaluated d k = cond (comparable (kind-of-type d)) (kind k) (fault 14)
 
--- At a node of a given shape, from the kinds of its children
+-- At a node n of a given shape in a table e, from the kinds of its children; what names are bound to are nodes of the file's table t, whose names
+-- are bound by b
+abbrev pub finding-in : Table → List ℕ → Table → (ℕ → Kind) → ℕ → Shape → Finding
+finding-in t b e k n (integer-literal v) = kind integers
+finding-in t b e k n (logical-literal l) = kind logicals
+finding-in t b e k n (binary-literal s) = kind binaries
+finding-in t b e k n question = kind undetermined
+finding-in t b e k n (item m) = kind (items (owner t m))
+finding-in t b e k n (name c) = if-evaluated (declared t b (left t c)) (kind-of-type (declared t b (left t c)))
+finding-in t b e k n (unary o) = if-fits (takes-one o (k (last n))) (result-of-one o)
+finding-in t b e k n (operator o) = let j = common (k (left e n)) (k (last n)) in if-fits (takes o j) (result o j)
+finding-in t b e k n (interval o p) =
+    if-fits (takes (relation o) (common (k (low e n)) (k (middle e n))) && takes (relation p) (common (k (middle e n)) (k (last n)))) logicals
+finding-in t b e k n interval-operator = kind untyped
+finding-in t b e k n (type d) = if-evaluated d untyped
+finding-in t b e k n (constant d) = if-fits (comparable (common (kind-of-type d) (k (last n)))) (kind-of-type d)
+finding-in t b e k n unevaluated = fault 14
+
+-- at a node of the file
 abbrev pub finding : Table → List ℕ → (ℕ → Kind) → ℕ → Shape → Finding
-finding t b k n (integer-literal v) = kind integers
-finding t b k n (logical-literal l) = kind logicals
-finding t b k n (binary-literal s) = kind binaries
-finding t b k n question = kind undetermined
-finding t b k n (item m) = kind (items (owner t m))
-finding t b k n (name c) = if-evaluated (declared t b (left t c)) (kind-of-type (declared t b (left t c)))
-finding t b k n (unary o) = if-fits (takes-one o (k (last n))) (result-of-one o)
-finding t b k n (operator o) = let j = common (k (left t n)) (k (last n)) in if-fits (takes o j) (result o j)
-finding t b k n (interval o p) =
-    if-fits (takes (relation o) (common (k (low t n)) (k (middle t n))) && takes (relation p) (common (k (middle t n)) (k (last n)))) logicals
-finding t b k n interval-operator = kind untyped
-finding t b k n (type d) = if-evaluated d untyped
-finding t b k n (constant d) = if-fits (comparable (common (kind-of-type d) (k (last n)))) (kind-of-type d)
-finding t b k n unevaluated = fault 14
+finding t b k n s = finding-in t b t k n s
 
 abbrev pub kind-at : List Kind → ℕ → Kind
 kind-at ks n = getD ks n untyped
@@ -92,9 +97,13 @@ abbrev pub then : Finding → ℕ → (Kind → Typing) → Typing
 then (kind k) n more = more k
 then (fault f) n more = refused f n
 
-unfoldable pub type-nodes : Table → List ℕ → List ℕ → List Kind → Typing
-type-nodes t b [] ks = typed ks
-type-nodes t b (n ∷ ns) ks = then (finding t b (kind-at ks) n (shape t b n)) n (λ k. type-nodes t b ns (set ks n k))
+-- the nodes ns of a table e, whose names are bound by c to nodes of the file
+unfoldable pub type-nodes-in : Table → List ℕ → Table → List ℕ → List ℕ → List Kind → Typing
+type-nodes-in t b e c [] ks = typed ks
+type-nodes-in t b e c (n ∷ ns) ks = then (finding-in t b e (kind-at ks) n (shape-in t e c n)) n (λ k. type-nodes-in t b e c ns (set ks n k))
+
+abbrev pub type-nodes : Table → List ℕ → List ℕ → List Kind → Typing
+type-nodes t b ns ks = type-nodes-in t b t b ns ks
 
 -- the nodes of a node, and those of some nodes
 abbrev pub within : Table → ℕ → List ℕ

@@ -207,11 +207,20 @@ unfoldable pub lexIn : ℕ → List ℕ → ℕ → Lexed
 lexIn zero s p = stopped (refused 0 p)
 lexIn (suc f) s p = afterSkip s (skipped s p) (λ q. lexIn f s q)
 
--- "over 65,536 bytes" is refused by 1; each turn passes a byte
+-- the tokens of a text of any length; each turn passes a byte
+abbrev pub lexed-whole : List ℕ → Lexed
+lexed-whole s = lexIn (length s + 1) s 0
+
+-- of a text with a limit on its bytes: a longer one is refused by 1
+abbrev pub lexed-to : ℕ → List ℕ → Lexed
+lexed-to n s = let all = lexed-whole s in cond (leb (length s) n) all (stopped (refused 1 n))
+
+-- "over 65,536 bytes"
+abbrev pub most : ℕ
+most = 65536
+
 unfoldable pub lexed : List ℕ → Lexed
-lexed s =
-    let all = lexIn (length s + 1) s 0 in
-    cond (leb (length s) 65536) all (stopped (refused 1 65536))
+lexed s = lexed-to most s
 
 -- ---- what a table of tokens is
 

@@ -15,10 +15,9 @@ spelled s r = take (r .size) (drop (r .start) s)
 abbrev pub terminals : List ℕ → Lexed → List ℕ
 terminals s l = map (λ r. terminalOf (r .kind) (spelled s r)) (l .rows)
 
--- the table of a text, without nodes
-abbrev pub token-table : List ℕ → Table
-token-table s =
-    let l = lexed s in
+-- the table of a text with these tokens, without nodes
+abbrev pub with-tokens : List ℕ → Lexed → Table
+with-tokens s l =
     record {
       bytes = s;
       starts = starts l;
@@ -30,6 +29,9 @@ token-table s =
       sizes = [];
       roles = [];
     }
+
+abbrev pub token-table : List ℕ → Table
+token-table s = with-tokens s (lexed s)
 
 -- The token columns of a table are those of its bytes.
 pub record Scanned (t : Table) : Type 0 where

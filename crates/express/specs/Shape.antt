@@ -89,25 +89,34 @@ abbrev pub evaluated : Option Operator → Shape
 evaluated none = unevaluated
 evaluated (some o) = operator o
 
+-- A node n of a table e, whose names are bound by b to nodes of the file's table t: e is that table itself for the expressions of the file, and
+-- another for a text that is read by itself.
 -- a name, or `type.item`: an item, a constant, or else a type
-abbrev pub named : Table → List ℕ → ℕ → Shape
-named t b n =
+abbrev pub named-in : Table → Table → List ℕ → ℕ → Shape
+named-in t e b n =
     cond (bound t b node.enumeration-item n) (item (declaration b n))
-    (cond (bound t b node.constant n) (name (declaration b n)) (type (declared t b n)))
+    (cond (bound t b node.constant n) (name (declaration b n)) (type (declared e b n)))
 
-unfoldable pub shape : Table → List ℕ → ℕ → Shape
-shape t b n =
-    cond (is t node.integer-literal n) (integer-literal (integerValue (text t n)))
-    (cond (is t node.binary-literal n) (binary-literal (binaryBits (text t n)))
-    (cond (is t node.logical-literal n) (logical-literal (logical-of (terminal t n)))
-    (cond (is t node.question n) question
-    (cond (is t node.name n || is t node.qualified-item n) (named t b n)
-    (cond (is t node.unary n) (unary (sign-of (terminal t n)))
-    (cond (is t node.two-operand n) (evaluated (operator-of (terminal t n)))
-    (cond (is t node.interval n) (interval (bound-of (terminal t (lower t n))) (bound-of (terminal t (upper t n))))
-    (cond (is t node.interval-operator n) interval-operator
-    (cond (is t node.simple-type n) (type (declared t b n))
-    (cond (is t node.constant n) (constant (declared t b (left t n))) unevaluated))))))))))
+unfoldable pub shape-in : Table → Table → List ℕ → ℕ → Shape
+shape-in t e b n =
+    cond (is e node.integer-literal n) (integer-literal (integerValue (text e n)))
+    (cond (is e node.binary-literal n) (binary-literal (binaryBits (text e n)))
+    (cond (is e node.logical-literal n) (logical-literal (logical-of (terminal e n)))
+    (cond (is e node.question n) question
+    (cond (is e node.name n || is e node.qualified-item n) (named-in t e b n)
+    (cond (is e node.unary n) (unary (sign-of (terminal e n)))
+    (cond (is e node.two-operand n) (evaluated (operator-of (terminal e n)))
+    (cond (is e node.interval n) (interval (bound-of (terminal e (lower e n))) (bound-of (terminal e (upper e n))))
+    (cond (is e node.interval-operator n) interval-operator
+    (cond (is e node.simple-type n) (type (declared e b n))
+    (cond (is e node.constant n) (constant (declared e b (left e n))) unevaluated))))))))))
+
+-- a node of the file
+abbrev pub named : Table → List ℕ → ℕ → Shape
+named t b n = named-in t t b n
+
+abbrev pub shape : Table → List ℕ → ℕ → Shape
+shape t b n = shape-in t t b n
 
 -- What the token stage guarantees of literals: "Integer literals reach 9223372036854775807. Binary literals have 1 to 63 bits."
 pub record Literals (t : Table) : Type 0 where
