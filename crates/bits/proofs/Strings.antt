@@ -13,9 +13,9 @@ use lib.Seq.{take-at, length-take-le}
 use lib.Pow.{pow-pos, pow-mono, pow-lt, pow-add, high, low, shl-exact}
 use mir.Syntax.{w64}
 use mir.Val.{Fits}
-use Rattle.express.specs.Bits.{bit, number, bits, join, compareBits}
-use Rattle.express.proofs.Bits.{length-bits, number-mod, number-lt, bits-mod, bits-append}
-use Rattle.express.proofs.Order.{compare-lt, compare-gt, compare-eq}
+use Rattle.express.specs.kinds.Bits.{bit, number, bits, join, compare-bits}
+use Rattle.express.proofs.kinds.Bits.{length-bits, number-mod, number-lt, bits-mod, bits-append}
+use Rattle.express.proofs.kinds.Order.{compare-lt, compare-gt, compare-eq}
 use Rattle.values.specs.declared.End.the-variants.{OutOfRange}
 use Rattle.bits.specs.Meaning.{string, Joins, Shorter}
 use Rattle.bits.specs.declared.Binary.{Binary}
@@ -153,8 +153,8 @@ head-more l xs ys g h =
     let r : 0 * 2 ^ length (take l ys) + number (take l ys) < 1 * 2 ^ length (take l xs) + number (take l xs) = omega arith in
     compare-gt _ _ r
 
-compare-first : (l : ℕ) (xs ys : List Bool) → l ≤ length xs → l ≤ length ys → compareBits xs ys ≡ then (compare (number (take l xs)) (number (take l ys))) (compareBits (drop l xs) (drop l ys))
-unfolding compareBits
+compare-first : (l : ℕ) (xs ys : List Bool) → l ≤ length xs → l ≤ length ys → compare-bits xs ys ≡ then (compare (number (take l xs)) (number (take l ys))) (compare-bits (drop l xs) (drop l ys))
+unfolding compare-bits
 compare-first zero xs ys g h = rw (compare-eq (number []) (number []) refl)
 compare-first (suc l) [] ys g h = absurd (omega arith)
 compare-first (suc l) (x ∷ xs) [] g h = absurd (omega arith)
@@ -163,56 +163,56 @@ compare-first (suc l) (true ∷ xs) (false ∷ ys) g h = rw (head-more l xs ys (
 compare-first (suc l) (false ∷ xs) (false ∷ ys) g h = rw (same-head false l xs ys (omega arith) (omega arith)) (compare-first l xs ys (omega arith) (omega arith))
 compare-first (suc l) (true ∷ xs) (true ∷ ys) g h = rw (same-head true l xs ys (omega arith) (omega arith)) (compare-first l xs ys (omega arith) (omega arith))
 
-nil-less : (ys : List Bool) → 0 < length ys → compareBits [] ys ≡ Ordering·lt
-unfolding compareBits
+nil-less : (ys : List Bool) → 0 < length ys → compare-bits [] ys ≡ Ordering·lt
+unfolding compare-bits
 nil-less [] h = absurd (omega arith)
 nil-less (y ∷ ys) h = refl
 
-more-nil : (xs : List Bool) → 0 < length xs → compareBits xs [] ≡ Ordering·gt
-unfolding compareBits
+more-nil : (xs : List Bool) → 0 < length xs → compare-bits xs [] ≡ Ordering·gt
+unfolding compare-bits
 more-nil [] h = absurd (omega arith)
 more-nil (x ∷ xs) h = refl
 
 -- two lists that have their first l bits in common, and one of which has no more
 module _ (l : ℕ) (xs ys : List Bool) where
-  rest-less : length xs ≤ l → l < length ys → compareBits (drop l xs) (drop l ys) ≡ Ordering·lt
+  rest-less : length xs ≤ l → l < length ys → compare-bits (drop l xs) (drop l ys) ≡ Ordering·lt
   rest-less g h = rw (drop-of-length-le xs g) (nil-less (drop l ys) (rw length-drop (omega arith)))
 
-  rest-more : l < length xs → length ys ≤ l → compareBits (drop l xs) (drop l ys) ≡ Ordering·gt
+  rest-more : l < length xs → length ys ≤ l → compare-bits (drop l xs) (drop l ys) ≡ Ordering·gt
   rest-more g h = rw (drop-of-length-le ys h) (more-nil (drop l xs) (rw length-drop (omega arith)))
 
-  rest-same : length xs ≤ l → length ys ≤ l → compareBits (drop l xs) (drop l ys) ≡ Ordering·eq
-  unfolding compareBits
+  rest-same : length xs ≤ l → length ys ≤ l → compare-bits (drop l xs) (drop l ys) ≡ Ordering·eq
+  unfolding compare-bits
   rest-same g h = rw (drop-of-length-le xs g, drop-of-length-le ys h)
 
 module _ (a b : Binary) {l m n : ℕ} (S : Shorter (a .length) (b .length) l) (e : m ≡ number (take l (string a))) (f : n ≡ number (take l (string b))) where
-  by-numbers : {o : Ordering} → compare m n ≡ o → compareBits (string a) (string b) ≡ then o (compareBits (drop l (string a)) (drop l (string b)))
+  by-numbers : {o : Ordering} → compare m n ≡ o → compare-bits (string a) (string b) ≡ then o (compare-bits (drop l (string a)) (drop l (string b)))
   by-numbers {o} h =
       let k : compare (number (take l (string a))) (number (take l (string b))) ≡ o = rw (← e, ← f) h in
       compare-first l (string a) (string b) (rw (length-bits (a .length) (a .number)) (S .first)) (rw (length-bits (b .length) (b .number)) (S .second))
-      ∙ ap (λ (o : Ordering). then o (compareBits (drop l (string a)) (drop l (string b)))) k
+      ∙ ap (λ (o : Ordering). then o (compare-bits (drop l (string a)) (drop l (string b)))) k
 
-  pub less : m < n → Ordering·lt ≡ compareBits (string a) (string b)
+  pub less : m < n → Ordering·lt ≡ compare-bits (string a) (string b)
   less h = sym (by-numbers (compare-lt m n h))
 
-  pub more : n < m → Ordering·gt ≡ compareBits (string a) (string b)
+  pub more : n < m → Ordering·gt ≡ compare-bits (string a) (string b)
   more h = sym (by-numbers (compare-gt m n h))
 
   module _ (g : n ≤ m) (h : m ≤ n) where
-    equal : compareBits (string a) (string b) ≡ compareBits (drop l (string a)) (drop l (string b))
+    equal : compare-bits (string a) (string b) ≡ compare-bits (drop l (string a)) (drop l (string b))
     equal = by-numbers (compare-eq m n (omega arith))
 
-    pub shorter-less : a .length < b .length → Ordering·lt ≡ compareBits (string a) (string b)
+    pub shorter-less : a .length < b .length → Ordering·lt ≡ compare-bits (string a) (string b)
     shorter-less k =
         let p : l ≡ a .length = is-shorter S .0 (omega arith) in
         sym (equal ∙ rest-less l (string a) (string b) (rw length-bits (omega arith)) (rw length-bits (omega arith)))
 
-    pub longer-more : b .length < a .length → Ordering·gt ≡ compareBits (string a) (string b)
+    pub longer-more : b .length < a .length → Ordering·gt ≡ compare-bits (string a) (string b)
     longer-more k =
         let p : l ≡ b .length = is-shorter S .1 (omega arith) in
         sym (equal ∙ rest-more l (string a) (string b) (rw length-bits (omega arith)) (rw length-bits (omega arith)))
 
-    pub both-same : b .length ≤ a .length → a .length ≤ b .length → Ordering·eq ≡ compareBits (string a) (string b)
+    pub both-same : b .length ≤ a .length → a .length ≤ b .length → Ordering·eq ≡ compare-bits (string a) (string b)
     both-same j k =
         let p : l ≡ a .length = is-shorter S .0 (omega arith) in
         sym (equal ∙ rest-same l (string a) (string b) (rw length-bits (omega arith)) (rw length-bits (omega arith)))

@@ -4,9 +4,9 @@ use mathlib.Core.Bool.{Bool}
 use mathlib.Core.List.{List}
 use mathlib.Core.Logic.{_⊎_}
 use Prim.Native.Nat.{ℕ, _^_, _<_, _≤_}
-use Rattle.express.specs.Answer.{Answer, binary, end}
-use Rattle.express.specs.Bits.{bits, join}
-use Rattle.values.specs.Meaning.{endNumber}
+use Rattle.express.specs.kinds.Answer.{Answer, binary, end}
+use Rattle.express.specs.kinds.Bits.{bits, join}
+use Rattle.values.specs.Meaning.{end-number}
 use Rattle.bits.specs.declared.Binary.{Binary}
 use Rattle.bits.specs.declared.Joined.{Joined}
 use Rattle.bits.specs.declared.Joined.the-variants.{Whole, Ended}
@@ -15,9 +15,9 @@ use Rattle.bits.specs.declared.Joined.the-variants.{Whole, Ended}
 abbrev pub string : Binary → List Bool
 string b = bits (b .length) (b .number)
 
-abbrev pub joinedOf : Joined → Answer
-joinedOf (Whole b) = binary (string b)
-joinedOf (Ended e) = end (endNumber e)
+abbrev pub joined-of : Joined → Answer
+joined-of (Whole b) = binary (string b)
+joined-of (Ended e) = end (end-number e)
 
 -- the number holds the bits and nothing else, so that it is "bits as a number" of an answer row
 abbrev pub Tidy : Joined → Type 0
@@ -25,7 +25,7 @@ Tidy (Whole b) = b .number < 2 ^ b .length
 Tidy (Ended e) = Unit {0}
 
 pub record Joins (xs ys : List Bool) (r : Joined) : Type 0 where
-  pub is : joinedOf r ≡ join xs ys
+  pub is : joined-of r ≡ join xs ys
   pub tidy : Tidy r
 
 -- r is the smaller of l and k

@@ -2,8 +2,8 @@
 ghost use mathlib.Core.Path.{_≡_};
 ghost use Prim.Native.Nat.{_≤_, _/_, _%_, _^_};
 ghost use lib.ListN.{take};
-ghost use Rattle.express.specs.Bits.{number, compareBits};
-ghost use Rattle.values.specs.Meaning.{orderingOf};
+ghost use Rattle.express.specs.kinds.Bits.{number, compare-bits};
+ghost use Rattle.values.specs.Meaning.{ordering-of};
 ghost use Rattle.bits.specs.Meaning.{string, Joins, Shorter};
 use values::End;
 use values::order::Order;
@@ -76,7 +76,7 @@ fn shorter(l: u8, k: u8) -> u8
 
 // From the left as far as both go; then the shorter is less.
 pub fn compare(a: Binary, b: Binary) -> Order
-    ensures { λ r. ⌜ orderingOf r ≡ compareBits (string a) (string b) ⌝ }
+    ensures { λ r. ⌜ ordering-of r ≡ compare-bits (string a) (string b) ⌝ }
 {
     let l = shorter(a.length, b.length);
     let m = first(a, l);

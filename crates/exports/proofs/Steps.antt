@@ -4,9 +4,9 @@ use mathlib.Core.Path.{_≡_, ap, _∙_}
 use mathlib.Core.List.{List}
 use Rattle.scan.specs.Scan.{reading, Scanned}
 use Rattle.scan.specs.declared.Step.{Step}
-use Rattle.express.specs.Grammar.{file}
-use Rattle.phrases.specs.declared.Parsed.{Parsed}
-use Rattle.phrases.specs.Parsing as Parsing
+use Rattle.express.specs.syntax.Grammar.{file}
+use Rattle.expressions.specs.declared.Parsed.{Parsed}
+use Rattle.expressions.specs.Parsing as Parsing
 use Rattle.exports.specs.Reply.{reply, number, Scans, Parses}
 
 pub scans : {src k₀ s₀ z₀ k s z : List ℕ} {step : Step} {r n : ℕ} → Scanned src k₀ s₀ z₀ step k s z → n ≡ number (reading step) → r ≡ reply (reading step) → Scans src k₀ s₀ z₀ r n k s z

@@ -4,11 +4,11 @@ use mathlib.Core.Path.{_≡_}
 use mathlib.Core.List.{List, map}
 use lib.ListN.{length}
 use lib.Seq.{sets}
-use Rattle.express.specs.Lexis as Lexis
+use Rattle.express.specs.tokens.Lexis as Lexis
 use Rattle.ebnf.specs.Rows.{Row}
-use Rattle.express.specs.Grammar.{file}
-use Rattle.phrases.specs.Parsing as Parsing
-use Rattle.express.specs.Lexis.{Reading, at, refused, lexed, tokens}
+use Rattle.express.specs.syntax.Grammar.{file}
+use Rattle.expressions.specs.Parsing as Parsing
+use Rattle.express.specs.tokens.Lexis.{Reading, at, refused, lexed, tokens}
 
 -- 0 for a new place or a count, else the number of the refusal
 abbrev pub reply : Reading → ℕ

@@ -3,7 +3,7 @@ use mathlib.Core.Bool.{cond}
 use Prim.Native.Nat.{ℕ}
 use lib.Dec.{eqb}
 use lib.IntN.{ℤ}
-use Rattle.express.specs.Answer.{Answer, integer, end}
+use Rattle.express.specs.kinds.Answer.{Answer, integer, end}
 
-abbrev pub rowAnswer : ℕ → ℤ → Answer
-rowAnswer k z = cond (eqb k 1) (integer z) (end k)
+abbrev pub row-answer : ℕ → ℤ → Answer
+row-answer k z = cond (eqb k 1) (integer z) (end k)

@@ -6,8 +6,8 @@ use Rattle.index.specs.declared.dictionary.Found.{Found}
 use Rattle.index.specs.declared.dictionary.Found.the-variants.{At, Nothing}
 use Rattle.graph.specs.declared.Marking.{Marking}
 use Rattle.graph.specs.declared.Marking.the-variants as marking
-use Rattle.components.specs.declared.Sorted.{Sorted}
-use Rattle.components.specs.declared.Sorted.the-variants as sorted
+use Rattle.cycles.specs.declared.Sorted.{Sorted}
+use Rattle.cycles.specs.declared.Sorted.the-variants as sorted
 
 -- r tells of an answer that keeps the promise
 pub record Told {A R : Type 0} (code : A → R) (Promise : A → Type 0) (r : R) : Type 0 where

@@ -1,9 +1,9 @@
 // Orders of dependencies, and what is reached.
 ghost use mathlib.Core.Path.{_≡_};
 ghost use Rattle.graph.specs.Mark.{Answers};
-ghost use Rattle.components.specs.Answer.{OrderAnswers};
+ghost use Rattle.cycles.specs.Answer.{OrderAnswers};
 ghost use Rattle.exports.specs.Told.{Told, marked, vertex};
-use components::Sorted;
+use cycles::Sorted;
 use graph::Marking;
 
 fn is_marked(marking: Marking) -> bool
@@ -52,5 +52,5 @@ pub extern "C" fn woffulent_order(
 ) -> usize
     ensures { λ r. ⌜ Told vertex (OrderAnswers (now (first .entry)) (now (to .entry)) (now (order .entry)) (now (group .entry)) (now (place .entry)) (now (at .entry)) (now (stack .entry)) (now (path .entry)) (now (bound .entry)) (now (order .exit)) (now (group .exit)) (now (place .exit)) (now (at .exit)) (now (stack .exit)) (now (path .exit)) (now (bound .exit))) r ⌝ }
 {
-    vertex_of(components::order(first, to, order, group, place, at, stack, path, bound))
+    vertex_of(cycles::order(first, to, order, group, place, at, stack, path, bound))
 }

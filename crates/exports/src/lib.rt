@@ -8,11 +8,11 @@ pub mod names;
 ghost use mathlib.Core.Path.{_≡_};
 ghost use lib.ListN.{length, take, drop};
 ghost use lib.Seq.{sets};
-ghost use Rattle.express.specs.Lexis.{integerValue, binaryValue};
-ghost use Rattle.express.specs.Terminal.{terminals};
+ghost use Rattle.express.specs.tokens.Lexis.{integer-value, binary-value};
+ghost use Rattle.express.specs.tokens.Terminal.{terminals};
 ghost use Rattle.literals.specs.Literal.{capped};
 ghost use Rattle.scan.specs.Scan.{reading};
-ghost use Rattle.phrases.specs.Parsing as Parsing;
+ghost use Rattle.expressions.specs.Parsing as Parsing;
 ghost use Rattle.exports.specs.Reply.{reply, number, Scans, Parses};
 
 fn reply_of(step: scan::Step) -> u8
@@ -50,14 +50,14 @@ pub extern "C" fn woffulent_scan(
 
 #[no_mangle]
 pub extern "C" fn woffulent_integer(s: &[u8], start: usize, length: usize) -> u64
-    ensures { λ r. ⌜ r ≡ capped (integerValue (take length (drop start (now (s .entry))))) ⌝ }
+    ensures { λ r. ⌜ r ≡ capped (integer-value (take length (drop start (now (s .entry))))) ⌝ }
 {
     literals::integer(s, start, length)
 }
 
 #[no_mangle]
 pub extern "C" fn woffulent_binary(s: &[u8], start: usize, length: usize) -> u64
-    ensures { λ r. ⌜ r ≡ capped (binaryValue (take length (drop start (now (s .entry))))) ⌝ }
+    ensures { λ r. ⌜ r ≡ capped (binary-value (take length (drop start (now (s .entry))))) ⌝ }
 {
     literals::binary(s, start, length)
 }
@@ -72,28 +72,28 @@ pub extern "C" fn woffulent_terminals(
 )
     ensures { λ _. ⌜ now (out .exit) ≡ sets (now (out .entry)) 0 (terminals (now (src .entry)) (now (kinds .entry)) (now (starts .entry)) (now (lengths .entry))) ⌝ }
 {
-    words::terminals(src, kinds, starts, lengths, out);
+    terminals::terminals(src, kinds, starts, lengths, out);
 }
 
-fn parse_reply(parsed: phrases::Parsed) -> u8
+fn parse_reply(parsed: expressions::Parsed) -> u8
     ensures { λ r. ⌜ r ≡ Parsing.reply parsed ⌝ }
 {
     match parsed {
-        phrases::Parsed::Accepted(_) => 0,
-        phrases::Parsed::Refused(k, _) => k,
-        phrases::Parsed::Short(_) => 7,
-        phrases::Parsed::Long => 1,
+        expressions::Parsed::Accepted(_) => 0,
+        expressions::Parsed::Refused(k, _) => k,
+        expressions::Parsed::Short(_) => 7,
+        expressions::Parsed::Long => 1,
     }
 }
 
-fn parse_number(parsed: phrases::Parsed) -> usize
+fn parse_number(parsed: expressions::Parsed) -> usize
     ensures { λ r. ⌜ r ≡ Parsing.number parsed ⌝ }
 {
     match parsed {
-        phrases::Parsed::Accepted(n) => n,
-        phrases::Parsed::Refused(_, j) => j,
-        phrases::Parsed::Short(n) => n,
-        phrases::Parsed::Long => 65536,
+        expressions::Parsed::Accepted(n) => n,
+        expressions::Parsed::Refused(_, j) => j,
+        expressions::Parsed::Short(n) => n,
+        expressions::Parsed::Long => 65536,
     }
 }
 
@@ -108,7 +108,7 @@ pub extern "C" fn woffulent_parse(
 ) -> u8
     ensures { λ r. ⌜ Parses (now (codes .entry)) r (now (count .exit)) (now (kinds .entry)) (now (tokens .entry)) (now (sizes .entry)) (now (roles .entry)) (now (kinds .exit)) (now (tokens .exit)) (now (sizes .exit)) (now (roles .exit)) ⌝ }
 {
-    let parsed = syntax::parse(codes, kinds, tokens, sizes, roles);
+    let parsed = declarations::parse(codes, kinds, tokens, sizes, roles);
     *count = parse_number(parsed);
     parse_reply(parsed)
 }

@@ -7,7 +7,7 @@ use native.Mathlib.Omega.{arith}
 use native.Mathlib.Decide.{decLt}
 use native.Mathlib.Nat.{add-zero}
 use lib.ListN.{length, getD, List·getD-eq-default}
-use Rattle.express.specs.Reach.{Reaches, direct, onward}
+use Rattle.relations.specs.Reach.{Reaches, direct, onward}
 use Rattle.graph.specs.Graph.{vertices, Graph, Arc}
 
 -- the offsets never fall

@@ -6,8 +6,8 @@ use Prim.Native.Nat.{ℕ, _+_, _-_, _≤_, _<_}
 use native.Mathlib.Omega.{arith}
 use native.Mathlib.Decide.{ℕ-discrete}
 use lib.ListN.{length, getD, set, length-set}
-use Rattle.express.specs.Reach.{Reaches, direct, onward}
-use Rattle.express.proofs.Reach.{reaches-trans}
+use Rattle.relations.specs.Reach.{Reaches, direct, onward}
+use Rattle.relations.proofs.Reach.{reaches-trans}
 use Rattle.graph.specs.Graph.{vertices, Arc}
 use Rattle.graph.specs.Mark.{Markable, Marks, Spread, Expanded}
 use Rattle.graph.proofs.Store.{Put, put}

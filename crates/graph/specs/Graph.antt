@@ -4,7 +4,7 @@ use mathlib.Core.Bool.{Bool, true, false}
 use mathlib.Core.List.{List}
 use Prim.Native.Nat.{ℕ, _+_, _-_, _≤_, _<_}
 use lib.ListN.{length, getD}
-use Rattle.express.specs.Reach.{Reaches}
+use Rattle.relations.specs.Reach.{Reaches}
 
 -- the vertices are the numbers below this one
 abbrev pub vertices : List ℕ → ℕ

@@ -3,7 +3,7 @@ use mathlib.Core.Path.{_≡_}
 use mathlib.Core.List.{List}
 use Prim.Native.Nat.{ℕ, zero, suc, _+_, _≤_, _<_}
 use lib.ListN.{length, getD}
-use Rattle.express.specs.Reach.{Reaches}
+use Rattle.relations.specs.Reach.{Reaches}
 use Rattle.graph.specs.Graph.{vertices, Graph, Arc}
 use Rattle.graph.specs.declared.Marking.{Marking}
 use Rattle.graph.specs.declared.Marking.the-variants.{Marked, Malformed}

@@ -3,7 +3,7 @@ ghost use mathlib.Core.Path.{_≡_};
 ghost use mathlib.Core.Bool.{true, false};
 ghost use Prim.Native.Nat.{ℕ, _+_, _-_, _≤_, _<_};
 ghost use lib.ListN.{length, getD};
-ghost use Rattle.express.specs.Reach.{Reaches};
+ghost use Rattle.relations.specs.Reach.{Reaches};
 ghost use Rattle.graph.specs.Graph.{vertices, Graph, Arc, Tells};
 ghost use Rattle.graph.specs.Mark.{Markable, Marks, Answers, Spread, Expanded};
 

@@ -1,7 +1,7 @@
 // Graphs, and what the crates answer on them. A line for each: its number, what `order` and `least_on_cycle` answer, and the marks of what one
 // vertex reaches. Graphs 0 to 4 have 60,000 vertices; those from 5 on are small, and tests/graph computes their answers anew.
-use components::Cycle;
-use components::Sorted;
+use cycles::Cycle;
+use cycles::Sorted;
 use graph::Marking;
 use libc::STDOUT_FILENO;
 ghost use Prim.Native.Nat.{_+_, _*_, _≤_, _<_};
@@ -168,7 +168,7 @@ fn show_order(first: &[u32], to: &[u32], shown: usize) {
     let mut stack = [0u32; 60000];
     let mut path = [0u32; 60000];
     let mut bound = [0u32; 60000];
-    let sorted = components::order(
+    let sorted = cycles::order(
         first,
         to,
         &mut order,
@@ -201,7 +201,7 @@ fn show_least(first: &[u32], to: &[u32]) {
     let mut stack = [0u32; 60000];
     let mut path = [0u32; 60000];
     let mut bound = [0u32; 60000];
-    let cycle = components::least_on_cycle(
+    let cycle = cycles::least_on_cycle(
         first,
         to,
         &mut group,

@@ -11,11 +11,11 @@ use lib.ListN.{length, getD, set, replicate, length-set, length-replicate, getD-
 use borrow.Author.Tests.{eqb-true, eqb-false, eq-eqb, ne-eqb, lt-ltb, le-ltb, ltb-true, leb-true, not-true, not-false}
 use Rattle.columns.specs.Column.{cleared}
 use Rattle.columns.proofs.Laws.{length-cleared, clear-all}
-use Rattle.express.specs.Select.{firstFrom}
-use Rattle.express.proofs.Select.{and-fst, and-snd, and-both, untrue, first-is, first-step, first-end}
-use Rattle.index.specs.Bucket.{bucketOf, InBucket}
+use Rattle.relations.specs.Select.{first-from}
+use Rattle.relations.proofs.Select.{and-fst, and-snd, and-both, untrue, first-is, first-step, first-end}
+use Rattle.index.specs.Bucket.{bucket-of, InBucket}
 use Rattle.index.specs.Room.{fits}
-use Rattle.index.specs.Dictionary.{has, among, firstWith, falls, linkTo, link, Indexed, Walks, Builds, Finds, Continues}
+use Rattle.index.specs.Dictionary.{has, among, first-with, falls, link-to, link, Indexed, Walks, Builds, Finds, Continues}
 use Rattle.index.specs.declared.Outcome.the-variants.{Done, Short}
 use Rattle.index.specs.declared.dictionary.Found.{Found}
 use Rattle.index.specs.declared.dictionary.Found.the-variants.{At, Nothing}
@@ -42,26 +42,26 @@ module _ (keys : List ℕ) where
   pub has-none : (i : ℕ) → has keys 0 i ≡ false
   has-none i = refl
 
-  falls-is : (m b i : ℕ) → 0 < getD keys i 0 → bucketOf m (getD keys i 0) ≡ b → falls keys m b i ≡ true
+  falls-is : (m b i : ℕ) → 0 < getD keys i 0 → bucket-of m (getD keys i 0) ≡ b → falls keys m b i ≡ true
   falls-is m b i h e = and-both _ _ (not-zero _ h) (eq-eqb _ _ e)
 
   falls-keyed : (m b i : ℕ) → falls keys m b i ≡ true → 0 < getD keys i 0
   falls-keyed m b i t = zero-not _ (and-fst _ _ t)
 
-  falls-bucket : (m b i : ℕ) → falls keys m b i ≡ true → bucketOf m (getD keys i 0) ≡ b
-  falls-bucket m b i t = eqb-true (bucketOf m (getD keys i 0)) b (and-snd (not (eqb (getD keys i 0) 0)) _ t)
+  falls-bucket : (m b i : ℕ) → falls keys m b i ≡ true → bucket-of m (getD keys i 0) ≡ b
+  falls-bucket m b i t = eqb-true (bucket-of m (getD keys i 0)) b (and-snd (not (eqb (getD keys i 0) 0)) _ t)
 
-  falls-other : (m b i : ℕ) → (bucketOf m (getD keys i 0) ≡ b → ⊥) → falls keys m b i ≡ false
+  falls-other : (m b i : ℕ) → (bucket-of m (getD keys i 0) ≡ b → ⊥) → falls keys m b i ≡ false
   falls-other m b i n = untrue _ (λ t. n (falls-bucket m b i t))
 
   falls-none : (m b i : ℕ) → getD keys i 0 ≡ 0 → falls keys m b i ≡ false
   falls-none m b i e = untrue _ (λ t. omega (arith, falls-keyed m b i t))
 
   -- whoever has the key falls into its bucket
-  has-falls : (m key j : ℕ) → has keys key j ≡ true → falls keys m (bucketOf m key) j ≡ true
+  has-falls : (m key j : ℕ) → has keys key j ≡ true → falls keys m (bucket-of m key) j ≡ true
   has-falls m key j t =
       let e = eqb-true (getD keys j 0) key (and-snd (not (eqb key 0)) _ t) in
-      falls-is m (bucketOf m key) j (rw e (zero-not key (and-fst _ _ t))) (ap (bucketOf m) e)
+      falls-is m (bucket-of m key) j (rw e (zero-not key (and-fst _ _ t))) (ap (bucket-of m) e)
 
   -- ---- what an answer means
 
@@ -79,7 +79,7 @@ module _ (keys : List ℕ) where
   among-past n i h = rw (le-ltb i n h)
 
   abbrev seek : ℕ → ℕ → ℕ
-  seek key from = firstFrom (has keys key) from (count - from)
+  seek key from = first-from (has keys key) from (count - from)
 
   -- an entry that is found has the key, and none before it has
   pub record Least (key from i : ℕ) : Type 0 where
@@ -89,8 +89,8 @@ module _ (keys : List ℕ) where
     pub has : getD keys i 0 ≡ key
     pub none : (j : ℕ) → from ≤ j → j < i → getD keys j 0 ≡ key → ⊥
 
-  pub found-least : (key from i : ℕ) → firstWith keys key from ≡ At i → Least key from i
-  unfolding firstWith
+  pub found-least : (key from i : ℕ) → first-with keys key from ≡ At i → Least key from i
+  unfolding first-with
   found-least key from i e =
       let F = first-is (has keys key) from (count - from) in
       let w = among-at count (seek key from) i e in
@@ -109,8 +109,8 @@ module _ (keys : List ℕ) where
       }
 
   -- where nothing is found, no entry from there on has the key
-  pub found-nothing : (key from : ℕ) → firstWith keys key from ≡ Nothing → 0 < key → (j : ℕ) → from ≤ j → j < length keys → getD keys j 0 ≡ key → ⊥
-  unfolding firstWith
+  pub found-nothing : (key from : ℕ) → first-with keys key from ≡ Nothing → 0 < key → (j : ℕ) → from ≤ j → j < length keys → getD keys j 0 ≡ key → ⊥
+  unfolding first-with
   found-nothing key from e k j a b h =
       let F = first-is (has keys key) from (count - from) in
       by-cases (decLt (seek key from) count)
@@ -118,8 +118,8 @@ module _ (keys : List ℕ) where
       (λ l. false≢true (sym (F .none j a (omega (arith, l))) ∙ has-is key j k h))
 
   -- no entry has the key 0
-  pub none-keyed : (from : ℕ) → firstWith keys 0 from ≡ Nothing
-  unfolding firstWith
+  pub none-keyed : (from : ℕ) → first-with keys 0 from ≡ Nothing
+  unfolding first-with
   none-keyed from =
       let F = first-is (has keys 0) from (count - from) in
       by-cases (decLt (seek 0 from) count)
@@ -129,7 +129,7 @@ module _ (keys : List ℕ) where
   -- ---- links
 
   abbrev chain : ℕ → ℕ → ℕ → ℕ
-  chain m b from = firstFrom (falls keys m b) from (count - from)
+  chain m b from = first-from (falls keys m b) from (count - from)
 
   -- one entry further down
   pub link-step : (m b i : ℕ) → i < length keys → link keys m b i ≡ cond (falls keys m b i) (i + 1) (link keys m b (i + 1))
@@ -137,7 +137,7 @@ module _ (keys : List ℕ) where
   link-step m b i h = by (falls keys m b i) refl (first-step (falls keys m b) count i h)
     where
       by : (t : Bool) → falls keys m b i ≡ t → chain m b i ≡ cond (falls keys m b i) i (chain m b (i + 1))
-          → linkTo count (chain m b i) ≡ cond t (i + 1) (linkTo count (chain m b (i + 1)))
+          → link-to count (chain m b i) ≡ cond t (i + 1) (link-to count (chain m b (i + 1)))
       by true t e = let s : chain m b i ≡ i = rw t at e in rw (s, lt-ltb i count h)
       by false t e = let s : chain m b i ≡ chain m b (i + 1) = rw t at e in rw s
 
@@ -158,7 +158,7 @@ module _ (keys : List ℕ) where
 
   module _ (m key : ℕ) (keyed : 0 < key) where
     abbrev bucket : ℕ
-    bucket = bucketOf m key
+    bucket = bucket-of m key
 
     -- the search by the key may start at the bucket's next entry
     seek-chain : (at : ℕ) → at ≤ count → seek key at ≡ seek key (chain m bucket at)
@@ -176,7 +176,7 @@ module _ (keys : List ℕ) where
       pub inside : l - 1 < length keys
       pub low : at ≤ length keys
       pub some : 0 < getD keys (l - 1) 0
-      pub same : bucketOf m (getD keys (l - 1) 0) ≡ bucketOf m key
+      pub same : bucket-of m (getD keys (l - 1) 0) ≡ bucket-of m key
 
     leads : {at l : ℕ} → at < l → l ≡ link keys m bucket at → Leads at l
     leads {at} {l} h e = by (link-cases m bucket at)
@@ -197,16 +197,16 @@ module _ (keys : List ℕ) where
             }
 
     -- the entry has the key: it is the least
-    pub walk-hit : {at l : ℕ} → at < l → l ≡ link keys m (bucketOf m key) at → getD keys (l - 1) 0 ≡ key → At (l - 1) ≡ firstWith keys key at
-    unfolding firstWith
+    pub walk-hit : {at l : ℕ} → at < l → l ≡ link keys m (bucket-of m key) at → getD keys (l - 1) 0 ≡ key → At (l - 1) ≡ first-with keys key at
+    unfolding first-with
     walk-hit {at} {l} h e k =
         let L = leads h e in
         let s : seek key at ≡ l - 1 = seek-chain at (L .low) ∙ ap (seek key) (sym (L .here)) ∙ seek-hit (l - 1) (L .inside) k in
         sym (ap (among count) s ∙ among-in count (l - 1) (L .inside))
 
     -- it has not: the search goes on after it
-    pub walk-on : {at l : ℕ} → at < l → l ≡ link keys m (bucketOf m key) at → (getD keys (l - 1) 0 ≡ key → ⊥) → firstWith keys key l ≡ firstWith keys key at
-    unfolding firstWith
+    pub walk-on : {at l : ℕ} → at < l → l ≡ link keys m (bucket-of m key) at → (getD keys (l - 1) 0 ≡ key → ⊥) → first-with keys key l ≡ first-with keys key at
+    unfolding first-with
     walk-on {at} {l} h e n =
         let L = leads h e in
         let q : l - 1 + 1 ≡ l = omega arith in
@@ -214,8 +214,8 @@ module _ (keys : List ℕ) where
         ap (among count) (sym s)
 
     -- the chain has ended: there is none
-    pub walk-end : {at l : ℕ} → l ≤ at → l ≡ link keys m (bucketOf m key) at → Nothing ≡ firstWith keys key at
-    unfolding firstWith
+    pub walk-end : {at l : ℕ} → l ≤ at → l ≡ link keys m (bucket-of m key) at → Nothing ≡ first-with keys key at
+    unfolding first-with
     walk-end {at} {l} h e = by (link-cases m bucket at)
       where
         by : ((link keys m bucket at ≡ 0) × (count ≤ chain m bucket at)) ⊎ ((link keys m bucket at ≡ chain m bucket at + 1) × (chain m bucket at < count)) → Nothing ≡ among count (seek key at)
@@ -233,8 +233,8 @@ module _ (keys : List ℕ) where
 -- what was to be found from the start
 pub record Walking (keys next : List ℕ) (key from first at l : ℕ) : Type 0 where
   pub past : from ≤ at
-  pub is : (heads : List ℕ) → Indexed keys heads next → 0 < key → first ≡ link keys (length heads) (bucketOf (length heads) key) from
-      → (l ≡ link keys (length heads) (bucketOf (length heads) key) at) × (firstWith keys key at ≡ firstWith keys key from)
+  pub is : (heads : List ℕ) → Indexed keys heads next → 0 < key → first ≡ link keys (length heads) (bucket-of (length heads) key) from
+      → (l ≡ link keys (length heads) (bucket-of (length heads) key) at) × (first-with keys key at ≡ first-with keys key from)
 
 module _ {keys next : List ℕ} {key from first : ℕ} where
   pub walking-starts : Walking keys next key from first from first
@@ -269,7 +269,7 @@ module _ {keys next : List ℕ} {key from first : ℕ} where
               let s = w .is heads I k f in
               let L = leads keys m key k h (s .0) in
               let q : l - 1 + 1 ≡ l = omega arith in (
-                e ∙ I .goes (l - 1) inside (L .some) ∙ ap (λ (b : ℕ). link keys m b (l - 1 + 1)) (L .same) ∙ ap (link keys m (bucketOf m key)) q,
+                e ∙ I .goes (l - 1) inside (L .some) ∙ ap (λ (b : ℕ). link keys m b (l - 1 + 1)) (L .same) ∙ ap (link keys m (bucket-of m key)) q,
                 walk-on keys m key k h (s .0) n ∙ s .1,
               );
         }
@@ -296,7 +296,7 @@ pub record Building (keys heads₀ next₀ heads next : List ℕ) (i : ℕ) : Ty
   pub next-long : length next ≡ length next₀
   pub head : (b : ℕ) → b < length heads₀ → getD heads b 0 ≡ link keys (length heads₀) b i
   pub goes : (j : ℕ) → i ≤ j → j < length keys → 0 < getD keys j 0
-      → getD next j 0 ≡ link keys (length heads₀) (bucketOf (length heads₀) (getD keys j 0)) (j + 1)
+      → getD next j 0 ≡ link keys (length heads₀) (bucket-of (length heads₀) (getD keys j 0)) (j + 1)
 
 pub building-starts : {keys heads₀ next : List ℕ} (heads : List ℕ) → fits (length keys) (length heads) (length next) ≡ true → heads₀ ≡ cleared 0 0 heads
     → Building keys heads₀ next heads₀ next (length keys)
@@ -344,7 +344,7 @@ module _ {keys heads₀ next₀ heads next : List ℕ} {i : ℕ} (w : Building k
   pub building-enters : (b v : ℕ) → 0 < getD keys (i - 1) 0 → InBucket (length heads) (getD keys (i - 1) 0) b → v ≡ i - 1 + 1
       → Building keys heads₀ next₀ (set heads b v) (set next (i - 1) (getD heads b 0)) (i - 1)
   building-enters b v k B ve =
-      let e : b ≡ bucketOf m (getD keys (i - 1) 0) = B .is ∙ ap (λ (x : ℕ). bucketOf x (getD keys (i - 1) 0)) (w .heads-long) in
+      let e : b ≡ bucket-of m (getD keys (i - 1) 0) = B .is ∙ ap (λ (x : ℕ). bucket-of x (getD keys (i - 1) 0)) (w .heads-long) in
       let small : b < m = omega (arith, B .small, w .heads-long) in
       let inside : i - 1 < length keys = omega (arith, w .within) in
       record {
@@ -368,12 +368,12 @@ module _ {keys heads₀ next₀ heads next : List ℕ} {i : ℕ} (w : Building k
             ∙ ap (link keys m b′) down));
         goes =
             λ j a h k′.
-            at-set (λ (x : ℕ). x ≡ link keys m (bucketOf m (getD keys j 0)) (j + 1)) next (i - 1) (getD heads b 0) j (omega (arith, w .next-long, w .room))
+            at-set (λ (x : ℕ). x ≡ link keys m (bucket-of m (getD keys j 0)) (j + 1)) next (i - 1) (getD heads b 0) j (omega (arith, w .next-long, w .room))
             (λ q.
             let up′ : j + 1 ≡ i = omega arith in
             w .head b small
-            ∙ ap (λ (x : ℕ). link keys m x i) (e ∙ ap (λ (x : ℕ). bucketOf m (getD keys x 0)) (sym q))
-            ∙ ap (link keys m (bucketOf m (getD keys j 0))) (sym up′))
+            ∙ ap (λ (x : ℕ). link keys m x i) (e ∙ ap (λ (x : ℕ). bucket-of m (getD keys x 0)) (sym q))
+            ∙ ap (link keys m (bucket-of m (getD keys j 0))) (sym up′))
             (λ q. w .goes j (omega (arith, q)) h k′);
       }
 
@@ -385,7 +385,7 @@ built {keys} {heads₀} {next₀} {heads} {next} {i} w z =
       some = omega (arith, w .some);
       room = omega (arith, w .room, w .next-long);
       head = λ b h. w .head b (omega arith) ∙ ap (link keys (length heads₀) b) none ∙ ap (λ (m : ℕ). link keys m b 0) (sym long);
-      goes = λ j h k. w .goes j (omega arith) h k ∙ ap (λ (m : ℕ). link keys m (bucketOf m (getD keys j 0)) (j + 1)) (sym long);
+      goes = λ j h k. w .goes j (omega arith) h k ∙ ap (λ (m : ℕ). link keys m (bucket-of m (getD keys j 0)) (j + 1)) (sym long);
     }
 
 -- ---- the answer of `build`
@@ -401,7 +401,7 @@ builds-done {b = b} t e I =
 -- ---- the answers of `find` and `next_of`
 
 pub finds-none : {keys heads next : List ℕ} {key : ℕ} → key ≡ 0 → Finds keys heads next key Nothing
-finds-none {keys} e = record { holds = tt; is = λ I. sym (ap (λ (k : ℕ). firstWith keys k 0) e ∙ none-keyed keys 0) }
+finds-none {keys} e = record { holds = tt; is = λ I. sym (ap (λ (k : ℕ). first-with keys k 0) e ∙ none-keyed keys 0) }
 
 pub finds-no-bucket : {keys heads next : List ℕ} {key : ℕ} → length heads ≡ 0 → Finds keys heads next key Nothing
 finds-no-bucket e = record { holds = tt; is = λ I. absurd (omega (arith, I .some)) }
@@ -419,7 +419,7 @@ finds-walked {keys} {heads} b n B e w =
 
 pub continues-none : {keys next : List ℕ} {entry : ℕ} → getD keys entry 0 ≡ 0 → Continues keys next entry Nothing
 continues-none {keys} {next} {entry} e =
-    record { holds = tt; is = λ heads I. sym (ap (λ (k : ℕ). firstWith keys k (entry + 1)) e ∙ none-keyed keys (entry + 1)) }
+    record { holds = tt; is = λ heads I. sym (ap (λ (k : ℕ). first-with keys k (entry + 1)) e ∙ none-keyed keys (entry + 1)) }
 
 pub continues-past : {keys next : List ℕ} {entry : ℕ} → length keys ≤ entry → Continues keys next entry Nothing
 continues-past {keys} {next} {entry} h = continues-none (List·getD-eq-default keys 0 {n = entry} h)

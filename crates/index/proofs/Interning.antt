@@ -13,14 +13,14 @@ use lib.Seq.{sets, take-suc, take-all}
 use borrow.Author.Tests.{eqb-true, eq-eqb, leb-true, not-true, not-false}
 use Rattle.columns.specs.Column.{cleared}
 use Rattle.columns.proofs.Laws.{sets-snoc, take-rows, length-cleared}
-use Rattle.express.specs.Bytes.{lower}
-use Rattle.express.specs.Select.{span}
-use Rattle.express.specs.Spelling.{spelling, same, symbolOf, symbolsOf}
-use Rattle.express.proofs.Select.{and-fst, and-snd, and-both, untrue}
-use Rattle.express.proofs.Spelling.{same-true, symbol-le, symbol-spelled, symbol-iff, symbols-at}
-use Rattle.index.specs.Bucket.{bucketOf, hashFrom, InBucket}
+use Rattle.express.specs.tokens.Bytes.{lower}
+use Rattle.relations.specs.Select.{span}
+use Rattle.express.specs.tokens.Spelling.{spelling, same, symbol-of, symbols-of}
+use Rattle.relations.proofs.Select.{and-fst, and-snd, and-both, untrue}
+use Rattle.express.proofs.tokens.Spelling.{same-true, symbol-le, symbol-spelled, symbol-iff, symbols-at}
+use Rattle.index.specs.Bucket.{bucket-of, hash-from, InBucket}
 use Rattle.index.specs.Room.{done, fits, enough}
-use Rattle.index.specs.Interning.{lastBelow, bucketAt, chained, Linked, Fills, Readied, Interns}
+use Rattle.index.specs.Interning.{last-index-below, bucket-at, chained, Linked, Fills, Readied, Interns}
 use Rattle.index.specs.declared.Outcome.{Outcome}
 use Rattle.index.specs.declared.Outcome.the-variants.{Done, Short}
 use Rattle.index.proofs.Search.{last-skip, last-next, last-none-yet, last-le, last-passes, last-none, at-set}
@@ -29,20 +29,20 @@ use Rattle.index.proofs.Entries.{fits-parts, zeros-at}
 
 -- the bucket of a number is that of an equal one
 pub in-bucket : {m x y b : ℕ} → InBucket m x b → x ≡ y → InBucket m y b
-in-bucket {m} B e = record { is = B .is ∙ ap (bucketOf m) e; small = B .small }
+in-bucket {m} B e = record { is = B .is ∙ ap (bucket-of m) e; small = B .small }
 
 module _ (bytes starts lengths : List ℕ) where
   abbrev spelt : ℕ → List ℕ
   spelt i = spelling bytes starts lengths i
 
   abbrev symbol : ℕ → ℕ
-  symbol i = symbolOf bytes starts lengths i
+  symbol i = symbol-of bytes starts lengths i
 
   abbrev on : ℕ → ℕ → ℕ → Bool
   on m b j = chained bytes starts lengths m b j
 
   abbrev bucket : ℕ → ℕ → ℕ
-  bucket m i = bucketAt bytes starts lengths m i
+  bucket m i = bucket-at bytes starts lengths m i
 
   on-is : (m b j : ℕ) → symbol j ≡ j → bucket m j ≡ b → on m b j ≡ true
   unfolding chained
@@ -66,13 +66,13 @@ module _ (bytes starts lengths : List ℕ) where
     wanted-on j t = and-fst (on m (bucket m i) j) (same (spelt j) (spelt i)) t
 
     -- no earlier token is spelled alike: token i is the first
-    none-wanted : lastBelow wanted i ≡ 0 → symbol i ≡ i
+    none-wanted : last-index-below wanted i ≡ 0 → symbol i ≡ i
     none-wanted e =
         by-cases (decLt (symbol i) i)
         (λ l.
         let s : spelt (symbol i) ≡ spelt i = symbol-spelled bytes starts lengths i in
         let f : symbol (symbol i) ≡ symbol i = symbol-iff bytes starts lengths (symbol i) i .1 s in
-        let o = on-is m (bucket m i) (symbol i) f (ap (λ (xs : List ℕ). bucketOf m (hashFrom 0 xs)) s) in
+        let o = on-is m (bucket m i) (symbol i) f (ap (λ (xs : List ℕ). bucket-of m (hash-from 0 xs)) s) in
         absurd (false≢true (sym (last-none wanted i (symbol i) e l) ∙ and-both (on m (bucket m i) (symbol i)) (same (spelt (symbol i)) (spelt i)) o (same-is _ _ s))))
         (λ l. omega (arith, symbol-le bytes starts lengths i, l))
 
@@ -82,8 +82,8 @@ module _ (bytes starts lengths : List ℕ) where
     pub spells : map lower word ≡ spelling bytes starts lengths i
     pub upto : ℕ
     pub low : upto ≤ i
-    pub here : l ≡ lastBelow (chained bytes starts lengths (linked .buckets) (bucketAt bytes starts lengths (linked .buckets) i)) upto
-    pub left : lastBelow (wanted (linked .buckets) i) upto ≡ lastBelow (wanted (linked .buckets) i) i
+    pub here : l ≡ last-index-below (chained bytes starts lengths (linked .buckets) (bucket-at bytes starts lengths (linked .buckets) i)) upto
+    pub left : last-index-below (wanted (linked .buckets) i) upto ≡ last-index-below (wanted (linked .buckets) i) i
 
   module _ {next word : List ℕ} {head i : ℕ} where
     pub walk-starts : {l : ℕ} → Linked bytes starts lengths next head i → map lower word ≡ spelling bytes starts lengths i → l ≡ head → Walk next head i word l
@@ -107,8 +107,8 @@ module _ (bytes starts lengths : List ℕ) where
       walk-inside h = let low = walk-low in let L = w .linked in (omega arith, omega arith, omega arith)
 
       -- what is left to be met stands at the link or below it
-      to-here : lastBelow (wanted buckets i) (w .upto) ≡ lastBelow (wanted buckets i) l
-      to-here = last-skip (wanted buckets i) mine (wanted-on buckets i) (w .upto) ∙ ap (lastBelow (wanted buckets i)) (sym (w .here))
+      to-here : last-index-below (wanted buckets i) (w .upto) ≡ last-index-below (wanted buckets i) l
+      to-here = last-skip (wanted buckets i) mine (wanted-on buckets i) (w .upto) ∙ ap (last-index-below (wanted buckets i)) (sym (w .here))
 
       module _ (h : 0 < l) where
         met : mine (l - 1) ≡ true
@@ -120,7 +120,7 @@ module _ (bytes starts lengths : List ℕ) where
             omega (arith, e, last-le (on buckets (bucket buckets (l - 1))) (l - 1))
 
         -- the token is spelled alike, and the first of its spelling
-        pub walk-hits : {r : Bool} → r ≡ same (spelling bytes starts lengths (l - 1)) (map lower word) → r ≡ true → l - 1 ≡ symbolOf bytes starts lengths i
+        pub walk-hits : {r : Bool} → r ≡ same (spelling bytes starts lengths (l - 1)) (map lower word) → r ≡ true → l - 1 ≡ symbol-of bytes starts lengths i
         walk-hits e f =
             let t = heard (spelt (l - 1)) (w .spells) e f in
             sym (on-first buckets (bucket buckets i) (l - 1) met)
@@ -138,24 +138,24 @@ module _ (bytes starts lengths : List ℕ) where
               spells = w .spells;
               upto = k;
               low = omega (arith, walk-low);
-              here = e ∙ L .links k (omega (arith, walk-low)) ∙ ap (λ (b : ℕ). lastBelow (on buckets b) k) same-bucket;
+              here = e ∙ L .links k (omega (arith, walk-low)) ∙ ap (λ (b : ℕ). last-index-below (on buckets b) k) same-bucket;
               left =
-                  sym (ap (λ (z : Bool). cond z (k + 1) (lastBelow (wanted buckets i) k)) off)
+                  sym (ap (λ (z : Bool). cond z (k + 1) (last-index-below (wanted buckets i) k)) off)
                   ∙ sym (last-next (wanted buckets i) k)
-                  ∙ ap (lastBelow (wanted buckets i)) q
+                  ∙ ap (last-index-below (wanted buckets i)) q
                   ∙ sym to-here
                   ∙ w .left;
             }
 
-      pub walk-ends : l ≤ 0 → i ≡ symbolOf bytes starts lengths i
+      pub walk-ends : l ≤ 0 → i ≡ symbol-of bytes starts lengths i
       walk-ends h =
           let z : l ≡ 0 = omega arith in
-          sym (none-wanted buckets i (sym (w .left) ∙ to-here ∙ ap (lastBelow (wanted buckets i)) z ∙ last-none-yet (wanted buckets i)))
+          sym (none-wanted buckets i (sym (w .left) ∙ to-here ∙ ap (last-index-below (wanted buckets i)) z ∙ last-none-yet (wanted buckets i)))
 
   -- ---- the column and the chains before token i
 
   abbrev all : List ℕ
-  all = symbolsOf bytes starts lengths
+  all = symbols-of bytes starts lengths
 
   pub record Filling (symbols₀ heads₀ next₀ symbols heads next : List ℕ) (i : ℕ) : Type 0 where
     pub within : i ≤ length starts
@@ -167,9 +167,9 @@ module _ (bytes starts lengths : List ℕ) where
     pub symbols-long : length symbols ≡ length symbols₀
     pub heads-long : length heads ≡ length heads₀
     pub next-long : length next ≡ length next₀
-    pub stored : symbols ≡ sets symbols₀ 0 (take i (symbolsOf bytes starts lengths))
-    pub begins : (b : ℕ) → b < length heads₀ → getD heads b 0 ≡ lastBelow (chained bytes starts lengths (length heads₀) b) i
-    pub links : (k : ℕ) → k < i → getD next k 0 ≡ lastBelow (chained bytes starts lengths (length heads₀) (bucketAt bytes starts lengths (length heads₀) k)) k
+    pub stored : symbols ≡ sets symbols₀ 0 (take i (symbols-of bytes starts lengths))
+    pub begins : (b : ℕ) → b < length heads₀ → getD heads b 0 ≡ last-index-below (chained bytes starts lengths (length heads₀) b) i
+    pub links : (k : ℕ) → k < i → getD next k 0 ≡ last-index-below (chained bytes starts lengths (length heads₀) (bucket-at bytes starts lengths (length heads₀) k)) k
 
   pub filling-starts : {symbols heads next : List ℕ} → Readied starts lengths symbols heads next → Filling symbols heads next symbols heads next 0
   filling-starts {symbols} {heads} {next} R =
@@ -196,28 +196,28 @@ module _ (bytes starts lengths : List ℕ) where
   length-span i (suc d) = ap suc (length-span (suc i) d)
 
   length-all : length all ≡ length starts
-  unfolding symbolsOf
+  unfolding symbols-of
   length-all = length-map (span 0 (length starts)) symbol ∙ length-span 0 (length starts)
 
   module _ {symbols₀ heads₀ next₀ symbols heads next : List ℕ} {i : ℕ} (w : Filling symbols₀ heads₀ next₀ symbols heads next i) where
     abbrev m : ℕ
     m = length heads₀
 
-    pub linked : (b : ℕ) → i < length starts → InBucket (length heads) (hashFrom 0 (spelling bytes starts lengths i)) b → Linked bytes starts lengths next (getD heads b 0) i
+    pub linked : (b : ℕ) → i < length starts → InBucket (length heads) (hash-from 0 (spelling bytes starts lengths i)) b → Linked bytes starts lengths next (getD heads b 0) i
     linked b h B =
-        let e : b ≡ bucket m i = B .is ∙ ap (λ (x : ℕ). bucketOf x (hashFrom 0 (spelt i))) (w .heads-long) in
+        let e : b ≡ bucket m i = B .is ∙ ap (λ (x : ℕ). bucket-of x (hash-from 0 (spelt i))) (w .heads-long) in
         record {
           buckets = m;
           token = h;
           sized = w .sized;
           room = omega (arith, w .room, w .next-long);
-          heads = w .begins b (omega (arith, B .small, w .heads-long)) ∙ ap (λ (x : ℕ). lastBelow (on m x) i) e;
+          heads = w .begins b (omega (arith, B .small, w .heads-long)) ∙ ap (λ (x : ℕ). last-index-below (on m x) i) e;
           links = w .links;
         }
 
-    module _ (h : i < length starts) (b s v : ℕ) (B : InBucket (length heads) (hashFrom 0 (spelling bytes starts lengths i)) b) (es : s ≡ symbolOf bytes starts lengths i) (ev : v ≡ s) where
+    module _ (h : i < length starts) (b s v : ℕ) (B : InBucket (length heads) (hash-from 0 (spelling bytes starts lengths i)) b) (es : s ≡ symbol-of bytes starts lengths i) (ev : v ≡ s) where
       is : b ≡ bucket m i
-      is = B .is ∙ ap (λ (x : ℕ). bucketOf x (hashFrom 0 (spelt i))) (w .heads-long)
+      is = B .is ∙ ap (λ (x : ℕ). bucket-of x (hash-from 0 (spelt i))) (w .heads-long)
 
       stores : set symbols i v ≡ sets symbols₀ 0 (take (i + 1) all)
       stores =
@@ -231,18 +231,18 @@ module _ (bytes starts lengths : List ℕ) where
           ∙ ap (λ (x : ℕ). set (sets symbols₀ 0 (take i all)) i x) val
           ∙ ap (λ (xs : List ℕ). set xs i v) (sym (w .stored)))
 
-      grows : (k : ℕ) → k < i + 1 → getD (set next i (getD heads b 0)) k 0 ≡ lastBelow (on m (bucket m k)) k
+      grows : (k : ℕ) → k < i + 1 → getD (set next i (getD heads b 0)) k 0 ≡ last-index-below (on m (bucket m k)) k
       grows k a =
-          at-set (λ (x : ℕ). x ≡ lastBelow (on m (bucket m k)) k) next i (getD heads b 0) k (omega (arith, w .room, w .next-long))
+          at-set (λ (x : ℕ). x ≡ last-index-below (on m (bucket m k)) k) next i (getD heads b 0) k (omega (arith, w .room, w .next-long))
           (λ q.
           w .begins b (omega (arith, B .small, w .heads-long))
-          ∙ ap (λ (x : ℕ). lastBelow (on m x) i) is
-          ∙ ap (λ (x : ℕ). lastBelow (on m (bucket m x)) x) (sym q))
+          ∙ ap (λ (x : ℕ). last-index-below (on m x) i) is
+          ∙ ap (λ (x : ℕ). last-index-below (on m (bucket m x)) x) (sym q))
           (λ q. w .links k (omega (arith, q)))
 
       -- a bucket that token i does not join
-      stays : (b′ : ℕ) → on m b′ i ≡ false → lastBelow (on m b′) i ≡ lastBelow (on m b′) (i + 1)
-      stays b′ f = sym (last-next (on m b′) i ∙ ap (λ (z : Bool). cond z (i + 1) (lastBelow (on m b′) i)) f)
+      stays : (b′ : ℕ) → on m b′ i ≡ false → last-index-below (on m b′) i ≡ last-index-below (on m b′) (i + 1)
+      stays b′ f = sym (last-next (on m b′) i ∙ ap (λ (z : Bool). cond z (i + 1) (last-index-below (on m b′) i)) f)
 
       -- token i is the first of its spelling: it joins its bucket's chain
       adds : (x : ℕ) → s ≡ i → x ≡ i + 1 → Filling symbols₀ heads₀ next₀ (set symbols i v) (set heads b x) (set next i (getD heads b 0)) (i + 1)
@@ -260,11 +260,11 @@ module _ (bytes starts lengths : List ℕ) where
             stored = stores;
             begins =
                 λ b′ l.
-                at-set (λ (y : ℕ). y ≡ lastBelow (on m b′) (i + 1)) heads b x b′ (omega (arith, B .small))
+                at-set (λ (y : ℕ). y ≡ last-index-below (on m b′) (i + 1)) heads b x b′ (omega (arith, B .small))
                 (λ q.
                 ex
                 ∙ sym (last-next (on m b′) i
-                ∙ ap (λ (z : Bool). cond z (i + 1) (lastBelow (on m b′) i)) (on-is m b′ i (sym es ∙ e) (sym is ∙ sym q))))
+                ∙ ap (λ (z : Bool). cond z (i + 1) (last-index-below (on m b′) i)) (on-is m b′ i (sym es ∙ e) (sym is ∙ sym q))))
                 (λ q. w .begins b′ l ∙ stays b′ (untrue (on m b′ i) (λ t. q (sym (on-bucket m b′ i t) ∙ sym is))));
             links = grows;
           }
@@ -306,9 +306,9 @@ module _ {bytes starts lengths symbols heads next : List ℕ} {b : Bool} (e : b 
   interns-done t F = record { answer = sym (not-false b t) ∙ e; stored = F .is }
 
 -- what a caller has of it: the column begins with the symbols
-pub interned : {bytes starts lengths symbols heads next symbols′ : List ℕ} {r : Outcome} → Interns bytes starts lengths symbols heads next r symbols′ → done r ≡ true → take (length starts) symbols′ ≡ symbolsOf bytes starts lengths
+pub interned : {bytes starts lengths symbols heads next symbols′ : List ℕ} {r : Outcome} → Interns bytes starts lengths symbols heads next r symbols′ → done r ≡ true → take (length starts) symbols′ ≡ symbols-of bytes starts lengths
 interned {bytes} {starts} {lengths} {symbols} {heads} {next} {symbols′} {r} I d =
-    let every = symbolsOf bytes starts lengths in
+    let every = symbols-of bytes starts lengths in
     let long : length every ≡ length starts = length-all bytes starts lengths in
     let rest = and-snd (leb (length starts) (length lengths)) _ (sym (I .answer) ∙ d) in
     let fit : length starts ≤ length symbols = leb-true (length starts) (length symbols) (and-fst _ _ rest) in

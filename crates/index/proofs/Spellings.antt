@@ -9,11 +9,11 @@ use native.Mathlib.Numerals.{add-one}
 use native.Mathlib.Omega.{arith}
 use lib.ListN.{length, take, drop, getD, length-map, length-drop, drop-of-length-le, List·getD-map}
 use lib.Seq.{drop-cons, ext-getD, take-all, take-nil}
-use Rattle.express.specs.Bytes.{lower}
-use Rattle.express.specs.Spelling.{same, spelling}
-use Rattle.express.proofs.Select.{untrue}
-use Rattle.express.proofs.Spelling.{same-true, same-refl}
-use Rattle.index.specs.Bucket.{hashFrom}
+use Rattle.express.specs.tokens.Bytes.{lower}
+use Rattle.express.specs.tokens.Spelling.{same, spelling}
+use Rattle.relations.proofs.Select.{untrue}
+use Rattle.express.proofs.tokens.Spelling.{same-true, same-refl}
+use Rattle.index.specs.Bucket.{hash-from}
 
 abbrev pub folded : List ℕ → List ℕ
 folded xs = map lower xs
@@ -79,21 +79,21 @@ heard xs e f g = ap (same xs) (sym e) ∙ sym f ∙ g
 pub record Hashing (xs : List ℕ) (h i : ℕ) : Type 0 where
   pub within : i ≤ length xs
   pub small : h < 4294967296
-  pub left : hashFrom h (drop i (map lower xs)) ≡ hashFrom 0 (map lower xs)
+  pub left : hash-from h (drop i (map lower xs)) ≡ hash-from 0 (map lower xs)
 
-hash-more : (xs : List ℕ) (h i : ℕ) → i < length xs → hashFrom h (drop i (folded xs)) ≡ hashFrom ((h * 31 + lower (getD xs i 0)) % 4294967296) (drop (i + 1) (folded xs))
-unfolding hashFrom
+hash-more : (xs : List ℕ) (h i : ℕ) → i < length xs → hash-from h (drop i (folded xs)) ≡ hash-from ((h * 31 + lower (getD xs i 0)) % 4294967296) (drop (i + 1) (folded xs))
+unfolding hash-from
 hash-more xs h i l =
     let l′ : i < length (folded xs) = simp length-folded l in
     rw (add-one, drop-cons (folded xs) i 0, folded-at)
 
-hash-end : (xs : List ℕ) (h i : ℕ) → length xs ≤ i → hashFrom h (drop i (folded xs)) ≡ h
-unfolding hashFrom
+hash-end : (xs : List ℕ) (h i : ℕ) → length xs ≤ i → hash-from h (drop i (folded xs)) ≡ h
+unfolding hash-from
 hash-end xs h i l = let l′ : length (folded xs) ≤ i = simp length-folded l in rw (drop-of-length-le (folded xs) l′)
 
 pub hashing-goes-on : {xs : List ℕ} {h i : ℕ} (w u : ℕ) → Hashing xs h i → i < length xs → w ≡ u → u ≡ lower (getD xs i 0) → Hashing xs ((h * 31 + w) % 4294967296) (i + 1)
 hashing-goes-on {xs} {h} {i} w u s l e f =
     record { within = omega arith; small = omega arith; left = rw (e, f) (sym (hash-more xs h i l) ∙ s .left) }
 
-pub hashing-ends : {xs : List ℕ} {h i : ℕ} → Hashing xs h i → length xs ≤ i → h ≡ hashFrom 0 (map lower xs)
+pub hashing-ends : {xs : List ℕ} {h i : ℕ} → Hashing xs h i → length xs ≤ i → h ≡ hash-from 0 (map lower xs)
 hashing-ends {xs} {h} {i} s l = sym (hash-end xs h i l) ∙ s .left

@@ -11,15 +11,15 @@ spread x by = x % 4294967296 * by % 4294967296
 unfoldable pub mixed : ℕ → ℕ
 mixed x = let once = spread (x % 4294967296 + x / 4294967296) 2654435761 in spread (once + once / 32768) 2246822519
 
-unfoldable pub bucketOf : ℕ → ℕ → ℕ
-bucketOf buckets x = mixed x % buckets
+unfoldable pub bucket-of : ℕ → ℕ → ℕ
+bucket-of buckets x = mixed x % buckets
 
 -- a number for a list of bytes
-unfoldable pub hashFrom : ℕ → List ℕ → ℕ
-hashFrom h [] = h
-hashFrom h (x ∷ xs) = hashFrom ((h * 31 + x) % 4294967296) xs
+unfoldable pub hash-from : ℕ → List ℕ → ℕ
+hash-from h [] = h
+hash-from h (x ∷ xs) = hash-from ((h * 31 + x) % 4294967296) xs
 
 -- what an inner function gives
 pub record InBucket (buckets x r : ℕ) : Type 0 where
-  pub is : r ≡ bucketOf buckets x
+  pub is : r ≡ bucket-of buckets x
   pub small : r < buckets

@@ -5,8 +5,8 @@ use mathlib.Core.List.{List}
 use Prim.Native.Nat.{ℕ, _+_, _-_, _≤_, _<_}
 use lib.Dec.{eqb, ltb}
 use lib.ListN.{length, getD}
-use Rattle.express.specs.Select.{firstFrom}
-use Rattle.index.specs.Bucket.{bucketOf}
+use Rattle.relations.specs.Select.{first-from}
+use Rattle.index.specs.Bucket.{bucket-of}
 use Rattle.index.specs.Room.{done, fits}
 use Rattle.index.specs.declared.Outcome.{Outcome}
 use Rattle.index.specs.declared.dictionary.Found.{Found}
@@ -21,29 +21,29 @@ abbrev pub among : ℕ → ℕ → Found
 among n i = cond (ltb i n) (At i) Nothing
 
 -- the least entry, from an index on, that has the key
-unfoldable pub firstWith : List ℕ → ℕ → ℕ → Found
-firstWith keys key from = among (length keys) (firstFrom (has keys key) from (length keys - from))
+unfoldable pub first-with : List ℕ → ℕ → ℕ → Found
+first-with keys key from = among (length keys) (first-from (has keys key) from (length keys - from))
 
 -- ---- what `build` leaves
 
 -- entry i has a key that falls into bucket b
 abbrev pub falls : List ℕ → ℕ → ℕ → ℕ → Bool
-falls keys buckets b i = not (eqb (getD keys i 0) 0) && eqb (bucketOf buckets (getD keys i 0)) b
+falls keys buckets b i = not (eqb (getD keys i 0) 0) && eqb (bucket-of buckets (getD keys i 0)) b
 
 -- a link to an index among n entries: one more, or 0 past them
-abbrev pub linkTo : ℕ → ℕ → ℕ
-linkTo n i = cond (ltb i n) (i + 1) 0
+abbrev pub link-to : ℕ → ℕ → ℕ
+link-to n i = cond (ltb i n) (i + 1) 0
 
 -- the link to the first entry of a bucket, from an index on
 unfoldable pub link : List ℕ → ℕ → ℕ → ℕ → ℕ
-link keys buckets b from = linkTo (length keys) (firstFrom (falls keys buckets b) from (length keys - from))
+link keys buckets b from = link-to (length keys) (first-from (falls keys buckets b) from (length keys - from))
 
 -- heads and next hold the chains of these keys: a bucket's head is its first entry, and after an entry comes the next of its bucket
 pub record Indexed (keys heads next : List ℕ) : Type 0 where
   pub some : 0 < length heads
   pub room : length keys ≤ length next
   pub head : (b : ℕ) → b < length heads → getD heads b 0 ≡ link keys (length heads) b 0
-  pub goes : (i : ℕ) → i < length keys → 0 < getD keys i 0 → getD next i 0 ≡ link keys (length heads) (bucketOf (length heads) (getD keys i 0)) (i + 1)
+  pub goes : (i : ℕ) → i < length keys → 0 < getD keys i 0 → getD next i 0 ≡ link keys (length heads) (bucket-of (length heads) (getD keys i 0)) (i + 1)
 
 -- ---- contracts
 
@@ -62,14 +62,14 @@ Holds keys key from Nothing = Unit {0}
 -- it gives has the key
 pub record Finds (keys heads next : List ℕ) (key : ℕ) (r : Found) : Type 0 where
   pub holds : Holds keys key 0 r
-  pub is : Indexed keys heads next → r ≡ firstWith keys key 0
+  pub is : Indexed keys heads next → r ≡ first-with keys key 0
 
 -- the next entry with the same key, likewise
 pub record Continues (keys next : List ℕ) (entry : ℕ) (r : Found) : Type 0 where
   pub holds : Holds keys (getD keys entry 0) (entry + 1) r
-  pub is : (heads : List ℕ) → Indexed keys heads next → r ≡ firstWith keys (getD keys entry 0) (entry + 1)
+  pub is : (heads : List ℕ) → Indexed keys heads next → r ≡ first-with keys (getD keys entry 0) (entry + 1)
 
 -- the first entry with the key on a chain, from its first link on
 pub record Walks (keys next : List ℕ) (key from first : ℕ) (r : Found) : Type 0 where
   pub holds : Holds keys key from r
-  pub is : (heads : List ℕ) → Indexed keys heads next → 0 < key → first ≡ link keys (length heads) (bucketOf (length heads) key) from → r ≡ firstWith keys key from
+  pub is : (heads : List ℕ) → Indexed keys heads next → 0 < key → first ≡ link keys (length heads) (bucket-of (length heads) key) from → r ≡ first-with keys key from

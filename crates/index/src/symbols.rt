@@ -3,9 +3,9 @@ ghost use mathlib.Core.Path.{_≡_};
 ghost use mathlib.Core.List.{map};
 ghost use Prim.Native.Nat.{_+_, _<_, min};
 ghost use lib.ListN.{length, getD};
-ghost use Rattle.express.specs.Bytes.{lower};
-ghost use Rattle.express.specs.Spelling.{same, spelling, symbolOf};
-ghost use Rattle.index.specs.Bucket.{InBucket, hashFrom};
+ghost use Rattle.express.specs.tokens.Bytes.{lower};
+ghost use Rattle.express.specs.tokens.Spelling.{same, spelling, symbol-of};
+ghost use Rattle.index.specs.Bucket.{InBucket, hash-from};
 ghost use Rattle.index.specs.Room.{enough};
 ghost use Rattle.index.specs.Interning.{Linked, Fills, Readied, Interns};
 use crate::Outcome;
@@ -37,7 +37,7 @@ fn wide(b: u8) -> u64
 
 // A number for a spelling.
 fn hash(word: &[u8]) -> u64
-    ensures { λ r. ⌜ r ≡ hashFrom 0 (map lower (now (word .entry))) ⌝ }
+    ensures { λ r. ⌜ r ≡ hash-from 0 (map lower (now (word .entry))) ⌝ }
 {
     let mut h: u64 = 0;
     let mut i = 0;
@@ -83,7 +83,7 @@ fn end(bytes: &[u8], starts: &[u32], lengths: &[u32], i: usize) -> usize
 // The bucket of a token's spelling.
 fn token_bucket(bytes: &[u8], starts: &[u32], lengths: &[u32], i: usize, buckets: usize) -> usize
     requires { ⌜ (i < length (now starts)) × (i < length (now lengths)) × (0 < buckets) ⌝ }
-    ensures { λ r. ⌜ InBucket buckets (hashFrom 0 (spelling (now (bytes .entry)) (now (starts .entry)) (now (lengths .entry)) i)) r ⌝ }
+    ensures { λ r. ⌜ InBucket buckets (hash-from 0 (spelling (now (bytes .entry)) (now (starts .entry)) (now (lengths .entry)) i)) r ⌝ }
 {
     let from = begin(bytes, starts, i);
     let to = end(bytes, starts, lengths, i);
@@ -103,7 +103,7 @@ fn spelled(bytes: &[u8], starts: &[u32], lengths: &[u32], k: usize, word: &[u8])
 // The least token that is spelled like token i, among those on its bucket's chain; i, where there is none.
 fn least(bytes: &[u8], starts: &[u32], lengths: &[u32], next: &[u32], head: u32, i: usize) -> usize
     requires { ⌜ Linked (now bytes) (now starts) (now lengths) (now next) head i ⌝ }
-    ensures { λ r. ⌜ r ≡ symbolOf (now (bytes .entry)) (now (starts .entry)) (now (lengths .entry)) i ⌝ }
+    ensures { λ r. ⌜ r ≡ symbol-of (now (bytes .entry)) (now (starts .entry)) (now (lengths .entry)) i ⌝ }
 {
     let from = begin(bytes, starts, i);
     let to = end(bytes, starts, lengths, i);

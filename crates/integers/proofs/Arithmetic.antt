@@ -12,8 +12,8 @@ use lib.Signed.{mag, ltZ, shrZ}
 use mir.Syntax.{w64}
 use mir.Val.{SFits, Fits, toZ, ofZ}
 use mir.Facts.{toZ-ofZ}
-use Rattle.express.specs.Answer.{Answer, integer, end}
-use Rattle.express.specs.Integer.{exact, difference, product, negation, negative, signed, rest, quotient, remainder, DIV, MOD}
+use Rattle.express.specs.kinds.Answer.{Answer, integer, end}
+use Rattle.express.specs.kinds.Integer.{exact, difference, product, negation, negative, signed, rest, quotient, remainder, DIV, MOD}
 use Rattle.integers.specs.Parted.{complement, Complemented, Measured}
 use Rattle.integers.specs.declared.Complement.{Complement}
 use Rattle.integers.specs.declared.Magnitude.{Magnitude}

@@ -9,9 +9,9 @@ use lib.Signed.{ltZ, mag, nonNeg}
 use mir.Facts.{toZ-ofZ, toZ-pos}
 use mir.Syntax.{w64}
 use mir.Val.{SFits, Fits, toZ, ofZ}
-use Rattle.express.specs.Answer.{integer, end}
-use Rattle.express.specs.Integer.{exact, negative, compareℤ}
-use Rattle.express.proofs.Order.{less-integer, more-integer, same-integer}
+use Rattle.express.specs.kinds.Answer.{integer, end}
+use Rattle.express.specs.kinds.Integer.{exact, negative, compareℤ}
+use Rattle.express.proofs.kinds.Order.{less-integer, more-integer, same-integer}
 use Rattle.integers.specs.Parted.{complement, Complemented}
 use Rattle.integers.proofs.Arithmetic.{below-zero, ones-minus, ones-plus, not-negative, complement-mag, mag-complement, exact-fits, exact-over}
 

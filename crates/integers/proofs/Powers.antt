@@ -11,10 +11,10 @@ use lib.Signed.{mag}
 use mir.Syntax.{w64}
 use mir.Val.{SFits, toZ, ofZ}
 use mir.Facts.{toZ-ofZ}
-use Rattle.express.specs.Answer.{Answer, integer, end}
-use Rattle.express.specs.Integer.{exact, product, signed, power}
-use Rattle.integers.specs.Meaning.{answerOf}
-use Rattle.values.specs.Meaning.{endNumber}
+use Rattle.express.specs.kinds.Answer.{Answer, integer, end}
+use Rattle.express.specs.kinds.Integer.{exact, product, signed, power}
+use Rattle.integers.specs.Meaning.{integer-answer}
+use Rattle.values.specs.Meaning.{end-number}
 use Rattle.values.specs.declared.End.{End}
 use Rattle.integers.specs.declared.Outcome.{Outcome}
 use Rattle.integers.specs.declared.Outcome.the-variants.{Value, Ended}
@@ -68,14 +68,14 @@ module _ {a v : ℤ} {n i : ℕ} (R : Raising a n v i) (l : i < n) where
   unfolding pow
   next = rw (R .is, add-one)
 
-  pub raising-more : {r : Outcome} {w : ℤ} → answerOf r ≡ product v a → r ≡ Value w → SFits w64 w → Raising a n (toZ w64 (ofZ w64 w)) (i + 1)
+  pub raising-more : {r : Outcome} {w : ℤ} → integer-answer r ≡ product v a → r ≡ Value w → SFits w64 w → Raising a n (toZ w64 (ofZ w64 w)) (i + 1)
   raising-more {r} {w} p e f =
-      let h : exact (v *ℤ a) ≡ integer w = sym p ∙ ap answerOf e in
+      let h : exact (v *ℤ a) ≡ integer w = sym p ∙ ap integer-answer e in
       rw (toZ-ofZ f) (record { within = omega arith; is = sym (value-is (v *ℤ a) h) ∙ next; small = f .sfits })
 
-  pub raising-over : {r : Outcome} {k : End} → 2 ≤ natAbs a → answerOf r ≡ product v a → r ≡ Ended k → end 16 ≡ exact (pow a n)
+  pub raising-over : {r : Outcome} {k : End} → 2 ≤ natAbs a → integer-answer r ≡ product v a → r ≡ Ended k → end 16 ≡ exact (pow a n)
   raising-over {r} {k} g p e =
-      let h : exact (v *ℤ a) ≡ end (endNumber k) = sym p ∙ ap answerOf e in
+      let h : exact (v *ℤ a) ≡ end (end-number k) = sym p ∙ ap integer-answer e in
       let o : 2 ^ 63 ≤ mag (pow a (i + 1)) = rw next at (ended-is (v *ℤ a) h) in
       let s : i + 1 + (n - (i + 1)) ≡ n = omega arith in
       sym (exact-over (pow a n) (rw s at (over-all a (i + 1) (n - (i + 1)) g o)))

@@ -10,14 +10,14 @@ use lib.Signed.{ltZ, mag}
 use mir.Facts.{toZ-ofZ}
 use mir.Syntax.{w64}
 use mir.Val.{SFits, toZ, ofZ}
-use Rattle.express.specs.Answer.{integer, end}
+use Rattle.express.specs.kinds.Answer.{integer, end}
 use Rattle.values.specs.declared.End.{End}
-use Rattle.values.specs.Meaning.{endNumber}
-use Rattle.integers.specs.Meaning.{answerOf}
+use Rattle.values.specs.Meaning.{end-number}
+use Rattle.integers.specs.Meaning.{integer-answer}
 use Rattle.integers.specs.declared.Outcome.{Outcome}
 use Rattle.integers.specs.declared.Outcome.the-variants.{Value, Ended}
-use Rattle.express.specs.Integer.{exact, sum, difference, negative}
-use Rattle.express.proofs.Integer.{least, greatest}
+use Rattle.express.specs.kinds.Integer.{exact, sum, difference, negative}
+use Rattle.express.proofs.kinds.Integer.{least, greatest}
 use Rattle.integers.proofs.Arithmetic.{sub-le, sub-lt, pos-pos, below-zero, exact-fits, exact-over, value-is, ended-is, ones-minus, ones-plus}
 
 small-by : (m n : ℕ) (t : Bool) → ltb m (suc n) ≡ t → m < 2 ^ 63 → n < 2 ^ 63 → mag (subℕ m (suc n)) < 2 ^ 63
@@ -156,20 +156,20 @@ ones-sum a b =
 pub ones-fits : {z : ℤ} → SFits w64 z → SFits w64 (negsuc 0 -ℤ toZ w64 (ofZ w64 z))
 ones-fits {z} f = rw (toZ-ofZ f) (record { sfits = rw (mag-ones z) (f .sfits) })
 
-module _ {a b : ℤ} (r : Outcome) (f : SFits w64 a) (g : SFits w64 b) (p : answerOf r ≡ sum (toZ w64 (ofZ w64 (negsuc 0 -ℤ toZ w64 (ofZ w64 a)))) (toZ w64 (ofZ w64 b))) where
-  ones-own : answerOf r ≡ sum (negsuc 0 -ℤ a) b
+module _ {a b : ℤ} (r : Outcome) (f : SFits w64 a) (g : SFits w64 b) (p : integer-answer r ≡ sum (toZ w64 (ofZ w64 (negsuc 0 -ℤ toZ w64 (ofZ w64 a)))) (toZ w64 (ofZ w64 b))) where
+  ones-own : integer-answer r ≡ sum (negsuc 0 -ℤ a) b
   ones-own = rw (toZ-ofZ (ones-fits f), toZ-ofZ f, toZ-ofZ g) at p
 
   pub difference-is : {v : ℤ} → SFits w64 v → r ≡ Value v → integer (toZ w64 (ofZ w64 (negsuc 0 -ℤ toZ w64 (ofZ w64 v)))) ≡ difference a b
   difference-is {v} h e =
-      let i : negsuc 0 -ℤ a +ℤ b ≡ v = value-is (negsuc 0 -ℤ a +ℤ b) (sym ones-own ∙ ap answerOf e) in
+      let i : negsuc 0 -ℤ a +ℤ b ≡ v = value-is (negsuc 0 -ℤ a +ℤ b) (sym ones-own ∙ ap integer-answer e) in
       let j : negsuc 0 -ℤ v ≡ a -ℤ b = ap (λ (z : ℤ). negsuc 0 -ℤ z) (sym i) ∙ ones-sum a b in
       let k : mag (a -ℤ b) < 2 ^ 63 = rw (← j, mag-ones v) (h .sfits) in
       ap integer (toZ-ofZ (ones-fits h) ∙ ap (λ (z : ℤ). negsuc 0 -ℤ z) (toZ-ofZ h) ∙ j) ∙ sym (exact-fits (a -ℤ b) k)
 
-  pub difference-ends : {k : End} → r ≡ Ended k → end (endNumber k) ≡ difference a b
+  pub difference-ends : {k : End} → r ≡ Ended k → end (end-number k) ≡ difference a b
   difference-ends {k} e =
-      let i : exact (negsuc 0 -ℤ a +ℤ b) ≡ end (endNumber k) = sym ones-own ∙ ap answerOf e in
+      let i : exact (negsuc 0 -ℤ a +ℤ b) ≡ end (end-number k) = sym ones-own ∙ ap integer-answer e in
       let o : 2 ^ 63 ≤ mag (negsuc 0 -ℤ a +ℤ b) = ended-is (negsuc 0 -ℤ a +ℤ b) i in
       let j : 2 ^ 63 ≤ mag (a -ℤ b) = rw (← ones-sum a b, mag-ones (negsuc 0 -ℤ a +ℤ b)) o in
       sym i ∙ exact-over (negsuc 0 -ℤ a +ℤ b) o ∙ sym (exact-over (a -ℤ b) j)

@@ -3,7 +3,7 @@ use mathlib.Core.Path.{_≡_}
 use mathlib.Core.Bool.{Bool, true, false}
 use Prim.Native.Nat.{ℕ, _^_, _<_, _≤_}
 use lib.IntN.{ℤ, pos, negsuc, natAbs}
-use Rattle.express.specs.Integer.{signed, negative}
+use Rattle.express.specs.kinds.Integer.{signed, negative}
 use Rattle.integers.specs.declared.Complement.{Complement}
 use Rattle.integers.specs.declared.Magnitude.{Magnitude}
 

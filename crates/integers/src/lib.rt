@@ -2,9 +2,9 @@
 ghost use mathlib.Core.Path.{_≡_};
 ghost use Prim.Native.Nat.{_≤_};
 ghost use lib.IntN.{pos, natAbs, pow};
-ghost use Rattle.express.specs.Integer.{exact, sum, difference, product, negation, signed, DIV, MOD, power, compareℤ};
-ghost use Rattle.values.specs.Meaning.{orderingOf};
-ghost use Rattle.integers.specs.Meaning.{answerOf};
+ghost use Rattle.express.specs.kinds.Integer.{exact, sum, difference, product, negation, signed, DIV, MOD, power, compareℤ};
+ghost use Rattle.values.specs.Meaning.{ordering-of};
+ghost use Rattle.integers.specs.Meaning.{integer-answer};
 ghost use Rattle.integers.specs.Parted.{complement, Complemented, Measured};
 use values::End;
 use values::order::Order;
@@ -44,7 +44,7 @@ fn split(a: i64) -> Complement
 }
 
 fn made(minus: bool, n: u64) -> Outcome
-    ensures { λ r. ⌜ answerOf r ≡ exact (complement minus n) ⌝ }
+    ensures { λ r. ⌜ integer-answer r ≡ exact (complement minus n) ⌝ }
 {
     if 9223372036854775807 < n {
         return Outcome::Ended(End::OutOfRange);
@@ -57,7 +57,7 @@ fn made(minus: bool, n: u64) -> Outcome
 
 // Whether the sum leaves the range is seen from the first operand: the end of the range less the second lies within it.
 pub fn add(a: i64, b: i64) -> Outcome
-    ensures { λ r. ⌜ answerOf r ≡ sum a b ⌝ }
+    ensures { λ r. ⌜ integer-answer r ≡ sum a b ⌝ }
 {
     if b < 0 {
         if a < -9223372036854775808 - b {
@@ -73,7 +73,7 @@ pub fn add(a: i64, b: i64) -> Outcome
 
 // -1 - x lies in the range exactly when x does, and a - b is that of (-1 - a) + b.
 pub fn subtract(a: i64, b: i64) -> Outcome
-    ensures { λ r. ⌜ answerOf r ≡ difference a b ⌝ }
+    ensures { λ r. ⌜ integer-answer r ≡ difference a b ⌝ }
 {
     match add(-1 - a, b) {
         Outcome::Value(v) => Outcome::Value(-1 - v),
@@ -82,7 +82,7 @@ pub fn subtract(a: i64, b: i64) -> Outcome
 }
 
 pub fn negate(a: i64) -> Outcome
-    ensures { λ r. ⌜ answerOf r ≡ negation a ⌝ }
+    ensures { λ r. ⌜ integer-answer r ≡ negation a ⌝ }
 {
     subtract(0, a)
 }
@@ -105,7 +105,7 @@ fn measure(a: i64) -> Magnitude
 
 // n, or -n.
 fn sign(minus: bool, n: u64) -> Outcome
-    ensures { λ r. ⌜ answerOf r ≡ exact (signed minus (pos n)) ⌝ }
+    ensures { λ r. ⌜ integer-answer r ≡ exact (signed minus (pos n)) ⌝ }
 {
     if n == 0 {
         return made(false, 0);
@@ -117,7 +117,7 @@ fn sign(minus: bool, n: u64) -> Outcome
 }
 
 pub fn multiply(a: i64, b: i64) -> Outcome
-    ensures { λ r. ⌜ answerOf r ≡ product a b ⌝ }
+    ensures { λ r. ⌜ integer-answer r ≡ product a b ⌝ }
 {
     let p = measure(a);
     let q = measure(b);
@@ -134,7 +134,7 @@ pub fn multiply(a: i64, b: i64) -> Outcome
 
 // DIV: rounded down for a positive divisor, and -(a DIV -b) for a negative one.
 pub fn div(a: i64, b: i64) -> Outcome
-    ensures { λ r. ⌜ answerOf r ≡ DIV a b ⌝ }
+    ensures { λ r. ⌜ integer-answer r ≡ DIV a b ⌝ }
 {
     let p = split(a);
     let q = measure(b);
@@ -154,7 +154,7 @@ pub fn div(a: i64, b: i64) -> Outcome
 
 // MOD: with the divisor's sign.
 pub fn modulo(a: i64, b: i64) -> Outcome
-    ensures { λ r. ⌜ answerOf r ≡ MOD a b ⌝ }
+    ensures { λ r. ⌜ integer-answer r ≡ MOD a b ⌝ }
 {
     let p = split(a);
     let q = measure(b);
@@ -172,7 +172,7 @@ pub fn modulo(a: i64, b: i64) -> Outcome
 // a to the n, for an a of magnitude 2 or more: at most 63 turns, since each doubles the magnitude or more.
 fn raise(a: i64, n: u64) -> Outcome
     requires { ⌜ 2 ≤ natAbs a ⌝ }
-    ensures { λ r. ⌜ answerOf r ≡ exact (pow a n) ⌝ }
+    ensures { λ r. ⌜ integer-answer r ≡ exact (pow a n) ⌝ }
 {
     let mut v: i64 = 1;
     let mut i: u64 = 0;
@@ -187,7 +187,7 @@ fn raise(a: i64, n: u64) -> Outcome
 }
 
 pub fn power(a: i64, b: i64) -> Outcome
-    ensures { λ r. ⌜ answerOf r ≡ power a b ⌝ }
+    ensures { λ r. ⌜ integer-answer r ≡ power a b ⌝ }
 {
     let q = split(b);
     if q.minus {
@@ -211,7 +211,7 @@ pub fn power(a: i64, b: i64) -> Outcome
 }
 
 pub fn compare(a: i64, b: i64) -> Order
-    ensures { λ r. ⌜ orderingOf r ≡ compareℤ a b ⌝ }
+    ensures { λ r. ⌜ ordering-of r ≡ compareℤ a b ⌝ }
 {
     if a < b {
         return Order::Less;

@@ -7,7 +7,7 @@ use native.Mathlib.Nat.{le-refl, le-trans, le-div-iff-mul-le, le-mul-of-pos-righ
 use native.Mathlib.Decide.{decLt}
 use lib.ListN.{length, take, drop, getD}
 use lib.Seq.{take-nil}
-use Rattle.express.specs.Lexis.{numeral, integerValue, binaryValue}
+use Rattle.express.specs.tokens.Lexis.{numeral, integer-value, binary-value}
 use Rattle.literals.specs.Literal.{capped, Zeros}
 use lib.Seq.{drop-cons}
 use lib.ListN.{drop-of-length-le}
@@ -88,18 +88,18 @@ zeros-more s start size n z l h e =
 
 -- a literal's token, its first byte passed over
 module _ (s : List ℕ) (i n : ℕ) where
-  pub integer-is : capped (coming 10 s i n 0) ≡ capped (integerValue (take n (drop i s)))
-  unfolding integerValue
+  pub integer-is : capped (coming 10 s i n 0) ≡ capped (integer-value (take n (drop i s)))
+  unfolding integer-value
   integer-is = refl
 
-  pub binary-over : length s ≤ i → 0 ≡ capped (binaryValue (take n (drop i s)))
-  unfolding binaryValue numeral
+  pub binary-over : length s ≤ i → 0 ≡ capped (binary-value (take n (drop i s)))
+  unfolding binary-value numeral
   binary-over h = rw (part-over s i n h)
 
-  pub binary-none : n ≡ 0 → 0 ≡ capped (binaryValue (take n (drop i s)))
-  unfolding binaryValue numeral
+  pub binary-none : n ≡ 0 → 0 ≡ capped (binary-value (take n (drop i s)))
+  unfolding binary-value numeral
   binary-none h = rw h
 
-  pub binary-is : i < length s → (n ≡ 0 → ⊥) → capped (coming 2 s (i + 1) (n - 1) 0) ≡ capped (binaryValue (take n (drop i s)))
-  unfolding binaryValue
+  pub binary-is : i < length s → (n ≡ 0 → ⊥) → capped (coming 2 s (i + 1) (n - 1) 0) ≡ capped (binary-value (take n (drop i s)))
+  unfolding binary-value
   binary-is h k = rw (part-more s i n h k)

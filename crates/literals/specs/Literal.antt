@@ -3,7 +3,7 @@ use mathlib.Core.Path.{_≡_}
 use mathlib.Core.List.{List}
 use Prim.Native.Nat.{ℕ, min, _+_, _-_, _≤_}
 use lib.ListN.{length, take, drop}
-use Rattle.express.specs.Lexis.{numeral}
+use Rattle.express.specs.tokens.Lexis.{numeral}
 
 -- A number as far as 2 to the 63: "Integer literals reach 9223372036854775807. Binary literals have 1 to 63 bits.", so that the values of
 -- tokens of the language are read whole, and whatever is larger is seen to be.

@@ -2,7 +2,7 @@
 ghost use mathlib.Core.Path.{_≡_};
 ghost use Prim.Native.Nat.{_-_, _≤_, _<_};
 ghost use lib.ListN.{take, drop};
-ghost use Rattle.express.specs.Lexis.{numeral, integerValue, binaryValue};
+ghost use Rattle.express.specs.tokens.Lexis.{numeral, integer-value, binary-value};
 ghost use Rattle.literals.specs.Literal.{capped, Zeros};
 
 fn digit(b: u8) -> u64
@@ -56,7 +56,7 @@ fn zeros(s: &[u8], start: usize, length: usize) -> usize
 
 // The value of the integer literal that lies from a start on, as far as 2 to the 63, which no literal of the language reaches.
 pub fn integer(s: &[u8], start: usize, length: usize) -> u64
-    ensures { λ r. ⌜ r ≡ capped (integerValue (take length (drop start (now (s .entry))))) ⌝ }
+    ensures { λ r. ⌜ r ≡ capped (integer-value (take length (drop start (now (s .entry))))) ⌝ }
 {
     let n = zeros(s, start, length);
     numeral_of(s, start + n, length - n, 10)
@@ -64,7 +64,7 @@ pub fn integer(s: &[u8], start: usize, length: usize) -> u64
 
 // The bits of a binary literal as a number, its `%` passed over; there are as many as the token has bytes after that.
 pub fn binary(s: &[u8], start: usize, length: usize) -> u64
-    ensures { λ r. ⌜ r ≡ capped (binaryValue (take length (drop start (now (s .entry))))) ⌝ }
+    ensures { λ r. ⌜ r ≡ capped (binary-value (take length (drop start (now (s .entry))))) ⌝ }
 {
     if start >= s.len() {
         return 0;

@@ -61,22 +61,22 @@ fn print_nodes(codes: &[u8], starts: &[u32], length: usize) {
     let mut tokens = [0u32; 8192];
     let mut sizes = [0u32; 8192];
     let mut roles = [0u32; 8192];
-    let parsed = syntax::parse(codes, &mut kinds, &mut tokens, &mut sizes, &mut roles);
+    let parsed = declarations::parse(codes, &mut kinds, &mut tokens, &mut sizes, &mut roles);
     match parsed {
-        phrases::Parsed::Accepted(n) => print_rows(&kinds, &tokens, &sizes, &roles, n),
-        phrases::Parsed::Refused(number, token) => print_refused(
+        expressions::Parsed::Accepted(n) => print_rows(&kinds, &tokens, &sizes, &roles, n),
+        expressions::Parsed::Refused(number, token) => print_refused(
             number,
             start_of(starts, token, length),
         ),
-        phrases::Parsed::Short(n) => print_refused(7, n),
-        phrases::Parsed::Long => print_refused(1, 65536),
+        expressions::Parsed::Short(n) => print_refused(7, n),
+        expressions::Parsed::Long => print_refused(1, 65536),
     }
 }
 
 // The first `count` tokens of a text, by their terminals.
 fn print_tree(src: &[u8], kinds: &[u8], starts: &[u32], lengths: &[u32]) {
     let mut codes = [0u8; 8192];
-    words::terminals(src, kinds, starts, lengths, &mut codes);
+    terminals::terminals(src, kinds, starts, lengths, &mut codes);
     let end = columns::shorter(kinds.len(), 8192);
     print_nodes(&codes[..end], starts, src.len());
 }

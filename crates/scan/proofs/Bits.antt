@@ -8,9 +8,9 @@ use native.Mathlib.Nat.{not-suc-le-zero}
 use native.Mathlib.Decide.{decLt}
 use lib.ListN.{getD}
 use lib.Dec.{T, eqb, eqb→eq}
-use Rattle.express.specs.Bytes.{letter, digit}
-use Rattle.express.specs.Lexis.{lone, kindAt}
-use Rattle.scan.specs.Scan.{inSet}
+use Rattle.express.specs.tokens.Bytes.{letter, digit}
+use Rattle.express.specs.tokens.Lexis.{lone, token-kind-at}
+use Rattle.scan.specs.Scan.{among-bytes}
 
 abbrev below : (ℕ → Bool) → ℕ → Bool
 below f zero = true
@@ -39,7 +39,7 @@ agreed false false t = refl
 
 -- what is a symbol alone
 abbrev lone-bits : ℕ → Bool
-lone-bits b = inSet 12105951775790465024 2882303762456641536 b
+lone-bits b = among-bytes 12105951775790465024 2882303762456641536 b
 
 lones-all : T (below (λ b. agree (lone-bits b) (lone b)) 256)
 unfolding lone
@@ -59,8 +59,8 @@ no-others : T (below no-other 256)
 unfolding lone
 no-others = tt
 
-pub lone-kind : (s : List ℕ) (p b : ℕ) → b ≡ getD s p 0 → b < 256 → lone b ≡ true → kindAt s p ≡ 6
-unfolding kindAt
+pub lone-kind : (s : List ℕ) (p b : ℕ) → b ≡ getD s p 0 → b < 256 → lone b ≡ true → token-kind-at s p ≡ 6
+unfolding token-kind-at
 lone-kind s p b is h e = rw (← is) (go (letter b) (digit b) (eqb b 39) (eqb b 37) _ (eqb→eq _ _ tested))
   where
     tested : T (eqb (kind-by (letter b) (digit b) (eqb b 39) (eqb b 37) 0) 6)

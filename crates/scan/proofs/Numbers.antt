@@ -8,29 +8,29 @@ use native.Mathlib.Nat.{le-trans}
 use lib.Dec.{T, leb, leb→le}
 use borrow.Author.Tests.{le-leb, lt-leb}
 use lib.ListN.{length, getD, take, drop}
-use Rattle.express.specs.Bytes.{digit}
-use Rattle.express.specs.Lexis.{at, refused, runEnd, run, numeral, exponentMark, exponentDigits, exponentEnd, greatest, integerEnd, integerValue}
+use Rattle.express.specs.tokens.Bytes.{digit}
+use Rattle.express.specs.tokens.Lexis.{at, refused, end-of-run, run, numeral, exponent-mark, digits-of-exponent, end-of-exponent, greatest, end-of-integer, integer-value}
 use Rattle.literals.specs.Literal.{capped}
-use Rattle.express.proofs.Places.{past, run-low-of}
+use Rattle.express.proofs.tokens.Places.{past, run-low-of}
 
 module _ (s : List ℕ) (p : ℕ) where
-  pub exponent-over : length s ≤ p → exponentEnd s p ≡ p
-  unfolding exponentEnd
+  pub exponent-over : length s ≤ p → end-of-exponent s p ≡ p
+  unfolding end-of-exponent
   exponent-over h = rw (past s p h)
 
-  pub exponent-none : exponentMark (getD s p 0) ≡ false → exponentEnd s p ≡ p
-  unfolding exponentEnd
+  pub exponent-none : exponent-mark (getD s p 0) ≡ false → end-of-exponent s p ≡ p
+  unfolding end-of-exponent
   exponent-none e = rw e
 
-  pub exponent-is : exponentMark (getD s p 0) ≡ true → digit (getD s (exponentDigits s p) 0) ≡ true → exponentEnd s p ≡ run digit s (exponentDigits s p)
-  unfolding exponentEnd
+  pub exponent-is : exponent-mark (getD s p 0) ≡ true → digit (getD s (digits-of-exponent s p) 0) ≡ true → end-of-exponent s p ≡ run digit s (digits-of-exponent s p)
+  unfolding end-of-exponent
   exponent-is e f = rw (e, f)
 
-  pub exponent-bare : digit (getD s (exponentDigits s p) 0) ≡ false → exponentEnd s p ≡ p
-  unfolding exponentEnd
-  exponent-bare f = go (exponentMark (getD s p 0))
+  pub exponent-bare : digit (getD s (digits-of-exponent s p) 0) ≡ false → end-of-exponent s p ≡ p
+  unfolding end-of-exponent
+  exponent-bare f = go (exponent-mark (getD s p 0))
     where
-      go : (t : mathlib.Core.Bool.Bool) → cond (t && digit (getD s (exponentDigits s p) 0)) (run digit s (exponentDigits s p)) p ≡ p
+      go : (t : mathlib.Core.Bool.Bool) → cond (t && digit (getD s (digits-of-exponent s p) 0)) (run digit s (digits-of-exponent s p)) p ≡ p
       go true = rw f
       go false = mathlib.Core.Path.refl
 
@@ -57,10 +57,10 @@ digit-few b e = leb→le b 57 (subst T (sym (right (leb 48 b) (leb b 57) e)) tt)
     right true r q = q
     right false r q = absurd (mathlib.Core.Bool.false≢true q)
 
-digits-few : (v p : ℕ) (t : List ℕ) → numeral 10 v (take (runEnd digit p t - p) t) ≤ nines v (runEnd digit p t - p)
-unfolding runEnd numeral
+digits-few : (v p : ℕ) (t : List ℕ) → numeral 10 v (take (end-of-run digit p t - p) t) ≤ nines v (end-of-run digit p t - p)
+unfolding end-of-run numeral
 digits-few v p [] = let none : p - p ≡ 0 = omega arith in rw none (omega arith)
-digits-few v p (b ∷ t) = go (runEnd digit (p + 1) t) (run-low-of digit (p + 1) t) (digit b) refl (digits-few (v * 10 + (b - 48)) (p + 1) t)
+digits-few v p (b ∷ t) = go (end-of-run digit (p + 1) t) (run-low-of digit (p + 1) t) (digit b) refl (digits-few (v * 10 + (b - 48)) (p + 1) t)
   where
     go : (e : ℕ) → p + 1 ≤ e → (d : Bool) → digit b ≡ d → numeral 10 (v * 10 + (b - 48)) (take (e - (p + 1)) t) ≤ nines (v * 10 + (b - 48)) (e - (p + 1))
         → numeral 10 v (take (cond d e p - p) (b ∷ t)) ≤ nines v (cond d e p - p)
@@ -70,8 +70,8 @@ digits-few v p (b ∷ t) = go (runEnd digit (p + 1) t) (run-low-of digit (p + 1)
         rw one (le-trans more (nines-more (v * 10 + (b - 48)) (v * 10 + 9) (e - (p + 1)) (omega (arith, few))))
     go e low false is more = let none : p - p ≡ 0 = omega arith in rw none (omega arith)
 
-pub integer-short : (s : List ℕ) (p e : ℕ) → e ≡ run digit s p → e - p < 19 → at e ≡ integerEnd s p
-unfolding integerEnd
+pub integer-short : (s : List ℕ) (p e : ℕ) → e ≡ run digit s p → e - p < 19 → at e ≡ end-of-integer s p
+unfolding end-of-integer
 integer-short s p e ends h =
     let few : nines 0 (e - p) ≤ nines 0 18 = nines-few 0 (e - p) 18 (omega (arith, h)) in
     let here : numeral 10 0 (take (e - p) (drop p s)) ≤ nines 0 (e - p) = rw ends (digits-few 0 p (drop p s)) in
@@ -79,11 +79,11 @@ integer-short s p e ends h =
     rw (← ends, le-leb _ _ l)
 
 -- an integer that ends at e
-module _ (s : List ℕ) (p e n : ℕ) (ends : e ≡ run digit s p) (is : n ≡ capped (integerValue (take (e - p) (drop p s)))) where
-  pub integer-fits : n ≤ greatest → at e ≡ integerEnd s p
-  unfolding integerEnd integerValue
-  integer-fits h = let l : integerValue (take (e - p) (drop p s)) ≤ greatest = omega (arith, is, h) in rw (← ends, le-leb _ _ l)
+module _ (s : List ℕ) (p e n : ℕ) (ends : e ≡ run digit s p) (is : n ≡ capped (integer-value (take (e - p) (drop p s)))) where
+  pub integer-fits : n ≤ greatest → at e ≡ end-of-integer s p
+  unfolding end-of-integer integer-value
+  integer-fits h = let l : integer-value (take (e - p) (drop p s)) ≤ greatest = omega (arith, is, h) in rw (← ends, le-leb _ _ l)
 
-  pub integer-large : greatest < n → refused 3 p ≡ integerEnd s p
-  unfolding integerEnd integerValue
-  integer-large h = let l : greatest < integerValue (take (e - p) (drop p s)) = omega (arith, is, h) in rw (← ends, lt-leb _ _ l)
+  pub integer-large : greatest < n → refused 3 p ≡ end-of-integer s p
+  unfolding end-of-integer integer-value
+  integer-large h = let l : greatest < integer-value (take (e - p) (drop p s)) = omega (arith, is, h) in rw (← ends, lt-leb _ _ l)

@@ -10,9 +10,9 @@ use native.Mathlib.Nat.{add-zero}
 use lib.ListN.{length, set, length-set}
 use lib.Seq.{sets}
 use borrow.Author.Tests.{lt-ltb, le-ltb, le-leb, lt-leb}
-use Rattle.express.specs.Lexis.{Reading, at, refused, skipped, kindAt, tokenEnd, Lexed, stopped, cons, afterSkip, afterToken, lexIn, lexed, kinds, starts, sizes, counted, tokens}
-use Rattle.express.proofs.Places.{inside-at, skip-inside, token-inside}
-use Rattle.scan.specs.Scan.{reading, stepOf, tokenAt, ended, Filled, Scanned}
+use Rattle.express.specs.tokens.Lexis.{Reading, at, refused, skipped, token-kind-at, end-of-token, Lexed, stopped, cons, token-after-blank, row-and-rest, lexed-in, lexed, kinds, starts, sizes, counted, tokens}
+use Rattle.express.proofs.tokens.Places.{inside-at, skip-inside, token-inside}
+use Rattle.scan.specs.Scan.{reading, step-meant, token-found-at, ended, Filled, Scanned}
 use Rattle.scan.specs.declared.Step.{Step}
 use Rattle.scan.specs.declared.Step.the-variants.{At, Refused}
 use Rattle.scan.specs.declared.Found.{Found}
@@ -27,7 +27,7 @@ pub record Progress (src k₀ s₀ z₀ k s z : List ℕ) (n p : ℕ) : Type 0 w
   pub kept-starts : length s ≡ length s₀
   pub kept-lengths : length z ≡ length z₀
   pub left : Lexed
-  pub is : lexIn (suc (length src - n)) src p ≡ left
+  pub is : lexed-in (suc (length src - n)) src p ≡ left
   pub stop : left .stop ≡ lexed src .stop
   pub count : n + length (left .rows) ≡ length (lexed src .rows)
   pub kinds-are : sets k n (kinds left) ≡ sets k₀ 0 (kinds (lexed src))
@@ -48,7 +48,7 @@ progress-first src k s z h = record {
   kept-starts = refl;
   kept-lengths = refl;
   left = lexed src;
-  is = rw (le-leb _ _ h) (ap (λ (f : ℕ). lexIn f src 0) (omega arith));
+  is = rw (le-leb _ _ h) (ap (λ (f : ℕ). lexed-in f src 0) (omega arith));
   stop = refl;
   count = omega arith;
   kinds-are = refl;
@@ -58,7 +58,7 @@ progress-first src k s z h = record {
 
 module _ {src k₀ s₀ z₀ k s z : List ℕ} {n p : ℕ} (c : Progress src k₀ s₀ z₀ k s z n p) where
   -- nothing is left but the stop
-  ends : (e : Reading) (r : Step) → lexIn (suc (length src - n)) src p ≡ stopped e → reading r ≡ ended e n → Filled (lexed src) k₀ s₀ z₀ r k s z
+  ends : (e : Reading) (r : Step) → lexed-in (suc (length src - n)) src p ≡ stopped e → reading r ≡ ended e n → Filled (lexed src) k₀ s₀ z₀ r k s z
   ends e r l r-is =
       let l-is : c .left ≡ stopped e = sym (c .is) ∙ l in
       record {
@@ -70,29 +70,29 @@ module _ {src k₀ s₀ z₀ k s z : List ℕ} {n p : ℕ} (c : Progress src k�
 
   module _ (step : Step) (is : reading step ≡ skipped src p) where
     pub skip-refused : {m o : ℕ} → step ≡ Refused m o → Filled (lexed src) k₀ s₀ z₀ step k s z
-    unfolding lexIn
+    unfolding lexed-in
     skip-refused {m} {o} e =
         ends (refused m o) step
-        (ap (λ (x : Reading). afterSkip src x (λ q. lexIn (length src - n) src q)) (sym is ∙ ap reading e))
+        (ap (λ (x : Reading). token-after-blank src x (λ q. lexed-in (length src - n) src q)) (sym is ∙ ap reading e))
         (ap reading e)
 
     module _ {q : ℕ} (at-q : step ≡ At q) where
-      after : lexIn (suc (length src - n)) src p ≡ afterSkip src (at q) (λ r. lexIn (length src - n) src r)
-      unfolding lexIn
-      after = ap (λ (x : Reading). afterSkip src x (λ r. lexIn (length src - n) src r)) (sym is ∙ ap reading at-q)
+      after : lexed-in (suc (length src - n)) src p ≡ token-after-blank src (at q) (λ r. lexed-in (length src - n) src r)
+      unfolding lexed-in
+      after = ap (λ (x : Reading). token-after-blank src x (λ r. lexed-in (length src - n) src r)) (sym is ∙ ap reading at-q)
 
       pub all-read : length src ≤ q → Filled (lexed src) k₀ s₀ z₀ (At n) k s z
       all-read h = ends (at q) (At n) (after ∙ rw (le-ltb q (length src) h)) refl
 
-      module _ (h : q < length src) {found : Found} (found-is : found ≡ tokenAt src q) where
-        token-of : {r : Reading} → r ≡ tokenEnd src q (kindAt src q) → lexIn (suc (length src - n)) src p ≡ afterToken (kindAt src q) q r (λ r. lexIn (length src - n) src r)
+      module _ (h : q < length src) {found : Found} (found-is : found ≡ token-found-at src q) where
+        token-of : {r : Reading} → r ≡ end-of-token src q (token-kind-at src q) → lexed-in (suc (length src - n)) src p ≡ row-and-rest (token-kind-at src q) q r (λ r. lexed-in (length src - n) src r)
         token-of r-is = after ∙ rw (lt-ltb q (length src) h, r-is)
 
-        pub token-refused : {m o : ℕ} → found ≡ Refusal m o → (r : Step) → r ≡ stepOf found → Filled (lexed src) k₀ s₀ z₀ r k s z
-        token-refused {m} {o} e r r-is = ends (refused m o) r (token-of (not-is src q (sym e ∙ found-is))) (ap reading (r-is ∙ ap stepOf e))
+        pub token-refused : {m o : ℕ} → found ≡ Refusal m o → (r : Step) → r ≡ step-meant found → Filled (lexed src) k₀ s₀ z₀ r k s z
+        token-refused {m} {o} e r r-is = ends (refused m o) r (token-of (not-is src q (sym e ∙ found-is))) (ap reading (r-is ∙ ap step-meant e))
 
         module _ {kind e : ℕ} (of-e : found ≡ Token kind e) where
-          parts : (kind ≡ kindAt src q) × (at e ≡ tokenEnd src q (kindAt src q))
+          parts : (kind ≡ token-kind-at src q) × (at e ≡ end-of-token src q (token-kind-at src q))
           parts = of-is src q (sym of-e ∙ found-is)
 
           -- where the token lies
@@ -106,7 +106,7 @@ module _ {src k₀ s₀ z₀ k s z : List ℕ} {n p : ℕ} (c : Progress src k�
           row-read k-is s-is z-is = rw (k-is, s-is, z-is) row
             where
               rest : Lexed
-              rest = lexIn (length src - n) src e
+              rest = lexed-in (length src - n) src e
 
               l-is : c .left ≡ cons (record { kind = kind; start = q; size = e - q }) rest
               l-is = sym (c .is) ∙ token-of (parts .1) ∙ ap (λ (i : ℕ). cons (record { kind = i; start = q; size = e - q }) rest) (sym (parts .0))
@@ -119,7 +119,7 @@ module _ {src k₀ s₀ z₀ k s z : List ℕ} {n p : ℕ} (c : Progress src k�
                 kept-starts = length-set s n q ∙ c .kept-starts;
                 kept-lengths = length-set z n (e - q) ∙ c .kept-lengths;
                 left = rest;
-                is = ap (λ (f : ℕ). lexIn f src e) (omega (arith, places .0, places .2, places .3));
+                is = ap (λ (f : ℕ). lexed-in f src e) (omega (arith, places .0, places .2, places .3));
                 stop = ap (λ (x : Lexed). x .stop) (sym l-is) ∙ c .stop;
                 count = omega (arith, ap (λ (x : Lexed). length (x .rows)) l-is, c .count);
                 kinds-are = rw add-one (ap (λ (x : Lexed). sets k n (kinds x)) (sym l-is) ∙ c .kinds-are);

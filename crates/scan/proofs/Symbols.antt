@@ -5,7 +5,7 @@ use mathlib.Core.List.{List}
 use Prim.Native.Nat.{ℕ, _+_}
 use lib.Dec.{T, eqb, eqb→eq}
 use lib.ListN.{getD}
-use Rattle.express.specs.Lexis.{Reading, at, refused, pair, lone, symbolSize, symbolEnd}
+use Rattle.express.specs.tokens.Lexis.{Reading, at, refused, pair, lone, size-of-symbol, end-of-symbol}
 
 pair-is : (x y b c : ℕ) → pair x y b c ≡ true → (b ≡ x) × (c ≡ y)
 pair-is x y b c e = go (eqb b x) (eqb c y) (eqb→eq b x) (eqb→eq c y) e
@@ -16,8 +16,8 @@ pair-is x y b c e = go (eqb b x) (eqb c y) (eqb→eq b x) (eqb→eq c y) e
     go false r f g q = absurd (mathlib.Core.Bool.false≢true q)
 
 module _ (s : List ℕ) (p c d : ℕ) (c-is : c ≡ getD s (p + 1) 0) (assigns : pair 58 61 (getD s p 0) c ≡ true) (d-is : d ≡ getD s (p + 2) 0) where
-  pub assign-is : at (p + cond (eqb d 58) 3 2) ≡ symbolEnd s p
-  unfolding symbolEnd symbolSize lone
+  pub assign-is : at (p + cond (eqb d 58) 3 2) ≡ end-of-symbol s p
+  unfolding end-of-symbol size-of-symbol lone
   assign-is =
       let both = pair-is 58 61 (getD s p 0) c assigns in
       rw (← c-is, ← d-is, both .0, both .1) (go (eqb d 58))

@@ -10,8 +10,8 @@ use lib.ListN.{length, drop, getD, drop-of-length-le}
 use lib.Seq.{drop-cons}
 use lib.Dec.{eqb}
 use borrow.Author.Tests.{eq-eqb, ne-eqb}
-use Rattle.express.specs.Bytes.{printable}
-use Rattle.express.specs.Lexis.{Reading, at, refused, runEnd, run, opens, closes, either, remarkEnd, stringEnd}
+use Rattle.express.specs.tokens.Bytes.{printable}
+use Rattle.express.specs.tokens.Lexis.{Reading, at, refused, end-of-run, run, opens, closes, either, end-of-remark, end-of-string}
 
 module _ (s : List ℕ) (i : ℕ) where
   pub at-cons : i < length s → drop i s ≡ getD s i 0 ∷ drop (i + 1) s
@@ -29,15 +29,15 @@ at-two s i h =
 
 module _ (f : ℕ → Bool) (s : List ℕ) (i : ℕ) where
   pub run-more : i < length s → f (getD s i 0) ≡ true → run f s i ≡ run f s (i + 1)
-  unfolding runEnd
+  unfolding end-of-run
   run-more h e = rw (at-cons s i h, e)
 
   pub run-stop : i < length s → f (getD s i 0) ≡ false → run f s i ≡ i
-  unfolding runEnd
+  unfolding end-of-run
   run-stop h e = rw (at-cons s i h, e)
 
   pub run-over : length s ≤ i → run f s i ≡ i
-  unfolding runEnd
+  unfolding end-of-run
   run-over h = rw (at-nil s i h)
 
 -- ---- remarks
@@ -57,11 +57,11 @@ module _ (s : List ℕ) (i : ℕ) where
 
   module _ (o d : ℕ) where
     abbrev inside : ℕ → ℕ → Reading
-    inside k j = remarkEnd o k j (drop j s)
+    inside k j = end-of-remark o k j (drop j s)
 
     pub remark-over : length s ≤ i + 1 → inside d i ≡ refused 2 o
-    unfolding remarkEnd
-    remark-over h = at-one (remarkEnd o d i) (refused 2 o) refl (λ b. refl) h
+    unfolding end-of-remark
+    remark-over h = at-one (end-of-remark o d i) (refused 2 o) refl (λ b. refl) h
 
     module _ (h : i + 1 < length s) where
       abbrev b : ℕ
@@ -71,19 +71,19 @@ module _ (s : List ℕ) (i : ℕ) where
       c = getD s (i + 1) 0
 
       pub remark-deeper : opens b c ≡ true → inside d i ≡ inside (d + 1) (i + 2)
-      unfolding remarkEnd
+      unfolding end-of-remark
       remark-deeper e = rw (at-two s i h, e)
 
       pub remark-out : opens b c ≡ false → closes b c ≡ true → (d ≡ 1 → ⊥) → inside d i ≡ inside (d - 1) (i + 2)
-      unfolding remarkEnd
+      unfolding end-of-remark
       remark-out e f n = rw (at-two s i h, e, f, ne-eqb _ _ n)
 
       pub remark-done : opens b c ≡ false → closes b c ≡ true → d ≡ 1 → inside d i ≡ at (i + 2)
-      unfolding remarkEnd
+      unfolding end-of-remark
       remark-done e f n = rw (at-two s i h, e, f, eq-eqb _ _ n)
 
       pub remark-on : opens b c ≡ false → closes b c ≡ false → inside d i ≡ inside d (i + 1)
-      unfolding remarkEnd
+      unfolding end-of-remark
       remark-on e f = rw (at-cons s i (omega arith), at-cons s (i + 1) h, e, f)
 
       -- a byte that is neither `(` nor `*` opens and closes nothing
@@ -94,33 +94,33 @@ module _ (s : List ℕ) (i : ℕ) where
 
 module _ (s : List ℕ) (i o : ℕ) where
   abbrev within-string : Bool → ℕ → Reading
-  within-string q k = stringEnd o q k (drop k s)
+  within-string q k = end-of-string o q k (drop k s)
 
   module _ (h : i < length s) where
     pub string-shut : (getD s i 0 ≡ 39 → ⊥) → within-string true i ≡ at i
-    unfolding stringEnd
+    unfolding end-of-string
     string-shut n = rw (at-cons s i h, ne-eqb _ _ n)
 
     pub string-doubled : getD s i 0 ≡ 39 → within-string true i ≡ within-string false (i + 1)
-    unfolding stringEnd
+    unfolding end-of-string
     string-doubled e = rw (at-cons s i h, eq-eqb _ _ e)
 
     pub string-quote : getD s i 0 ≡ 39 → within-string false i ≡ within-string true (i + 1)
-    unfolding stringEnd
+    unfolding end-of-string
     string-quote e = rw (at-cons s i h, eq-eqb _ _ e)
 
     pub string-on : (getD s i 0 ≡ 39 → ⊥) → printable (getD s i 0) ≡ true → within-string false i ≡ within-string false (i + 1)
-    unfolding stringEnd
+    unfolding end-of-string
     string-on n e = rw (at-cons s i h, ne-eqb _ _ n, e)
 
     pub string-bad : (getD s i 0 ≡ 39 → ⊥) → printable (getD s i 0) ≡ false → within-string false i ≡ refused 2 o
-    unfolding stringEnd
+    unfolding end-of-string
     string-bad n e = rw (at-cons s i h, ne-eqb _ _ n, e)
 
   pub string-end : length s ≤ i → within-string true i ≡ at i
-  unfolding stringEnd
+  unfolding end-of-string
   string-end h = rw (at-nil s i h)
 
   pub string-open : length s ≤ i → within-string false i ≡ refused 2 o
-  unfolding stringEnd
+  unfolding end-of-string
   string-open h = rw (at-nil s i h)

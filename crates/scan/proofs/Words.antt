@@ -6,15 +6,15 @@ use Prim.Native.Nat.{ℕ, zero, suc, _+_, _<_, _≤_}
 use native.Mathlib.Omega.{arith}
 use lib.ListN.{length, getD}
 use lib.Bits.{bitAnd}
-use Rattle.express.specs.Bytes.{wordByte}
-use Rattle.express.specs.Lexis.{run}
+use Rattle.express.specs.tokens.Bytes.{word-byte}
+use Rattle.express.specs.tokens.Lexis.{run}
 use Rattle.columns.proofs.Laws.{tabulated-at}
-use Rattle.scan.specs.Scan.{one, wordTable}
+use Rattle.scan.specs.Scan.{one, word-table}
 use Rattle.scan.proofs.Turns.{run-more, run-stop, run-over}
 
-pub table-at : (t : List ℕ) (b i : ℕ) → t ≡ wordTable → i ≡ b → b < 256 → getD t i 0 ≡ one (wordByte b)
-unfolding wordTable
-table-at t b i is at h = rw (is, at) (tabulated-at (λ x. one (wordByte x)) 0 256 b h ∙ ap (λ (x : ℕ). one (wordByte x)) (omega arith))
+pub table-at : (t : List ℕ) (b i : ℕ) → t ≡ word-table → i ≡ b → b < 256 → getD t i 0 ≡ one (word-byte b)
+unfolding word-table
+table-at t b i is at h = rw (is, at) (tabulated-at (λ x. one (word-byte x)) 0 256 b h ∙ ap (λ (x : ℕ). one (word-byte x)) (omega arith))
 
 none : (x : Bool) → one x ≡ 0 → x ≡ false
 none true e = absurd (omega (arith, e))
@@ -39,29 +39,29 @@ both false true n = absurd (n refl)
 both false false n = absurd (n refl)
 
 -- what is known of the bytes at i and after it: a of the first and b of the second
-module _ (s : List ℕ) (i a : ℕ) (a-is : a ≡ one (wordByte (getD s i 0))) where
-  pub word-stops : i < length s → a ≡ 0 → i ≡ run wordByte s i
-  word-stops h e = sym (run-stop wordByte s i h (none _ (sym a-is ∙ e)))
+module _ (s : List ℕ) (i a : ℕ) (a-is : a ≡ one (word-byte (getD s i 0))) where
+  pub word-stops : i < length s → a ≡ 0 → i ≡ run word-byte s i
+  word-stops h e = sym (run-stop word-byte s i h (none _ (sym a-is ∙ e)))
 
-  pub word-last : i < length s → length s ≤ i + 1 → i + a ≡ run wordByte s i
-  word-last h l = ap (λ (n : ℕ). i + n) a-is ∙ go (wordByte (getD s i 0)) refl
+  pub word-last : i < length s → length s ≤ i + 1 → i + a ≡ run word-byte s i
+  word-last h l = ap (λ (n : ℕ). i + n) a-is ∙ go (word-byte (getD s i 0)) refl
     where
-      go : (x : Bool) → wordByte (getD s i 0) ≡ x → i + one x ≡ run wordByte s i
-      go true e = sym (run-more wordByte s i h e ∙ run-over wordByte s (i + 1) l)
-      go false e = omega (arith, run-stop wordByte s i h e)
+      go : (x : Bool) → word-byte (getD s i 0) ≡ x → i + one x ≡ run word-byte s i
+      go true e = sym (run-more word-byte s i h e ∙ run-over word-byte s (i + 1) l)
+      go false e = omega (arith, run-stop word-byte s i h e)
 
-  module _ (b : ℕ) (b-is : b ≡ one (wordByte (getD s (i + 1) 0))) (h : i + 1 < length s) where
-    first : (a ≡ 0 → ⊥) → wordByte (getD s i 0) ≡ true
+  module _ (b : ℕ) (b-is : b ≡ one (word-byte (getD s (i + 1) 0))) (h : i + 1 < length s) where
+    first : (a ≡ 0 → ⊥) → word-byte (getD s i 0) ≡ true
     first n = some _ (λ e. n (a-is ∙ e))
 
-    pub word-stops-next : (a ≡ 0 → ⊥) → bitAnd a b ≡ 0 → i + 1 ≡ run wordByte s i
+    pub word-stops-next : (a ≡ 0 → ⊥) → bitAnd a b ≡ 0 → i + 1 ≡ run word-byte s i
     word-stops-next n e =
-        let f : wordByte (getD s i 0) ≡ true = first n in
-        let z : bitAnd (one (wordByte (getD s i 0))) (one (wordByte (getD s (i + 1) 0))) ≡ 0 = rw (← a-is, ← b-is) e in
-        sym (run-more wordByte s i (omega arith) f ∙ run-stop wordByte s (i + 1) h (second _ _ f z))
+        let f : word-byte (getD s i 0) ≡ true = first n in
+        let z : bitAnd (one (word-byte (getD s i 0))) (one (word-byte (getD s (i + 1) 0))) ≡ 0 = rw (← a-is, ← b-is) e in
+        sym (run-more word-byte s i (omega arith) f ∙ run-stop word-byte s (i + 1) h (second _ _ f z))
 
-    pub word-goes-on : (bitAnd a b ≡ 0 → ⊥) → run wordByte s (i + 2) ≡ run wordByte s i
+    pub word-goes-on : (bitAnd a b ≡ 0 → ⊥) → run word-byte s (i + 2) ≡ run word-byte s i
     word-goes-on n =
-        let t = both (wordByte (getD s i 0)) (wordByte (getD s (i + 1) 0)) (λ e. n (rw (a-is, b-is) e)) in
+        let t = both (word-byte (getD s i 0)) (word-byte (getD s (i + 1) 0)) (λ e. n (rw (a-is, b-is) e)) in
         let two : i + 2 ≡ i + 1 + 1 = omega arith in
-        rw two (sym (run-more wordByte s i (omega arith) (t .0) ∙ run-more wordByte s (i + 1) h (t .1)))
+        rw two (sym (run-more word-byte s i (omega arith) (t .0) ∙ run-more word-byte s (i + 1) h (t .1)))

@@ -7,9 +7,9 @@ use mathlib.Core.List.{List}
 use lib.ListN.{length}
 use lib.Seq.{sets}
 use Rattle.columns.specs.Column.{tabulated}
-use Rattle.express.specs.Bytes.{digit, wordByte}
-use Rattle.express.specs.Lexis as Lexis
-use Rattle.express.specs.Lexis.{Reading, at, refused, Lexed, inLine, bit, kindAt, tokenEnd, lexed, tokens}
+use Rattle.express.specs.tokens.Bytes.{digit, word-byte}
+use Rattle.express.specs.tokens.Lexis as Lexis
+use Rattle.express.specs.tokens.Lexis.{Reading, at, refused, Lexed, in-line, bit, token-kind-at, end-of-token, lexed, tokens}
 use Rattle.scan.specs.declared.Step.{Step}
 use Rattle.scan.specs.declared.Step.the-variants.{At, Refused}
 use Rattle.scan.specs.declared.Found.{Found}
@@ -22,35 +22,35 @@ reading (At p) = at p
 reading (Refused n p) = refused n p
 
 -- A set of bytes as two numbers of 64 bits each: byte b is bit b of the first, or bit b - 64 of the second.
-abbrev pub halfOf : ℕ → ℕ → ℕ → ℕ
-halfOf low high b = cond (ltb b 64) low (cond (ltb b 128) high 0)
+abbrev pub half-of : ℕ → ℕ → ℕ → ℕ
+half-of low high b = cond (ltb b 64) low (cond (ltb b 128) high 0)
 
-abbrev pub inSet : ℕ → ℕ → ℕ → Bool
-inSet low high b = eqb (halfOf low high b / 2 ^ (b % 64) % 2) 1
+abbrev pub among-bytes : ℕ → ℕ → ℕ → Bool
+among-bytes low high b = eqb (half-of low high b / 2 ^ (b % 64) % 2) 1
 
 abbrev pub one : Bool → ℕ
 one x = cond x 1 0
 
 -- by its byte: 1 for what a word goes on with
-unfoldable pub wordTable : List ℕ
-wordTable = tabulated (λ b. one (wordByte b)) 0 256
+unfoldable pub word-table : List ℕ
+word-table = tabulated (λ b. one (word-byte b)) 0 256
 
 -- what a token's kind and end are together
-abbrev pub tokenOf : ℕ → Reading → Found
-tokenOf k (at e) = Token k e
-tokenOf k (refused n o) = Refusal n o
+abbrev pub token-meant : ℕ → Reading → Found
+token-meant k (at e) = Token k e
+token-meant k (refused n o) = Refusal n o
 
-abbrev pub stepOf : Found → Step
-stepOf (Token k e) = At e
-stepOf (Refusal n o) = Refused n o
+abbrev pub step-meant : Found → Step
+step-meant (Token k e) = At e
+step-meant (Refusal n o) = Refused n o
 
-unfoldable pub tokenAt : List ℕ → ℕ → Found
-tokenAt s p = tokenOf (kindAt s p) (tokenEnd s p (kindAt s p))
+unfoldable pub token-found-at : List ℕ → ℕ → Found
+token-found-at s p = token-meant (token-kind-at s p) (end-of-token s p (token-kind-at s p))
 
 abbrev pub member : Class → ℕ → Bool
 member Digit = digit
 member Bit = bit
-member Line = inLine
+member Line = in-line
 
 -- what `fill` answers and leaves: the number of rows or the refusal, and the rows over what the columns held, as far as they go
 abbrev pub ended : Reading → ℕ → Reading

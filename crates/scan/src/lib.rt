@@ -3,9 +3,9 @@ ghost use mathlib.Core.Path.{_≡_};
 ghost use mathlib.Core.Bool.{true, false};
 ghost use Prim.Native.Nat.{_+_, _≤_, _<_};
 ghost use lib.ListN.{length, drop, getD, set};
-ghost use Rattle.express.specs.Bytes.{within, digit, letter, wordByte};
-ghost use Rattle.express.specs.Lexis.{pair, either, run, remarkEnd, skipped, integerEnd, exponentDigits, exponentEnd, stringEnd, binaryEnd, lone, symbolSize, symbolEnd, lexed};
-ghost use Rattle.scan.specs.Scan.{reading, halfOf, inSet, member, one, wordTable, tokenOf, stepOf, tokenAt, Filled, Scanned};
+ghost use Rattle.express.specs.tokens.Bytes.{within, digit, letter, word-byte};
+ghost use Rattle.express.specs.tokens.Lexis.{pair, either, run, end-of-remark, skipped, end-of-integer, digits-of-exponent, end-of-exponent, end-of-string, end-of-binary, lone, size-of-symbol, end-of-symbol, lexed};
+ghost use Rattle.scan.specs.Scan.{reading, half-of, among-bytes, member, one, word-table, token-meant, step-meant, token-found-at, Filled, Scanned};
 
 // A reading step gives a new place, or a located refusal: its number and its place.
 pub enum Step {
@@ -84,7 +84,7 @@ fn is_letter(b: u8) -> bool
 
 // The half of a set of bytes that a byte is looked for in: the first has the bytes below 64, the second those below 128.
 fn half(low: u64, high: u64, b: u8) -> u64
-    ensures { λ r. ⌜ r ≡ halfOf low high b ⌝ }
+    ensures { λ r. ⌜ r ≡ half-of low high b ⌝ }
 {
     if b < 64 {
         return low;
@@ -97,7 +97,7 @@ fn half(low: u64, high: u64, b: u8) -> u64
 
 // Whether a byte is in a set, a bit for each byte: one jump where a chain of tests has several that are hard to foretell.
 fn is_in(low: u64, high: u64, b: u8) -> bool
-    ensures { λ r. ⌜ r ≡ inSet low high b ⌝ }
+    ensures { λ r. ⌜ r ≡ among-bytes low high b ⌝ }
 {
     let shift = wide(b % 64);
     (half(low, high, b) >> shift) % 2 == 1
@@ -130,16 +130,16 @@ fn run_end(s: &[u8], at: usize, class: Class) -> usize
 
 // 1 where a word goes on with a byte, 0 where it does not.
 fn goes_on(words: &[u8; 256], b: u8) -> u8
-    requires { ⌜ now words ≡ wordTable ⌝ }
-    ensures { λ r. ⌜ r ≡ one (wordByte b) ⌝ }
+    requires { ⌜ now words ≡ word-table ⌝ }
+    ensures { λ r. ⌜ r ≡ one (word-byte b) ⌝ }
 {
     words[columns::byte_index(b)]
 }
 
 // The end of the word that goes on at a place. Two bytes a turn: half the jumps, and lengths 1 apart are alike to them.
 fn word_end(s: &[u8], at: usize, words: &[u8; 256]) -> usize
-    requires { ⌜ (at ≤ length (now s)) × (now words ≡ wordTable) ⌝ }
-    ensures { λ r. ⌜ r ≡ run wordByte (now (s .entry)) at ⌝ }
+    requires { ⌜ (at ≤ length (now s)) × (now words ≡ word-table) ⌝ }
+    ensures { λ r. ⌜ r ≡ run word-byte (now (s .entry)) at ⌝ }
 {
     let mut i = at;
     while i + 1 < s.len() {
@@ -162,7 +162,7 @@ fn word_end(s: &[u8], at: usize, words: &[u8; 256]) -> usize
 // The end of the remark that opens at a place.
 fn remark_end(s: &[u8], from: usize) -> Step
     requires { ⌜ from + 2 ≤ length (now s) ⌝ }
-    ensures { λ r. ⌜ reading r ≡ remarkEnd from 1 (from + 2) (drop (from + 2) (now (s .entry))) ⌝ }
+    ensures { λ r. ⌜ reading r ≡ end-of-remark from 1 (from + 2) (drop (from + 2) (now (s .entry))) ⌝ }
 {
     let mut i = from + 2;
     let mut depth: usize = 1;
@@ -223,7 +223,7 @@ fn skip(s: &[u8], at: usize) -> Step
 // The end of the integer whose digits end at a place, unless it is too large.
 fn integer_end(s: &[u8], at: usize, end: usize) -> Step
     requires { ⌜ end ≡ run digit (now s) at ⌝ }
-    ensures { λ r. ⌜ reading r ≡ integerEnd (now (s .entry)) at ⌝ }
+    ensures { λ r. ⌜ reading r ≡ end-of-integer (now (s .entry)) at ⌝ }
 {
     if end - at < 19 {
         return Step::At(end);
@@ -236,7 +236,7 @@ fn integer_end(s: &[u8], at: usize, end: usize) -> Step
 
 fn exponent_digits(s: &[u8], at: usize) -> usize
     requires { ⌜ at < length (now s) ⌝ }
-    ensures { λ r. ⌜ r ≡ exponentDigits (now (s .entry)) at ⌝ }
+    ensures { λ r. ⌜ r ≡ digits-of-exponent (now (s .entry)) at ⌝ }
 {
     if is_either(43, 45, byte(s, at + 1)) {
         return at + 2;
@@ -246,7 +246,7 @@ fn exponent_digits(s: &[u8], at: usize) -> usize
 
 // The end of the exponent at a place, which is that place if there is none.
 fn exponent_end(s: &[u8], at: usize) -> usize
-    ensures { λ r. ⌜ r ≡ exponentEnd (now (s .entry)) at ⌝ }
+    ensures { λ r. ⌜ r ≡ end-of-exponent (now (s .entry)) at ⌝ }
 {
     if at >= s.len() {
         return at;
@@ -264,14 +264,14 @@ fn exponent_end(s: &[u8], at: usize) -> usize
 // The end of the real whose point is at a place.
 fn real_end(s: &[u8], point: usize) -> usize
     requires { ⌜ point ≤ length (now s) ⌝ }
-    ensures { λ r. ⌜ r ≡ exponentEnd (now (s .entry)) (run digit (now (s .entry)) (point + 1)) ⌝ }
+    ensures { λ r. ⌜ r ≡ end-of-exponent (now (s .entry)) (run digit (now (s .entry)) (point + 1)) ⌝ }
 {
     exponent_end(s, run_end(s, point + 1, Class::Digit))
 }
 
 fn string_end(s: &[u8], at: usize) -> Step
     requires { ⌜ at < length (now s) ⌝ }
-    ensures { λ r. ⌜ reading r ≡ stringEnd at false (at + 1) (drop (at + 1) (now (s .entry))) ⌝ }
+    ensures { λ r. ⌜ reading r ≡ end-of-string at false (at + 1) (drop (at + 1) (now (s .entry))) ⌝ }
 {
     let mut i = at + 1;
     let mut quote = false;
@@ -301,7 +301,7 @@ fn string_end(s: &[u8], at: usize) -> Step
 
 fn binary_end(s: &[u8], at: usize) -> Step
     requires { ⌜ at < length (now s) ⌝ }
-    ensures { λ r. ⌜ reading r ≡ binaryEnd (now (s .entry)) at ⌝ }
+    ensures { λ r. ⌜ reading r ≡ end-of-binary (now (s .entry)) at ⌝ }
 {
     let end = run_end(s, at + 1, Class::Bit);
     let bits = end - (at + 1);
@@ -322,7 +322,7 @@ fn is_lone(b: u8) -> bool
 
 // How many of the four bytes are a symbol that starts with a colon, which b is.
 fn colon_size(c: u8, d: u8, e: u8) -> usize
-    ensures { λ r. ⌜ r ≡ symbolSize 58 c d e ⌝ }
+    ensures { λ r. ⌜ r ≡ size-of-symbol 58 c d e ⌝ }
 {
     if c == 61 {
         if d == 58 {
@@ -339,7 +339,7 @@ fn colon_size(c: u8, d: u8, e: u8) -> usize
 }
 
 fn symbol_size(b: u8, c: u8, d: u8, e: u8) -> usize
-    ensures { λ r. ⌜ r ≡ symbolSize b c d e ⌝ }
+    ensures { λ r. ⌜ r ≡ size-of-symbol b c d e ⌝ }
 {
     if is_lone(b) {
         return 1;
@@ -379,7 +379,7 @@ fn symbol_size(b: u8, c: u8, d: u8, e: u8) -> usize
 
 fn symbol_end(s: &[u8], at: usize) -> Step
     requires { ⌜ at < length (now s) ⌝ }
-    ensures { λ r. ⌜ reading r ≡ symbolEnd (now (s .entry)) at ⌝ }
+    ensures { λ r. ⌜ reading r ≡ end-of-symbol (now (s .entry)) at ⌝ }
 {
     let b = s[at];
     if is_lone(b) {
@@ -402,7 +402,7 @@ fn symbol_end(s: &[u8], at: usize) -> Step
 
 // A token of a kind, by the step that reads it.
 fn named(kind: u8, step: Step) -> Found
-    ensures { λ r. ⌜ r ≡ tokenOf kind (reading step) ⌝ }
+    ensures { λ r. ⌜ r ≡ token-meant kind (reading step) ⌝ }
 {
     match step {
         Step::At(e) => Found::Token(kind, e),
@@ -412,7 +412,7 @@ fn named(kind: u8, step: Step) -> Found
 
 // The refusal of a token, as one of a step.
 fn refusal(found: Found) -> Step
-    ensures { λ r. ⌜ r ≡ stepOf found ⌝ }
+    ensures { λ r. ⌜ r ≡ step-meant found ⌝ }
 {
     match found {
         Found::Token(_, e) => Step::At(e),
@@ -423,7 +423,7 @@ fn refusal(found: Found) -> Step
 // An integer, or a real where a point ends its digits.
 fn number(s: &[u8], at: usize) -> Found
     requires { ⌜ (at < length (now s)) × (letter (getD (now s) at 0) ≡ false) × (digit (getD (now s) at 0) ≡ true) ⌝ }
-    ensures { λ r. ⌜ r ≡ tokenAt (now (s .entry)) at ⌝ }
+    ensures { λ r. ⌜ r ≡ token-found-at (now (s .entry)) at ⌝ }
 {
     let end = run_end(s, at, Class::Digit);
     if byte(s, end) == 46 {
@@ -434,8 +434,8 @@ fn number(s: &[u8], at: usize) -> Found
 
 // The token at a place, by its first byte.
 fn token(s: &[u8], at: usize, words: &[u8; 256]) -> Found
-    requires { ⌜ (at < length (now s)) × (now words ≡ wordTable) ⌝ }
-    ensures { λ r. ⌜ r ≡ tokenAt (now (s .entry)) at ⌝ }
+    requires { ⌜ (at < length (now s)) × (now words ≡ word-table) ⌝ }
+    ensures { λ r. ⌜ r ≡ token-found-at (now (s .entry)) at ⌝ }
 {
     let b = s[at];
     if is_lone(b) {

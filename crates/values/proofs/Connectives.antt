@@ -3,12 +3,12 @@ use mathlib.Core.Path.{_≡_, refl, sym, _∙_}
 use Prim.Native.Nat.{ℕ, _<_, _≤_, compare, Ordering, Ordering·lt, Ordering·eq, Ordering·gt}
 use native.Mathlib.Omega.{arith}
 use borrow.Author.Tests.{le-leb, lt-leb}
-use Rattle.express.specs.Answer as answer
-use Rattle.express.specs.Answer.{FALSE, UNKNOWN, TRUE}
-use Rattle.express.specs.Logic.{rank, AND, OR, NOT, XOR}
-use Rattle.express.specs.Relation.{related}
-use Rattle.express.proofs.Order.{compare-lt, compare-gt, compare-eq}
-use Rattle.values.specs.Meaning.{logicalOf, relationOf}
+use Rattle.express.specs.kinds.Answer as answer
+use Rattle.express.specs.kinds.Answer.{FALSE, UNKNOWN, TRUE}
+use Rattle.express.specs.kinds.Logic.{rank, AND, OR, NOT, XOR}
+use Rattle.express.specs.kinds.Relation.{related}
+use Rattle.express.proofs.kinds.Order.{compare-lt, compare-gt, compare-eq}
+use Rattle.values.specs.Meaning.{logical-meant, relation-of}
 use Rattle.values.specs.declared.logical.Logical.{Logical}
 use Rattle.values.specs.declared.logical.Logical.the-variants.{False, Unknown, True}
 use Rattle.values.specs.declared.order.Relation.{Relation}
@@ -58,18 +58,18 @@ xor-true-is UNKNOWN = refl
 xor-true-is TRUE = refl
 
 module _ {a : Logical} (b : answer.Logical) where
-  pub xor-false : a ≡ False → b ≡ XOR (logicalOf a) b
+  pub xor-false : a ≡ False → b ≡ XOR (logical-meant a) b
   xor-false e = rw e (sym (xor-false-is b))
 
-  pub xor-unknown : a ≡ Unknown → UNKNOWN ≡ XOR (logicalOf a) b
+  pub xor-unknown : a ≡ Unknown → UNKNOWN ≡ XOR (logical-meant a) b
   unfolding XOR
   xor-unknown e = rw e
 
-  pub xor-true : {x : answer.Logical} → a ≡ True → x ≡ NOT b → x ≡ XOR (logicalOf a) b
+  pub xor-true : {x : answer.Logical} → a ≡ True → x ≡ NOT b → x ≡ XOR (logical-meant a) b
   xor-true e f = f ∙ rw e (sym (xor-true-is b))
 
 pub ruleset xors = (xor-false, xor-unknown, xor-true)
 
 -- ---- a relation that a match has told
-pub told : {x : answer.Logical} {r k : Relation} (o : Ordering) → r ≡ k → x ≡ related (relationOf k) o → x ≡ related (relationOf r) o
+pub told : {x : answer.Logical} {r k : Relation} (o : Ordering) → r ≡ k → x ≡ related (relation-of k) o → x ≡ related (relation-of r) o
 told o e f = rw e f

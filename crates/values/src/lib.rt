@@ -3,7 +3,7 @@ pub mod logical;
 pub mod order;
 
 ghost use mathlib.Core.Path.{_≡_};
-ghost use Rattle.values.specs.Meaning.{endNumber};
+ghost use Rattle.values.specs.Meaning.{end-number};
 
 // Why an evaluation ends without a value.
 pub enum End {
@@ -17,7 +17,7 @@ pub enum End {
 impl End {
     // Its number in an answer row.
     pub fn number(self) -> u8
-        ensures { λ r. ⌜ r ≡ endNumber self ⌝ }
+        ensures { λ r. ⌜ r ≡ end-number self ⌝ }
     {
         match self {
             End::OutOfRange => 16,

@@ -1,6 +1,6 @@
 ghost use mathlib.Core.Path.{_≡_};
-ghost use Rattle.express.specs.Logic.{rank, compareLogical, AND, OR, NOT, XOR};
-ghost use Rattle.values.specs.Meaning.{logicalOf, orderingOf};
+ghost use Rattle.express.specs.kinds.Logic.{rank, compare-logical, AND, OR, NOT, XOR};
+ghost use Rattle.values.specs.Meaning.{logical-meant, ordering-of};
 use crate::order::Order;
 
 // The three logical values, in their order.
@@ -19,7 +19,7 @@ impl Logical {
 
     // Its number in an answer row: its place in the order.
     pub fn rank(self) -> u8
-        ensures { λ r. ⌜ r ≡ rank (logicalOf self) ⌝ }
+        ensures { λ r. ⌜ r ≡ rank (logical-meant self) ⌝ }
     {
         match self {
             Logical::False => 0,
@@ -29,7 +29,7 @@ impl Logical {
     }
 
     pub fn compare(self, other: Logical) -> Order
-        ensures { λ r. ⌜ orderingOf r ≡ compareLogical (logicalOf self) (logicalOf other) ⌝ }
+        ensures { λ r. ⌜ ordering-of r ≡ compare-logical (logical-meant self) (logical-meant other) ⌝ }
     {
         let m = self.rank();
         let n = other.rank();
@@ -44,7 +44,7 @@ impl Logical {
 
     // The smaller.
     pub fn and(self, other: Logical) -> Logical
-        ensures { λ r. ⌜ logicalOf r ≡ AND (logicalOf self) (logicalOf other) ⌝ }
+        ensures { λ r. ⌜ logical-meant r ≡ AND (logical-meant self) (logical-meant other) ⌝ }
     {
         if self.rank() <= other.rank() {
             return self;
@@ -54,7 +54,7 @@ impl Logical {
 
     // The larger.
     pub fn or(self, other: Logical) -> Logical
-        ensures { λ r. ⌜ logicalOf r ≡ OR (logicalOf self) (logicalOf other) ⌝ }
+        ensures { λ r. ⌜ logical-meant r ≡ OR (logical-meant self) (logical-meant other) ⌝ }
     {
         if self.rank() <= other.rank() {
             return other;
@@ -63,7 +63,7 @@ impl Logical {
     }
 
     pub fn not(self) -> Logical
-        ensures { λ r. ⌜ logicalOf r ≡ NOT (logicalOf self) ⌝ }
+        ensures { λ r. ⌜ logical-meant r ≡ NOT (logical-meant self) ⌝ }
     {
         match self {
             Logical::False => Logical::TRUE,
@@ -73,7 +73,7 @@ impl Logical {
     }
 
     pub fn xor(self, other: Logical) -> Logical
-        ensures { λ r. ⌜ logicalOf r ≡ XOR (logicalOf self) (logicalOf other) ⌝ }
+        ensures { λ r. ⌜ logical-meant r ≡ XOR (logical-meant self) (logical-meant other) ⌝ }
     {
         match self {
             Logical::False => other,

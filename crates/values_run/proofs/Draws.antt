@@ -8,7 +8,7 @@ use mir.Syntax.{w64}
 use mir.Val.{Fits, SFits, toZ, ofZ}
 use mir.Facts.{toZ-ofZ}
 use lib.IntN.{ℤ}
-use Rattle.express.specs.Answer.{Answer}
+use Rattle.express.specs.kinds.Answer.{Answer}
 use Rattle.values_run.specs.Applied.{applied}
 use Rattle.values_run.specs.declared.arithmetic.Operation.{Operation}
 

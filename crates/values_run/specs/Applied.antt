@@ -1,7 +1,7 @@
 -- What an operation gives.
 use lib.IntN.{ℤ}
-use Rattle.express.specs.Answer.{Answer}
-use Rattle.express.specs.Integer.{sum, difference, product, negation, DIV, MOD, power}
+use Rattle.express.specs.kinds.Answer.{Answer}
+use Rattle.express.specs.kinds.Integer.{sum, difference, product, negation, DIV, MOD, power}
 use Rattle.values_run.specs.declared.arithmetic.Operation.{Operation}
 use Rattle.values_run.specs.declared.arithmetic.Operation.the-variants.{Add, Subtract, Multiply, Div, Modulo, Power, Negate}
 

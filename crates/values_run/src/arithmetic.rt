@@ -1,6 +1,6 @@
 // The operations on integers.
 ghost use mathlib.Core.Path.{_≡_};
-ghost use Rattle.integers.specs.Meaning.{answerOf};
+ghost use Rattle.integers.specs.Meaning.{integer-answer};
 ghost use Rattle.values_run.specs.Applied.{applied};
 use super::draw;
 use super::show;
@@ -17,7 +17,7 @@ enum Operation {
 }
 
 fn apply(operation: Operation, a: i64, b: i64) -> Outcome
-    ensures { λ r. ⌜ answerOf r ≡ applied operation a b ⌝ }
+    ensures { λ r. ⌜ integer-answer r ≡ applied operation a b ⌝ }
 {
     match operation {
         Operation::Add => integers::add(a, b),

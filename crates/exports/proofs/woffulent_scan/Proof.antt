@@ -7,32 +7,18 @@ use Rattle.exports.proofs.number_of.Reads as number-of-reads
 use Rattle.exports.proofs.reply_of.Reads as reply-of-reads
 use Rattle.scan.proofs.scan.Reads as scan-reads
 use Rattle.exports.proofs.Steps.{scans}
-
--- src/lib.rt:46:9
 scan-requires : tie.Need-scan-requires
 scan-requires c κs = search needs
-
--- src/lib.rt:47:14
 number-of-requires : tie.Need-number-of-requires
 number-of-requires c κs = search needs
-
--- src/lib.rt:48:5
 reply-of-requires : tie.Need-reply-of-requires
 reply-of-requires c κs = search needs
-
--- src/lib.rt:37:1
 same-length : tie.Need-same-length
 same-length c = search needs
-
--- src/lib.rt:37:1
 same-length-2 : tie.Need-same-length-2
 same-length-2 c = search needs
-
--- src/lib.rt:37:1
 same-length-3 : tie.Need-same-length-3
 same-length-3 c = search needs
-
--- src/lib.rt:37:1
 returns : tie.Need-returns
 returns c = scans (c .before .before .before .before .before .before .before .before .scan .ensures) (c .before .number-of .ensures) (c .reply-of .ensures)
 

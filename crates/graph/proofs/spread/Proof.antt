@@ -5,7 +5,7 @@ use borrow.Author.Needs.{needs}
 use Rattle.graph.proofs.Store.{zeros}
 use Rattle.graph.proofs.Mark.{Front, markable-set, spread-start, front-start, front-ask, front-step, front-end, tail-low}
 use Rattle.graph.specs.Graph.{vertices}
-use Rattle.express.specs.Reach.{direct}
+use Rattle.relations.specs.Reach.{direct}
 use Prim.Native.Nat.{_-_}
 use mathlib.Core.Path.{refl}
 use native.Mathlib.Omega.{arith}

@@ -7,28 +7,16 @@ use Rattle.literals.proofs.numeral_of.Reads as numeral-of-reads
 use Rattle.literals.proofs.Numerals.{binary-over, binary-none, binary-is}
 use mathlib.Core.Path.{_∙_}
 use native.Mathlib.Omega.{arith}
-
--- src/lib.rt:70:9
 returns : tie.Need-returns
 returns c = binary-over (c .before .before .args .s .now) (c .before .before .args .start) (c .before .before .args .length) (c .if1 .taken)
-
--- src/lib.rt:73:9
 returns-2 : tie.Need-returns-2
 returns-2 c = binary-none (c .before .before .before .args .s .now) (c .before .before .before .args .start) (c .before .before .before .args .length) (c .if2 .taken)
-
--- src/lib.rt:75:19
 add-numeral-of : tie.Need-add-numeral-of
 add-numeral-of c = omega arith
-
--- src/lib.rt:75:30
 sub-numeral-of : tie.Need-sub-numeral-of
 sub-numeral-of c = omega arith
-
--- src/lib.rt:75:5
 numeral-of-requires : tie.Need-numeral-of-requires
 numeral-of-requires c κs = (omega arith, omega arith)
-
--- src/lib.rt:66:1
 returns-3 : tie.Need-returns-3
 returns-3 c = c .numeral-of .ensures ∙ binary-is (c .before .before .before .before .args .s .now) (c .before .before .before .before .args .start) (c .before .before .before .before .args .length) (c .before .before .if1 .left) (c .before .if2 .left)
 

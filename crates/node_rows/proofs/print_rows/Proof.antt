@@ -11,72 +11,38 @@ Inv-loop kinds tokens sizes roles n i₀ i = Unit {0}
 
 abbrev μ-loop : tie.MeasureT-loop
 μ-loop kinds tokens sizes roles n i₀ i = n - i
-
--- src/main.rt:24:5
 loop-holds : tie.Need-loop-holds Inv-loop μ-loop
 loop-holds c = tt
-
--- src/main.rt:26:13
 returns : tie.Need-returns Inv-loop μ-loop
 returns c = omega arith
-
--- src/main.rt:29:13
 returns-2 : tie.Need-returns-2 Inv-loop μ-loop
 returns-2 c = omega arith
-
--- src/main.rt:32:13
 returns-3 : tie.Need-returns-3 Inv-loop μ-loop
 returns-3 c = omega arith
-
--- src/main.rt:35:13
 returns-4 : tie.Need-returns-4 Inv-loop μ-loop
 returns-4 c = omega arith
-
--- src/main.rt:37:19
 shared-slice-read-print-row : tie.Need-shared-slice-read-print-row Inv-loop μ-loop
 shared-slice-read-print-row c = omega arith
-
--- src/main.rt:37:29
 mul-print-row : tie.Need-mul-print-row Inv-loop μ-loop
 mul-print-row c = omega arith
-
--- src/main.rt:37:29
 shared-slice-read-print-row-2 : tie.Need-shared-slice-read-print-row-2 Inv-loop μ-loop
 shared-slice-read-print-row-2 c = omega arith
-
--- src/main.rt:37:40
 mul-print-row-2 : tie.Need-mul-print-row-2 Inv-loop μ-loop
 mul-print-row-2 c = omega arith
-
--- src/main.rt:37:40
 shared-slice-read-print-row-3 : tie.Need-shared-slice-read-print-row-3 Inv-loop μ-loop
 shared-slice-read-print-row-3 c = omega arith
-
--- src/main.rt:37:50
 mul-print-row-3 : tie.Need-mul-print-row-3 Inv-loop μ-loop
 mul-print-row-3 c = omega arith
-
--- src/main.rt:37:50
 shared-slice-read-print-row-4 : tie.Need-shared-slice-read-print-row-4 Inv-loop μ-loop
 shared-slice-read-print-row-4 c = omega arith
-
--- src/main.rt:37:9
 print-row-requires : tie.Need-print-row-requires Inv-loop μ-loop
 print-row-requires c κs = omega arith
-
--- src/main.rt:38:9
 add-i : tie.Need-add-i Inv-loop μ-loop
 add-i c = omega arith
-
--- src/main.rt:24:5
 loop-less : tie.Need-loop-less Inv-loop μ-loop
 loop-less c = omega arith
-
--- src/main.rt:24:5
 loop-again : tie.Need-loop-again Inv-loop μ-loop
 loop-again c = tt
-
--- src/main.rt:22:1
 returns-5 : tie.Need-returns-5 Inv-loop μ-loop
 returns-5 c = omega arith
 

@@ -5,36 +5,22 @@ use Rattle.node_rows.proofs.print_tree.Reads as reads
 use Rattle.node_rows.proofs.print_tree.Lts as lts
 use Rattle.columns.proofs.shorter.Reads as shorter-reads
 use Rattle.node_rows.proofs.print_nodes.Reads as print-nodes-reads
-use Rattle.words.proofs.terminals.Reads as terminals-reads
+use Rattle.terminals.proofs.terminals.Reads as terminals-reads
 use mathlib.Core.Path.{sym}
 use native.Mathlib.Omega.{arith}
 use lib.Seq.{length-take-le}
-
--- src/main.rt:79:51
 slice-aggregate-terminals : tie.Need-slice-aggregate-terminals
 slice-aggregate-terminals c = search needs
-
--- src/main.rt:79:5
 terminals-requires : tie.Need-terminals-requires
 terminals-requires c κs = search needs
-
--- src/main.rt:80:9
 shorter-requires : tie.Need-shorter-requires
 shorter-requires c κs = search needs
-
--- src/main.rt:81:17
 array-share-prefix-codes : tie.Need-array-share-prefix-codes
 array-share-prefix-codes c = search needs
-
--- src/main.rt:81:17
 slice-aggregate-print-nodes : tie.Need-slice-aggregate-print-nodes
 slice-aggregate-print-nodes c = sym (length-take-le _ _ (omega (arith, c .before .shorter .ensures)))
-
--- src/main.rt:81:5
 print-nodes-requires : tie.Need-print-nodes-requires
 print-nodes-requires c κs = search needs
-
--- src/main.rt:77:1
 returns : tie.Need-returns
 returns c = search needs
 

@@ -7,41 +7,27 @@ use Rattle.scan.proofs.run_end.Reads as run-end-reads
 use mathlib.Core.Path.{sym, _∙_, ap}
 use borrow.Author.Tests.{le-leb, lt-leb, eq-eqb, ne-eqb}
 use Prim.Native.Nat.{_+_}
-use Rattle.express.specs.Lexis.{binaryEnd}
+use Rattle.express.specs.tokens.Lexis.{end-of-binary}
 use Rattle.scan.specs.Scan.{member}
 use Rattle.scan.specs.declared.Class.the-variants.{Bit}
-use Rattle.express.proofs.Places.{run-low}
+use Rattle.express.proofs.tokens.Places.{run-low}
 use native.Mathlib.Omega.{arith}
-
--- src/lib.rt:306:26
 add-run-end : tie.Need-add-run-end
 add-run-end c = search needs
-
--- src/lib.rt:306:9
 run-end-requires : tie.Need-run-end-requires
 run-end-requires c κs = search needs
-
--- src/lib.rt:307:23
 add-bits : tie.Need-add-bits
 add-bits c = search needs
-
--- src/lib.rt:307:16
 sub-bits : tie.Need-sub-bits
 sub-bits c = omega (arith, c .run-end .ensures, run-low (member Bit) (c .before .before .args .s .now) (c .before .before .args .at + 1))
-
--- src/lib.rt:309:9
 returns : tie.Need-returns
-unfolding binaryEnd
+unfolding end-of-binary
 returns c = rw (← c .before .run-end .ensures, eq-eqb _ _ (c .if1 .taken))
-
--- src/lib.rt:312:9
 returns-2 : tie.Need-returns-2
-unfolding binaryEnd
+unfolding end-of-binary
 returns-2 c = rw (← c .before .before .run-end .ensures, ne-eqb _ _ (c .before .if1 .left), lt-leb _ _ (c .if2 .taken))
-
--- src/lib.rt:302:1
 returns-3 : tie.Need-returns-3
-unfolding binaryEnd
+unfolding end-of-binary
 returns-3 c = rw (← c .before .before .run-end .ensures, ne-eqb _ _ (c .before .if1 .left), le-leb _ _ (c .if2 .left))
 
 pub binary-end-spec : {M : Type 1} → statement M

@@ -5,16 +5,10 @@ use Rattle.scan.proofs.byte.Reads as reads
 use Rattle.scan.proofs.byte.Lts as lts
 use mathlib.Core.Path.{sym}
 use lib.ListN.{List·getD-eq-default}
-
--- src/lib.rt:38:16
 shared-slice-read-result : tie.Need-shared-slice-read-result
 shared-slice-read-result c = search needs
-
--- src/lib.rt:38:9
 returns : tie.Need-returns
 returns c = search needs
-
--- src/lib.rt:34:1
 returns-2 : tie.Need-returns-2
 returns-2 c = sym (List·getD-eq-default (c .before .args .s .now) 0 (c .if1 .left))
 

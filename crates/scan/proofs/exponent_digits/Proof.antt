@@ -7,33 +7,19 @@ use Rattle.scan.proofs.byte.Reads as byte-reads
 use Rattle.scan.proofs.is_either.Reads as is-either-reads
 use mathlib.Core.Path.{sym, _∙_, ap}
 use lib.ListN.{getD}
-use Rattle.express.specs.Lexis.{either}
-
--- src/lib.rt:241:34
+use Rattle.express.specs.tokens.Lexis.{either}
 add-byte : tie.Need-add-byte
 add-byte c = search needs
-
--- src/lib.rt:241:26
 byte-requires : tie.Need-byte-requires
 byte-requires c κs = search needs
-
--- src/lib.rt:241:8
 is-either-requires : tie.Need-is-either-requires
 is-either-requires c κs = search needs
-
--- src/lib.rt:242:16
 add-result : tie.Need-add-result
 add-result c = search needs
-
--- src/lib.rt:242:9
 returns : tie.Need-returns
 returns c = rw (sym (c .before .is-either .ensures ∙ ap (either 43 45) (c .before .before .byte .ensures)) ∙ c .if1 .taken)
-
--- src/lib.rt:244:5
 add-result-2 : tie.Need-add-result-2
 add-result-2 c = search needs
-
--- src/lib.rt:237:1
 returns-2 : tie.Need-returns-2
 returns-2 c = rw (sym (c .before .is-either .ensures ∙ ap (either 43 45) (c .before .before .byte .ensures)) ∙ c .if1 .left)
 

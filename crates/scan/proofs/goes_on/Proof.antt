@@ -6,16 +6,10 @@ use Rattle.scan.proofs.goes_on.Lts as lts
 use Rattle.columns.proofs.byte_index.Reads as byte-index-reads
 use Rattle.scan.proofs.Words.{table-at}
 use native.Mathlib.Omega.{arith}
-
--- src/lib.rt:136:11
 byte-index-requires : tie.Need-byte-index-requires
 byte-index-requires c κs = search needs
-
--- src/lib.rt:136:5
 element-copy-out-result : tie.Need-element-copy-out-result
 element-copy-out-result c = search needs
-
--- src/lib.rt:132:1
 returns : tie.Need-returns
 returns c = table-at _ _ _ (c .before .before .pre) (c .before .byte-index .ensures .0) (omega (arith, c .before .before .fits .b))
 

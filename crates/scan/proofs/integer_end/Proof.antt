@@ -4,32 +4,20 @@ use Rattle.scan.proofs.integer_end.Tie as tie
 use Rattle.scan.proofs.integer_end.Reads as reads
 use Rattle.scan.proofs.integer_end.Lts as lts
 use Rattle.literals.proofs.integer.Reads as integer-reads
-use Rattle.express.specs.Bytes.{digit}
-use Rattle.express.proofs.Places.{run-low}
+use Rattle.express.specs.tokens.Bytes.{digit}
+use Rattle.express.proofs.tokens.Places.{run-low}
 use Rattle.scan.proofs.Numbers.{integer-short, integer-fits, integer-large}
 use native.Mathlib.Omega.{arith}
-
--- src/lib.rt:228:8
 sub-if1 : tie.Need-sub-if1
 sub-if1 c = omega (arith, c .before .pre, run-low digit (c .before .args .s .now) (c .before .args .at))
-
--- src/lib.rt:229:9
 returns : tie.Need-returns
 returns c = integer-short _ _ _ (c .before .before .pre) (c .if1 .taken)
-
--- src/lib.rt:231:33
 sub-integer : tie.Need-sub-integer
 sub-integer c = search needs
-
--- src/lib.rt:231:8
 integer-requires : tie.Need-integer-requires
 integer-requires c κs = search needs
-
--- src/lib.rt:232:9
 returns-2 : tie.Need-returns-2
 returns-2 c = integer-large _ _ _ _ (c .before .before .before .before .pre) (c .before .integer .ensures) (c .if2 .taken)
-
--- src/lib.rt:224:1
 returns-3 : tie.Need-returns-3
 returns-3 c = integer-fits _ _ _ _ (c .before .before .before .before .pre) (c .before .integer .ensures) (c .if2 .left)
 

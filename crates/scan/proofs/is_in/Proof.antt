@@ -6,20 +6,12 @@ use Rattle.scan.proofs.is_in.Lts as lts
 use Rattle.scan.proofs.half.Reads as half-reads
 use Rattle.scan.proofs.wide.Reads as wide-reads
 use mathlib.Core.Path.{refl}
-
--- src/lib.rt:102:9
 wide-requires : tie.Need-wide-requires
 wide-requires c κs = search needs
-
--- src/lib.rt:103:6
 half-requires : tie.Need-half-requires
 half-requires c κs = search needs
-
--- src/lib.rt:103:6
 shr-result : tie.Need-shr-result
 shr-result c = search needs
-
--- src/lib.rt:99:1
 returns : tie.Need-returns
 returns c = rw (← c .half .ensures, ← c .before .wide .ensures)
 

@@ -7,12 +7,8 @@ use Rattle.scan.proofs.is_in.Reads as is-in-reads
 use mathlib.Core.Path.{_∙_}
 use Rattle.scan.proofs.Bits.{lone-is}
 use native.Mathlib.Omega.{arith}
-
--- src/lib.rt:320:5
 is-in-requires : tie.Need-is-in-requires
 is-in-requires c κs = search needs
-
--- src/lib.rt:317:1
 returns : tie.Need-returns
 returns c = c .is-in .ensures ∙ lone-is _ (omega (arith, c .before .fits .b))
 

@@ -3,12 +3,8 @@ use Rattle.scan.proofs.is_within.Tie as tie
 use Rattle.scan.proofs.is_within.Reads as reads
 use Rattle.scan.proofs.is_within.Lts as lts
 use borrow.Author.Tests.{le-leb, lt-leb}
-
--- src/lib.rt:53:9
 returns : tie.Need-returns
 returns c = rw (lt-leb _ _ (c .if1 .taken))
-
--- src/lib.rt:49:1
 returns-2 : tie.Need-returns-2
 returns-2 c = rw (le-leb _ _ (c .if1 .left))
 

@@ -7,117 +7,65 @@ use Rattle.scan.proofs.is_pair.Reads as is-pair-reads
 use mathlib.Core.Path.{_≡_, refl, sym, _∙_}
 use Prim.Native.Nat.{_≤_, _-_, _+_}
 use lib.ListN.{length, drop}
-use Rattle.express.specs.Lexis.{remarkEnd}
+use Rattle.express.specs.tokens.Lexis.{end-of-remark}
 use Rattle.scan.proofs.Turns.{remark-over, remark-deeper, remark-out, remark-done, remark-on, remark-pass}
 use native.Mathlib.Omega.{arith}
 
 abbrev Inv-loop : tie.InvT-loop
-Inv-loop s from i₀ depth₀ i depth = (i ≤ length s) × (1 ≤ depth) × (depth ≤ i) × (remarkEnd from depth i (drop i s) ≡ remarkEnd from 1 (from + 2) (drop (from + 2) s))
+Inv-loop s from i₀ depth₀ i depth = (i ≤ length s) × (1 ≤ depth) × (depth ≤ i) × (end-of-remark from depth i (drop i s) ≡ end-of-remark from 1 (from + 2) (drop (from + 2) s))
 
 abbrev μ-loop : tie.MeasureT-loop
 μ-loop s from i₀ depth₀ i depth = length s - i
-
--- src/lib.rt:167:17
 add-i : tie.Need-add-i Inv-loop μ-loop
 add-i c = omega arith
-
--- src/lib.rt:169:5
 loop-holds : tie.Need-loop-holds Inv-loop μ-loop
 loop-holds c = (omega arith, omega arith, omega arith, refl)
-
--- src/lib.rt:169:11
 add-loop : tie.Need-add-loop Inv-loop μ-loop
 add-loop c = omega arith
-
--- src/lib.rt:170:17
 shared-slice-read-b : tie.Need-shared-slice-read-b Inv-loop μ-loop
 shared-slice-read-b c = omega arith
-
--- src/lib.rt:171:12
 is-either-requires : tie.Need-is-either-requires Inv-loop μ-loop
 is-either-requires c κs = tt
-
--- src/lib.rt:172:23
 add-c : tie.Need-add-c Inv-loop μ-loop
 add-c c = omega arith
-
--- src/lib.rt:172:21
 shared-slice-read-c : tie.Need-shared-slice-read-c Inv-loop μ-loop
 shared-slice-read-c c = omega arith
-
--- src/lib.rt:173:16
 is-pair-requires : tie.Need-is-pair-requires Inv-loop μ-loop
 is-pair-requires c κs = tt
-
--- src/lib.rt:174:17
 add-depth : tie.Need-add-depth Inv-loop μ-loop
 add-depth c = omega arith
-
--- src/lib.rt:175:17
 add-i-2 : tie.Need-add-i-2 Inv-loop μ-loop
 add-i-2 c = omega arith
-
--- src/lib.rt:169:5
 loop-less : tie.Need-loop-less Inv-loop μ-loop
 loop-less c = omega arith
-
--- src/lib.rt:169:5
 loop-again : tie.Need-loop-again Inv-loop μ-loop
 loop-again c = (omega arith, omega arith, omega arith, sym (remark-deeper _ _ _ _ (c .before .before .before .before .before .before .loop-test .taken) (sym (c .before .is-pair .ensures) ∙ c .if2 .taken)) ∙ c .before .before .before .before .before .before .before .loop .inv .3)
-
--- src/lib.rt:176:23
 is-pair-requires-2 : tie.Need-is-pair-requires-2 Inv-loop μ-loop
 is-pair-requires-2 c κs = tt
-
--- src/lib.rt:178:37
 add-t19 : tie.Need-add-t19 Inv-loop μ-loop
 add-t19 c = omega arith
-
--- src/lib.rt:178:21
 returns : tie.Need-returns Inv-loop μ-loop
 returns c = sym (remark-done _ _ _ _ (c .before .before .before .before .before .before .before .before .before .loop-test .taken) (sym (c .before .before .before .before .is-pair .ensures) ∙ c .before .before .before .if2 .left) (sym (c .before .before .is-pair2 .ensures) ∙ c .before .if3 .taken) (c .if4 .taken)) ∙ c .before .before .before .before .before .before .before .before .before .before .loop .inv .3
-
--- src/lib.rt:180:17
 sub-depth : tie.Need-sub-depth Inv-loop μ-loop
 sub-depth c = omega arith
-
--- src/lib.rt:181:17
 add-i-3 : tie.Need-add-i-3 Inv-loop μ-loop
 add-i-3 c = omega arith
-
--- src/lib.rt:169:5
 loop-less-2 : tie.Need-loop-less-2 Inv-loop μ-loop
 loop-less-2 c = omega arith
-
--- src/lib.rt:169:5
 loop-again-2 : tie.Need-loop-again-2 Inv-loop μ-loop
 loop-again-2 c = (omega arith, omega arith, omega arith, sym (remark-out _ _ _ _ (c .before .before .before .before .before .before .before .before .before .loop-test .taken) (sym (c .before .before .before .before .is-pair .ensures) ∙ c .before .before .before .if2 .left) (sym (c .before .before .is-pair2 .ensures) ∙ c .before .if3 .taken) (c .if4 .left)) ∙ c .before .before .before .before .before .before .before .before .before .before .loop .inv .3)
-
--- src/lib.rt:183:17
 add-i-4 : tie.Need-add-i-4 Inv-loop μ-loop
 add-i-4 c = omega arith
-
--- src/lib.rt:169:5
 loop-less-3 : tie.Need-loop-less-3 Inv-loop μ-loop
 loop-less-3 c = omega arith
-
--- src/lib.rt:169:5
 loop-again-3 : tie.Need-loop-again-3 Inv-loop μ-loop
 loop-again-3 c = (omega arith, omega arith, omega arith, sym (remark-on _ _ _ _ (c .before .before .before .before .before .before .before .before .loop-test .taken) (sym (c .before .before .before .is-pair .ensures) ∙ c .before .before .if2 .left) (sym (c .before .is-pair2 .ensures) ∙ c .if3 .left)) ∙ c .before .before .before .before .before .before .before .before .before .loop .inv .3)
-
--- src/lib.rt:186:13
 add-i-5 : tie.Need-add-i-5 Inv-loop μ-loop
 add-i-5 c = omega arith
-
--- src/lib.rt:169:5
 loop-less-4 : tie.Need-loop-less-4 Inv-loop μ-loop
 loop-less-4 c = omega arith
-
--- src/lib.rt:169:5
 loop-again-4 : tie.Need-loop-again-4 Inv-loop μ-loop
 loop-again-4 c = (omega arith, omega arith, omega arith, sym (remark-pass _ _ _ _ (c .before .before .before .loop-test .taken) (sym (c .before .is-either .ensures) ∙ c .if1 .left)) ∙ c .before .before .before .before .loop .inv .3)
-
--- src/lib.rt:163:1
 returns-2 : tie.Need-returns-2 Inv-loop μ-loop
 returns-2 c = sym (remark-over _ _ _ _ (c .loop-test .left)) ∙ c .before .loop .inv .3
 

@@ -7,7 +7,7 @@ use mathlib.Core.Path.{_≡_, refl, sym, _∙_}
 use Prim.Native.Nat.{_≤_, _-_}
 use borrow.Author.Tests.{not-true, not-false}
 use lib.ListN.{length}
-use Rattle.express.specs.Lexis.{run}
+use Rattle.express.specs.tokens.Lexis.{run}
 use Rattle.scan.specs.Scan.{member}
 use Rattle.scan.proofs.Turns.{run-more, run-stop, run-over}
 use native.Mathlib.Omega.{arith}
@@ -17,36 +17,20 @@ Inv-loop s at class i₀ i = run (member class) s i ≡ run (member class) s at
 
 abbrev μ-loop : tie.MeasureT-loop
 μ-loop s at class i₀ i = length s - i
-
--- src/lib.rt:121:5
 loop-holds : tie.Need-loop-holds Inv-loop μ-loop
 loop-holds c = refl
-
--- src/lib.rt:122:17
 shared-slice-read-b : tie.Need-shared-slice-read-b Inv-loop μ-loop
 shared-slice-read-b c = omega arith
-
--- src/lib.rt:123:13
 is-member-requires : tie.Need-is-member-requires Inv-loop μ-loop
 is-member-requires c κs = tt
-
--- src/lib.rt:124:13
 returns : tie.Need-returns Inv-loop μ-loop
 returns c = sym (run-stop _ _ _ (c .before .before .before .loop-test .taken) (sym (c .before .is-member .ensures) ∙ not-true _ (c .if1 .taken))) ∙ c .before .before .before .before .loop .inv
-
--- src/lib.rt:126:9
 add-i : tie.Need-add-i Inv-loop μ-loop
 add-i c = omega arith
-
--- src/lib.rt:121:5
 loop-less : tie.Need-loop-less Inv-loop μ-loop
 loop-less c = omega arith
-
--- src/lib.rt:121:5
 loop-again : tie.Need-loop-again Inv-loop μ-loop
 loop-again c = sym (run-more _ _ _ (c .before .before .before .loop-test .taken) (sym (c .before .is-member .ensures) ∙ not-false _ (c .if1 .left))) ∙ c .before .before .before .before .loop .inv
-
--- src/lib.rt:117:1
 returns-2 : tie.Need-returns-2 Inv-loop μ-loop
 returns-2 c = sym (run-over _ _ _ (c .loop-test .left)) ∙ c .before .loop .inv
 

@@ -10,72 +10,38 @@ use lib.ListN.{length}
 use Prim.Native.Nat.{min}
 use Rattle.scan.proofs.Rows.{scan-refused, scan-short, scan-fits}
 use native.Mathlib.Omega.{arith}
-
--- src/lib.rt:527:46
 shorter-requires : tie.Need-shorter-requires
 shorter-requires c κs = search needs
-
--- src/lib.rt:527:9
 shorter-requires-2 : tie.Need-shorter-requires-2
 shorter-requires-2 c κs = search needs
-
--- src/lib.rt:528:9
 fill-requires : tie.Need-fill-requires
 fill-requires c κs = (omega (arith, c .before .before .before .before .shorter .ensures, c .before .before .before .shorter2 .ensures), omega (arith, c .before .before .before .before .shorter .ensures, c .before .before .before .shorter2 .ensures), omega (arith, c .before .before .before .before .shorter .ensures, c .before .before .before .shorter2 .ensures))
-
--- src/lib.rt:529:18
 enum-known-step : tie.Need-enum-known-step
 enum-known-step c = search needs
-
--- src/lib.rt:530:9
 enum-told : tie.Need-enum-told
 enum-told c = search needs
-
--- src/lib.rt:530:9
 same-length : tie.Need-same-length
 same-length c = search needs
-
--- src/lib.rt:530:9
 same-length-2 : tie.Need-same-length-2
 same-length-2 c = search needs
-
--- src/lib.rt:530:9
 same-length-3 : tie.Need-same-length-3
 same-length-3 c = search needs
-
--- src/lib.rt:530:9
 returns : tie.Need-returns
 returns c = scan-refused (c .before .before .before .before .before .before .before .before .fill .ensures) (c .enum-told .given .1)
-
--- src/lib.rt:533:9
 same-length-4 : tie.Need-same-length-4
 same-length-4 c = search needs
-
--- src/lib.rt:533:9
 same-length-5 : tie.Need-same-length-5
 same-length-5 c = search needs
-
--- src/lib.rt:533:9
 same-length-6 : tie.Need-same-length-6
 same-length-6 c = search needs
-
--- src/lib.rt:533:9
 returns-2 : tie.Need-returns-2
 returns-2 c = scan-short (c .before .before .before .before .before .before .before .before .before .before .fill .ensures) (c .before .before .step .given .1) (c .before .before .before .before .before .before .before .before .before .before .before .before .before .before .shorter2 .ensures ∙ ap (min (length (c .before .before .before .before .before .before .before .before .before .before .before .before .before .before .before .before .before .before .before .before .args .kinds .now))) (c .before .before .before .before .before .before .before .before .before .before .before .before .before .before .before .shorter .ensures)) (c .if1 .taken)
-
--- src/lib.rt:524:1
 same-length-7 : tie.Need-same-length-7
 same-length-7 c = search needs
-
--- src/lib.rt:524:1
 same-length-8 : tie.Need-same-length-8
 same-length-8 c = search needs
-
--- src/lib.rt:524:1
 same-length-9 : tie.Need-same-length-9
 same-length-9 c = search needs
-
--- src/lib.rt:524:1
 returns-3 : tie.Need-returns-3
 returns-3 c = scan-fits (c .before .before .before .before .before .before .before .before .before .before .fill .ensures) (c .before .before .step .given .1) (c .before .before .before .before .before .before .before .before .before .before .before .before .before .before .shorter2 .ensures ∙ ap (min (length (c .before .before .before .before .before .before .before .before .before .before .before .before .before .before .before .before .before .before .before .before .args .kinds .now))) (c .before .before .before .before .before .before .before .before .before .before .before .before .before .before .before .shorter .ensures)) (c .if1 .left)
 

@@ -10,8 +10,8 @@ use Rattle.scan.proofs.run_end.Reads as run-end-reads
 use mathlib.Core.Path.{_≡_, refl, sym, _∙_, ap}
 use Prim.Native.Nat.{_≤_, _-_, _+_}
 use lib.ListN.{length, drop, getD}
-use Rattle.express.specs.Lexis.{skipped, inLine, pair}
-use Rattle.express.proofs.Places.{pair-in, run-low}
+use Rattle.express.specs.tokens.Lexis.{skipped, in-line, pair}
+use Rattle.express.proofs.tokens.Places.{pair-in, run-low}
 use Rattle.scan.proofs.Skipping.{Left, is-blank, is-control, no-space, left-first, left-past, left-space, left-line, left-stop, left-refused, left-remark, left-over, remark-passes}
 use borrow.Author.Needs.{needs}
 use native.Mathlib.Omega.{arith}
@@ -21,108 +21,56 @@ Inv-loop s at i₀ i = Left s i (skipped s at)
 
 abbrev μ-loop : tie.MeasureT-loop
 μ-loop s at i₀ i = length s - i
-
--- src/lib.rt:197:5
 loop-holds : tie.Need-loop-holds Inv-loop μ-loop
 loop-holds c = left-first _ _
-
--- src/lib.rt:198:17
 shared-slice-read-b : tie.Need-shared-slice-read-b Inv-loop μ-loop
 shared-slice-read-b c = omega arith
-
--- src/lib.rt:200:13
 add-i : tie.Need-add-i Inv-loop μ-loop
 add-i c = omega arith
-
--- src/lib.rt:197:5
 loop-less : tie.Need-loop-less Inv-loop μ-loop
 loop-less c = omega arith
-
--- src/lib.rt:197:5
 loop-again : tie.Need-loop-again Inv-loop μ-loop
 loop-again c = left-space _ _ _ (c .before .before .loop-test .taken) (c .before .before .before .loop .inv) _ refl (is-blank _ (c .if1 .taken))
-
--- src/lib.rt:202:13
 returns : tie.Need-returns Inv-loop μ-loop
 returns c = left-past _ _ _ (c .before .before .before .loop-test .taken) (c .before .before .before .before .loop .inv) (c .if2 .taken)
-
--- src/lib.rt:203:19
 is-within-requires : tie.Need-is-within-requires Inv-loop μ-loop
 is-within-requires c κs = tt
-
--- src/lib.rt:204:13
 add-i-2 : tie.Need-add-i-2 Inv-loop μ-loop
 add-i-2 c = omega arith
-
--- src/lib.rt:197:5
 loop-less-2 : tie.Need-loop-less-2 Inv-loop μ-loop
 loop-less-2 c = omega arith
-
--- src/lib.rt:197:5
 loop-again-2 : tie.Need-loop-again-2 Inv-loop μ-loop
 loop-again-2 c = left-space _ _ _ (c .before .before .before .before .before .loop-test .taken) (c .before .before .before .before .before .before .loop .inv) _ refl (is-control _ (sym (c .before .is-within .ensures) ∙ c .if3 .taken))
-
--- src/lib.rt:206:29
 add-byte : tie.Need-add-byte Inv-loop μ-loop
 add-byte c = omega arith
-
--- src/lib.rt:206:17
 byte-requires : tie.Need-byte-requires Inv-loop μ-loop
 byte-requires c κs = tt
-
--- src/lib.rt:207:16
 is-pair-requires : tie.Need-is-pair-requires Inv-loop μ-loop
 is-pair-requires c κs = tt
-
--- src/lib.rt:208:32
 add-run-end : tie.Need-add-run-end Inv-loop μ-loop
 add-run-end c = omega arith
-
--- src/lib.rt:208:17
 run-end-requires : tie.Need-run-end-requires Inv-loop μ-loop
 run-end-requires c κs = tt
-
--- src/lib.rt:197:5
 loop-less-3 : tie.Need-loop-less-3 Inv-loop μ-loop
-loop-less-3 c = omega (arith, c .run-end .ensures, run-low inLine (c .before .before .before .before .before .before .before .before .before .before .before .before .args .s .now) (c .before .before .before .before .before .before .before .before .before .before .loop .i + 2))
-
--- src/lib.rt:197:5
+loop-less-3 c = omega (arith, c .run-end .ensures, run-low in-line (c .before .before .before .before .before .before .before .before .before .before .before .before .args .s .now) (c .before .before .before .before .before .before .before .before .before .before .loop .i + 2))
 loop-again-3 : tie.Need-loop-again-3 Inv-loop μ-loop
-loop-again-3 c = left-line _ _ _ (c .before .before .before .before .before .before .before .before .before .loop-test .taken) (c .before .before .before .before .before .before .before .before .before .before .loop .inv) _ (c .before .before .before .byte .ensures) (no-space _ (c .before .before .before .before .before .before .before .if1 .left) (sym (c .before .before .before .before .before .is-within .ensures) ∙ c .before .before .before .before .if3 .left)) (sym (c .before .before .is-pair .ensures) ∙ c .before .if4 .taken) _ (c .run-end .ensures) (omega (arith, c .run-end .ensures, run-low inLine (c .before .before .before .before .before .before .before .before .before .before .before .before .args .s .now) (c .before .before .before .before .before .before .before .before .before .before .loop .i + 2)))
-
--- src/lib.rt:209:23
+loop-again-3 c = left-line _ _ _ (c .before .before .before .before .before .before .before .before .before .loop-test .taken) (c .before .before .before .before .before .before .before .before .before .before .loop .inv) _ (c .before .before .before .byte .ensures) (no-space _ (c .before .before .before .before .before .before .before .if1 .left) (sym (c .before .before .before .before .before .is-within .ensures) ∙ c .before .before .before .before .if3 .left)) (sym (c .before .before .is-pair .ensures) ∙ c .before .if4 .taken) _ (c .run-end .ensures) (omega (arith, c .run-end .ensures, run-low in-line (c .before .before .before .before .before .before .before .before .before .before .before .before .args .s .now) (c .before .before .before .before .before .before .before .before .before .before .loop .i + 2)))
 is-pair-requires-2 : tie.Need-is-pair-requires-2 Inv-loop μ-loop
 is-pair-requires-2 c κs = tt
-
--- src/lib.rt:210:21
 remark-end-requires : tie.Need-remark-end-requires Inv-loop μ-loop
 remark-end-requires c κs = omega (arith, pair-in 40 42 (getD (c .before .before .before .before .before .before .before .before .before .before .before .before .before .args .s .now) (c .before .before .before .before .before .before .before .before .before .before .before .loop .i) 0) (c .before .before .before .before .before .before .before .before .before .before .before .before .before .args .s .now) (c .before .before .before .before .before .before .before .before .before .before .before .loop .i + 1) refl (ap (pair 40 42 (getD (c .before .before .before .before .before .before .before .before .before .before .before .before .before .args .s .now) (c .before .before .before .before .before .before .before .before .before .before .before .loop .i) 0)) (sym (c .before .before .before .before .byte .ensures)) ∙ sym (c .before .is-pair2 .ensures) ∙ c .if5 .taken))
-
--- src/lib.rt:211:30
 enum-known-step : tie.Need-enum-known-step Inv-loop μ-loop
 enum-known-step c = search needs
-
--- src/lib.rt:212:21
 enum-told : tie.Need-enum-told Inv-loop μ-loop
 enum-told c = search needs
-
--- src/lib.rt:212:21
 returns-2 : tie.Need-returns-2 Inv-loop μ-loop
 returns-2 c = left-refused _ _ _ (c .before .before .before .before .before .before .before .before .before .before .before .before .before .loop-test .taken) (c .before .before .before .before .before .before .before .before .before .before .before .before .before .before .loop .inv) _ (c .before .before .before .before .before .before .before .byte .ensures) (no-space _ (c .before .before .before .before .before .before .before .before .before .before .before .if1 .left) (sym (c .before .before .before .before .before .before .before .before .before .is-within .ensures) ∙ c .before .before .before .before .before .before .before .before .if3 .left)) (sym (c .before .before .before .before .before .before .is-pair .ensures) ∙ c .before .before .before .before .before .if4 .left) (sym (c .before .before .before .before .is-pair2 .ensures) ∙ c .before .before .before .if5 .taken) _ (c .before .before .remark-end .ensures) _ _ (c .enum-told .given .1)
-
--- src/lib.rt:197:5
 loop-less-4 : tie.Need-loop-less-4 Inv-loop μ-loop
 loop-less-4 c = omega (arith, remark-passes _ _ _ _ (c .before .before .before .remark-end .ensures) (c .before .step .given .1))
-
--- src/lib.rt:197:5
 loop-again-4 : tie.Need-loop-again-4 Inv-loop μ-loop
 loop-again-4 c = left-remark _ _ _ (c .before .before .before .before .before .before .before .before .before .before .before .before .before .before .loop-test .taken) (c .before .before .before .before .before .before .before .before .before .before .before .before .before .before .before .loop .inv) _ (c .before .before .before .before .before .before .before .before .byte .ensures) (no-space _ (c .before .before .before .before .before .before .before .before .before .before .before .before .if1 .left) (sym (c .before .before .before .before .before .before .before .before .before .before .is-within .ensures) ∙ c .before .before .before .before .before .before .before .before .before .if3 .left)) (sym (c .before .before .before .before .before .before .before .is-pair .ensures) ∙ c .before .before .before .before .before .before .if4 .left) (sym (c .before .before .before .before .before .is-pair2 .ensures) ∙ c .before .before .before .before .if5 .taken) _ (c .before .before .before .remark-end .ensures) _ (c .before .step .given .1) (remark-passes _ _ _ _ (c .before .before .before .remark-end .ensures) (c .before .step .given .1))
-
--- src/lib.rt:216:17
 returns-3 : tie.Need-returns-3 Inv-loop μ-loop
 returns-3 c = left-stop _ _ _ (c .before .before .before .before .before .before .before .before .before .before .loop-test .taken) (c .before .before .before .before .before .before .before .before .before .before .before .loop .inv) _ (c .before .before .before .before .byte .ensures) (no-space _ (c .before .before .before .before .before .before .before .before .if1 .left) (sym (c .before .before .before .before .before .before .is-within .ensures) ∙ c .before .before .before .before .before .if3 .left)) (sym (c .before .before .before .is-pair .ensures) ∙ c .before .before .if4 .left) (sym (c .before .is-pair2 .ensures) ∙ c .if5 .left)
-
--- src/lib.rt:193:1
 returns-4 : tie.Need-returns-4 Inv-loop μ-loop
 returns-4 c = left-over _ _ _ (c .loop-test .left) (c .before .loop .inv)
 

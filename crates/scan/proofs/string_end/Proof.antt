@@ -8,81 +8,47 @@ use mathlib.Core.Bool.{false}
 use Prim.Native.Nat.{_≤_, _-_, _+_}
 use lib.ListN.{length, drop}
 use borrow.Author.Tests.{not-true, not-false}
-use Rattle.express.specs.Lexis.{stringEnd}
+use Rattle.express.specs.tokens.Lexis.{end-of-string}
 use Rattle.scan.proofs.Turns.{string-shut, string-doubled, string-quote, string-on, string-bad, string-end, string-open}
 use native.Mathlib.Omega.{arith}
 
 abbrev Inv-loop : tie.InvT-loop
-Inv-loop s at i₀ quote₀ i quote = (i ≤ length s) × (stringEnd at quote i (drop i s) ≡ stringEnd at false (at + 1) (drop (at + 1) s))
+Inv-loop s at i₀ quote₀ i quote = (i ≤ length s) × (end-of-string at quote i (drop i s) ≡ end-of-string at false (at + 1) (drop (at + 1) s))
 
 abbrev μ-loop : tie.MeasureT-loop
 μ-loop s at i₀ quote₀ i quote = length s - i
-
--- src/lib.rt:276:17
 add-i : tie.Need-add-i Inv-loop μ-loop
 add-i c = omega arith
-
--- src/lib.rt:278:5
 loop-holds : tie.Need-loop-holds Inv-loop μ-loop
 loop-holds c = (omega arith, refl)
-
--- src/lib.rt:279:17
 shared-slice-read-b : tie.Need-shared-slice-read-b Inv-loop μ-loop
 shared-slice-read-b c = omega arith
-
--- src/lib.rt:282:17
 returns : tie.Need-returns Inv-loop μ-loop
 returns c = sym (string-shut _ _ _ (c .before .before .before .loop-test .taken) (c .if2 .taken)) ∙ rw (c .before .if1 .taken) at (c .before .before .before .before .loop .inv .1)
-
--- src/lib.rt:285:13
 add-i-2 : tie.Need-add-i-2 Inv-loop μ-loop
 add-i-2 c = omega arith
-
--- src/lib.rt:278:5
 loop-less : tie.Need-loop-less Inv-loop μ-loop
 loop-less c = omega arith
-
--- src/lib.rt:278:5
 loop-again : tie.Need-loop-again Inv-loop μ-loop
 loop-again c = (omega arith, sym (string-doubled _ _ _ (c .before .before .before .loop-test .taken) (c .if2 .left)) ∙ rw (c .before .if1 .taken) at (c .before .before .before .before .loop .inv .1))
-
--- src/lib.rt:288:13
 add-i-3 : tie.Need-add-i-3 Inv-loop μ-loop
 add-i-3 c = omega arith
-
--- src/lib.rt:278:5
 loop-less-2 : tie.Need-loop-less-2 Inv-loop μ-loop
 loop-less-2 c = omega arith
-
--- src/lib.rt:278:5
 loop-again-2 : tie.Need-loop-again-2 Inv-loop μ-loop
 loop-again-2 c = (omega arith, sym (string-quote _ _ _ (c .before .before .before .loop-test .taken) (c .if3 .taken)) ∙ rw (c .before .if1 .left) at (c .before .before .before .before .loop .inv .1))
-
--- src/lib.rt:290:17
 is-within-requires : tie.Need-is-within-requires Inv-loop μ-loop
 is-within-requires c κs = tt
-
--- src/lib.rt:291:17
 returns-2 : tie.Need-returns-2 Inv-loop μ-loop
 returns-2 c = sym (string-bad _ _ _ (c .before .before .before .before .before .loop-test .taken) (c .before .before .if3 .left) (sym (c .before .is-within .ensures) ∙ not-true _ (c .if4 .taken))) ∙ rw (c .before .before .before .if1 .left) at (c .before .before .before .before .before .before .loop .inv .1)
-
--- src/lib.rt:293:13
 add-i-4 : tie.Need-add-i-4 Inv-loop μ-loop
 add-i-4 c = omega arith
-
--- src/lib.rt:278:5
 loop-less-3 : tie.Need-loop-less-3 Inv-loop μ-loop
 loop-less-3 c = omega arith
-
--- src/lib.rt:278:5
 loop-again-3 : tie.Need-loop-again-3 Inv-loop μ-loop
 loop-again-3 c = (omega arith, rw (c .before .before .before .if1 .left) (sym (string-on _ _ _ (c .before .before .before .before .before .loop-test .taken) (c .before .before .if3 .left) (sym (c .before .is-within .ensures) ∙ not-false _ (c .if4 .left))) ∙ rw (c .before .before .before .if1 .left) at (c .before .before .before .before .before .before .loop .inv .1)))
-
--- src/lib.rt:297:9
 returns-3 : tie.Need-returns-3 Inv-loop μ-loop
 returns-3 c = sym (string-end _ _ _ (c .before .loop-test .left)) ∙ rw (c .if5 .taken) at (c .before .before .loop .inv .1)
-
--- src/lib.rt:272:1
 returns-4 : tie.Need-returns-4 Inv-loop μ-loop
 returns-4 c = sym (string-open _ _ _ (c .before .loop-test .left)) ∙ rw (c .if5 .left) at (c .before .before .loop .inv .1)
 

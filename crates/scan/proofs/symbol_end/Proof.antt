@@ -9,96 +9,54 @@ use Rattle.scan.proofs.is_pair.Reads as is-pair-reads
 use Rattle.scan.proofs.symbol_size.Reads as symbol-size-reads
 use mathlib.Core.Path.{_≡_, sym, _∙_, ap}
 use borrow.Author.Tests.{eq-eqb, ne-eqb}
-use Rattle.express.specs.Lexis.{at, symbolEnd, symbolSize}
-use Rattle.express.proofs.Places.{size-is, size-inside}
+use Rattle.express.specs.tokens.Lexis.{at, end-of-symbol, size-of-symbol}
+use Rattle.express.proofs.tokens.Places.{size-is, size-inside}
 use Rattle.scan.proofs.Symbols.{assign-is}
 use native.Mathlib.Omega.{arith}
-
--- src/lib.rt:384:13
 shared-slice-read-b : tie.Need-shared-slice-read-b
 shared-slice-read-b c = search needs
-
--- src/lib.rt:385:8
 is-lone-requires : tie.Need-is-lone-requires
 is-lone-requires c κs = search needs
-
--- src/lib.rt:386:25
 add-t9 : tie.Need-add-t9
 add-t9 c = search needs
-
--- src/lib.rt:386:9
 returns : tie.Need-returns
-unfolding symbolEnd symbolSize
+unfolding end-of-symbol size-of-symbol
 returns c = rw (sym (c .before .is-lone .ensures) ∙ c .if1 .taken)
-
--- src/lib.rt:389:21
 add-byte : tie.Need-add-byte
 add-byte c = search needs
-
--- src/lib.rt:389:9
 byte-requires : tie.Need-byte-requires
 byte-requires c κs = search needs
-
--- src/lib.rt:390:8
 is-pair-requires : tie.Need-is-pair-requires
 is-pair-requires c κs = search needs
-
--- src/lib.rt:391:20
 add-byte-2 : tie.Need-add-byte-2
 add-byte-2 c = search needs
-
--- src/lib.rt:391:12
 byte-requires-2 : tie.Need-byte-requires-2
 byte-requires-2 c κs = search needs
-
--- src/lib.rt:392:29
 add-t15 : tie.Need-add-t15
 add-t15 c = search needs
-
--- src/lib.rt:392:13
 returns-2 : tie.Need-returns-2
 returns-2 c = rw (eq-eqb _ _ (c .if3 .taken)) at (assign-is (c .before .before .before .before .before .before .before .before .before .args .s .now) (c .before .before .before .before .before .before .before .before .before .args .at) (c .before .before .before .before .byte .result) (c .before .byte2 .result) (c .before .before .before .before .byte .ensures) (sym (c .before .before .before .is-pair .ensures) ∙ c .before .before .if2 .taken) (c .before .byte2 .ensures))
-
--- src/lib.rt:394:25
 add-t13 : tie.Need-add-t13
 add-t13 c = search needs
-
--- src/lib.rt:394:9
 returns-3 : tie.Need-returns-3
 returns-3 c = rw (ne-eqb _ _ (c .if3 .left)) at (assign-is (c .before .before .before .before .before .before .before .before .before .args .s .now) (c .before .before .before .before .before .before .before .before .before .args .at) (c .before .before .before .before .byte .result) (c .before .byte2 .result) (c .before .before .before .before .byte .ensures) (sym (c .before .before .before .is-pair .ensures) ∙ c .before .before .if2 .taken) (c .before .byte2 .ensures))
-
--- src/lib.rt:396:42
 add-byte-3 : tie.Need-add-byte-3
 add-byte-3 c = search needs
-
--- src/lib.rt:396:34
 byte-requires-3 : tie.Need-byte-requires-3
 byte-requires-3 c κs = search needs
-
--- src/lib.rt:396:59
 add-byte-4 : tie.Need-add-byte-4
 add-byte-4 c = search needs
-
--- src/lib.rt:396:51
 byte-requires-4 : tie.Need-byte-requires-4
 byte-requires-4 c κs = search needs
-
--- src/lib.rt:396:9
 symbol-size-requires : tie.Need-symbol-size-requires
 symbol-size-requires c κs = search needs
-
--- src/lib.rt:398:9
 returns-4 : tie.Need-returns-4
-unfolding symbolEnd
+unfolding end-of-symbol
 returns-4 c = rw (← size-is _ _ _ _ _ _ (c .before .before .before .before .before .before .byte .ensures) (c .before .before .before .byte3 .ensures) (c .before .before .byte4 .ensures) (c .before .symbol-size .ensures), eq-eqb _ _ (c .if4 .taken))
-
--- src/lib.rt:400:14
 add-t10 : tie.Need-add-t10
 add-t10 c = omega (arith, size-is (c .before .before .before .before .before .before .before .before .before .before .before .args .s .now) (c .before .before .before .before .before .before .before .before .before .before .before .args .at) (c .before .symbol-size .result) _ _ _ (c .before .before .before .before .before .before .byte .ensures) (c .before .before .before .byte3 .ensures) (c .before .before .byte4 .ensures) (c .before .symbol-size .ensures), size-inside (c .before .before .before .before .before .before .before .before .before .before .before .args .s .now) (c .before .before .before .before .before .before .before .before .before .before .before .args .at) (c .before .before .before .before .before .before .before .before .before .before .before .pre))
-
--- src/lib.rt:380:1
 returns-5 : tie.Need-returns-5
-unfolding symbolEnd
+unfolding end-of-symbol
 returns-5 c = rw (← size-is _ _ _ _ _ _ (c .before .before .before .before .before .before .byte .ensures) (c .before .before .before .byte3 .ensures) (c .before .before .byte4 .ensures) (c .before .symbol-size .ensures), ne-eqb _ _ (c .if4 .left))
 
 pub symbol-end-spec : {M : Type 1} → statement M

@@ -3,7 +3,7 @@ use Rattle.index.proofs.symbols.alike.Statement.{statement}
 use Rattle.index.proofs.symbols.alike.Tie as tie
 use borrow.Author.Needs.{needs}
 use Rattle.index.proofs.Spellings.{agree, differ-length, differ-at}
-use Rattle.express.specs.Bytes.{lower}
+use Rattle.express.specs.tokens.Bytes.{lower}
 use borrow.Author.Count.{below-more}
 use lib.ListN.{length, getD}
 use Prim.Native.Nat.{ℕ, _≤_, _<_, _-_}

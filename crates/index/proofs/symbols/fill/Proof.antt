@@ -3,7 +3,7 @@ use Rattle.index.proofs.symbols.fill.Statement.{statement}
 use Rattle.index.proofs.symbols.fill.Tie as tie
 use borrow.Author.Needs.{needs}
 use Rattle.index.proofs.Interning.{Filling, filling-starts, linked, filling-adds, filling-repeats, filling-ends}
-use Rattle.express.proofs.Spelling.{symbol-le}
+use Rattle.express.proofs.tokens.Spelling.{symbol-le}
 use mathlib.Core.Logic.{⊎-elim}
 use lib.ListN.{length}
 use Prim.Native.Nat.{_-_}

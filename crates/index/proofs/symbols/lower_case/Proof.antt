@@ -1,5 +1,5 @@
 -- `index::symbols::lower_case` meets its contract: the two tests are the definition's. Assumes nothing.
-use Rattle.express.specs.Bytes.{lower}
+use Rattle.express.specs.tokens.Bytes.{lower}
 use borrow.Author.Tests.{le-leb, lt-leb}
 use borrow.Author.Needs.{needs}
 use Rattle.index.proofs.symbols.lower_case.Statement.{statement}

@@ -1,0 +1,13 @@
+pub mod Backward
+pub mod Bits
+pub mod ConstantOrder
+pub mod Denotes
+pub mod Integer
+pub mod Logic
+pub mod Operations
+pub mod Order
+pub mod OrderTest
+pub mod Shapes
+pub mod Spans
+pub mod Typed
+pub mod Walk

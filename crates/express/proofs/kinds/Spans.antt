@@ -1,0 +1,268 @@
+-- The nodes of an expression and of a constant: where children stand, and that the nodes of a node hold those of each of them.
+use mathlib.Core.Path.{_≡_, refl}
+use mathlib.Core.Logic.{_⊎_, inl, inr}
+use mathlib.Core.Bool.{Bool, true, false, _||_}
+use Prim.Native.Nat.{ℕ, zero, suc, _+_, _-_, _≤_, _<_}
+use native.Mathlib.Decide.{ℕ-discrete, decLt}
+use native.Mathlib.Omega.{arith}
+use borrow.Author.Tests.{leb-true, leb-false, eqb-true, le-leb}
+use lib.Dec.{eqb, leb}
+use Rattle.express.specs.syntax.Tree.{Table, count, kind, size, last, first, left, upper, middle, lower, low}
+use Rattle.express.proofs.syntax.Formed.{expression, childless, Formed}
+use Rattle.relations.proofs.Select.{and-fst, and-snd, or-cases}
+
+-- The kinds of nodes that lie in a constant
+pub record Part (k : ℕ) : Type 0 where
+  pub least : 1 ≤ k
+  pub most : k ≤ 13
+
+expression-part : (k : ℕ) → expression k ≡ true → Part k
+expression-part k e =
+    let l : 1 ≤ k = leb-true 1 k (and-fst (leb 1 k) (leb k 11) e) in
+    let m : k ≤ 11 = leb-true k 11 (and-snd (leb 1 k) (leb k 11) e) in
+    record { least = l; most = omega arith }
+
+twelve-part : (k : ℕ) → k ≡ 12 → Part k
+twelve-part k e = record { least = omega arith; most = omega arith }
+
+base-part : (k : ℕ) → eqb k 6 || eqb k 13 ≡ true → Part k
+base-part k e = by (or-cases (eqb k 6) (eqb k 13) e)
+  where
+    by : (eqb k 6 ≡ true) ⊎ (eqb k 13 ≡ true) → Part k
+    by (inl i) = let q : k ≡ 6 = eqb-true k 6 i in record { least = omega arith; most = omega arith }
+    by (inr i) = let q : k ≡ 13 = eqb-true k 13 i in record { least = omega arith; most = omega arith }
+
+base-childless : (k : ℕ) → eqb k 6 || eqb k 13 ≡ true → childless k ≡ true
+base-childless k e = by (or-cases (eqb k 6) (eqb k 13) e)
+  where
+    by : (eqb k 6 ≡ true) ⊎ (eqb k 13 ≡ true) → childless k ≡ true
+    by (inl i) = rw (eqb-true k 6 i)
+    by (inr i) = rw (eqb-true k 13 i)
+
+-- Which children a node has
+pub data Class (k : ℕ) : Type 0 where
+  none : childless k ≡ true → Class k
+  one : k ≡ 9 → Class k
+  two : k ≡ 10 → Class k
+  five : k ≡ 11 → Class k
+
+class : (k : ℕ) → Part k → Class k
+class k p = by (ℕ-discrete k 9) (ℕ-discrete k 10) (ℕ-discrete k 11) (ℕ-discrete k 12) (leb k 8) refl
+  where
+    by : Dec (k ≡ 9) → Dec (k ≡ 10) → Dec (k ≡ 11) → Dec (k ≡ 12) → (b : Bool) → leb k 8 ≡ b → Class k
+    by (yes e) _ _ _ _ _ = one e
+    by (no _) (yes e) _ _ _ _ = two e
+    by (no _) (no _) (yes e) _ _ _ = five e
+    by (no _) (no _) (no _) _ true e = none (rw (le-leb 1 k (p .least), e))
+    by (no _) (no _) (no _) (yes e) false _ = none (rw e)
+    by (no i) (no j) (no l) (no m) false e =
+        let h : 8 < k = leb-false k 8 e in
+        let q : k ≡ 13 = omega (arith, p .most) in
+        none (rw q)
+
+-- The nodes from lo up to hi, hi itself not, are those of whole trees of such kinds: the last one has the root c and begins at mid.
+data Forest (t : Table) (lo : ℕ) : ℕ → Type 0 where
+  empty : {hi : ℕ} → lo ≡ hi → Forest t lo hi
+  tree : {hi : ℕ} (mid c : ℕ) → hi ≡ c + 1 → mid + size t c ≡ hi → lo ≤ mid → Part (kind t c) → Forest t lo mid → Forest t lo hi
+
+no-tree : {t : Table} {lo hi : ℕ} → lo ≡ hi → Forest t lo hi
+no-tree e = empty e
+
+a-tree :
+    {t : Table} {lo hi : ℕ} (mid c : ℕ) → Part (kind t c) → hi ≡ c + 1 → mid + size t c ≡ hi → lo ≤ mid → Forest t lo mid → Forest t lo hi
+a-tree mid c p e z l more = tree mid c e z l p more
+
+-- Node m lies in the tree of node c.
+pub record Lies (t : Table) (m c : ℕ) : Type 0 where
+  pub from : first t c ≤ m
+  pub upto : m ≤ c
+
+record Found (t : Table) (lo hi m : ℕ) : Type 0 where
+  root : ℕ
+  lies : Lies t m root
+  part : Part (kind t root)
+  low : lo ≤ first t root
+  high : root < hi
+
+find : (t : Table) (lo hi m : ℕ) → Forest t lo hi → lo ≤ m → m < hi → Found t lo hi m
+find t lo hi m (empty e) a b = absurd (omega arith)
+find t lo hi m (tree mid c e z l p more) a b = by (decLt m mid) (λ i. find t lo mid m more a i)
+  where
+    by : Dec (m < mid) → (m < mid → Found t lo mid m) → Found t lo hi m
+    by (yes i) down =
+        let r = down i in
+        record { root = r .root; lies = r .lies; part = r .part; low = r .low; high = omega (arith, r .high) }
+    by (no i) down =
+        record { root = c; lies = record { from = omega arith; upto = omega arith }; part = p; low = omega arith; high = omega arith }
+
+-- A child: a node among the nodes before its parent
+pub record Below (t : Table) (n c : ℕ) : Type 0 where
+  pub from : first t n ≤ c
+  pub under : c < n
+
+-- The operands of an interval, and the nodes of its operators
+pub record Operands (t : Table) (n : ℕ) : Type 0 where
+  pub low-below : Below t n (low t n)
+  pub middle-below : Below t n (middle t n)
+  pub high-below : Below t n (last n)
+
+-- the places of five children, h the last and l the first, from their sizes
+record Places (n h u m o l sh su sm so sl : ℕ) : Type 0 where
+  parent : n ≡ h + 1
+  high : u + sh ≡ h
+  upper-at : m + su ≡ u
+  item : o + sm ≡ m
+  lower-at : l + so ≡ o
+  leaves : (su ≡ 1) × (so ≡ 1)
+
+places :
+    (n h u m o l sh su sm so sl sn : ℕ) → h ≡ n - 1 → u ≡ h - sh → m ≡ u - su → o ≡ m - sm → l ≡ o - so →
+    sn ≡ sl + 1 + sm + 1 + sh + 1 → su ≡ 1 → so ≡ 1 → sn ≤ n + 1 → 1 ≤ sl → Places n h u m o l sh su sm so sl
+places n h u m o l sh su sm so sl sn a b c d e z p q i w =
+    let v : n ≡ h + 1 = omega arith in
+    record { parent = v; high = omega arith; upper-at = omega arith; item = omega arith; lower-at = omega arith; leaves = (p, q) }
+
+module _ (t : Table) (f : Formed t) where
+  -- ---- children
+
+  abbrev Trees : ℕ → Type 0
+  Trees n = Forest t (first t n) n
+
+  pub last-below : (n : ℕ) → n < count t → kind t n ≡ 9 → Below t n (last n)
+  last-below n l e =
+      let c = f .unary n l e in
+      let i = f .inside n l in
+      let s : 1 ≤ size t (last n) = f .some (last n) (omega arith) in
+      record { from = omega (arith, c .all); under = omega (arith, c .all) }
+
+  one-trees : (n : ℕ) → n < count t → kind t n ≡ 9 → Trees n
+  one-trees n l e =
+      let c = f .unary n l e in
+      let i = f .inside n l in
+      let s : 1 ≤ size t (last n) = f .some (last n) (omega arith) in
+      let z = c .all in
+      a-tree (first t n) (last n) (expression-part _ (c .operand)) (omega arith) (omega arith) (omega arith) (no-tree refl)
+
+  pub left-below : (n : ℕ) → n < count t → kind t n ≡ 10 → Below t n (left t n) × Below t n (last n)
+  left-below n l e =
+      let z = f .operator n l e .all in
+      let i = f .inside n l in
+      let s : 1 ≤ size t (last n) = f .some (last n) (omega arith) in
+      let r : 1 ≤ size t (left t n) = f .some (left t n) (omega arith) in
+      (record { from = omega arith; under = omega arith }, record { from = omega arith; under = omega arith })
+
+  two-trees : (n : ℕ) → n < count t → kind t n ≡ 10 → Trees n
+  two-trees n l e =
+      let c = f .operator n l e in
+      let z = c .all in
+      let i = f .inside n l in
+      let s : 1 ≤ size t (last n) = f .some (last n) (omega arith) in
+      let r : 1 ≤ size t (left t n) = f .some (left t n) (omega arith) in
+      a-tree (left t n + 1) (last n) (expression-part _ (c .right-operand)) (omega arith) (omega arith) (omega arith)
+      (a-tree (first t n) (left t n) (expression-part _ (c .left-operand)) refl (omega arith) (omega arith) (no-tree refl))
+
+  leaf-size : (n : ℕ) → n < count t → kind t n ≡ 12 → size t n ≡ 1
+  leaf-size n l e = f .leaf n l (rw e)
+
+  five-places :
+      (n : ℕ) → n < count t → kind t n ≡ 11 →
+      Places n (last n) (upper t n) (middle t n) (lower t n) (low t n)
+      (size t (last n)) (size t (upper t n)) (size t (middle t n)) (size t (lower t n)) (size t (low t n))
+  five-places n l e =
+      let c = f .interval n l e in
+      places n _ _ _ _ _ _ _ _ _ _ _ refl refl refl refl refl (c .all) (leaf-size (upper t n) (omega arith) (c .upper-operator))
+      (leaf-size (lower t n) (omega arith) (c .lower-operator)) (f .inside n l) (f .some (low t n) (omega arith))
+
+  pub five-below : (n : ℕ) → n < count t → kind t n ≡ 11 → Operands t n
+  five-below n l e =
+      let c = f .interval n l e in
+      let z = c .all in
+      let i = f .inside n l in
+      let s : 1 ≤ size t (last n) = f .some (last n) (omega arith) in
+      let u : size t (upper t n) ≡ 1 = leaf-size (upper t n) (omega arith) (c .upper-operator) in
+      let m : 1 ≤ size t (middle t n) = f .some (middle t n) (omega arith) in
+      let v : size t (lower t n) ≡ 1 = leaf-size (lower t n) (omega arith) (c .lower-operator) in
+      let w : 1 ≤ size t (low t n) = f .some (low t n) (omega arith) in
+      record {
+        low-below = record { from = omega arith; under = omega arith };
+        middle-below = record { from = omega arith; under = omega arith };
+        high-below = record { from = omega arith; under = omega arith };
+      }
+
+  five-trees : (n : ℕ) → n < count t → kind t n ≡ 11 → Trees n
+  five-trees n l e =
+      let c = f .interval n l e in
+      five (last n) (upper t n) (middle t n) (lower t n) (low t n) (c .all) (f .inside n l) (five-places n l e)
+      (expression-part _ (c .high-operand)) (twelve-part _ (c .upper-operator)) (expression-part _ (c .item))
+      (twelve-part _ (c .lower-operator)) (expression-part _ (c .low-operand))
+    where
+      five :
+          (h u m o w : ℕ) → size t n ≡ size t w + 1 + size t m + 1 + size t h + 1 → size t n ≤ n + 1 →
+          Places n h u m o w (size t h) (size t u) (size t m) (size t o) (size t w) →
+          Part (kind t h) → Part (kind t u) → Part (kind t m) → Part (kind t o) → Part (kind t w) → Trees n
+      five h u m o w z i p a b c d g =
+          a-tree (u + 1) h a (omega arith) (omega arith) (omega arith)
+          (a-tree (m + 1) u b refl (omega arith) (omega arith)
+          (a-tree (o + 1) m c refl (omega arith) (omega arith)
+          (a-tree (w + 1) o d refl (omega arith) (omega arith)
+          (a-tree (first t n) w g refl (omega arith) (omega arith) (no-tree refl)))))
+
+  pub value-below : (n : ℕ) → n < count t → kind t n ≡ 17 → Below t n (last n)
+  value-below n l e =
+      let z = f .constant n l e .all in
+      let i = f .inside n l in
+      let s : 1 ≤ size t (last n) = f .some (last n) (omega arith) in
+      record { from = omega arith; under = omega arith }
+
+  constant-trees : (n : ℕ) → n < count t → kind t n ≡ 17 → Trees n
+  constant-trees n l e =
+      let c = f .constant n l e in
+      let z = c .all in
+      let i = f .inside n l in
+      let s : 1 ≤ size t (last n) = f .some (last n) (omega arith) in
+      let r : size t (left t n) ≡ 1 = f .leaf (left t n) (omega arith) (base-childless (kind t (left t n)) (c .base)) in
+      a-tree (left t n + 1) (last n) (expression-part _ (c .value)) (omega arith) (omega arith) (omega arith)
+      (a-tree (first t n) (left t n) (base-part _ (c .base)) refl (omega arith) (omega arith) (no-tree refl))
+
+  trees : (n : ℕ) → n < count t → Part (kind t n) → Trees n
+  trees n l p = by (class (kind t n) p)
+    where
+      by : Class (kind t n) → Trees n
+      by (none e) = let z : size t n ≡ 1 = f .leaf n l e in no-tree (omega arith)
+      by (one e) = one-trees n l e
+      by (two e) = two-trees n l e
+      by (five e) = five-trees n l e
+
+  -- ---- the nodes of a node
+
+  -- with a node all of its nodes
+  pub record Inside (d m : ℕ) : Type 0 where
+    pub whole : first t d ≤ first t m
+    pub part : Part (kind t m)
+
+  inside-below : (b d m : ℕ) → d < b → d < count t → Part (kind t d) → Lies t m d → Inside d m
+  inside-below zero d m a l p h = absurd (omega arith)
+  inside-below (suc b) d m a l p h = by (ℕ-discrete m d) (λ c i q k. inside-below b c m (omega arith) (omega arith) q k)
+    where
+      by : Dec (m ≡ d) → ((c : ℕ) → c < d → Part (kind t c) → Lies t m c → Inside c m) → Inside d m
+      by (yes e) down = record { whole = rw e (omega arith); part = rw e p }
+      by (no e) down =
+          let r = find t (first t d) d m (trees d l p) (h .from) (omega (arith, h .upto)) in
+          let i = down (r .root) (r .high) (r .part) (r .lies) in
+          record { whole = omega (arith, r .low, i .whole); part = i .part }
+
+  -- the nodes of a constant, other than itself
+  pub in-constant : (d m : ℕ) → d < count t → kind t d ≡ 17 → first t d ≤ m → m < d → Inside d m
+  in-constant d m l e a b =
+      let r = find t (first t d) d m (constant-trees d l e) a b in
+      let c = r .high in
+      let i = inside-below (suc (r .root)) (r .root) m (omega arith) (omega arith) (r .part) (r .lies) in
+      record { whole = omega (arith, r .low, i .whole); part = i .part }
+
+  -- so no constant lies in another
+  pub apart : (c d : ℕ) → d < count t → kind t c ≡ 17 → kind t d ≡ 17 → c < d → c < first t d
+  apart c d l e g a = by (decLt c (first t d))
+    where
+      by : Dec (c < first t d) → c < first t d
+      by (yes h) = h
+      by (no h) = let p = in-constant d c l g (omega arith) a .part in absurd (omega (arith, p .most))

@@ -1,0 +1,11 @@
+pub mod Acceptance
+pub mod Cases
+pub mod Divide
+pub mod Exactness
+pub mod File
+pub mod Files
+pub mod KindCases
+pub mod Longest
+pub mod NameCases
+pub mod SyntaxExamples
+pub mod TokenExamples

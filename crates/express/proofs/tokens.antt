@@ -1,0 +1,5 @@
+pub mod Literals
+pub mod Places
+pub mod Spelling
+pub mod Terminal
+pub mod TokenRows

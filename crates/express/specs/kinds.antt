@@ -1,0 +1,13 @@
+pub mod Answer
+pub mod AnswerRow
+pub mod Bits
+pub mod Declared
+pub mod Evaluate
+pub mod Integer
+pub mod Kind
+pub mod Logic
+pub mod Operate
+pub mod Order
+pub mod Relation
+pub mod Rule
+pub mod Shape

@@ -1,0 +1,49 @@
+-- What a constant is declared with, seen through renamings.
+use mathlib.Core.Bool.{Bool, cond, not, _&&_}
+use mathlib.Core.List.{List}
+use Prim.Native.Nat.{ℕ, zero, suc, _+_, _-_}
+use lib.Dec.{eqb}
+use lib.ListN.{getD}
+use Rattle.express.specs.syntax.NodeKind.{simple-type, enumeration-item, type}
+use Rattle.express.specs.syntax.Tree.{Table, count, token, terminal, first, is}
+use Rattle.express.specs.tokens.Terminal.{the}
+use Rattle.express.specs.tokens.Terminal as word
+
+-- "A constant must be INTEGER, BOOLEAN, LOGICAL, BINARY, an enumeration, or a renaming of one": an enumeration by the node of its type
+pub data Declared : Type 0 where
+  INTEGER BOOLEAN LOGICAL BINARY : Declared
+  enumeration : ℕ → Declared
+  other : Declared
+
+-- A binding is the "node number of the declaration plus one, else 0".
+abbrev pub declaration : List ℕ → ℕ → ℕ
+declaration b n = getD b n 0 - 1
+
+abbrev pub bound : Table → List ℕ → ℕ → ℕ → Bool
+bound t b k n = not (eqb (getD b n 0) 0) && is t k (declaration b n)
+
+-- a simple type, by its word
+unfoldable pub simple : ℕ → Declared
+simple w =
+    cond (eqb w (the word.INTEGER)) INTEGER
+    (cond (eqb w (the word.BOOLEAN)) BOOLEAN
+    (cond (eqb w (the word.LOGICAL)) LOGICAL
+    (cond (eqb w (the word.BINARY)) BINARY other)))
+
+-- `TYPE id '=' base`: the base of a type stands two tokens after its name; the names of a select list stand further on (`renames-is` of
+-- proofs/Renaming)
+abbrev pub renames : Table → ℕ → Bool
+renames t d = eqb (token t (first t d)) (token t d + 2)
+
+-- The type that node n is or names. Each turn passes a type, and "cycle of renamings" is refused earlier, so as many turns as there are
+-- nodes are enough: `declared-denotes` of proofs/Denotes says the same by rules, without a number of turns.
+unfoldable pub declared-in : ℕ → Table → List ℕ → ℕ → Declared
+declared-in zero t b n = other
+declared-in (suc f) t b n =
+    let d = declaration b n in
+    let renamed = declared-in f t b (first t d) in
+    let of-type = cond (is t enumeration-item (first t d)) (enumeration d) (cond (renames t d) renamed other) in
+    cond (is t simple-type n) (simple (terminal t n)) (cond (bound t b type n) of-type other)
+
+abbrev pub declared : Table → List ℕ → ℕ → Declared
+declared t b n = declared-in (count t) t b n

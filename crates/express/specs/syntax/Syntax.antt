@@ -1,0 +1,64 @@
+-- What the grammar says of a list of terminals: the rows of its nodes, the first token that cannot stand, or the 65th bracket open at once.
+-- The start symbol is `file` for a whole file, and `expression` for one expression by itself.
+use mathlib.Core.List.{List, _++_, map}
+use mathlib.Core.Path.{_≡_}
+use Prim.Native.Nat.{ℕ}
+use Rattle.ebnf.specs.Grammar.{Text}
+use Rattle.ebnf.specs.Rows.{Row, Rows, in-rows}
+use Rattle.ebnf.specs.Depth.{Outcome, outcome, Says}
+use Rattle.express.specs.tokens.Terminal.{lbrace, rbrace, lparen, rparen}
+use Rattle.express.specs.syntax.Tree.{Table}
+use Rattle.express.specs.syntax.Grammar.{Nonterminal, rules}
+use Rattle.express.specs.syntax.Lookahead.{tables}
+
+-- the rows of a whole text
+abbrev pub whole : List Row → Rows
+whole s = record { name = 0; rows = s }
+
+-- The tokens are a text of x, and its nodes have these rows.
+abbrev pub Parses : Nonterminal → List ℕ → List Row → Type 0
+Parses x ts s = Text in-rows rules x ts (whole s)
+
+-- "For 5, parentheses of expressions and intervals are counted together; other parentheses never nest."
+abbrev pub opening : List ℕ
+opening = lparen ++ lbrace
+
+abbrev pub closing : List ℕ
+closing = rparen ++ rbrace
+
+-- "the 65th parenthesis or interval open at once" is refused
+abbrev pub nesting : ℕ
+nesting = 64
+
+-- What an outcome says of the tokens: accepted; 4 at a token, "no text of the grammar begins with the tokens through this one, or the input
+-- stops early"; or 5 at a token, "the 65th parenthesis or interval open at once"; each the first in text, "4 comes before 5 at one token".
+abbrev pub Holds : Nonterminal → List ℕ → Outcome Rows → Type 0
+Holds x ts o = Says in-rows rules x opening closing nesting ts o
+
+-- the outcome, computed: it holds, and no other does (proofs/Syntax.antt)
+unfoldable pub parsed : Nonterminal → List ℕ → Outcome Rows
+parsed x ts = outcome in-rows rules tables x opening closing nesting ts
+
+-- The node columns of a table are the rows of its terminals as a text of x.
+pub record Read (x : Nonterminal) (t : Table) : Type 0 where
+  pub rows : List Row
+  pub parses : Parses x (t .terminals) rows
+  pub kinds : t .kinds ≡ map (λ (r : Row). r .kind) rows
+  pub tokens : t .tokens ≡ map (λ (r : Row). r .token) rows
+  pub sizes : t .sizes ≡ map (λ (r : Row). r .size) rows
+  pub roles : t .roles ≡ map (λ (r : Row). r .role) rows
+
+-- a table with the rows of nodes
+abbrev pub with-rows : Table → List Row → Table
+with-rows t rs =
+    record {
+      bytes = t .bytes;
+      starts = t .starts;
+      lengths = t .lengths;
+      terminals = t .terminals;
+      symbols = t .symbols;
+      kinds = map (λ (r : Row). r .kind) rs;
+      tokens = map (λ (r : Row). r .token) rs;
+      sizes = map (λ (r : Row). r .size) rs;
+      roles = map (λ (r : Row). r .role) rs;
+    }

@@ -1,0 +1,112 @@
+-- The tables of a file: its bytes, a row for each token and a row for each node, as columns; nodes in post-order.
+use mathlib.Core.Bool.{Bool, _&&_, _||_}
+use mathlib.Core.List.{List}
+use Prim.Native.Nat.{ℕ, _+_, _-_}
+use lib.Dec.{eqb}
+use lib.ListN.{length, getD}
+use Rattle.express.specs.syntax.NodeKind.{name, constant, type, attribute-name, derived-attribute, rule, entity, schema, labelled}
+use Rattle.relations.specs.Select.{span, first-from}
+
+pub record Table : Type 0 where
+  pub bytes : List ℕ
+  -- of each token: its first byte, its length, its terminal, and the least token that is spelled alike, letters without case
+  pub starts : List ℕ
+  pub lengths : List ℕ
+  pub terminals : List ℕ
+  pub symbols : List ℕ
+  -- of each node: its kind, its naming token, the number of nodes of its subtree, itself included, and its role
+  pub kinds : List ℕ
+  pub tokens : List ℕ
+  pub sizes : List ℕ
+  pub roles : List ℕ
+
+-- how many nodes there are
+abbrev pub count : Table → ℕ
+count t = length (t .kinds)
+
+abbrev pub kind : Table → ℕ → ℕ
+kind t n = getD (t .kinds) n 0
+
+abbrev pub token : Table → ℕ → ℕ
+token t n = getD (t .tokens) n 0
+
+abbrev pub size : Table → ℕ → ℕ
+size t n = getD (t .sizes) n 0
+
+abbrev pub role : Table → ℕ → ℕ
+role t n = getD (t .roles) n 0
+
+-- of a token: its symbol, its place in the text
+abbrev pub symbol-at : Table → ℕ → ℕ
+symbol-at t i = getD (t .symbols) i 0
+
+abbrev pub place-at : Table → ℕ → ℕ
+place-at t i = getD (t .starts) i 0
+
+-- of a node's naming token: its terminal, its symbol, its place in the text
+abbrev pub terminal : Table → ℕ → ℕ
+terminal t n = getD (t .terminals) (token t n) 0
+
+abbrev pub symbol : Table → ℕ → ℕ
+symbol t n = symbol-at t (token t n)
+
+abbrev pub place : Table → ℕ → ℕ
+place t n = place-at t (token t n)
+
+-- "Children before parents, left to right": the last child of a node stands just before it
+abbrev pub last : ℕ → ℕ
+last n = n - 1
+
+-- the child before a child
+abbrev pub before : Table → ℕ → ℕ
+before t n = n - size t n
+
+-- the first node of a subtree
+abbrev pub first : Table → ℕ → ℕ
+first t n = n + 1 - size t n
+
+-- The children of a node, from the right: an operator's right (or only) operand is `last`, and an interval's high side.
+abbrev pub left : Table → ℕ → ℕ
+left t n = before t (last n)
+
+-- "interval (low, operator, item, operator, high)": its operators are `lower` and `upper`
+abbrev pub upper : Table → ℕ → ℕ
+upper t n = left t n
+
+abbrev pub middle : Table → ℕ → ℕ
+middle t n = before t (upper t n)
+
+abbrev pub lower : Table → ℕ → ℕ
+lower t n = before t (middle t n)
+
+abbrev pub low : Table → ℕ → ℕ
+low t n = before t (lower t n)
+
+abbrev pub nodes : Table → List ℕ
+nodes t = span 0 (count t)
+
+abbrev pub is : Table → ℕ → ℕ → Bool
+is t k n = eqb (kind t n) k
+
+-- a name in a role
+abbrev pub is-name-in : Table → ℕ → ℕ → Bool
+is-name-in t r n = is t name n && eqb (role t n) r
+
+-- what a schema declares, beside the items of its enumerations
+abbrev pub is-declaration : Table → ℕ → Bool
+is-declaration t n = is t constant n || is t type n || is t entity n
+
+abbrev pub is-attribute : Table → ℕ → Bool
+is-attribute t n = is t attribute-name n || is t derived-attribute n
+
+-- what an entity, or a type's WHERE, declares: attributes, and the labels of rules
+abbrev pub is-scope-member : Table → ℕ → Bool
+is-scope-member t n = is-attribute t n || is t rule n && eqb (role t n) labelled
+
+-- the constant, type or entity that a node is or lies in, and its schema: each stands after all that lies in it, and none lies in another of
+-- its sort, so it is the first at or after the node; there is none at or after the number of nodes
+unfoldable pub owner : Table → ℕ → ℕ
+owner t n = first-from (is-declaration t) n (count t - n)
+
+unfoldable pub schema-of : Table → ℕ → ℕ
+schema-of t n = first-from (is t schema) n (count t - n)

@@ -1,0 +1,5 @@
+pub mod Bytes
+pub mod Lexis
+pub mod Scanned
+pub mod Spelling
+pub mod Terminal

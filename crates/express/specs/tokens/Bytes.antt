@@ -1,0 +1,41 @@
+-- Classes of bytes.
+use Prim.Native.Nat.{ℕ, _+_, _-_}
+use mathlib.Core.Bool.{Bool, cond, _&&_, _||_}
+use lib.Dec.{leb, eqb}
+
+abbrev pub within : ℕ → ℕ → ℕ → Bool
+within lo hi b = leb lo b && leb b hi
+
+abbrev pub digit : ℕ → Bool
+digit b = within 48 57 b
+
+abbrev pub capital : ℕ → Bool
+capital b = within 65 90 b
+
+abbrev pub small : ℕ → Bool
+small b = within 97 122 b
+
+abbrev pub letter : ℕ → Bool
+letter b = capital b || small b
+
+abbrev pub underscore : ℕ → Bool
+underscore b = eqb b 95
+
+-- what a word goes on with
+unfoldable pub word-byte : ℕ → Bool
+word-byte b = letter b || (digit b || underscore b)
+
+-- "Bytes 9 to 13 and 32 are space."
+unfoldable pub space : ℕ → Bool
+space b = within 9 13 b || eqb b 32
+
+-- "A string holds bytes 32 to 126"
+abbrev pub printable : ℕ → Bool
+printable b = within 32 126 b
+
+-- "Letters match without case."
+unfoldable pub upper : ℕ → ℕ
+upper b = cond (small b) (b - 32) b
+
+unfoldable pub lower : ℕ → ℕ
+lower b = cond (capital b) (b + 32) b

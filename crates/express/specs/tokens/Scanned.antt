@@ -1,0 +1,40 @@
+-- The token columns of a text.
+use mathlib.Core.Path.{_≡_}
+use mathlib.Core.List.{List, [], map}
+use Prim.Native.Nat.{ℕ}
+use lib.ListN.{take, drop}
+use Rattle.express.specs.tokens.Lexis.{Row, Lexed, starts, sizes, lexed}
+use Rattle.express.specs.tokens.Terminal.{terminal-of}
+use Rattle.express.specs.tokens.Spelling.{symbols-of}
+use Rattle.express.specs.syntax.Tree.{Table}
+
+-- the bytes of a token
+abbrev pub spelled : List ℕ → Row → List ℕ
+spelled s r = take (r .size) (drop (r .start) s)
+
+abbrev pub terminals : List ℕ → Lexed → List ℕ
+terminals s l = map (λ r. terminal-of (r .kind) (spelled s r)) (l .rows)
+
+-- the table of a text with these tokens, without nodes
+abbrev pub with-tokens : List ℕ → Lexed → Table
+with-tokens s l =
+    record {
+      bytes = s;
+      starts = starts l;
+      lengths = sizes l;
+      terminals = terminals s l;
+      symbols = symbols-of s (starts l) (sizes l);
+      kinds = [];
+      tokens = [];
+      sizes = [];
+      roles = [];
+    }
+
+abbrev pub token-table : List ℕ → Table
+token-table s = with-tokens s (lexed s)
+
+-- The token columns of a table are those of its bytes.
+pub record Scanned (t : Table) : Type 0 where
+  pub starts-are : t .starts ≡ starts (lexed (t .bytes))
+  pub lengths-are : t .lengths ≡ sizes (lexed (t .bytes))
+  pub terminals-are : t .terminals ≡ terminals (t .bytes) (lexed (t .bytes))

@@ -1,0 +1,4 @@
+pub mod Acceptance
+pub mod Case
+pub mod Listing
+pub mod Reply

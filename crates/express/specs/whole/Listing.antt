@@ -1,0 +1,69 @@
+-- "A program reads a file from standard input and prints the listing; a refusal prints `refused N at P`." The listing as bytes.
+use mathlib.Core.Bool.{Bool, true, false, cond}
+use mathlib.Core.List.{List, [], _∷_, _++_, map, flatMap}
+use Prim.Native.Nat.{ℕ, zero, suc, _+_, _/_, _%_}
+use Prim.Native.String.{String}
+use lib.Dec.{ltb}
+use lib.IntN.{ℤ, pos, negsuc}
+use lib.ListN.{length, getD}
+use Rattle.express.specs.kinds.Answer.{Logical, FALSE, UNKNOWN, TRUE, Answer, indeterminate, integer, logical, binary, item, end}
+use Rattle.express.specs.tokens.Terminal.{bytes}
+use Rattle.express.specs.tokens.Spelling.{spelling}
+use Rattle.relations.specs.Select.{span}
+use Rattle.express.specs.syntax.Tree.{Table, token, schema-of}
+use Rattle.express.specs.kinds.Kind.{constants}
+use Rattle.express.specs.whole.Reply.{Accepted, Checked, accepted, refused, checked}
+
+-- the decimal digits of a number, before the digits ds; each turn takes one, so as many turns as the number and one more are enough
+unfoldable pub digits : ℕ → ℕ → List ℕ → List ℕ
+digits zero n ds = ds
+digits (suc f) n ds = let more = digits f (n / 10) ((48 + n % 10) ∷ ds) in cond (ltb n 10) ((48 + n) ∷ ds) more
+
+-- 20 digits hold every number that is printed: magnitudes are at most 2 ^ 63
+abbrev pub decimal : ℕ → List ℕ
+decimal n = digits 20 n []
+
+abbrev pub signed : ℤ → List ℕ
+signed (pos n) = decimal n
+signed (negsuc n) = bytes "-" ++ decimal (suc n)
+
+abbrev pub logical-name : Logical → String
+logical-name FALSE = "FALSE"
+logical-name UNKNOWN = "UNKNOWN"
+logical-name TRUE = "TRUE"
+
+abbrev pub bit-digit : Bool → ℕ
+bit-digit true = 49
+bit-digit false = 48
+
+-- "Names and items in lower case."
+abbrev pub name-of : Table → ℕ → List ℕ
+name-of t n = spelling (t .bytes) (t .starts) (t .lengths) (token t n)
+
+-- "Ends print as `end N`, an indeterminate answer as `?`."
+abbrev pub printed : Table → Answer → List ℕ
+printed t indeterminate = bytes "?"
+printed t (integer z) = signed z
+printed t (logical l) = bytes (logical-name l)
+printed t (binary s) = bytes "%" ++ map bit-digit s
+printed t (item m) = name-of t m
+printed t (end e) = bytes "end " ++ decimal e
+
+abbrev pub line : List ℕ → List ℕ
+line s = s ++ (10 ∷ [])
+
+-- schema.constant = answer, for the i-th constant c
+abbrev pub constant-line : Accepted → ℕ → List ℕ
+constant-line a i =
+    let t = a .table in
+    let c = getD (constants t) i 0 in
+    line (name-of t (schema-of t c) ++ bytes "." ++ name-of t c ++ bytes " = " ++ printed t (getD (a .answers) i indeterminate))
+
+unfoldable pub listing : Checked → List ℕ
+listing (refused k p) = line (bytes "refused " ++ decimal k ++ bytes " at " ++ decimal p)
+listing (accepted a) =
+    line (bytes "accepted " ++ decimal (length (a .answers))) ++ flatMap (constant-line a) (span 0 (length (a .answers)))
+
+-- "The program lends 8,192 tokens, 8,192 nodes and 1,024 answers."
+abbrev pub program : List ℕ → List ℕ
+program s = listing (checked s 8192 8192 1024)

@@ -1,0 +1,131 @@
+-- THE WHOLE: what is answered for the bytes of a file and tables of three lengths, in the order of the stages, and what every column then holds.
+use mathlib.Core.Bool.{cond}
+use mathlib.Core.List.{List, map}
+use Prim.Native.Nat.{ℕ}
+use lib.Dec.{eqb, leb}
+use lib.IntN.{ℤ, pos}
+use lib.ListN.{length, getD, replicate}
+use Rattle.columns.specs.Column.{padded}
+use Rattle.ebnf.specs.Rows.{Rows}
+use Rattle.ebnf.specs.Depth.{Outcome, good, unexpected, too-deep}
+use Rattle.express.specs.kinds.Answer.{Answer}
+use Rattle.express.specs.tokens.Lexis.{Row, Reading, at, starts, tokens, lexed}
+use Rattle.express.specs.tokens.Lexis as lexis
+use Rattle.express.specs.tokens.Scanned.{token-table}
+use Rattle.express.specs.syntax.Grammar.{file}
+use Rattle.express.specs.syntax.Syntax.{parsed, with-rows}
+use Rattle.express.specs.syntax.Tree.{Table, count, place}
+use Rattle.express.specs.names.Scope.{bindings}
+use Rattle.express.specs.names.Fault.{Fault}
+use Rattle.express.specs.names.Names.{names}
+use Rattle.express.specs.kinds.Kind.{Typing, typed, typing, constants}
+use Rattle.express.specs.kinds.Kind as kinds
+use Rattle.express.specs.kinds.Order.{order}
+use Rattle.express.specs.kinds.Evaluate.{answers, answer-at}
+use Rattle.express.specs.kinds.AnswerRow.{AnswerRow, row-of}
+
+-- What an accepted file leaves: its tokens, its nodes, what each name is bound to, and an answer for each constant, in the order of the text.
+pub record Accepted : Type 0 where
+  pub tokens : List Row
+  pub table : Table
+  pub bindings : List ℕ
+  pub answers : List Answer
+
+-- "acceptance or a numbered refusal with a number beside it"
+pub data Checked : Type 0 where
+  accepted : Accepted → Checked
+  refused : ℕ → ℕ → Checked
+
+-- ---- the stages, the last first: "Order: 1; 2 and 3, first in text; 6; 4 and 5, first in text; 7; 8; 9; 10 and 11 for types and supertypes; 13
+-- for these; 10 to 12 for expressions and clashes; 13 for constants; 14 and 15 by node order. A later stage starts only when the earlier finds
+-- nothing." "A name or token given as number is its start byte."
+
+module _ (ls : List Row) (t : Table) where
+  abbrev pub after-kinds : Typing → Checked
+  after-kinds (typed ks) =
+      accepted (record {
+        tokens = ls;
+        table = t;
+        bindings = bindings t;
+        answers = map (answer-at (answers t (bindings t) (order t))) (constants t);
+      })
+  after-kinds (kinds.refused f n) = refused f (place t n)
+
+  abbrev pub after-names : Fault → Checked
+  after-names f = let on = after-kinds (typing t (bindings t)) in cond (eqb (f .number) 0) on (refused (f .number) (f .place))
+
+  -- "7, 8: node, answer table too short: entries needed"
+  abbrev pub after-rows : ℕ → ℕ → Checked
+  after-rows nodes rows =
+      let on = after-names (names t) in
+      cond (leb (count t) nodes) (cond (leb (length (constants t)) rows) on (refused 8 (length (constants t)))) (refused 7 (count t))
+
+module _ (s : List ℕ) (nodes rows : ℕ) where
+  -- "4: its start, or input length"; "5: its start"
+  abbrev pub after-syntax : Outcome Rows → Checked
+  after-syntax (good r) = after-rows (lexed s .rows) (with-rows (token-table s) (r .rows)) nodes rows
+  after-syntax (unexpected j) = refused 4 (getD (starts (lexed s)) j (length s))
+  after-syntax (too-deep k) = refused 5 (getD (starts (lexed s)) k (length s))
+
+  abbrev pub after-tokens : Reading → Checked
+  after-tokens (at n) = after-syntax (parsed file (token-table s .terminals))
+  after-tokens (lexis.refused k p) = refused k p
+
+-- The outcome for the bytes of a file, and a token, a node and an answer table of so many entries
+unfoldable pub checked : List ℕ → ℕ → ℕ → ℕ → Checked
+checked s token-rows node-rows answer-rows = after-tokens s node-rows answer-rows (tokens (lexed s) token-rows)
+
+-- ---- the report and the columns
+
+-- "The report is reply, number, tokens, nodes, constants." "Counts are 0 in every refusal."
+pub record Report : Type 0 where
+  pub reply : ℕ
+  pub number : ℕ
+  pub tokens : ℕ
+  pub nodes : ℕ
+  pub constants : ℕ
+
+abbrev pub report : Checked → Report
+report (accepted a) = record { reply = 0; number = 0; tokens = length (a .tokens); nodes = count (a .table); constants = length (a .answers) }
+report (refused k p) = record { reply = k; number = p; tokens = 0; nodes = 0; constants = 0 }
+
+-- "After a refusal all tables are zero; after acceptance all entries past the counts are": a column of n entries
+abbrev pub column : {A : Type 0} → A → (Accepted → List A) → Checked → ℕ → List A
+column z values (accepted a) n = padded z n (values a)
+column z values (refused k p) n = replicate n z
+
+-- "Token table: kind, start, length"
+abbrev pub token-kinds : Accepted → List ℕ
+token-kinds a = map (λ (r : Row). r .kind) (a .tokens)
+
+abbrev pub token-starts : Accepted → List ℕ
+token-starts a = a .table .starts
+
+abbrev pub token-lengths : Accepted → List ℕ
+token-lengths a = a .table .lengths
+
+-- "each node holds its kind, its naming token, the number of nodes in its subtree (itself included) and its binding"
+abbrev pub node-kinds : Accepted → List ℕ
+node-kinds a = a .table .kinds
+
+abbrev pub node-tokens : Accepted → List ℕ
+node-tokens a = a .table .tokens
+
+abbrev pub node-sizes : Accepted → List ℕ
+node-sizes a = a .table .sizes
+
+abbrev pub node-bindings : Accepted → List ℕ
+node-bindings a = a .bindings
+
+-- "Answer row: kind, number, length." "Rows follow the text."
+abbrev pub answer-rows : Accepted → List AnswerRow
+answer-rows a = map row-of (a .answers)
+
+abbrev pub answer-kinds : Accepted → List ℕ
+answer-kinds a = map (λ (r : AnswerRow). r .kind) (answer-rows a)
+
+abbrev pub answer-numbers : Accepted → List ℤ
+answer-numbers a = map (λ (r : AnswerRow). r .number) (answer-rows a)
+
+abbrev pub answer-lengths : Accepted → List ℕ
+answer-lengths a = map (λ (r : AnswerRow). r .length) (answer-rows a)

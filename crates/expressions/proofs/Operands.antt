@@ -1,0 +1,219 @@
+-- Operands, atoms and intervals. Assumes nothing.
+use mathlib.Core.Bool.{Bool, true, false, not, _&&_, cond}
+use mathlib.Core.List.{List, [], _∷_, _++_}
+use mathlib.Core.Path.{_≡_, refl, sym, ap, subst, _∙_}
+use Prim.Native.Nat.{ℕ, suc, _+_, _-_, _≤_, _<_}
+use native.Mathlib.Omega.{arith}
+use lib.Dec.{eqb}
+use lib.ListN.{length, getD, set}
+use borrow.Author.Tests.{eq-eqb, ne-eqb}
+use Rattle.ebnf.specs.Set.{mem, disjoint}
+use Rattle.ebnf.specs.Grammar.{leaf, Ebnf, none, step, seq, alt, nt}
+use Rattle.ebnf.specs.Rows.{Rows}
+use Rattle.ebnf.specs.Parse.{Result}
+use Rattle.ebnf.proofs.Sets.{and-split, apart′}
+use Rattle.express.specs.tokens.Terminal.{identifier, dot, rbrace, SELF}
+use Rattle.express.specs.syntax.Grammar.{Nonterminal, expression, sum, operand, atom, interval, signs, comparisons, _·_, _∣_, tok, named, leaves, row as row-of}
+use Rattle.express.specs.syntax.NodeKind as kind
+use Rattle.express.proofs.syntax.Descent.{phrase}
+use Rattle.expressions.specs.declared.Read.{Read}
+use Rattle.expressions.specs.declared.Read.the-variants.{At, Refused}
+use Rattle.expressions.specs.Reading.{word, labelled, atom-label, Ready, Sound, Ahead, Found, Reads, expected, Expects, Reading, Goes, Compares, Took, Leaves, Noded, Counts}
+use Rattle.expressions.proofs.Terminals.{is-one, not-one, inside}
+use Rattle.expressions.proofs.Steps.{count-at, onward, noded-there}
+use Rattle.expressions.proofs.Laws.{start, finish, last, alone, apart, together, dead, refused-found, told, token, passed, took, row, phrased, left, right, ahead-left, ahead-right, operator, reads, reads-at, compares-at, counts-of, sound-of, ready-of}
+
+-- ---- atoms
+
+module _ (ts : List ℕ) (want : Result Rows) (n : ℕ) (a : List ℕ) (m p : ℕ) (g : Ready ts p n) (r : Read) (b : List ℕ) where
+  -- what a row labelled l, or none where l is 0, leaves
+  abbrev pub Label : ℕ → Type 0
+  Label l = Took (not (eqb l 0)) l p n r a b
+
+  -- the token is of the set and leaves its row, or the other alternatives are tried
+  pub leafs : (cs : List ℕ) (k o : ℕ) (others : Ebnf _) (l : ℕ) → k < 256 → o < 256 → eqb (labelled k o) 0 ≡ false →
+      (Label l → Reading ts want n a (seq others none) m (At p n) a → Found want n r a b) →
+      Label (cond (mem (getD ts p 0) cs) (labelled k o) l) → Reading ts want n a (seq (alt (step (leaf k o) cs none) others) none) m (At p n) a → Found want n r a b
+  leafs cs k o others l hk ho z next h v = go (mem (getD ts p 0) cs) refl h
+    where
+      go : (t : Bool) → mem (getD ts p 0) cs ≡ t → Label (cond t (labelled k o) l) → Found want n r a b
+      go true e w =
+          let w₂ : Took true (labelled k o) p n r a b = subst (λ (x : Bool). Took (not x) (labelled k o) p n r a b) z w in
+          finish (took r b hk ho g (subst (λ (x : Bool). Took x (labelled k o) p n r a b) (sym e) w₂) (left e v))
+      go false e w = next w (right e v)
+
+  -- the last alternative
+  pub leafs-last : (cs : List ℕ) (k o : ℕ) → k < 256 → o < 256 → eqb (labelled k o) 0 ≡ false →
+      Label (cond (mem (getD ts p 0) cs) (labelled k o) 0) → Reading ts want n a (seq (step (leaf k o) cs none) none) m (At p n) a → Found want n r a b
+  leafs-last cs k o hk ho z h v = finish (took r b hk ho g (go (mem (getD ts p 0) cs) h) v)
+    where
+      go : (t : Bool) → Label (cond t (labelled k o) 0) → Took t (labelled k o) p n r a b
+      go true w = subst (λ (x : Bool). Took (not x) (labelled k o) p n r a b) z w
+      go false w = w
+
+-- the token at p, where the code has read it
+module _ {ts : List ℕ} {p n : ℕ} (g : Ready ts p n) (c : ℕ) (e : c ≡ getD ts p 0) where
+  at-one : (d : ℕ) → c ≡ d → mem (getD ts p 0) (d ∷ []) ≡ true
+  at-one d h = is-one (getD ts p 0) d (sym e ∙ h)
+
+  at-none : (d : ℕ) → (c ≡ d → ⊥) → mem (getD ts p 0) (d ∷ []) ≡ false
+  at-none d h = not-one (getD ts p 0) d (λ k. h (e ∙ k))
+
+  -- '(' expression ')'
+  pub atom-nested : {a b : List ℕ} {r w : Read} → c ≡ 24 → Reads expression ts (p + 1) n r a b → Expects ts (25 ∷ []) r w → Reads atom ts p n w a b
+  atom-nested h inner x =
+      reads atom (g .within)
+      (finish (told (sym (x .is)) (token (phrased inner (apart (passed (at-one 24 h) (apart (left (at-one 24 h) (last (start atom p (g .within)))))))))))
+
+  -- a token that leaves a row, or none that begins an atom
+  atom-by-label : {a b : List ℕ} {r : Read} → (c ≡ 24 → ⊥) → Took (not (eqb (atom-label (getD ts p 0)) 0)) (atom-label (getD ts p 0)) p n r a b → Reads atom ts p n r a b
+  atom-by-label {a} {b} {r} h w =
+      let L = leafs ts (phrase ts atom p) n a p p g r b in
+      reads atom (g .within)
+      (L _ _ _ _ _ (omega arith) (omega arith) refl
+      (L _ _ _ _ _ (omega arith) (omega arith) refl
+      (L _ _ _ _ _ (omega arith) (omega arith) refl
+      (L _ _ _ _ _ (omega arith) (omega arith) refl
+      (L _ _ _ _ _ (omega arith) (omega arith) refl
+      (L _ _ _ _ _ (omega arith) (omega arith) refl
+      (leafs-last ts (phrase ts atom p) n a p p g r b SELF kind.self 0 (omega arith) (omega arith) refl))))))
+      w (right (at-none 24 h) (last (start atom p (g .within)))))
+
+  pub atom-row : {a b : List ℕ} (l w : ℕ) → (c ≡ 24 → ⊥) → l ≡ atom-label c → (l ≡ 0 → ⊥) → w ≡ word l p 1 → b ≡ set a n w → Reads atom ts p n (At (p + 1) (n + 1)) a b
+  atom-row {a} {b} l w h k z v u =
+      let k₂ : l ≡ atom-label (getD ts p 0) = k ∙ ap atom-label e in
+      atom-by-label h (rw (← k₂) (rw (ne-eqb l 0 z) (refl, u ∙ ap (λ (y : ℕ). set a n y) v)))
+
+  pub atom-none : {a b : List ℕ} (l : ℕ) → (c ≡ 24 → ⊥) → l ≡ atom-label c → l ≡ 0 → Reads atom ts p n (Refused p) a b
+  atom-none l h k z =
+      let k₂ : atom-label (getD ts p 0) ≡ 0 = ap atom-label (sym e) ∙ (sym k ∙ z) in
+      atom-by-label h (rw k₂ refl)
+
+-- ---- operands
+
+-- behind a sign
+module _ {ts : List ℕ} {p n : ℕ} (g : Ready ts p n) (h : mem (getD ts p 0) signs ≡ true) where
+  pub sign-ready : Ready ts (p + 1) n
+  unfolding mem
+  sign-ready = onward g (inside ts signs p refl h)
+
+  pub sign-count : {r : Read} {q m : ℕ} → Ahead ts (p + 1) n r → r ≡ At q m → m ≤ 65536
+  sign-count {r} i e = count-at r (counts-of r sign-ready i) e
+
+  sign-alone : {a : List ℕ} → Reading ts (phrase ts operand p) n a (seq (named signs · nt atom · row-of kind.unary) none) p (At p n) a
+  unfolding mem disjoint
+  sign-alone =
+      let e : (mem (getD ts p 0) identifier && mem (getD ts (p + 1) 0) dot) ≡ false = rw (apart′ (getD ts p 0) identifier signs refl h) refl in
+      left h (right (apart′ (getD ts p 0) (21 ∷ []) signs refl h) (ahead-right e (last (start operand p (g .within)))))
+
+  -- the atom
+  sign-atom : {a b : List ℕ} {r : Read} → Reads atom ts (p + 1) n r a b → Reading ts (phrase ts operand p) n a (row-of kind.unary) p r b
+  sign-atom i = alone (phrased i (apart (operator h (apart sign-alone))))
+
+  pub signed-refused : {a b : List ℕ} {r : Read} {k : ℕ} → Reads atom ts (p + 1) n r a b → r ≡ Refused k → Reads operand ts p n r a b
+  signed-refused i e = reads operand (g .within) (refused-found e (sign-atom i))
+
+  -- and the row over it
+  pub signed-row : {r : Read} {q m z w : ℕ} → r ≡ At q m → z ≡ m + 1 - n → w ≡ word kind.unary p z → (a b d : List ℕ) → Reads atom ts (p + 1) n r a b → d ≡ set b m w → Reads operand ts p n (At q (m + 1)) a d
+  signed-row {r} {q} {m} {z} {w} e s v a b d i u =
+      let l = g .small in
+      let l₂ = g .within in
+      reads operand (g .within)
+      (finish (row (At q (m + 1)) d (omega arith) (omega arith) (counts-of r sign-ready (i .ahead)) (omega arith) (noded-there n kind.unary p r b d w z e s v u) (last (sign-atom i))))
+
+module _ {ts : List ℕ} {p n : ℕ} (g : Ready ts p n) (q : Bool) (e : q ≡ (mem (getD ts p 0) identifier && mem (getD ts (p + 1) 0) dot)) where
+  -- type.item: where the item stands is within the list
+  pub item-ready : q ≡ true → Ready ts (p + 2) n
+  unfolding mem
+  item-ready h =
+      let i = inside ts dot (p + 1) refl ((and-split (mem (getD ts p 0) identifier) _ (sym e ∙ h)) .1) in
+      let w = g .behind in
+      record { small = g .small; within = omega arith; behind = omega arith }
+
+  pub operand-item : {a b : List ℕ} {r : Read} → q ≡ true → Leaves ts kind.qualified-item (At (p + 2) n) r a b → Reads operand ts p n r a b
+  operand-item {a} {b} {r} h l =
+      reads operand (g .within) (finish (took r b (omega arith) (omega arith) (item-ready h) (l .took) (ahead-left (sym e ∙ h) (last (start operand p (g .within))))))
+
+  module _ (h : q ≡ false) (c : ℕ) (f : c ≡ getD ts p 0) where
+    pub operand-interval : {a b : List ℕ} {r : Read} → c ≡ 21 → Reads interval ts p n r a b → Reads operand ts p n r a b
+    operand-interval k i =
+        reads operand (g .within) (finish (phrased i (left (is-one (getD ts p 0) 21 (sym f ∙ k)) (ahead-right (sym e ∙ h) (last (start operand p (g .within)))))))
+
+    module _ (k : c ≡ 21 → ⊥) (s : Bool) (j : s ≡ mem c signs) where
+      signs-at : (b : Bool) → s ≡ b → mem (getD ts p 0) signs ≡ b
+      signs-at b z = ap (λ (x : ℕ). mem x signs) (sym f) ∙ (sym j ∙ z)
+
+      no-brace : {a : List ℕ} → Reading ts (phrase ts operand p) n a (seq (named signs · nt atom · row-of kind.unary ∣ nt atom) none) p (At p n) a
+      no-brace = right (not-one (getD ts p 0) 21 (λ z. k (f ∙ z))) (ahead-right (sym e ∙ h) (last (start operand p (g .within))))
+
+      pub operand-plain : {a b : List ℕ} {r : Read} → s ≡ false → Reads atom ts p n r a b → Reads operand ts p n r a b
+      operand-plain z i = reads operand (g .within) (finish (phrased i (right (signs-at false z) no-brace)))
+
+-- ---- a comparison and a sum
+
+module _ {ts : List ℕ} {p n : ℕ} (g : Ready ts p n) (s : Bool) (t : ℕ) (f : t ≡ getD ts p 0) (j : s ≡ mem t comparisons) where
+  comparison-at : (b : Bool) → s ≡ b → mem (getD ts p 0) comparisons ≡ b
+  comparison-at b z = ap (λ (x : ℕ). mem x comparisons) (sym f) ∙ (sym j ∙ z)
+
+  pub comparison-inside : s ≡ true → p < length ts
+  unfolding mem
+  comparison-inside z = inside ts comparisons p refl (comparison-at true z)
+
+  ahead-more : (r : Read) → Ahead ts (p + 1) (n + 1) r → Ahead ts p n r
+  ahead-more (At q m) h = (omega arith, h .1, omega arith, omega arith)
+  ahead-more (Refused k) h = tt
+
+  pub compared-there : {a b c : List ℕ} {r : Read} (w : ℕ) → s ≡ true → w ≡ word kind.interval-operator p 1 → b ≡ set a n w → Reads sum ts (p + 1) (n + 1) r b c → Compares ts p n r a c
+  compared-there {a} {b} {c} {r} w z v u i =
+      record {
+        ahead = ahead-more r (i .ahead);
+        goes =
+            record {
+              on = λ x.
+                  phrased i
+                  (took (At (p + 1) (n + 1)) b (omega arith) (omega arith) g
+                  (rw (comparison-at true z) (refl, u ∙ ap (λ (y : ℕ). set a n y) v)) (apart x));
+            };
+      }
+
+  pub compared-not : {a b : List ℕ} → s ≡ false → Compares ts p n (Refused p) a b
+  compared-not {a} {b} z =
+      record {
+        ahead = tt;
+        goes = record { on = λ x. dead refl (took (Refused p) b (omega arith) (omega arith) g (rw (comparison-at false z) refl) (apart x)) };
+      }
+
+-- ---- intervals
+
+module _ {ts : List ℕ} {p n : ℕ} (g : Ready ts p n) (h : getD ts p 0 ≡ 21) {a b : List ℕ} {r : Read} (low : Reads sum ts (p + 1) n r a b) where
+  pub brace-inside : p < length ts
+  unfolding mem
+  brace-inside = inside ts (21 ∷ []) p refl (is-one (getD ts p 0) 21 h)
+
+  abbrev operator-sum : Ebnf Nonterminal → Ebnf Nonterminal
+  operator-sum e = leaves comparisons kind.interval-operator · nt sum · e
+
+  abbrev closing : Ebnf Nonterminal
+  closing = tok rbrace · row-of kind.interval
+
+  interval-low : Reading ts (phrase ts interval p) n a (operator-sum (operator-sum closing)) p r b
+  interval-low = phrased low (operator (is-one (getD ts p 0) 21 h) (start interval p (g .within)))
+
+  pub low-refused : {k : ℕ} → r ≡ Refused k → Reads interval ts p n r a b
+  low-refused e = reads interval (g .within) (refused-found e interval-low)
+
+  module _ {q m : ℕ} (e : r ≡ At q m) {r₂ : Read} {c : List ℕ} (item : Compares ts q m r₂ b c) where
+    interval-item : Reading ts (phrase ts interval p) n a (operator-sum closing) p r₂ c
+    interval-item = item .goes .on (together (told e interval-low))
+
+    pub item-refused : {k : ℕ} → r₂ ≡ Refused k → Reads interval ts p n r₂ a c
+    item-refused e₂ = reads interval (g .within) (refused-found e₂ interval-item)
+
+    module _ {q₂ m₂ : ℕ} (e₂ : r₂ ≡ At q₂ m₂) {r₃ : Read} {d : List ℕ} (high : Compares ts q₂ m₂ r₃ c d) {w v : Read} {z : List ℕ} (x : Expects ts (22 ∷ []) r₃ w) (y : Noded n kind.interval p w v d z) where
+      pub interval-whole : Counts w → Reads interval ts p n v a z
+      interval-whole k =
+          let s = g .small in
+          let s₂ = g .within in
+          reads interval (g .within)
+          (finish (row v z (omega arith) (omega arith) k (omega arith) y
+          (last (told (sym (x .is)) (token (high .goes .on (together (told e₂ interval-item))))))))

@@ -1,0 +1,18 @@
+use mathlib.Core.List.{[], _∷_}
+use mathlib.Core.Path.{refl}
+use Rattle.ebnf.specs.Set.{mem, subset}
+use Rattle.express.specs.syntax.Grammar.{comparisons}
+use Rattle.expressions.proofs.Terminals.{is-in, is-out}
+use Rattle.expressions.proofs.is_comparison.Statement.{statement}
+use Rattle.expressions.proofs.is_comparison.Tie as tie
+
+returns : tie.Need-returns
+unfolding mem subset
+returns c = is-in (17 ∷ 26 ∷ []) comparisons (c .before .args .c) refl (c .match .keys1)
+
+returns-2 : tie.Need-returns-2
+unfolding mem subset
+returns-2 c = is-out (17 ∷ 26 ∷ []) [] comparisons (c .before .args .c) refl (c .match .rest .1) (λ h. h)
+
+pub is-comparison-spec : {M : Type 1} → statement M
+is-comparison-spec = tie.close (tie.spec returns returns-2)

@@ -1,0 +1,156 @@
+-- What a reading step answers and leaves, in terms of the grammar: the inner contracts of the readers.
+use mathlib.Core.Bool.{Bool, true, false, cond}
+use mathlib.Core.List.{List, [], _∷_, map}
+use mathlib.Core.Path.{_≡_}
+use Prim.Native.Nat.{ℕ, _+_, _-_, _*_, _≤_, _<_}
+use lib.Dec.{eqb}
+use lib.ListN.{length, getD, set}
+use lib.Seq.{sets}
+use Rattle.ebnf.specs.Set.{mem}
+use Rattle.ebnf.specs.Grammar.{Ebnf, seq, nt}
+use Rattle.ebnf.specs.Rows.{Row, Rows, in-rows}
+use Rattle.ebnf.specs.Parse.{Result, at, refused, starved, bind}
+use Rattle.express.specs.tokens.Terminal.{identifier, integer, binary, question, SELF}
+use Rattle.express.specs.syntax.Grammar.{Nonterminal, sum, _·_, leaves, comparisons, logicals, others}
+use Rattle.express.specs.syntax.NodeKind as kind
+use Rattle.express.proofs.syntax.Syntax.{express}
+use Rattle.express.proofs.syntax.Descent.{phrase}
+use Rattle.ebnf.proofs.Descent as descent
+use Rattle.expressions.specs.declared.Read.{Read}
+use Rattle.expressions.specs.declared.Read.the-variants.{At, Refused}
+
+-- ---- rows in words
+
+-- kind and role of a row in one number
+abbrev pub labelled : ℕ → ℕ → ℕ
+labelled kind role = kind + 256 * role
+
+-- a row in one word: its label in 16 bits, then its naming token in 20, then its size
+abbrev pub word : ℕ → ℕ → ℕ → ℕ
+word label token size = label + 65536 * token + 68719476736 * size
+
+abbrev pub word-of : Row → ℕ
+word-of r = word (labelled (r .kind) (r .role)) (r .token) (r .size)
+
+-- a row that its word holds
+pub record Fits (r : Row) : Type 0 where
+  pub kind : r .kind < 256
+  pub role : r .role < 256
+  pub token : r .token < 1048576
+  pub size : r .size < 1048576
+
+abbrev pub All-fit : List Row → Type 0
+All-fit [] = Unit {0}
+All-fit (r ∷ rs) = Fits r × All-fit rs
+
+-- ---- places
+
+-- a place that a reader is given: within the list, with no more rows before it than tokens
+pub record Ready (ts : List ℕ) (p n : ℕ) : Type 0 where
+  pub small : length ts ≤ 65536
+  pub within : p ≤ length ts
+  pub behind : n ≤ p
+
+abbrev pub Sound : List ℕ → Read → Type 0
+Sound ts (At p n) = Ready ts p n
+Sound ts (Refused k) = Unit {0}
+
+-- an answer to what was read from token p and row n on
+abbrev pub Ahead : List ℕ → ℕ → ℕ → Read → Type 0
+Ahead ts p n (At q m) = (p < q) × (q ≤ length ts) × (n ≤ m) × (m + p ≤ q + n)
+Ahead ts p n (Refused k) = Unit {0}
+
+-- ---- what is found
+
+-- The answer x and the rows b, from a, are what a result says, with its rows from n on. After a refusal the rows are left free.
+abbrev pub Found : Result Rows → ℕ → Read → List ℕ → List ℕ → Type 0
+Found (at j s) n x a b = (x ≡ At j (n + length (s .rows))) × (b ≡ sets a n (map word-of (s .rows))) × All-fit (s .rows)
+Found (refused k) n x a b = x ≡ Refused k
+Found starved n x a b = ⊥
+
+-- A reader of x, at token p and row n.
+pub record Reads (x : Nonterminal) (ts : List ℕ) (p n : ℕ) (r : Read) (a b : List ℕ) : Type 0 where
+  pub found : Found (phrase ts x p) n r a b
+  pub ahead : Ahead ts p n r
+
+-- ---- steps by value
+
+-- a token of the set
+abbrev pub expected : List ℕ → List ℕ → Read → Read
+expected ts cs (At p n) = cond (mem (getD ts p 0) cs) (At (p + 1) n) (Refused p)
+expected ts cs (Refused k) = Refused k
+
+pub record Expects (ts cs : List ℕ) (x r : Read) : Type 0 where
+  pub is : r ≡ expected ts cs x
+  pub sound : Sound ts r
+
+-- the name of a result's rows
+abbrev pub Named : Result Rows → ℕ → Type 0
+Named (at j s) m = s .name ≡ m
+Named (refused k) m = Unit {0}
+Named starved m = Unit {0}
+
+abbrev pub run : List ℕ → Ebnf Nonterminal → ℕ → Rows → Result Rows
+run ts e i s = descent.run express in-rows ts e i s (λ j t. at j t)
+
+-- PART OF A RULE HAS BEEN READ: what is wanted is what was found so far, the rule's rows from n on and its next row's name m, and then what
+-- the rest comes to from there.
+pub record Reading (ts : List ℕ) (want : Result Rows) (n : ℕ) (a : List ℕ) (rest : Ebnf Nonterminal) (m : ℕ) (x : Read) (b : List ℕ) : Type 0 where
+  pub done : Result Rows
+  pub found : Found done n x a b
+  pub named : Named done m
+  pub is : want ≡ bind done (λ j s. run ts rest j s)
+
+-- Reading e from x to r: whatever is wanted, what is left afterwards is the rest.
+pub record Goes (e : Ebnf Nonterminal) (ts : List ℕ) (x r : Read) (a b : List ℕ) : Type 0 where
+  pub on : {want : Result Rows} {n m : ℕ} {was : List ℕ} {rest : Ebnf Nonterminal} →
+      Reading ts want n was (seq e rest) m x a → Reading ts want n was rest m r b
+
+pub record Steps (e : Ebnf Nonterminal) (ts : List ℕ) (x r : Read) (a b : List ℕ) : Type 0 where
+  pub sound : Sound ts r
+  pub goes : Goes e ts x r a b
+
+-- a comparison and a sum, at token p and row n
+pub record Compares (ts : List ℕ) (p n : ℕ) (r : Read) (a b : List ℕ) : Type 0 where
+  pub ahead : Ahead ts p n r
+  pub goes : Goes (leaves comparisons kind.interval-operator · nt sum) ts (At p n) r a b
+
+-- ---- rows
+
+-- a row with nothing below it, where the token is one that leaves it
+abbrev pub Took : Bool → ℕ → ℕ → ℕ → Read → List ℕ → List ℕ → Type 0
+Took true label p n r a b = (r ≡ At (p + 1) (n + 1)) × (b ≡ set a n (word label p 1))
+Took false label p n r a b = r ≡ Refused p
+
+abbrev pub Leafed : List ℕ → List ℕ → ℕ → Read → Read → List ℕ → List ℕ → Type 0
+Leafed ts cs label (At p n) r a b = Took (mem (getD ts p 0) cs) label p n r a b
+Leafed ts cs label (Refused k) r a b = r ≡ Refused k
+
+pub record Leaves (ts : List ℕ) (label : ℕ) (x r : Read) (a b : List ℕ) : Type 0 where
+  pub sound : Sound ts r
+  pub took : Leafed ts identifier label x r a b
+
+-- kind and role of an atom's row, by its token; 0 where the token begins no atom that leaves one
+abbrev pub atom-label : ℕ → ℕ
+atom-label c =
+    cond (mem c integer) kind.integer-literal
+    (cond (mem c binary) kind.binary-literal
+    (cond (mem c logicals) kind.logical-literal
+    (cond (mem c question) kind.question
+    (cond (mem c others) kind.other-literal
+    (cond (mem c identifier) (labelled kind.name kind.in-expression)
+    (cond (mem c SELF) kind.self 0))))))
+
+-- a row over all rows from `first` on; past the end of the rows nothing changes
+abbrev pub Noded : ℕ → ℕ → ℕ → Read → Read → List ℕ → List ℕ → Type 0
+Noded first label name (At p n) r a b = (r ≡ At p (n + 1)) × (b ≡ set a n (word label name (n + 1 - first)))
+Noded first label name (Refused k) r a b = r ≡ Refused k
+
+-- The row over two operands, the second at q behind their operator, where m rows are left: r rows then. A first operand, at p, has no such row.
+pub record Combined (p q n m r : ℕ) (a b : List ℕ) : Type 0 where
+  pub count : r ≡ cond (eqb q p) m (m + 1)
+  pub rows : b ≡ cond (eqb q p) a (set a m (word kind.two-operand (q - 1) (m + 1 - n)))
+
+abbrev pub Counts : Read → Type 0
+Counts (At p n) = n ≤ 65536
+Counts (Refused k) = Unit {0}

@@ -1,0 +1,218 @@
+-- Laws of rows of numbers and of lists kept by a test.
+use mathlib.Core.Path.{_≡_, refl, sym, ap, _∙_}
+use mathlib.Core.Logic.{_⊎_, inl, inr, ⊎-elim}
+use mathlib.Core.Bool.{Bool, true, false, cond, _&&_, _||_, false≢true, and-eq-true-iff}
+use mathlib.Core.List.{List, [], _∷_, _++_, map, flatMap, List·Memᴰ, List·Memᴰ·head, List·Memᴰ·tail, List·Memᴰ·cases-cons, List·Memᴰ·not-nil, List·Memᴰ·append-cases, Memᴰ·append-left, Memᴰ·append-right, Memᴰ·cast}
+use Prim.Native.Nat.{ℕ, zero, suc, _+_, _-_, _≤_, _<_}
+use native.Mathlib.Numerals.{add-one}
+use native.Mathlib.Omega.{arith}
+use lib.ListN.{length, getD}
+use Rattle.relations.specs.Select.{span, first-from, keep, any}
+
+-- tests
+pub and-fst : (a b : Bool) → a && b ≡ true → a ≡ true
+and-fst a b e = and-eq-true-iff a b .0 e .0
+
+pub and-snd : (a b : Bool) → a && b ≡ true → b ≡ true
+and-snd a b e = and-eq-true-iff a b .0 e .1
+
+pub and-both : (a b : Bool) → a ≡ true → b ≡ true → a && b ≡ true
+and-both a b e f = rw (e, f)
+
+pub or-cases : (a b : Bool) → a || b ≡ true → (a ≡ true) ⊎ (b ≡ true)
+or-cases true b e = inl refl
+or-cases false b e = inr e
+
+pub or-left : (a b : Bool) → a ≡ true → a || b ≡ true
+or-left a b e = rw e
+
+pub or-right : (a b : Bool) → b ≡ true → a || b ≡ true
+or-right true b e = refl
+or-right false b e = e
+
+-- a test that fails, from what follows were it to pass
+pub untrue : (b : Bool) → (b ≡ true → ⊥) → b ≡ false
+untrue true h = absurd (h refl)
+untrue false h = refl
+
+pub le-or : (a b : ℕ) → (a ≤ b) ⊎ (b < a)
+le-or a b = by (a - b) refl
+  where
+    by : (d : ℕ) → a - b ≡ d → (a ≤ b) ⊎ (b < a)
+    by zero e = inl (omega arith)
+    by (suc d) e = inr (omega arith)
+
+-- rows of numbers, in one step: as a loop that runs backward has them
+pub span-step : (n i : ℕ) → i < n → span i (n - i) ≡ i ∷ span (i + 1) (n - (i + 1))
+unfolding span
+span-step n i h = let e : n - i ≡ suc (n - (i + 1)) = omega arith in rw (e, add-one)
+
+pub span-end : (n i : ℕ) → n ≤ i → span i (n - i) ≡ []
+unfolding span
+span-end n i h = let e : n - i ≡ 0 = omega arith in rw e
+
+pub mem-span : (i d k : ℕ) → i ≤ k → k < i + d → List·Memᴰ k (span i d)
+unfolding span
+mem-span i zero k lo hi = absurd (omega arith)
+mem-span i (suc d) k lo hi = by (k - i) refl (λ a. mem-span (suc i) d k a (omega arith))
+  where
+    by : (j : ℕ) → k - i ≡ j → (suc i ≤ k → List·Memᴰ k (span (suc i) d)) → List·Memᴰ k (i ∷ span (suc i) d)
+    by zero e more = let q : k ≡ i = omega arith in List·Memᴰ·head q
+    by (suc j) e more = List·Memᴰ·tail (more (omega arith))
+
+pub span-mem : (i d k : ℕ) → List·Memᴰ k (span i d) → (i ≤ k) × (k < i + d)
+unfolding span
+span-mem i zero k m = absurd (List·Memᴰ·not-nil m)
+span-mem i (suc d) k m =
+    ⊎-elim (λ (e : k ≡ i). (omega arith, omega arith))
+    (λ m′. let r = span-mem (suc i) d k m′ in (omega arith, omega arith)) (List·Memᴰ·cases-cons m)
+
+pub mem-upto : (n k : ℕ) → k < n → List·Memᴰ k (span 0 n)
+mem-upto n k h = mem-span 0 n k (omega arith) (omega arith)
+
+pub upto-mem : (n k : ℕ) → List·Memᴰ k (span 0 n) → k < n
+upto-mem n k m = let r = span-mem 0 n k m in omega arith
+
+-- the first that passes
+pub first-step : (p : ℕ → Bool) (n i : ℕ) → i < n → first-from p i (n - i) ≡ cond (p i) i (first-from p (i + 1) (n - (i + 1)))
+unfolding first-from
+first-step p n i h = let e : n - i ≡ suc (n - (i + 1)) = omega arith in rw (e, add-one)
+
+pub first-end : (p : ℕ → Bool) (n i : ℕ) → n ≤ i → first-from p i (n - i) ≡ i
+unfolding first-from
+first-end p n i h = let e : n - i ≡ 0 = omega arith in rw e
+
+-- where it stands: none before it passes, and it passes itself, unless it is the number after them
+pub record First (p : ℕ → Bool) (i d k : ℕ) : Type 0 where
+  pub from : i ≤ k
+  pub upto : k ≤ i + d
+  pub none : (j : ℕ) → i ≤ j → j < k → p j ≡ false
+  pub passes : k < i + d → p k ≡ true
+
+pub first-is : (p : ℕ → Bool) (i d : ℕ) → First p i d (first-from p i d)
+unfolding first-from
+first-is p i zero = record { from = omega arith; upto = omega arith; none = λ j a b. absurd (omega arith); passes = λ a. absurd (omega arith) }
+first-is p i (suc d) = by (p i) refl (first-is p (suc i) d)
+  where
+    by : (b : Bool) → p i ≡ b → First p (suc i) d (first-from p (suc i) d) → First p i (suc d) (cond b i (first-from p (suc i) d))
+    by true e F = record { from = omega arith; upto = omega arith; none = λ j a b. absurd (omega arith); passes = λ a. e }
+    by false e F = record { from = omega (arith, F .from); upto = omega (arith, F .upto); none = below; passes = λ a. F .passes (omega arith) }
+      where
+        at : (j k : ℕ) → i ≤ j → j < first-from p (suc i) d → j - i ≡ k → p j ≡ false
+        at j zero a b z = let q : j ≡ i = omega arith in rw q e
+        at j (suc k) a b z = F .none j (omega arith) b
+
+        below : (j : ℕ) → i ≤ j → j < first-from p (suc i) d → p j ≡ false
+        below j a b = at j (j - i) a b refl
+
+-- so a number is the first if it passes and none before it does
+pub first-of : (p : ℕ → Bool) (n i k : ℕ) → i ≤ k → k < n → p k ≡ true → ((j : ℕ) → i ≤ j → j < k → p j ≡ false) → first-from p i (n - i) ≡ k
+first-of p n i k lo hi hit none = by (first-is p i (n - i))
+  where
+    by : First p i (n - i) (first-from p i (n - i)) → first-from p i (n - i) ≡ k
+    by F =
+        let f = first-from p i (n - i) in
+        let l = F .from in
+        ⊎-elim
+        (λ (a : f ≤ k). ⊎-elim (λ (b : k ≤ f). omega arith) (λ (b : f < k). absurd (false≢true (sym (none f l b) ∙ F .passes (omega arith)))) (le-or k f))
+        (λ (a : k < f). absurd (false≢true (sym (F .none k lo a) ∙ hit))) (le-or f k)
+
+-- a column made of them, at one place
+column-from : (f : ℕ → ℕ) (i d k : ℕ) → k < d → getD (map f (span i d)) k 0 ≡ f (i + k)
+unfolding span
+column-from f i zero k h = absurd (omega arith)
+column-from f i (suc d) zero h = let q : i ≡ i + 0 = omega arith in ap f q
+column-from f i (suc d) (suc k) h = let q : suc i + k ≡ i + suc k = omega arith in column-from f (suc i) d k (omega arith) ∙ ap f q
+
+pub column-at : (f : ℕ → ℕ) (n k : ℕ) → k < n → getD (map f (span 0 n)) k 0 ≡ f k
+column-at f n k h = let q : 0 + k ≡ k = omega arith in column-from f 0 n k h ∙ ap f q
+
+module _ {A : Type 0} where
+  pub keep-cons : (p : A → Bool) (x : A) (xs : List A) → keep p (x ∷ xs) ≡ cond (p x) (x ∷ keep p xs) (keep p xs)
+  unfolding keep
+  keep-cons p x xs = refl
+
+  -- what is kept: what is there and passes
+  pub keep-mem : (p : A → Bool) (xs : List A) {x : A} → List·Memᴰ x (keep p xs) → List·Memᴰ x xs × (p x ≡ true)
+  unfolding keep
+  keep-mem p [] m = absurd (List·Memᴰ·not-nil m)
+  keep-mem p (y ∷ ys) {x} m = by (p y) refl m (λ m′. keep-mem p ys m′)
+    where
+      by : (b : Bool) → p y ≡ b → List·Memᴰ x (cond b (y ∷ keep p ys) (keep p ys)) → (List·Memᴰ x (keep p ys) → List·Memᴰ x ys × (p x ≡ true)) → List·Memᴰ x (y ∷ ys) × (p x ≡ true)
+      by true e m more =
+          ⊎-elim (λ q. (List·Memᴰ·head q, ap p q ∙ e)) (λ m′. let r = more m′ in (List·Memᴰ·tail (r .0), r .1)) (List·Memᴰ·cases-cons m)
+      by false e m more = let r = more m in (List·Memᴰ·tail (r .0), r .1)
+
+  pub mem-keep : (p : A → Bool) (xs : List A) {x : A} → List·Memᴰ x xs → p x ≡ true → List·Memᴰ x (keep p xs)
+  unfolding keep
+  mem-keep p [] m h = absurd (List·Memᴰ·not-nil m)
+  mem-keep p (y ∷ ys) {x} m h = by (p y) refl (List·Memᴰ·cases-cons m) (λ m′. mem-keep p ys m′ h)
+    where
+      by : (b : Bool) → p y ≡ b → (x ≡ y) ⊎ List·Memᴰ x ys → (List·Memᴰ x ys → List·Memᴰ x (keep p ys)) → List·Memᴰ x (cond b (y ∷ keep p ys) (keep p ys))
+      by true e (inl q) more = List·Memᴰ·head q
+      by true e (inr m′) more = List·Memᴰ·tail (more m′)
+      by false e (inl q) more = absurd (false≢true (sym e ∙ ap p (sym q) ∙ h))
+      by false e (inr m′) more = more m′
+
+  pub any-mem : (p : A → Bool) (xs : List A) → any p xs ≡ true → (x : A) × List·Memᴰ x xs × (p x ≡ true)
+  unfolding any
+  any-mem p [] h = absurd (false≢true h)
+  any-mem p (y ∷ ys) h =
+      ⊎-elim (λ e. (y, List·Memᴰ·head refl, e)) (λ e. let r = any-mem p ys e in (r .0, List·Memᴰ·tail (r .1), r .2)) (or-cases (p y) (any p ys) h)
+
+  pub mem-any : (p : A → Bool) (xs : List A) {x : A} → List·Memᴰ x xs → p x ≡ true → any p xs ≡ true
+  unfolding any
+  mem-any p [] m h = absurd (List·Memᴰ·not-nil m)
+  mem-any p (y ∷ ys) m h =
+      ⊎-elim (λ q. or-left (p y) (any p ys) (ap p (sym q) ∙ h)) (λ m′. or-right (p y) (any p ys) (mem-any p ys m′ h)) (List·Memᴰ·cases-cons m)
+
+  -- where more pass, no fewer are kept; and more, if one more does
+  pub keep-le : (p q : A → Bool) (xs : List A) → ((x : A) → List·Memᴰ x xs → p x ≡ true → q x ≡ true) → length (keep p xs) ≤ length (keep q xs)
+  unfolding keep
+  keep-le p q [] h = omega arith
+  keep-le p q (x ∷ xs) h = by (p x) (q x) refl refl (keep-le p q xs (λ y m. h y (List·Memᴰ·tail m)))
+    where
+      by : (b c : Bool) → p x ≡ b → q x ≡ c → length (keep p xs) ≤ length (keep q xs) → length (cond b (x ∷ keep p xs) (keep p xs)) ≤ length (cond c (x ∷ keep q xs) (keep q xs))
+      by true true e f l = omega arith
+      by true false e f l = absurd (false≢true (sym f ∙ h x (List·Memᴰ·head refl) e))
+      by false true e f l = omega arith
+      by false false e f l = l
+
+  pub keep-lt : (p q : A → Bool) (xs : List A) → ((x : A) → List·Memᴰ x xs → p x ≡ true → q x ≡ true) → {y : A} → List·Memᴰ y xs → p y ≡ false → q y ≡ true → length (keep p xs) < length (keep q xs)
+  unfolding keep
+  keep-lt p q [] h m f g = absurd (List·Memᴰ·not-nil m)
+  keep-lt p q (x ∷ xs) h {y} m f g =
+      by (p x) (q x) refl refl (List·Memᴰ·cases-cons m) (keep-le p q xs (λ z m. h z (List·Memᴰ·tail m)))
+      (λ m′. keep-lt p q xs (λ z m. h z (List·Memᴰ·tail m)) m′ f g)
+    where
+      by : (b c : Bool) → p x ≡ b → q x ≡ c → (y ≡ x) ⊎ List·Memᴰ y xs → length (keep p xs) ≤ length (keep q xs) → (List·Memᴰ y xs → length (keep p xs) < length (keep q xs))
+          → length (cond b (x ∷ keep p xs) (keep p xs)) < length (cond c (x ∷ keep q xs) (keep q xs))
+      by true true e e′ (inl s) l more = absurd (false≢true (sym f ∙ ap p s ∙ e))
+      by true true e e′ (inr m′) l more = let r = more m′ in omega arith
+      by true false e e′ s l more = absurd (false≢true (sym e′ ∙ h x (List·Memᴰ·head refl) e))
+      by false true e e′ s l more = omega arith
+      by false false e e′ (inl s) l more = absurd (false≢true (sym e′ ∙ ap q (sym s) ∙ g))
+      by false false e e′ (inr m′) l more = more m′
+
+  pub keep-short : (p : A → Bool) (xs : List A) → length (keep p xs) ≤ length xs
+  unfolding keep
+  keep-short p [] = omega arith
+  keep-short p (x ∷ xs) = by (p x) (keep-short p xs)
+    where
+      by : (b : Bool) → length (keep p xs) ≤ length xs → length (cond b (x ∷ keep p xs) (keep p xs)) ≤ suc (length xs)
+      by true l = omega arith
+      by false l = omega arith
+
+-- what is in one of the lists
+module _ {A B : Type 0} (f : A → List B) where
+  pub flat-mem : (xs : List A) {y : B} → List·Memᴰ y (flatMap f xs) → (x : A) × List·Memᴰ x xs × List·Memᴰ y (f x)
+  unfolding flatMap
+  flat-mem [] m = absurd (List·Memᴰ·not-nil m)
+  flat-mem (x ∷ xs) m =
+      ⊎-elim (λ l. (x, List·Memᴰ·head refl, l)) (λ l. let r = flat-mem xs l in (r .0, List·Memᴰ·tail (r .1), r .2)) (List·Memᴰ·append-cases (f x) m)
+
+  pub mem-flat : (xs : List A) {x : A} {y : B} → List·Memᴰ x xs → List·Memᴰ y (f x) → List·Memᴰ y (flatMap f xs)
+  unfolding flatMap
+  mem-flat [] m l = absurd (List·Memᴰ·not-nil m)
+  mem-flat (z ∷ zs) {x} {y} m l =
+      ⊎-elim (λ q. let l′ : List·Memᴰ y (f z) = rw q at l in Memᴰ·append-left (flatMap f zs) l′) (λ m′. Memᴰ·append-right (f z) (mem-flat zs m′ l)) (List·Memᴰ·cases-cons m)
