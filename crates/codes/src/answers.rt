@@ -1,6 +1,10 @@
 // The kinds of answers: an end is its own kind.
 pub const INDETERMINATE: u8 = 0;
+
 pub const INTEGER: u8 = 1;
+
 pub const LOGICAL: u8 = 2;
+
 pub const BINARY: u8 = 3;
+
 pub const ITEM: u8 = 4;

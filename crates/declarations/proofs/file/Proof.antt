@@ -8,12 +8,16 @@ use Rattle.declarations.proofs.schemas.Reads as schemas-reads
 use Rattle.expressions.proofs.Laws.{counts-sound}
 use Rattle.declarations.proofs.Clauses.{file-reads}
 use native.Mathlib.Omega.{arith}
+
 schemas-requires : tie.Need-schemas-requires
 schemas-requires c κs = search needs
+
 node-requires : tie.Need-node-requires
 node-requires c κs = (counts-sound (c .before .before .before .before .before .before .before .args .codes .now) (c .before .before .before .schemas .result) (c .before .before .before .schemas .ensures .sound), omega arith, omega arith)
+
 same-length : tie.Need-same-length
 same-length c = search needs
+
 returns : tie.Need-returns
 returns c = file-reads (c .before .before .before .before .before .before .before .before .before .before .pre) (c .before .before .before .before .before .before .schemas .ensures) (c .before .before .node .ensures)
 

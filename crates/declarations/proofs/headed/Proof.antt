@@ -5,10 +5,13 @@ use Rattle.declarations.proofs.headed.Reads as reads
 use Rattle.declarations.proofs.headed.Lts as lts
 use Rattle.expressions.proofs.expect.Reads as expect-reads
 use Rattle.declarations.proofs.Laws.{heads}
+
 expect-requires : tie.Need-expect-requires
 expect-requires c κs = search needs
+
 expect-requires-2 : tie.Need-expect-requires-2
 expect-requires-2 c κs = search needs
+
 returns : tie.Need-returns
 returns c = heads (c .before .expect .ensures) (c .expect2 .ensures)
 

@@ -6,14 +6,19 @@ use Rattle.declarations.proofs.ids.Lts as lts
 use Rattle.expressions.proofs.expect.Reads as expect-reads
 use Rattle.declarations.proofs.names.Reads as names-reads
 use Rattle.declarations.proofs.Laws.{ids-steps}
+
 expect-requires : tie.Need-expect-requires
 expect-requires c κs = search needs
+
 names-requires : tie.Need-names-requires
 names-requires c κs = search needs
+
 expect-requires-2 : tie.Need-expect-requires-2
 expect-requires-2 c κs = search needs
+
 same-length : tie.Need-same-length
 same-length c = search needs
+
 returns : tie.Need-returns
 returns c = ids-steps (c .before .before .before .before .before .before .before .before .args .label) (c .before .before .before .before .before .expect .ensures) (c .before .before .before .names .ensures) (c .expect2 .ensures)
 

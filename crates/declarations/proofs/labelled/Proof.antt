@@ -6,12 +6,16 @@ use Rattle.declarations.proofs.labelled.Lts as lts
 use Rattle.declarations.proofs.is_simple.Reads as is-simple-reads
 use mathlib.Core.Path.{refl, sym, _∙_}
 use Rattle.expressions.proofs.Terminals.{is-one, not-one}
+
 is-simple-requires : tie.Need-is-simple-requires
 is-simple-requires c κs = search needs
+
 returns : tie.Need-returns
 returns c = rw (sym (c .before .is-simple .ensures) ∙ c .if1 .taken) refl
+
 returns-2 : tie.Need-returns-2
 returns-2 c = rw (sym (c .before .before .is-simple .ensures) ∙ c .before .if1 .left, is-one (c .before .before .before .args .c) 1 (c .if2 .taken)) refl
+
 returns-3 : tie.Need-returns-3
 returns-3 c = rw (sym (c .before .before .is-simple .ensures) ∙ c .before .if1 .left, not-one (c .before .before .before .args .c) 1 (c .if2 .left)) refl
 

@@ -7,20 +7,28 @@ use Rattle.exports.proofs.parse_number.Reads as parse-number-reads
 use Rattle.exports.proofs.parse_reply.Reads as parse-reply-reads
 use Rattle.declarations.proofs.parse.Reads as parse-reads
 use Rattle.exports.proofs.Steps.{parses}
+
 parse-requires : tie.Need-parse-requires
 parse-requires c κs = search needs
+
 parse-number-requires : tie.Need-parse-number-requires
 parse-number-requires c κs = search needs
+
 parse-reply-requires : tie.Need-parse-reply-requires
 parse-reply-requires c κs = search needs
+
 same-length : tie.Need-same-length
 same-length c = search needs
+
 same-length-2 : tie.Need-same-length-2
 same-length-2 c = search needs
+
 same-length-3 : tie.Need-same-length-3
 same-length-3 c = search needs
+
 same-length-4 : tie.Need-same-length-4
 same-length-4 c = search needs
+
 returns : tie.Need-returns
 returns c = parses (c .before .before .before .before .before .before .before .before .before .before .parse .ensures) (c .before .parse-number .ensures) (c .parse-reply .ensures)
 

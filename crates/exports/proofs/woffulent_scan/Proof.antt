@@ -7,18 +7,25 @@ use Rattle.exports.proofs.number_of.Reads as number-of-reads
 use Rattle.exports.proofs.reply_of.Reads as reply-of-reads
 use Rattle.scan.proofs.scan.Reads as scan-reads
 use Rattle.exports.proofs.Steps.{scans}
+
 scan-requires : tie.Need-scan-requires
 scan-requires c κs = search needs
+
 number-of-requires : tie.Need-number-of-requires
 number-of-requires c κs = search needs
+
 reply-of-requires : tie.Need-reply-of-requires
 reply-of-requires c κs = search needs
+
 same-length : tie.Need-same-length
 same-length c = search needs
+
 same-length-2 : tie.Need-same-length-2
 same-length-2 c = search needs
+
 same-length-3 : tie.Need-same-length-3
 same-length-3 c = search needs
+
 returns : tie.Need-returns
 returns c = scans (c .before .before .before .before .before .before .before .before .scan .ensures) (c .before .number-of .ensures) (c .reply-of .ensures)
 

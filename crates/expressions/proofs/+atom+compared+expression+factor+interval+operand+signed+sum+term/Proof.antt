@@ -150,6 +150,7 @@ term-at t = and 2 term-kinds.ps (is 2 term-kinds.ps μ-term t) term.Pre
 
 abbrev term-below : ℕ → In 2 term-kinds.ps
 term-below t = and 2 term-kinds.ps (falls 2 term-kinds.ps _<_ μ-term t) term.Pre
+
 atom-token-requires : (t : ℕ) → atom-lts.Need-token-requires (
   token-reads.Asked,
   token-reads.Learnt,
@@ -163,6 +164,7 @@ atom-token-requires : (t : ℕ) → atom-lts.Need-token-requires (
   put-reads.Learnt,
 ) (atom-at t) atom.Post
 atom-token-requires t c κs = search needs
+
 atom-add-expression : (t : ℕ) → atom-lts.Need-add-expression (
   token-reads.Asked,
   token-reads.Learnt,
@@ -176,6 +178,7 @@ atom-add-expression : (t : ℕ) → atom-lts.Need-add-expression (
   put-reads.Learnt,
 ) (atom-at t) atom.Post
 atom-add-expression t c = omega (arith, c .before .before .before .before .before .pre .1 .small, c .before .before .before .before .before .pre .1 .within)
+
 atom-expression-requires : (t : ℕ) → atom-lts.Need-expression-requires (
   token-reads.Asked,
   token-reads.Learnt,
@@ -189,6 +192,7 @@ atom-expression-requires : (t : ℕ) → atom-lts.Need-expression-requires (
   put-reads.Learnt,
 ) (atom-at t) atom.Post
 atom-expression-requires t c κs = (omega (arith, c .before .before .before .before .before .pre .0, (one-inside (c .before .before .before .before .before .args .codes .now) (c .before .before .before .before .before .args .p) (c .before .before .token .result) 24 (c .before .before .token .ensures) (c .before .if1 .taken) (omega arith))), onward (c .before .before .before .before .before .pre .1) (one-inside (c .before .before .before .before .before .args .codes .now) (c .before .before .before .before .before .args .p) (c .before .before .token .result) 24 (c .before .before .token .ensures) (c .before .if1 .taken) (omega arith)))
+
 atom-enum-known-inner : (t : ℕ) → atom-lts.Need-enum-known-inner (
   token-reads.Asked,
   token-reads.Learnt,
@@ -202,6 +206,7 @@ atom-enum-known-inner : (t : ℕ) → atom-lts.Need-enum-known-inner (
   put-reads.Learnt,
 ) (atom-at t) atom.Post
 atom-enum-known-inner t c = search needs
+
 atom-enum-told : (t : ℕ) → atom-lts.Need-enum-told (
   token-reads.Asked,
   token-reads.Learnt,
@@ -215,6 +220,7 @@ atom-enum-told : (t : ℕ) → atom-lts.Need-enum-told (
   put-reads.Learnt,
 ) (atom-at t) atom.Post
 atom-enum-told t c = search needs
+
 atom-same-length : (t : ℕ) → atom-lts.Need-same-length (
   token-reads.Asked,
   token-reads.Learnt,
@@ -228,6 +234,7 @@ atom-same-length : (t : ℕ) → atom-lts.Need-same-length (
   put-reads.Learnt,
 ) (atom-at t) atom.Post
 atom-same-length t c = search needs
+
 atom-returns : (t : ℕ) → atom-lts.Need-returns (
   token-reads.Asked,
   token-reads.Learnt,
@@ -241,6 +248,7 @@ atom-returns : (t : ℕ) → atom-lts.Need-returns (
   put-reads.Learnt,
 ) (atom-at t) atom.Post
 atom-returns t c = atom-nested (c .before .before .before .before .before .before .before .before .before .before .pre .1) (c .before .before .before .before .before .before .before .token .result) (c .before .before .before .before .before .before .before .token .ensures) (c .before .before .before .before .before .before .if1 .taken) (c .before .before .before .before .expression .ensures) (expects-refused (c .before .before .before .before .before .before .before .before .before .before .args .codes .now) (c .before .before .before .before .expression .result) 25 (c .enum-told .given .1))
+
 atom-token-requires-2 : (t : ℕ) → atom-lts.Need-token-requires-2 (
   token-reads.Asked,
   token-reads.Learnt,
@@ -254,6 +262,7 @@ atom-token-requires-2 : (t : ℕ) → atom-lts.Need-token-requires-2 (
   put-reads.Learnt,
 ) (atom-at t) atom.Post
 atom-token-requires-2 t c κs = search needs
+
 atom-add-t16 : (t : ℕ) → atom-lts.Need-add-t16 (
   token-reads.Asked,
   token-reads.Learnt,
@@ -267,6 +276,7 @@ atom-add-t16 : (t : ℕ) → atom-lts.Need-add-t16 (
   put-reads.Learnt,
 ) (atom-at t) atom.Post
 atom-add-t16 t c = omega (arith, c .before .before .before .before .before .before .before .before .before .before .before .before .before .pre .1 .small, reads-at (c .before .before .before .before .before .before .before .expression .ensures) (c .before .before .before .inner .given .1))
+
 atom-same-length-2 : (t : ℕ) → atom-lts.Need-same-length-2 (
   token-reads.Asked,
   token-reads.Learnt,
@@ -280,6 +290,7 @@ atom-same-length-2 : (t : ℕ) → atom-lts.Need-same-length-2 (
   put-reads.Learnt,
 ) (atom-at t) atom.Post
 atom-same-length-2 t c = search needs
+
 atom-returns-2 : (t : ℕ) → atom-lts.Need-returns-2 (
   token-reads.Asked,
   token-reads.Learnt,
@@ -293,6 +304,7 @@ atom-returns-2 : (t : ℕ) → atom-lts.Need-returns-2 (
   put-reads.Learnt,
 ) (atom-at t) atom.Post
 atom-returns-2 t c = atom-nested (c .before .before .before .before .before .before .before .before .before .before .before .before .before .pre .1) (c .before .before .before .before .before .before .before .before .before .before .token .result) (c .before .before .before .before .before .before .before .before .before .before .token .ensures) (c .before .before .before .before .before .before .before .before .before .if1 .taken) (c .before .before .before .before .before .before .before .expression .ensures) (expects-there (c .before .before .before .before .before .before .before .before .before .before .before .before .before .args .codes .now) (c .before .before .before .before .before .before .before .expression .result) 25 (c .before .before .before .inner .given .1) (c .before .token2 .result) (c .before .token2 .ensures) (omega arith) (sound-of (c .before .before .before .before .before .before .before .expression .result) (onward (c .before .before .before .before .before .before .before .before .before .before .before .before .before .pre .1) (one-inside (c .before .before .before .before .before .before .before .before .before .before .before .before .before .args .codes .now) (c .before .before .before .before .before .before .before .before .before .before .before .before .before .args .p) (c .before .before .before .before .before .before .before .before .before .before .token .result) 24 (c .before .before .before .before .before .before .before .before .before .before .token .ensures) (c .before .before .before .before .before .before .before .before .before .if1 .taken) (omega arith))) (c .before .before .before .before .before .before .before .expression .ensures .ahead)) (c .if2 .taken))
+
 atom-same-length-3 : (t : ℕ) → atom-lts.Need-same-length-3 (
   token-reads.Asked,
   token-reads.Learnt,
@@ -306,6 +318,7 @@ atom-same-length-3 : (t : ℕ) → atom-lts.Need-same-length-3 (
   put-reads.Learnt,
 ) (atom-at t) atom.Post
 atom-same-length-3 t c = search needs
+
 atom-returns-3 : (t : ℕ) → atom-lts.Need-returns-3 (
   token-reads.Asked,
   token-reads.Learnt,
@@ -319,6 +332,7 @@ atom-returns-3 : (t : ℕ) → atom-lts.Need-returns-3 (
   put-reads.Learnt,
 ) (atom-at t) atom.Post
 atom-returns-3 t c = atom-nested (c .before .before .before .before .before .before .before .before .before .before .before .before .before .pre .1) (c .before .before .before .before .before .before .before .before .before .before .token .result) (c .before .before .before .before .before .before .before .before .before .before .token .ensures) (c .before .before .before .before .before .before .before .before .before .if1 .taken) (c .before .before .before .before .before .before .before .expression .ensures) (expects-not (c .before .before .before .before .before .before .before .before .before .before .before .before .before .args .codes .now) (c .before .before .before .before .before .before .before .expression .result) 25 (c .before .before .before .inner .given .1) (c .before .token2 .result) (c .before .token2 .ensures) (c .if2 .left))
+
 atom-atom-label-requires : (t : ℕ) → atom-lts.Need-atom-label-requires (
   token-reads.Asked,
   token-reads.Learnt,
@@ -332,6 +346,7 @@ atom-atom-label-requires : (t : ℕ) → atom-lts.Need-atom-label-requires (
   put-reads.Learnt,
 ) (atom-at t) atom.Post
 atom-atom-label-requires t c κs = search needs
+
 atom-returns-4 : (t : ℕ) → atom-lts.Need-returns-4 (
   token-reads.Asked,
   token-reads.Learnt,
@@ -345,6 +360,7 @@ atom-returns-4 : (t : ℕ) → atom-lts.Need-returns-4 (
   put-reads.Learnt,
 ) (atom-at t) atom.Post
 atom-returns-4 t c = atom-none (c .before .before .before .before .before .before .pre .1) (c .before .before .before .token .result) (c .before .before .before .token .ensures) (c .before .atom-label .result) (c .before .before .if1 .left) (c .before .atom-label .ensures) (c .if3 .taken)
+
 atom-packed-requires : (t : ℕ) → atom-lts.Need-packed-requires (
   token-reads.Asked,
   token-reads.Learnt,
@@ -358,6 +374,7 @@ atom-packed-requires : (t : ℕ) → atom-lts.Need-packed-requires (
   put-reads.Learnt,
 ) (atom-at t) atom.Post
 atom-packed-requires t c κs = (label-small (c .before .before .atom-label .result) (c .before .before .before .before .token .result) (c .before .before .atom-label .ensures), omega (arith, c .before .before .before .before .before .before .before .pre .1 .small, c .before .before .before .before .before .before .before .pre .1 .within), omega arith)
+
 atom-put-requires : (t : ℕ) → atom-lts.Need-put-requires (
   token-reads.Asked,
   token-reads.Learnt,
@@ -371,6 +388,7 @@ atom-put-requires : (t : ℕ) → atom-lts.Need-put-requires (
   put-reads.Learnt,
 ) (atom-at t) atom.Post
 atom-put-requires t c κs = search needs
+
 atom-add-t21 : (t : ℕ) → atom-lts.Need-add-t21 (
   token-reads.Asked,
   token-reads.Learnt,
@@ -384,6 +402,7 @@ atom-add-t21 : (t : ℕ) → atom-lts.Need-add-t21 (
   put-reads.Learnt,
 ) (atom-at t) atom.Post
 atom-add-t21 t c = omega (arith, c .before .before .before .before .before .before .before .before .before .before .before .pre .1 .small, c .before .before .before .before .before .before .before .before .before .before .before .pre .1 .within, c .before .before .before .before .before .before .before .before .before .before .before .pre .1 .behind)
+
 atom-add-t22 : (t : ℕ) → atom-lts.Need-add-t22 (
   token-reads.Asked,
   token-reads.Learnt,
@@ -397,6 +416,7 @@ atom-add-t22 : (t : ℕ) → atom-lts.Need-add-t22 (
   put-reads.Learnt,
 ) (atom-at t) atom.Post
 atom-add-t22 t c = omega (arith, c .before .before .before .before .before .before .before .before .before .before .before .pre .1 .small, c .before .before .before .before .before .before .before .before .before .before .before .pre .1 .within, c .before .before .before .before .before .before .before .before .before .before .before .pre .1 .behind)
+
 atom-same-length-4 : (t : ℕ) → atom-lts.Need-same-length-4 (
   token-reads.Asked,
   token-reads.Learnt,
@@ -410,6 +430,7 @@ atom-same-length-4 : (t : ℕ) → atom-lts.Need-same-length-4 (
   put-reads.Learnt,
 ) (atom-at t) atom.Post
 atom-same-length-4 t c = search needs
+
 atom-returns-5 : (t : ℕ) → atom-lts.Need-returns-5 (
   token-reads.Asked,
   token-reads.Learnt,
@@ -423,6 +444,7 @@ atom-returns-5 : (t : ℕ) → atom-lts.Need-returns-5 (
   put-reads.Learnt,
 ) (atom-at t) atom.Post
 atom-returns-5 t c = atom-row (c .before .before .before .before .before .before .before .before .before .before .before .pre .1) (c .before .before .before .before .before .before .before .before .token .result) (c .before .before .before .before .before .before .before .before .token .ensures) (c .before .before .before .before .before .before .atom-label .result) (c .before .before .before .packed .result) (c .before .before .before .before .before .before .before .if1 .left) (c .before .before .before .before .before .before .atom-label .ensures) (c .before .before .before .before .before .if3 .left) (c .before .before .before .packed .ensures) (c .before .before .put .ensures)
+
 compared-token-requires : (t : ℕ) → compared-lts.Need-token-requires (
   token-reads.Asked,
   token-reads.Learnt,
@@ -436,6 +458,7 @@ compared-token-requires : (t : ℕ) → compared-lts.Need-token-requires (
   sum.Post,
 ) (compared-at t) compared.Post
 compared-token-requires t c κs = search needs
+
 compared-is-comparison-requires : (t : ℕ) → compared-lts.Need-is-comparison-requires (
   token-reads.Asked,
   token-reads.Learnt,
@@ -449,6 +472,7 @@ compared-is-comparison-requires : (t : ℕ) → compared-lts.Need-is-comparison-
   sum.Post,
 ) (compared-at t) compared.Post
 compared-is-comparison-requires t c κs = search needs
+
 compared-packed-requires : (t : ℕ) → compared-lts.Need-packed-requires (
   token-reads.Asked,
   token-reads.Learnt,
@@ -462,6 +486,7 @@ compared-packed-requires : (t : ℕ) → compared-lts.Need-packed-requires (
   sum.Post,
 ) (compared-at t) compared.Post
 compared-packed-requires t c κs = (omega arith, omega (arith, c .before .before .before .before .before .before .pre .1 .small, c .before .before .before .before .before .before .pre .1 .within), omega arith)
+
 compared-put-requires : (t : ℕ) → compared-lts.Need-put-requires (
   token-reads.Asked,
   token-reads.Learnt,
@@ -475,6 +500,7 @@ compared-put-requires : (t : ℕ) → compared-lts.Need-put-requires (
   sum.Post,
 ) (compared-at t) compared.Post
 compared-put-requires t c κs = search needs
+
 compared-add-sum : (t : ℕ) → compared-lts.Need-add-sum (
   token-reads.Asked,
   token-reads.Learnt,
@@ -488,6 +514,7 @@ compared-add-sum : (t : ℕ) → compared-lts.Need-add-sum (
   sum.Post,
 ) (compared-at t) compared.Post
 compared-add-sum t c = omega (arith, c .before .before .before .before .before .before .before .before .before .before .before .pre .1 .small, c .before .before .before .before .before .before .before .before .before .before .before .pre .1 .within, c .before .before .before .before .before .before .before .before .before .before .before .pre .1 .behind)
+
 compared-add-sum-2 : (t : ℕ) → compared-lts.Need-add-sum-2 (
   token-reads.Asked,
   token-reads.Learnt,
@@ -501,6 +528,7 @@ compared-add-sum-2 : (t : ℕ) → compared-lts.Need-add-sum-2 (
   sum.Post,
 ) (compared-at t) compared.Post
 compared-add-sum-2 t c = omega (arith, c .before .before .before .before .before .before .before .before .before .before .before .pre .1 .small, c .before .before .before .before .before .before .before .before .before .before .before .pre .1 .within, c .before .before .before .before .before .before .before .before .before .before .before .pre .1 .behind)
+
 compared-sum-requires : (t : ℕ) → compared-lts.Need-sum-requires (
   token-reads.Asked,
   token-reads.Learnt,
@@ -514,6 +542,7 @@ compared-sum-requires : (t : ℕ) → compared-lts.Need-sum-requires (
   sum.Post,
 ) (compared-at t) compared.Post
 compared-sum-requires t c κs = (omega (arith, c .before .before .before .before .before .before .before .before .before .before .before .pre .0, (comparison-inside (c .before .before .before .before .before .before .before .before .before .before .before .pre .1) (c .before .before .before .before .before .before .before .is-comparison .result) (c .before .before .before .before .before .before .before .before .token .result) (c .before .before .before .before .before .before .before .before .token .ensures) (c .before .before .before .before .before .before .before .is-comparison .ensures) (c .before .before .before .before .before .before .if1 .taken))), onward-row (c .before .before .before .before .before .before .before .before .before .before .before .pre .1) (comparison-inside (c .before .before .before .before .before .before .before .before .before .before .before .pre .1) (c .before .before .before .before .before .before .before .is-comparison .result) (c .before .before .before .before .before .before .before .before .token .result) (c .before .before .before .before .before .before .before .before .token .ensures) (c .before .before .before .before .before .before .before .is-comparison .ensures) (c .before .before .before .before .before .before .if1 .taken)))
+
 compared-same-length : (t : ℕ) → compared-lts.Need-same-length (
   token-reads.Asked,
   token-reads.Learnt,
@@ -527,6 +556,7 @@ compared-same-length : (t : ℕ) → compared-lts.Need-same-length (
   sum.Post,
 ) (compared-at t) compared.Post
 compared-same-length t c = search needs
+
 compared-returns : (t : ℕ) → compared-lts.Need-returns (
   token-reads.Asked,
   token-reads.Learnt,
@@ -540,6 +570,7 @@ compared-returns : (t : ℕ) → compared-lts.Need-returns (
   sum.Post,
 ) (compared-at t) compared.Post
 compared-returns t c = compared-there (c .before .before .before .before .before .before .before .before .before .before .before .before .before .before .pre .1) (c .before .before .before .before .before .before .before .before .before .before .is-comparison .result) (c .before .before .before .before .before .before .before .before .before .before .before .token .result) (c .before .before .before .before .before .before .before .before .before .before .before .token .ensures) (c .before .before .before .before .before .before .before .before .before .before .is-comparison .ensures) (c .before .before .before .before .before .before .before .packed .result) (c .before .before .before .before .before .before .before .before .before .if1 .taken) (c .before .before .before .before .before .before .before .packed .ensures) (c .before .before .before .before .before .before .put .ensures) (c .before .before .sum .ensures)
+
 compared-returns-2 : (t : ℕ) → compared-lts.Need-returns-2 (
   token-reads.Asked,
   token-reads.Learnt,
@@ -553,6 +584,7 @@ compared-returns-2 : (t : ℕ) → compared-lts.Need-returns-2 (
   sum.Post,
 ) (compared-at t) compared.Post
 compared-returns-2 t c = compared-not (c .before .before .before .before .before .pre .1) (c .before .is-comparison .result) (c .before .before .token .result) (c .before .before .token .ensures) (c .before .is-comparison .ensures) (c .if1 .left)
+
 expression-sum-requires : (t : ℕ) → expression-lts.Need-sum-requires (
   sum-below t,
   sum.Post,
@@ -564,6 +596,7 @@ expression-sum-requires : (t : ℕ) → expression-lts.Need-sum-requires (
   node-reads.Learnt,
 ) (expression-at t) expression.Post
 expression-sum-requires t c κs = (omega (arith, c .before .before .before .pre .0), c .before .before .before .pre .1)
+
 expression-enum-known-left : (t : ℕ) → expression-lts.Need-enum-known-left (
   sum-below t,
   sum.Post,
@@ -575,6 +608,7 @@ expression-enum-known-left : (t : ℕ) → expression-lts.Need-enum-known-left (
   node-reads.Learnt,
 ) (expression-at t) expression.Post
 expression-enum-known-left t c = search needs
+
 expression-enum-told : (t : ℕ) → expression-lts.Need-enum-told (
   sum-below t,
   sum.Post,
@@ -586,6 +620,7 @@ expression-enum-told : (t : ℕ) → expression-lts.Need-enum-told (
   node-reads.Learnt,
 ) (expression-at t) expression.Post
 expression-enum-told t c = search needs
+
 expression-same-length : (t : ℕ) → expression-lts.Need-same-length (
   sum-below t,
   sum.Post,
@@ -597,6 +632,7 @@ expression-same-length : (t : ℕ) → expression-lts.Need-same-length (
   node-reads.Learnt,
 ) (expression-at t) expression.Post
 expression-same-length t c = search needs
+
 expression-returns : (t : ℕ) → expression-lts.Need-returns (
   sum-below t,
   sum.Post,
@@ -608,6 +644,7 @@ expression-returns : (t : ℕ) → expression-lts.Need-returns (
   node-reads.Learnt,
 ) (expression-at t) expression.Post
 expression-returns t c = once-refused expression′ sum′ relations refl (c .before .before .before .before .before .before .before .before .pre .1) (c .before .before .before .before .sum .ensures) (c .enum-told .given .1)
+
 expression-token-requires : (t : ℕ) → expression-lts.Need-token-requires (
   sum-below t,
   sum.Post,
@@ -619,6 +656,7 @@ expression-token-requires : (t : ℕ) → expression-lts.Need-token-requires (
   node-reads.Learnt,
 ) (expression-at t) expression.Post
 expression-token-requires t c κs = search needs
+
 expression-is-relation-requires : (t : ℕ) → expression-lts.Need-is-relation-requires (
   sum-below t,
   sum.Post,
@@ -630,6 +668,7 @@ expression-is-relation-requires : (t : ℕ) → expression-lts.Need-is-relation-
   node-reads.Learnt,
 ) (expression-at t) expression.Post
 expression-is-relation-requires t c κs = search needs
+
 expression-add-sum : (t : ℕ) → expression-lts.Need-add-sum (
   sum-below t,
   sum.Post,
@@ -641,6 +680,7 @@ expression-add-sum : (t : ℕ) → expression-lts.Need-add-sum (
   node-reads.Learnt,
 ) (expression-at t) expression.Post
 expression-add-sum t c = omega (arith, c .before .before .before .before .before .before .before .before .before .before .before .before .before .pre .1 .small, reads-at (c .before .before .before .before .before .before .before .before .before .sum .ensures) (c .before .before .before .before .before .left .given .1))
+
 expression-sum-requires-2 : (t : ℕ) → expression-lts.Need-sum-requires-2 (
   sum-below t,
   sum.Post,
@@ -653,6 +693,7 @@ expression-sum-requires-2 : (t : ℕ) → expression-lts.Need-sum-requires-2 (
 ) (expression-at t) expression.Post
 unfolding mem
 expression-sum-requires-2 t c κs = (omega (arith, c .before .before .before .before .before .before .before .before .before .before .before .before .before .pre .0, reads-at (c .before .before .before .before .before .before .before .before .before .sum .ensures) (c .before .before .before .before .before .left .given .1), (inside (c .before .before .before .before .before .before .before .before .before .before .before .before .before .args .codes .now) relations (c .before .before .before .before .before .left .given .0 .0) refl (seen (c .before .before .before .before .before .before .before .before .before .before .before .before .before .args .codes .now) (c .before .before .before .before .before .left .given .0 .0) relations (c .before .before .before .token .ensures) (c .before .before .is-relation .ensures) (c .before .if1 .taken)))), onward (ready-of (c .before .before .before .before .before .before .before .before .before .before .before .before .before .pre .1) (c .before .before .before .before .before .before .before .before .before .sum .ensures .ahead) (c .before .before .before .before .before .left .given .1)) (inside (c .before .before .before .before .before .before .before .before .before .before .before .before .before .args .codes .now) relations (c .before .before .before .before .before .left .given .0 .0) refl (seen (c .before .before .before .before .before .before .before .before .before .before .before .before .before .args .codes .now) (c .before .before .before .before .before .left .given .0 .0) relations (c .before .before .before .token .ensures) (c .before .before .is-relation .ensures) (c .before .if1 .taken))))
+
 expression-node-requires : (t : ℕ) → expression-lts.Need-node-requires (
   sum-below t,
   sum.Post,
@@ -665,6 +706,7 @@ expression-node-requires : (t : ℕ) → expression-lts.Need-node-requires (
 ) (expression-at t) expression.Post
 unfolding mem
 expression-node-requires t c κs = (counts-of (c .before .before .before .sum2 .result) (onward (ready-of (c .before .before .before .before .before .before .before .before .before .before .before .before .before .before .before .before .before .pre .1) (c .before .before .before .before .before .before .before .before .before .before .before .before .before .sum .ensures .ahead) (c .before .before .before .before .before .before .before .before .before .left .given .1)) (inside (c .before .before .before .before .before .before .before .before .before .before .before .before .before .before .before .before .before .args .codes .now) relations (c .before .before .before .before .before .before .before .before .before .left .given .0 .0) refl (seen (c .before .before .before .before .before .before .before .before .before .before .before .before .before .before .before .before .before .args .codes .now) (c .before .before .before .before .before .before .before .before .before .left .given .0 .0) relations (c .before .before .before .before .before .before .before .token .ensures) (c .before .before .before .before .before .before .is-relation .ensures) (c .before .before .before .before .before .if1 .taken)))) (c .before .before .before .sum2 .ensures .ahead), omega arith, omega (arith, c .before .before .before .before .before .before .before .before .before .before .before .before .before .before .before .before .before .pre .1 .small, reads-at (c .before .before .before .before .before .before .before .before .before .before .before .before .before .sum .ensures) (c .before .before .before .before .before .before .before .before .before .left .given .1)))
+
 expression-same-length-2 : (t : ℕ) → expression-lts.Need-same-length-2 (
   sum-below t,
   sum.Post,
@@ -676,6 +718,7 @@ expression-same-length-2 : (t : ℕ) → expression-lts.Need-same-length-2 (
   node-reads.Learnt,
 ) (expression-at t) expression.Post
 expression-same-length-2 t c = search needs
+
 expression-returns-2 : (t : ℕ) → expression-lts.Need-returns-2 (
   sum-below t,
   sum.Post,
@@ -688,6 +731,7 @@ expression-returns-2 : (t : ℕ) → expression-lts.Need-returns-2 (
 ) (expression-at t) expression.Post
 unfolding mem
 expression-returns-2 t c = once-both expression′ sum′ relations refl (c .before .before .before .before .before .before .before .before .before .before .before .before .before .before .before .before .before .before .before .before .pre .1) (c .before .before .before .before .before .before .before .before .before .before .before .before .before .before .before .before .sum .ensures) (c .before .before .before .before .before .before .before .before .before .before .before .before .left .given .1) (seen (c .before .before .before .before .before .before .before .before .before .before .before .before .before .before .before .before .before .before .before .before .args .codes .now) (c .before .before .before .before .before .before .before .before .before .before .before .before .left .given .0 .0) relations (c .before .before .before .before .before .before .before .before .before .before .token .ensures) (c .before .before .before .before .before .before .before .before .before .is-relation .ensures) (c .before .before .before .before .before .before .before .before .if1 .taken)) (omega (arith, (inside (c .before .before .before .before .before .before .before .before .before .before .before .before .before .before .before .before .before .before .before .before .args .codes .now) relations (c .before .before .before .before .before .before .before .before .before .before .before .before .left .given .0 .0) refl (seen (c .before .before .before .before .before .before .before .before .before .before .before .before .before .before .before .before .before .before .before .before .args .codes .now) (c .before .before .before .before .before .before .before .before .before .before .before .before .left .given .0 .0) relations (c .before .before .before .before .before .before .before .before .before .before .token .ensures) (c .before .before .before .before .before .before .before .before .before .is-relation .ensures) (c .before .before .before .before .before .before .before .before .if1 .taken))))) (c .before .before .before .before .before .before .sum2 .ensures) (c .before .before .node .ensures)
+
 expression-same-length-3 : (t : ℕ) → expression-lts.Need-same-length-3 (
   sum-below t,
   sum.Post,
@@ -699,6 +743,7 @@ expression-same-length-3 : (t : ℕ) → expression-lts.Need-same-length-3 (
   node-reads.Learnt,
 ) (expression-at t) expression.Post
 expression-same-length-3 t c = search needs
+
 expression-returns-3 : (t : ℕ) → expression-lts.Need-returns-3 (
   sum-below t,
   sum.Post,
@@ -716,6 +761,7 @@ factor-Inv-loop codes rows₀ p n q₀ m₀ rows q m = (length rows ≡ length r
 
 abbrev factor-μ-loop : factor-lts.MeasureT-loop
 factor-μ-loop codes rows₀ p n q₀ m₀ rows q m = length codes - q
+
 factor-loop-holds : (t : ℕ) → factor-lts.Need-loop-holds (
   operand-below t,
   operand.Post,
@@ -725,6 +771,7 @@ factor-loop-holds : (t : ℕ) → factor-lts.Need-loop-holds (
   token-reads.Learnt,
 ) (factor-at t) factor.Post factor-Inv-loop factor-μ-loop
 factor-loop-holds t c = (refl, before-first (c .before .before .pre .1))
+
 factor-operand-requires : (t : ℕ) → factor-lts.Need-operand-requires (
   operand-below t,
   operand.Post,
@@ -734,6 +781,7 @@ factor-operand-requires : (t : ℕ) → factor-lts.Need-operand-requires (
   token-reads.Learnt,
 ) (factor-at t) factor.Post factor-Inv-loop factor-μ-loop
 factor-operand-requires t c κs = (omega (arith, c .before .before .before .before .pre .0, c .before .loop .inv .1 .from), c .before .loop .inv .1 .ready)
+
 factor-enum-known-right : (t : ℕ) → factor-lts.Need-enum-known-right (
   operand-below t,
   operand.Post,
@@ -743,6 +791,7 @@ factor-enum-known-right : (t : ℕ) → factor-lts.Need-enum-known-right (
   token-reads.Learnt,
 ) (factor-at t) factor.Post factor-Inv-loop factor-μ-loop
 factor-enum-known-right t c = search needs
+
 factor-enum-told : (t : ℕ) → factor-lts.Need-enum-told (
   operand-below t,
   operand.Post,
@@ -752,6 +801,7 @@ factor-enum-told : (t : ℕ) → factor-lts.Need-enum-told (
   token-reads.Learnt,
 ) (factor-at t) factor.Post factor-Inv-loop factor-μ-loop
 factor-enum-told t c = search needs
+
 factor-same-length : (t : ℕ) → factor-lts.Need-same-length (
   operand-below t,
   operand.Post,
@@ -761,6 +811,7 @@ factor-same-length : (t : ℕ) → factor-lts.Need-same-length (
   token-reads.Learnt,
 ) (factor-at t) factor.Post factor-Inv-loop factor-μ-loop
 factor-same-length t c = search needs
+
 factor-returns : (t : ℕ) → factor-lts.Need-returns (
   operand-below t,
   operand.Post,
@@ -770,6 +821,7 @@ factor-returns : (t : ℕ) → factor-lts.Need-returns (
   token-reads.Learnt,
 ) (factor-at t) factor.Post factor-Inv-loop factor-μ-loop
 factor-returns t c = turned-refused factor′ operand′ power refl (c .before .before .before .before .before .before .before .before .before .pre .1) (c .before .before .before .before .before .before .loop .inv .1) (c .before .before .before .before .operand .ensures) (c .enum-told .given .1)
+
 factor-combined-requires : (t : ℕ) → factor-lts.Need-combined-requires (
   operand-below t,
   operand.Post,
@@ -779,6 +831,7 @@ factor-combined-requires : (t : ℕ) → factor-lts.Need-combined-requires (
   token-reads.Learnt,
 ) (factor-at t) factor.Post factor-Inv-loop factor-μ-loop
 factor-combined-requires t c κs = combinable (c .before .before .before .before .before .before .before .before .loop .inv .1) (c .before .before .before .before .before .before .operand .ensures) (c .before .before .right .given .1)
+
 factor-same-length-2 : (t : ℕ) → factor-lts.Need-same-length-2 (
   operand-below t,
   operand.Post,
@@ -788,6 +841,7 @@ factor-same-length-2 : (t : ℕ) → factor-lts.Need-same-length-2 (
   token-reads.Learnt,
 ) (factor-at t) factor.Post factor-Inv-loop factor-μ-loop
 factor-same-length-2 t c = search needs
+
 factor-returns-2 : (t : ℕ) → factor-lts.Need-returns-2 (
   operand-below t,
   operand.Post,
@@ -797,6 +851,7 @@ factor-returns-2 : (t : ℕ) → factor-lts.Need-returns-2 (
   token-reads.Learnt,
 ) (factor-at t) factor.Post factor-Inv-loop factor-μ-loop
 factor-returns-2 t c = turned-both factor′ operand′ power refl (c .before .before .before .before .before .before .before .before .before .before .before .before .before .before .before .pre .1) (c .before .before .before .before .before .before .before .before .before .before .before .before .loop .inv .1) (c .before .before .before .before .before .before .before .before .before .before .operand .ensures) (c .before .before .before .before .before .before .right .given .1) (c .before .before .before .combined .ensures) (c .if1 .taken)
+
 factor-token-requires : (t : ℕ) → factor-lts.Need-token-requires (
   operand-below t,
   operand.Post,
@@ -806,6 +861,7 @@ factor-token-requires : (t : ℕ) → factor-lts.Need-token-requires (
   token-reads.Learnt,
 ) (factor-at t) factor.Post factor-Inv-loop factor-μ-loop
 factor-token-requires t c κs = search needs
+
 factor-same-length-3 : (t : ℕ) → factor-lts.Need-same-length-3 (
   operand-below t,
   operand.Post,
@@ -815,6 +871,7 @@ factor-same-length-3 : (t : ℕ) → factor-lts.Need-same-length-3 (
   token-reads.Learnt,
 ) (factor-at t) factor.Post factor-Inv-loop factor-μ-loop
 factor-same-length-3 t c = search needs
+
 factor-returns-3 : (t : ℕ) → factor-lts.Need-returns-3 (
   operand-below t,
   operand.Post,
@@ -824,6 +881,7 @@ factor-returns-3 : (t : ℕ) → factor-lts.Need-returns-3 (
   token-reads.Learnt,
 ) (factor-at t) factor.Post factor-Inv-loop factor-μ-loop
 factor-returns-3 t c = turned-alone factor′ operand′ power refl (c .before .before .before .before .before .before .before .before .before .before .before .before .before .before .before .before .before .pre .1) (c .before .before .before .before .before .before .before .before .before .before .before .before .before .before .loop .inv .1) (c .before .before .before .before .before .before .before .before .before .before .before .before .operand .ensures) (c .before .before .before .before .before .before .before .before .right .given .1) (c .before .before .before .before .before .combined .ensures) (c .before .before .if1 .left) (seen-other (c .before .before .before .before .before .before .before .before .before .before .before .before .before .before .before .before .before .args .codes .now) (c .before .before .before .before .before .before .before .before .right .given .0 .0) 32 (c .before .token .ensures) (c .if2 .taken))
+
 factor-add-q : (t : ℕ) → factor-lts.Need-add-q (
   operand-below t,
   operand.Post,
@@ -833,6 +891,7 @@ factor-add-q : (t : ℕ) → factor-lts.Need-add-q (
   token-reads.Learnt,
 ) (factor-at t) factor.Post factor-Inv-loop factor-μ-loop
 factor-add-q t c = omega (arith, c .before .before .before .before .before .before .before .before .before .before .before .before .before .before .before .before .before .pre .1 .small, reads-at (c .before .before .before .before .before .before .before .before .before .before .before .before .operand .ensures) (c .before .before .before .before .before .before .before .before .right .given .1))
+
 factor-loop-less : (t : ℕ) → factor-lts.Need-loop-less (
   operand-below t,
   operand.Post,
@@ -842,6 +901,7 @@ factor-loop-less : (t : ℕ) → factor-lts.Need-loop-less (
   token-reads.Learnt,
 ) (factor-at t) factor.Post factor-Inv-loop factor-μ-loop
 factor-loop-less t c = omega (arith, reads-at (c .before .before .before .before .before .before .before .before .before .before .before .before .operand .ensures) (c .before .before .before .before .before .before .before .before .right .given .1))
+
 factor-loop-again : (t : ℕ) → factor-lts.Need-loop-again (
   operand-below t,
   operand.Post,
@@ -852,6 +912,7 @@ factor-loop-again : (t : ℕ) → factor-lts.Need-loop-again (
 ) (factor-at t) factor.Post factor-Inv-loop factor-μ-loop
 unfolding mem
 factor-loop-again t c = (search needs, turned-again factor′ operand′ power refl (c .before .before .before .before .before .before .before .before .before .before .before .before .before .before .before .before .before .pre .1) (c .before .before .before .before .before .before .before .before .before .before .before .before .before .before .loop .inv .1) (c .before .before .before .before .before .before .before .before .before .before .before .before .operand .ensures) (c .before .before .before .before .before .before .before .before .right .given .1) (c .before .before .before .before .before .combined .ensures) (c .before .before .if1 .left) refl (seen-one (c .before .before .before .before .before .before .before .before .before .before .before .before .before .before .before .before .before .args .codes .now) (c .before .before .before .before .before .before .before .before .right .given .0 .0) 32 (c .before .token .ensures) (c .if2 .left)))
+
 interval-add-sum : (t : ℕ) → interval-lts.Need-add-sum (
   sum-below t,
   sum.Post,
@@ -863,6 +924,7 @@ interval-add-sum : (t : ℕ) → interval-lts.Need-add-sum (
   node-reads.Learnt,
 ) (interval-at t) interval.Post
 interval-add-sum t c = omega (arith, c .before .before .before .pre .1 .0 .small, c .before .before .before .pre .1 .0 .within)
+
 interval-sum-requires : (t : ℕ) → interval-lts.Need-sum-requires (
   sum-below t,
   sum.Post,
@@ -874,6 +936,7 @@ interval-sum-requires : (t : ℕ) → interval-lts.Need-sum-requires (
   node-reads.Learnt,
 ) (interval-at t) interval.Post
 interval-sum-requires t c κs = (omega (arith, c .before .before .before .pre .0, (one-inside (c .before .before .before .args .codes .now) (c .before .before .before .args .p) (getD (c .before .before .before .args .codes .now) (c .before .before .before .args .p) 0) 21 refl (c .before .before .before .pre .1 .1) (omega arith))), onward (c .before .before .before .pre .1 .0) (one-inside (c .before .before .before .args .codes .now) (c .before .before .before .args .p) (getD (c .before .before .before .args .codes .now) (c .before .before .before .args .p) 0) 21 refl (c .before .before .before .pre .1 .1) (omega arith)))
+
 interval-enum-known-low : (t : ℕ) → interval-lts.Need-enum-known-low (
   sum-below t,
   sum.Post,
@@ -885,6 +948,7 @@ interval-enum-known-low : (t : ℕ) → interval-lts.Need-enum-known-low (
   node-reads.Learnt,
 ) (interval-at t) interval.Post
 interval-enum-known-low t c = search needs
+
 interval-enum-told : (t : ℕ) → interval-lts.Need-enum-told (
   sum-below t,
   sum.Post,
@@ -896,6 +960,7 @@ interval-enum-told : (t : ℕ) → interval-lts.Need-enum-told (
   node-reads.Learnt,
 ) (interval-at t) interval.Post
 interval-enum-told t c = search needs
+
 interval-same-length : (t : ℕ) → interval-lts.Need-same-length (
   sum-below t,
   sum.Post,
@@ -907,6 +972,7 @@ interval-same-length : (t : ℕ) → interval-lts.Need-same-length (
   node-reads.Learnt,
 ) (interval-at t) interval.Post
 interval-same-length t c = search needs
+
 interval-returns : (t : ℕ) → interval-lts.Need-returns (
   sum-below t,
   sum.Post,
@@ -918,6 +984,7 @@ interval-returns : (t : ℕ) → interval-lts.Need-returns (
   node-reads.Learnt,
 ) (interval-at t) interval.Post
 interval-returns t c = low-refused (c .before .before .before .before .before .before .before .before .pre .1 .0) (c .before .before .before .before .before .before .before .before .pre .1 .1) (c .before .before .before .before .sum .ensures) (c .enum-told .given .1)
+
 interval-compared-requires : (t : ℕ) → interval-lts.Need-compared-requires (
   sum-below t,
   sum.Post,
@@ -929,6 +996,7 @@ interval-compared-requires : (t : ℕ) → interval-lts.Need-compared-requires (
   node-reads.Learnt,
 ) (interval-at t) interval.Post
 interval-compared-requires t c κs = (omega (arith, c .before .before .before .before .before .before .before .before .before .before .pre .0, reads-at (c .before .before .before .before .before .before .sum .ensures) (c .before .before .low .given .1)), (ready-of (onward (c .before .before .before .before .before .before .before .before .before .before .pre .1 .0) (one-inside (c .before .before .before .before .before .before .before .before .before .before .args .codes .now) (c .before .before .before .before .before .before .before .before .before .before .args .p) (getD (c .before .before .before .before .before .before .before .before .before .before .args .codes .now) (c .before .before .before .before .before .before .before .before .before .before .args .p) 0) 21 refl (c .before .before .before .before .before .before .before .before .before .before .pre .1 .1) (omega arith))) (c .before .before .before .before .before .before .sum .ensures .ahead) (c .before .before .low .given .1)))
+
 interval-enum-known-item : (t : ℕ) → interval-lts.Need-enum-known-item (
   sum-below t,
   sum.Post,
@@ -940,6 +1008,7 @@ interval-enum-known-item : (t : ℕ) → interval-lts.Need-enum-known-item (
   node-reads.Learnt,
 ) (interval-at t) interval.Post
 interval-enum-known-item t c = search needs
+
 interval-enum-told-2 : (t : ℕ) → interval-lts.Need-enum-told-2 (
   sum-below t,
   sum.Post,
@@ -951,6 +1020,7 @@ interval-enum-told-2 : (t : ℕ) → interval-lts.Need-enum-told-2 (
   node-reads.Learnt,
 ) (interval-at t) interval.Post
 interval-enum-told-2 t c = search needs
+
 interval-same-length-2 : (t : ℕ) → interval-lts.Need-same-length-2 (
   sum-below t,
   sum.Post,
@@ -962,6 +1032,7 @@ interval-same-length-2 : (t : ℕ) → interval-lts.Need-same-length-2 (
   node-reads.Learnt,
 ) (interval-at t) interval.Post
 interval-same-length-2 t c = search needs
+
 interval-returns-2 : (t : ℕ) → interval-lts.Need-returns-2 (
   sum-below t,
   sum.Post,
@@ -973,6 +1044,7 @@ interval-returns-2 : (t : ℕ) → interval-lts.Need-returns-2 (
   node-reads.Learnt,
 ) (interval-at t) interval.Post
 interval-returns-2 t c = item-refused (c .before .before .before .before .before .before .before .before .before .before .before .before .before .before .before .pre .1 .0) (c .before .before .before .before .before .before .before .before .before .before .before .before .before .before .before .pre .1 .1) (c .before .before .before .before .before .before .before .before .before .before .before .sum .ensures) (c .before .before .before .before .before .before .before .low .given .1) (c .before .before .before .before .compared .ensures) (c .enum-told2 .given .1)
+
 interval-compared-requires-2 : (t : ℕ) → interval-lts.Need-compared-requires-2 (
   sum-below t,
   sum.Post,
@@ -984,6 +1056,7 @@ interval-compared-requires-2 : (t : ℕ) → interval-lts.Need-compared-requires
   node-reads.Learnt,
 ) (interval-at t) interval.Post
 interval-compared-requires-2 t c κs = (omega (arith, c .before .before .before .before .before .before .before .before .before .before .before .before .before .before .before .before .before .pre .0, reads-at (c .before .before .before .before .before .before .before .before .before .before .before .before .before .sum .ensures) (c .before .before .before .before .before .before .before .before .before .low .given .1), compares-at (c .before .before .before .before .before .before .compared .ensures) (c .before .before .item .given .1)), (ready-of (ready-of (onward (c .before .before .before .before .before .before .before .before .before .before .before .before .before .before .before .before .before .pre .1 .0) (one-inside (c .before .before .before .before .before .before .before .before .before .before .before .before .before .before .before .before .before .args .codes .now) (c .before .before .before .before .before .before .before .before .before .before .before .before .before .before .before .before .before .args .p) (getD (c .before .before .before .before .before .before .before .before .before .before .before .before .before .before .before .before .before .args .codes .now) (c .before .before .before .before .before .before .before .before .before .before .before .before .before .before .before .before .before .args .p) 0) 21 refl (c .before .before .before .before .before .before .before .before .before .before .before .before .before .before .before .before .before .pre .1 .1) (omega arith))) (c .before .before .before .before .before .before .before .before .before .before .before .before .before .sum .ensures .ahead) (c .before .before .before .before .before .before .before .before .before .low .given .1)) (c .before .before .before .before .before .before .compared .ensures .ahead) (c .before .before .item .given .1)))
+
 interval-expect-requires : (t : ℕ) → interval-lts.Need-expect-requires (
   sum-below t,
   sum.Post,
@@ -995,6 +1068,7 @@ interval-expect-requires : (t : ℕ) → interval-lts.Need-expect-requires (
   node-reads.Learnt,
 ) (interval-at t) interval.Post
 interval-expect-requires t c κs = (sound-of (c .before .before .compared2 .result) (ready-of (ready-of (onward (c .before .before .before .before .before .before .before .before .before .before .before .before .before .before .before .before .before .before .before .before .pre .1 .0) (one-inside (c .before .before .before .before .before .before .before .before .before .before .before .before .before .before .before .before .before .before .before .before .args .codes .now) (c .before .before .before .before .before .before .before .before .before .before .before .before .before .before .before .before .before .before .before .before .args .p) (getD (c .before .before .before .before .before .before .before .before .before .before .before .before .before .before .before .before .before .before .before .before .args .codes .now) (c .before .before .before .before .before .before .before .before .before .before .before .before .before .before .before .before .before .before .before .before .args .p) 0) 21 refl (c .before .before .before .before .before .before .before .before .before .before .before .before .before .before .before .before .before .before .before .before .pre .1 .1) (omega arith))) (c .before .before .before .before .before .before .before .before .before .before .before .before .before .before .before .before .sum .ensures .ahead) (c .before .before .before .before .before .before .before .before .before .before .before .before .low .given .1)) (c .before .before .before .before .before .before .before .before .before .compared .ensures .ahead) (c .before .before .before .before .before .item .given .1)) (c .before .before .compared2 .ensures .ahead), omega arith)
+
 interval-node-requires : (t : ℕ) → interval-lts.Need-node-requires (
   sum-below t,
   sum.Post,
@@ -1006,6 +1080,7 @@ interval-node-requires : (t : ℕ) → interval-lts.Need-node-requires (
   node-reads.Learnt,
 ) (interval-at t) interval.Post
 interval-node-requires t c κs = (counts-sound (c .before .before .before .before .before .before .before .before .before .before .before .before .before .before .before .before .before .before .before .before .before .before .args .codes .now) (c .before .expect .result) (c .before .expect .ensures .sound), omega arith, omega (arith, c .before .before .before .before .before .before .before .before .before .before .before .before .before .before .before .before .before .before .before .before .before .before .pre .1 .0 .small, c .before .before .before .before .before .before .before .before .before .before .before .before .before .before .before .before .before .before .before .before .before .before .pre .1 .0 .within))
+
 interval-same-length-3 : (t : ℕ) → interval-lts.Need-same-length-3 (
   sum-below t,
   sum.Post,
@@ -1017,6 +1092,7 @@ interval-same-length-3 : (t : ℕ) → interval-lts.Need-same-length-3 (
   node-reads.Learnt,
 ) (interval-at t) interval.Post
 interval-same-length-3 t c = search needs
+
 interval-returns-3 : (t : ℕ) → interval-lts.Need-returns-3 (
   sum-below t,
   sum.Post,
@@ -1028,6 +1104,7 @@ interval-returns-3 : (t : ℕ) → interval-lts.Need-returns-3 (
   node-reads.Learnt,
 ) (interval-at t) interval.Post
 interval-returns-3 t c = interval-whole (c .before .before .before .before .before .before .before .before .before .before .before .before .before .before .before .before .before .before .before .before .before .before .before .before .before .pre .1 .0) (c .before .before .before .before .before .before .before .before .before .before .before .before .before .before .before .before .before .before .before .before .before .before .before .before .before .pre .1 .1) (c .before .before .before .before .before .before .before .before .before .before .before .before .before .before .before .before .before .before .before .before .before .sum .ensures) (c .before .before .before .before .before .before .before .before .before .before .before .before .before .before .before .before .before .low .given .1) (c .before .before .before .before .before .before .before .before .before .before .before .before .before .before .compared .ensures) (c .before .before .before .before .before .before .before .before .before .before .item .given .1) (c .before .before .before .before .before .before .before .compared2 .ensures) (c .before .before .before .before .expect .ensures) (c .before .before .node .ensures) (counts-sound (c .before .before .before .before .before .before .before .before .before .before .before .before .before .before .before .before .before .before .before .before .before .before .before .before .before .args .codes .now) (c .before .before .before .before .expect .result) (c .before .before .before .before .expect .ensures .sound))
+
 operand-token-requires : (t : ℕ) → operand-lts.Need-token-requires (
   token-reads.Asked,
   token-reads.Learnt,
@@ -1045,6 +1122,7 @@ operand-token-requires : (t : ℕ) → operand-lts.Need-token-requires (
   atom.Post,
 ) (operand-at t) operand.Post
 operand-token-requires t c κs = search needs
+
 operand-is-qualified-requires : (t : ℕ) → operand-lts.Need-is-qualified-requires (
   token-reads.Asked,
   token-reads.Learnt,
@@ -1062,6 +1140,7 @@ operand-is-qualified-requires : (t : ℕ) → operand-lts.Need-is-qualified-requ
   atom.Post,
 ) (operand-at t) operand.Post
 operand-is-qualified-requires t c κs = omega (arith, c .before .before .before .pre .1 .small, c .before .before .before .pre .1 .within)
+
 operand-add-t9 : (t : ℕ) → operand-lts.Need-add-t9 (
   token-reads.Asked,
   token-reads.Learnt,
@@ -1079,6 +1158,7 @@ operand-add-t9 : (t : ℕ) → operand-lts.Need-add-t9 (
   atom.Post,
 ) (operand-at t) operand.Post
 operand-add-t9 t c = omega (arith, c .before .before .before .before .before .before .pre .1 .small, c .before .before .before .before .before .before .pre .1 .within)
+
 operand-leaf-requires : (t : ℕ) → operand-lts.Need-leaf-requires (
   token-reads.Asked,
   token-reads.Learnt,
@@ -1096,6 +1176,7 @@ operand-leaf-requires : (t : ℕ) → operand-lts.Need-leaf-requires (
   atom.Post,
 ) (operand-at t) operand.Post
 operand-leaf-requires t c κs = (item-ready (c .before .before .before .before .before .before .pre .1) (c .before .before .is-qualified .result) (c .before .before .is-qualified .ensures) (c .before .if1 .taken), omega arith)
+
 operand-same-length : (t : ℕ) → operand-lts.Need-same-length (
   token-reads.Asked,
   token-reads.Learnt,
@@ -1113,6 +1194,7 @@ operand-same-length : (t : ℕ) → operand-lts.Need-same-length (
   atom.Post,
 ) (operand-at t) operand.Post
 operand-same-length t c = search needs
+
 operand-returns : (t : ℕ) → operand-lts.Need-returns (
   token-reads.Asked,
   token-reads.Learnt,
@@ -1130,6 +1212,7 @@ operand-returns : (t : ℕ) → operand-lts.Need-returns (
   atom.Post,
 ) (operand-at t) operand.Post
 operand-returns t c = operand-item (c .before .before .before .before .before .before .before .before .before .pre .1) (c .before .before .before .before .before .is-qualified .result) (c .before .before .before .before .before .is-qualified .ensures) (c .before .before .before .before .if1 .taken) (c .before .before .leaf .ensures)
+
 operand-interval-requires : (t : ℕ) → operand-lts.Need-interval-requires (
   token-reads.Asked,
   token-reads.Learnt,
@@ -1147,6 +1230,7 @@ operand-interval-requires : (t : ℕ) → operand-lts.Need-interval-requires (
   atom.Post,
 ) (operand-at t) operand.Post
 operand-interval-requires t c κs = (omega (arith, c .before .before .before .before .before .before .before .pre .0), (c .before .before .before .before .before .before .before .pre .1, sym (c .before .before .before .before .token .ensures) ∙ c .before .if2 .taken))
+
 operand-same-length-2 : (t : ℕ) → operand-lts.Need-same-length-2 (
   token-reads.Asked,
   token-reads.Learnt,
@@ -1164,6 +1248,7 @@ operand-same-length-2 : (t : ℕ) → operand-lts.Need-same-length-2 (
   atom.Post,
 ) (operand-at t) operand.Post
 operand-same-length-2 t c = search needs
+
 operand-returns-2 : (t : ℕ) → operand-lts.Need-returns-2 (
   token-reads.Asked,
   token-reads.Learnt,
@@ -1181,6 +1266,7 @@ operand-returns-2 : (t : ℕ) → operand-lts.Need-returns-2 (
   atom.Post,
 ) (operand-at t) operand.Post
 operand-returns-2 t c = operand-interval (c .before .before .before .before .before .before .before .before .before .before .pre .1) (c .before .before .before .before .before .before .is-qualified .result) (c .before .before .before .before .before .before .is-qualified .ensures) (c .before .before .before .before .before .if1 .left) (c .before .before .before .before .before .before .before .token .result) (c .before .before .before .before .before .before .before .token .ensures) (c .before .before .before .before .if2 .taken) (c .before .before .interval .ensures)
+
 operand-is-sign-requires : (t : ℕ) → operand-lts.Need-is-sign-requires (
   token-reads.Asked,
   token-reads.Learnt,
@@ -1198,6 +1284,7 @@ operand-is-sign-requires : (t : ℕ) → operand-lts.Need-is-sign-requires (
   atom.Post,
 ) (operand-at t) operand.Post
 operand-is-sign-requires t c κs = search needs
+
 operand-signed-requires : (t : ℕ) → operand-lts.Need-signed-requires (
   token-reads.Asked,
   token-reads.Learnt,
@@ -1215,6 +1302,7 @@ operand-signed-requires : (t : ℕ) → operand-lts.Need-signed-requires (
   atom.Post,
 ) (operand-at t) operand.Post
 operand-signed-requires t c κs = (omega (arith, c .before .before .before .before .before .before .before .before .before .pre .0), (c .before .before .before .before .before .before .before .before .before .pre .1, seen (c .before .before .before .before .before .before .before .before .before .args .codes .now) (c .before .before .before .before .before .before .before .before .before .args .p) signs (c .before .before .before .before .before .before .token .ensures) (c .before .before .is-sign .ensures) (c .before .if3 .taken)))
+
 operand-same-length-3 : (t : ℕ) → operand-lts.Need-same-length-3 (
   token-reads.Asked,
   token-reads.Learnt,
@@ -1232,6 +1320,7 @@ operand-same-length-3 : (t : ℕ) → operand-lts.Need-same-length-3 (
   atom.Post,
 ) (operand-at t) operand.Post
 operand-same-length-3 t c = search needs
+
 operand-returns-3 : (t : ℕ) → operand-lts.Need-returns-3 (
   token-reads.Asked,
   token-reads.Learnt,
@@ -1249,6 +1338,7 @@ operand-returns-3 : (t : ℕ) → operand-lts.Need-returns-3 (
   atom.Post,
 ) (operand-at t) operand.Post
 operand-returns-3 t c = c .before .before .signed .ensures
+
 operand-atom-requires : (t : ℕ) → operand-lts.Need-atom-requires (
   token-reads.Asked,
   token-reads.Learnt,
@@ -1266,6 +1356,7 @@ operand-atom-requires : (t : ℕ) → operand-lts.Need-atom-requires (
   atom.Post,
 ) (operand-at t) operand.Post
 operand-atom-requires t c κs = (omega (arith, c .before .before .before .before .before .before .before .before .before .pre .0), c .before .before .before .before .before .before .before .before .before .pre .1)
+
 operand-same-length-4 : (t : ℕ) → operand-lts.Need-same-length-4 (
   token-reads.Asked,
   token-reads.Learnt,
@@ -1283,6 +1374,7 @@ operand-same-length-4 : (t : ℕ) → operand-lts.Need-same-length-4 (
   atom.Post,
 ) (operand-at t) operand.Post
 operand-same-length-4 t c = search needs
+
 operand-returns-4 : (t : ℕ) → operand-lts.Need-returns-4 (
   token-reads.Asked,
   token-reads.Learnt,
@@ -1306,6 +1398,7 @@ sum-Inv-loop codes rows₀ p n q₀ m₀ rows q m = (length rows ≡ length rows
 
 abbrev sum-μ-loop : sum-lts.MeasureT-loop
 sum-μ-loop codes rows₀ p n q₀ m₀ rows q m = length codes - q
+
 sum-loop-holds : (t : ℕ) → sum-lts.Need-loop-holds (
   term-below t,
   term.Post,
@@ -1317,6 +1410,7 @@ sum-loop-holds : (t : ℕ) → sum-lts.Need-loop-holds (
   is-addition-reads.Learnt,
 ) (sum-at t) sum.Post sum-Inv-loop sum-μ-loop
 sum-loop-holds t c = (refl, before-first (c .before .before .pre .1))
+
 sum-term-requires : (t : ℕ) → sum-lts.Need-term-requires (
   term-below t,
   term.Post,
@@ -1328,6 +1422,7 @@ sum-term-requires : (t : ℕ) → sum-lts.Need-term-requires (
   is-addition-reads.Learnt,
 ) (sum-at t) sum.Post sum-Inv-loop sum-μ-loop
 sum-term-requires t c κs = (omega (arith, c .before .before .before .before .pre .0, c .before .loop .inv .1 .from), c .before .loop .inv .1 .ready)
+
 sum-enum-known-right : (t : ℕ) → sum-lts.Need-enum-known-right (
   term-below t,
   term.Post,
@@ -1339,6 +1434,7 @@ sum-enum-known-right : (t : ℕ) → sum-lts.Need-enum-known-right (
   is-addition-reads.Learnt,
 ) (sum-at t) sum.Post sum-Inv-loop sum-μ-loop
 sum-enum-known-right t c = search needs
+
 sum-enum-told : (t : ℕ) → sum-lts.Need-enum-told (
   term-below t,
   term.Post,
@@ -1350,6 +1446,7 @@ sum-enum-told : (t : ℕ) → sum-lts.Need-enum-told (
   is-addition-reads.Learnt,
 ) (sum-at t) sum.Post sum-Inv-loop sum-μ-loop
 sum-enum-told t c = search needs
+
 sum-same-length : (t : ℕ) → sum-lts.Need-same-length (
   term-below t,
   term.Post,
@@ -1361,6 +1458,7 @@ sum-same-length : (t : ℕ) → sum-lts.Need-same-length (
   is-addition-reads.Learnt,
 ) (sum-at t) sum.Post sum-Inv-loop sum-μ-loop
 sum-same-length t c = search needs
+
 sum-returns : (t : ℕ) → sum-lts.Need-returns (
   term-below t,
   term.Post,
@@ -1372,6 +1470,7 @@ sum-returns : (t : ℕ) → sum-lts.Need-returns (
   is-addition-reads.Learnt,
 ) (sum-at t) sum.Post sum-Inv-loop sum-μ-loop
 sum-returns t c = often-refused sum′ term′ additions refl (express .ok sum′ .1) (c .before .before .before .before .before .before .before .before .before .pre .1) (c .before .before .before .before .before .before .loop .inv .1) (c .before .before .before .before .term .ensures) (c .enum-told .given .1)
+
 sum-combined-requires : (t : ℕ) → sum-lts.Need-combined-requires (
   term-below t,
   term.Post,
@@ -1383,6 +1482,7 @@ sum-combined-requires : (t : ℕ) → sum-lts.Need-combined-requires (
   is-addition-reads.Learnt,
 ) (sum-at t) sum.Post sum-Inv-loop sum-μ-loop
 sum-combined-requires t c κs = combinable (c .before .before .before .before .before .before .before .before .loop .inv .1) (c .before .before .before .before .before .before .term .ensures) (c .before .before .right .given .1)
+
 sum-token-requires : (t : ℕ) → sum-lts.Need-token-requires (
   term-below t,
   term.Post,
@@ -1394,6 +1494,7 @@ sum-token-requires : (t : ℕ) → sum-lts.Need-token-requires (
   is-addition-reads.Learnt,
 ) (sum-at t) sum.Post sum-Inv-loop sum-μ-loop
 sum-token-requires t c κs = search needs
+
 sum-is-addition-requires : (t : ℕ) → sum-lts.Need-is-addition-requires (
   term-below t,
   term.Post,
@@ -1405,6 +1506,7 @@ sum-is-addition-requires : (t : ℕ) → sum-lts.Need-is-addition-requires (
   is-addition-reads.Learnt,
 ) (sum-at t) sum.Post sum-Inv-loop sum-μ-loop
 sum-is-addition-requires t c κs = search needs
+
 sum-same-length-2 : (t : ℕ) → sum-lts.Need-same-length-2 (
   term-below t,
   term.Post,
@@ -1416,6 +1518,7 @@ sum-same-length-2 : (t : ℕ) → sum-lts.Need-same-length-2 (
   is-addition-reads.Learnt,
 ) (sum-at t) sum.Post sum-Inv-loop sum-μ-loop
 sum-same-length-2 t c = search needs
+
 sum-returns-2 : (t : ℕ) → sum-lts.Need-returns-2 (
   term-below t,
   term.Post,
@@ -1427,6 +1530,7 @@ sum-returns-2 : (t : ℕ) → sum-lts.Need-returns-2 (
   is-addition-reads.Learnt,
 ) (sum-at t) sum.Post sum-Inv-loop sum-μ-loop
 sum-returns-2 t c = often-ends sum′ term′ additions refl (express .ok sum′ .1) (c .before .before .before .before .before .before .before .before .before .before .before .before .before .before .before .before .before .pre .1) (c .before .before .before .before .before .before .before .before .before .before .before .before .before .before .loop .inv .1) (c .before .before .before .before .before .before .before .before .before .before .before .before .term .ensures) (c .before .before .before .before .before .before .before .before .right .given .1) (c .before .before .before .before .before .combined .ensures) (seen (c .before .before .before .before .before .before .before .before .before .before .before .before .before .before .before .before .before .args .codes .now) (c .before .before .before .before .before .before .before .before .right .given .0 .0) additions (c .before .before .token .ensures) (c .before .is-addition .ensures) (not-true (c .before .is-addition .result) (c .if1 .taken)))
+
 sum-add-q : (t : ℕ) → sum-lts.Need-add-q (
   term-below t,
   term.Post,
@@ -1438,6 +1542,7 @@ sum-add-q : (t : ℕ) → sum-lts.Need-add-q (
   is-addition-reads.Learnt,
 ) (sum-at t) sum.Post sum-Inv-loop sum-μ-loop
 sum-add-q t c = omega (arith, c .before .before .before .before .before .before .before .before .before .before .before .before .before .before .before .before .before .pre .1 .small, reads-at (c .before .before .before .before .before .before .before .before .before .before .before .before .term .ensures) (c .before .before .before .before .before .before .before .before .right .given .1))
+
 sum-loop-less : (t : ℕ) → sum-lts.Need-loop-less (
   term-below t,
   term.Post,
@@ -1449,6 +1554,7 @@ sum-loop-less : (t : ℕ) → sum-lts.Need-loop-less (
   is-addition-reads.Learnt,
 ) (sum-at t) sum.Post sum-Inv-loop sum-μ-loop
 sum-loop-less t c = omega (arith, reads-at (c .before .before .before .before .before .before .before .before .before .before .before .before .term .ensures) (c .before .before .before .before .before .before .before .before .right .given .1))
+
 sum-loop-again : (t : ℕ) → sum-lts.Need-loop-again (
   term-below t,
   term.Post,
@@ -1467,6 +1573,7 @@ term-Inv-loop codes rows₀ p n q₀ m₀ rows q m = (length rows ≡ length row
 
 abbrev term-μ-loop : term-lts.MeasureT-loop
 term-μ-loop codes rows₀ p n q₀ m₀ rows q m = length codes - q
+
 term-loop-holds : (t : ℕ) → term-lts.Need-loop-holds (
   factor-below t,
   factor.Post,
@@ -1478,6 +1585,7 @@ term-loop-holds : (t : ℕ) → term-lts.Need-loop-holds (
   is-multiplication-reads.Learnt,
 ) (term-at t) term.Post term-Inv-loop term-μ-loop
 term-loop-holds t c = (refl, before-first (c .before .before .pre .1))
+
 term-factor-requires : (t : ℕ) → term-lts.Need-factor-requires (
   factor-below t,
   factor.Post,
@@ -1489,6 +1597,7 @@ term-factor-requires : (t : ℕ) → term-lts.Need-factor-requires (
   is-multiplication-reads.Learnt,
 ) (term-at t) term.Post term-Inv-loop term-μ-loop
 term-factor-requires t c κs = (omega (arith, c .before .before .before .before .pre .0, c .before .loop .inv .1 .from), c .before .loop .inv .1 .ready)
+
 term-enum-known-right : (t : ℕ) → term-lts.Need-enum-known-right (
   factor-below t,
   factor.Post,
@@ -1500,6 +1609,7 @@ term-enum-known-right : (t : ℕ) → term-lts.Need-enum-known-right (
   is-multiplication-reads.Learnt,
 ) (term-at t) term.Post term-Inv-loop term-μ-loop
 term-enum-known-right t c = search needs
+
 term-enum-told : (t : ℕ) → term-lts.Need-enum-told (
   factor-below t,
   factor.Post,
@@ -1511,6 +1621,7 @@ term-enum-told : (t : ℕ) → term-lts.Need-enum-told (
   is-multiplication-reads.Learnt,
 ) (term-at t) term.Post term-Inv-loop term-μ-loop
 term-enum-told t c = search needs
+
 term-same-length : (t : ℕ) → term-lts.Need-same-length (
   factor-below t,
   factor.Post,
@@ -1522,6 +1633,7 @@ term-same-length : (t : ℕ) → term-lts.Need-same-length (
   is-multiplication-reads.Learnt,
 ) (term-at t) term.Post term-Inv-loop term-μ-loop
 term-same-length t c = search needs
+
 term-returns : (t : ℕ) → term-lts.Need-returns (
   factor-below t,
   factor.Post,
@@ -1533,6 +1645,7 @@ term-returns : (t : ℕ) → term-lts.Need-returns (
   is-multiplication-reads.Learnt,
 ) (term-at t) term.Post term-Inv-loop term-μ-loop
 term-returns t c = often-refused term′ factor′ multiplications refl (express .ok term′ .1) (c .before .before .before .before .before .before .before .before .before .pre .1) (c .before .before .before .before .before .before .loop .inv .1) (c .before .before .before .before .factor .ensures) (c .enum-told .given .1)
+
 term-combined-requires : (t : ℕ) → term-lts.Need-combined-requires (
   factor-below t,
   factor.Post,
@@ -1544,6 +1657,7 @@ term-combined-requires : (t : ℕ) → term-lts.Need-combined-requires (
   is-multiplication-reads.Learnt,
 ) (term-at t) term.Post term-Inv-loop term-μ-loop
 term-combined-requires t c κs = combinable (c .before .before .before .before .before .before .before .before .loop .inv .1) (c .before .before .before .before .before .before .factor .ensures) (c .before .before .right .given .1)
+
 term-token-requires : (t : ℕ) → term-lts.Need-token-requires (
   factor-below t,
   factor.Post,
@@ -1555,6 +1669,7 @@ term-token-requires : (t : ℕ) → term-lts.Need-token-requires (
   is-multiplication-reads.Learnt,
 ) (term-at t) term.Post term-Inv-loop term-μ-loop
 term-token-requires t c κs = search needs
+
 term-is-multiplication-requires : (t : ℕ) → term-lts.Need-is-multiplication-requires (
   factor-below t,
   factor.Post,
@@ -1566,6 +1681,7 @@ term-is-multiplication-requires : (t : ℕ) → term-lts.Need-is-multiplication-
   is-multiplication-reads.Learnt,
 ) (term-at t) term.Post term-Inv-loop term-μ-loop
 term-is-multiplication-requires t c κs = search needs
+
 term-same-length-2 : (t : ℕ) → term-lts.Need-same-length-2 (
   factor-below t,
   factor.Post,
@@ -1577,6 +1693,7 @@ term-same-length-2 : (t : ℕ) → term-lts.Need-same-length-2 (
   is-multiplication-reads.Learnt,
 ) (term-at t) term.Post term-Inv-loop term-μ-loop
 term-same-length-2 t c = search needs
+
 term-returns-2 : (t : ℕ) → term-lts.Need-returns-2 (
   factor-below t,
   factor.Post,
@@ -1588,6 +1705,7 @@ term-returns-2 : (t : ℕ) → term-lts.Need-returns-2 (
   is-multiplication-reads.Learnt,
 ) (term-at t) term.Post term-Inv-loop term-μ-loop
 term-returns-2 t c = often-ends term′ factor′ multiplications refl (express .ok term′ .1) (c .before .before .before .before .before .before .before .before .before .before .before .before .before .before .before .before .before .pre .1) (c .before .before .before .before .before .before .before .before .before .before .before .before .before .before .loop .inv .1) (c .before .before .before .before .before .before .before .before .before .before .before .before .factor .ensures) (c .before .before .before .before .before .before .before .before .right .given .1) (c .before .before .before .before .before .combined .ensures) (seen (c .before .before .before .before .before .before .before .before .before .before .before .before .before .before .before .before .before .args .codes .now) (c .before .before .before .before .before .before .before .before .right .given .0 .0) multiplications (c .before .before .token .ensures) (c .before .is-multiplication .ensures) (not-true (c .before .is-multiplication .result) (c .if1 .taken)))
+
 term-add-q : (t : ℕ) → term-lts.Need-add-q (
   factor-below t,
   factor.Post,
@@ -1599,6 +1717,7 @@ term-add-q : (t : ℕ) → term-lts.Need-add-q (
   is-multiplication-reads.Learnt,
 ) (term-at t) term.Post term-Inv-loop term-μ-loop
 term-add-q t c = omega (arith, c .before .before .before .before .before .before .before .before .before .before .before .before .before .before .before .before .before .pre .1 .small, reads-at (c .before .before .before .before .before .before .before .before .before .before .before .before .factor .ensures) (c .before .before .before .before .before .before .before .before .right .given .1))
+
 term-loop-less : (t : ℕ) → term-lts.Need-loop-less (
   factor-below t,
   factor.Post,
@@ -1610,6 +1729,7 @@ term-loop-less : (t : ℕ) → term-lts.Need-loop-less (
   is-multiplication-reads.Learnt,
 ) (term-at t) term.Post term-Inv-loop term-μ-loop
 term-loop-less t c = omega (arith, reads-at (c .before .before .before .before .before .before .before .before .before .before .before .before .factor .ensures) (c .before .before .before .before .before .before .before .before .right .given .1))
+
 term-loop-again : (t : ℕ) → term-lts.Need-loop-again (
   factor-below t,
   factor.Post,

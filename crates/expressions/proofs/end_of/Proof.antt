@@ -6,10 +6,13 @@ use Rattle.expressions.proofs.end_of.Lts as lts
 use mathlib.Core.Path.{refl}
 use borrow.Author.Tests.{lt-ltb, le-ltb}
 use native.Mathlib.Omega.{arith}
+
 add-result : tie.Need-add-result
 add-result c = search needs
+
 returns : tie.Need-returns
 returns c = rw (lt-ltb (c .before .args .deep) (c .before .args .length) (c .if1 .taken)) refl
+
 returns-2 : tie.Need-returns-2
 returns-2 c = rw (le-ltb (c .before .args .deep) (c .before .args .length) (omega arith)) refl
 

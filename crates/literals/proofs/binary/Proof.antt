@@ -7,16 +7,22 @@ use Rattle.literals.proofs.numeral_of.Reads as numeral-of-reads
 use Rattle.literals.proofs.Numerals.{binary-over, binary-none, binary-is}
 use mathlib.Core.Path.{_∙_}
 use native.Mathlib.Omega.{arith}
+
 returns : tie.Need-returns
 returns c = binary-over (c .before .before .args .s .now) (c .before .before .args .start) (c .before .before .args .length) (c .if1 .taken)
+
 returns-2 : tie.Need-returns-2
 returns-2 c = binary-none (c .before .before .before .args .s .now) (c .before .before .before .args .start) (c .before .before .before .args .length) (c .if2 .taken)
+
 add-numeral-of : tie.Need-add-numeral-of
 add-numeral-of c = omega arith
+
 sub-numeral-of : tie.Need-sub-numeral-of
 sub-numeral-of c = omega arith
+
 numeral-of-requires : tie.Need-numeral-of-requires
 numeral-of-requires c κs = (omega arith, omega arith)
+
 returns-3 : tie.Need-returns-3
 returns-3 c = c .numeral-of .ensures ∙ binary-is (c .before .before .before .before .args .s .now) (c .before .before .before .before .args .start) (c .before .before .before .before .args .length) (c .before .before .if1 .left) (c .before .if2 .left)
 

@@ -8,14 +8,19 @@ use Rattle.literals.proofs.zeros.Reads as zeros-reads
 use Rattle.literals.proofs.Numerals.{integer-is}
 use Rattle.literals.specs.Literal.{capped}
 use mathlib.Core.Path.{ap, _∙_}
+
 zeros-requires : tie.Need-zeros-requires
 zeros-requires c κs = search needs
+
 add-numeral-of : tie.Need-add-numeral-of
 add-numeral-of c = search needs
+
 sub-numeral-of : tie.Need-sub-numeral-of
 sub-numeral-of c = search needs
+
 numeral-of-requires : tie.Need-numeral-of-requires
 numeral-of-requires c κs = search needs
+
 returns : tie.Need-returns
 returns c = c .numeral-of .ensures ∙ ap capped (c .before .zeros .ensures .is) ∙ integer-is (c .before .before .before .args .s .now) (c .before .before .before .args .start) (c .before .before .before .args .length)
 

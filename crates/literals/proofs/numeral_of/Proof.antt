@@ -16,32 +16,46 @@ Inv-loop s start length base i₀ left₀ v₀ i left v = (v ≤ most) × (cappe
 
 abbrev μ-loop : tie.MeasureT-loop
 μ-loop s start length base i₀ left₀ v₀ i left v = size s - i
+
 loop-holds : tie.Need-loop-holds Inv-loop μ-loop
 loop-holds c = (omega arith, refl)
+
 returns : tie.Need-returns Inv-loop μ-loop
 returns c = capped-fits _ (c .before .before .loop .inv .0) ∙ ap capped (sym (numeral-none (c .before .before .before .before .args .base) (c .before .before .before .before .args .s .now) (c .before .before .loop .i) (c .before .before .loop .left) (c .before .before .loop .v) (c .if1 .taken))) ∙ c .before .before .loop .inv .1
+
 shared-slice-read-digit : tie.Need-shared-slice-read-digit Inv-loop μ-loop
 shared-slice-read-digit c = omega arith
+
 digit-requires : tie.Need-digit-requires Inv-loop μ-loop
 digit-requires c κs = tt
+
 sub-if2 : tie.Need-sub-if2 Inv-loop μ-loop
 sub-if2 c = omega (arith, c .digit .ensures .1)
+
 div-if2 : tie.Need-div-if2 Inv-loop μ-loop
 div-if2 c = c .before .before .before .before .before .before .pre .0
+
 returns-2 : tie.Need-returns-2 Inv-loop μ-loop
 returns-2 c = capped-over _ (c .before .before .before .before .before .before .before .pre .0) _ _ (digit-over _ (c .before .before .before .before .before .before .before .pre .0) _ _ (c .before .digit .ensures .1) (c .if2 .taken)) ∙ ap capped (sym (numeral-more _ _ _ _ _ _ (c .before .before .before .before .loop-test .taken) (c .before .before .before .if1 .left) (c .before .digit .ensures .0))) ∙ c .before .before .before .before .before .loop .inv .1
+
 mul-v : tie.Need-mul-v Inv-loop μ-loop
 mul-v c = omega (arith, (digit-fits _ (c .before .before .before .before .before .before .before .pre .0) _ _ (c .before .digit .ensures .1) (c .if2 .left)))
+
 add-v : tie.Need-add-v Inv-loop μ-loop
 add-v c = omega (arith, (digit-fits _ (c .before .before .before .before .before .before .before .pre .0) _ _ (c .before .digit .ensures .1) (c .if2 .left)))
+
 add-i : tie.Need-add-i Inv-loop μ-loop
 add-i c = omega arith
+
 sub-left : tie.Need-sub-left Inv-loop μ-loop
 sub-left c = omega arith
+
 loop-less : tie.Need-loop-less Inv-loop μ-loop
 loop-less c = omega arith
+
 loop-again : tie.Need-loop-again Inv-loop μ-loop
 loop-again c = ((digit-fits _ (c .before .before .before .before .before .before .before .pre .0) _ _ (c .before .digit .ensures .1) (c .if2 .left)), ap capped (sym (numeral-more _ _ _ _ _ _ (c .before .before .before .before .loop-test .taken) (c .before .before .before .if1 .left) (c .before .digit .ensures .0))) ∙ c .before .before .before .before .before .loop .inv .1)
+
 returns-3 : tie.Need-returns-3 Inv-loop μ-loop
 returns-3 c = capped-fits _ (c .before .loop .inv .0) ∙ ap capped (sym (numeral-over (c .before .before .before .args .base) (c .before .before .before .args .s .now) (c .before .loop .i) (c .before .loop .left) (c .before .loop .v) (c .loop-test .left))) ∙ c .before .loop .inv .1
 

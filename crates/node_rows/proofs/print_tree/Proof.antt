@@ -9,18 +9,25 @@ use Rattle.terminals.proofs.terminals.Reads as terminals-reads
 use mathlib.Core.Path.{sym}
 use native.Mathlib.Omega.{arith}
 use lib.Seq.{length-take-le}
+
 slice-aggregate-terminals : tie.Need-slice-aggregate-terminals
 slice-aggregate-terminals c = search needs
+
 terminals-requires : tie.Need-terminals-requires
 terminals-requires c κs = search needs
+
 shorter-requires : tie.Need-shorter-requires
 shorter-requires c κs = search needs
+
 array-share-prefix-codes : tie.Need-array-share-prefix-codes
 array-share-prefix-codes c = search needs
+
 slice-aggregate-print-nodes : tie.Need-slice-aggregate-print-nodes
 slice-aggregate-print-nodes c = sym (length-take-le _ _ (omega (arith, c .before .shorter .ensures)))
+
 print-nodes-requires : tie.Need-print-nodes-requires
 print-nodes-requires c κs = search needs
+
 returns : tie.Need-returns
 returns c = search needs
 

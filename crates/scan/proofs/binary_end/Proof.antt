@@ -12,20 +12,27 @@ use Rattle.scan.specs.Scan.{member}
 use Rattle.scan.specs.declared.Class.the-variants.{Bit}
 use Rattle.express.proofs.tokens.Places.{run-low}
 use native.Mathlib.Omega.{arith}
+
 add-run-end : tie.Need-add-run-end
 add-run-end c = search needs
+
 run-end-requires : tie.Need-run-end-requires
 run-end-requires c κs = search needs
+
 add-bits : tie.Need-add-bits
 add-bits c = search needs
+
 sub-bits : tie.Need-sub-bits
 sub-bits c = omega (arith, c .run-end .ensures, run-low (member Bit) (c .before .before .args .s .now) (c .before .before .args .at + 1))
+
 returns : tie.Need-returns
 unfolding end-of-binary
 returns c = rw (← c .before .run-end .ensures, eq-eqb _ _ (c .if1 .taken))
+
 returns-2 : tie.Need-returns-2
 unfolding end-of-binary
 returns-2 c = rw (← c .before .before .run-end .ensures, ne-eqb _ _ (c .before .if1 .left), lt-leb _ _ (c .if2 .taken))
+
 returns-3 : tie.Need-returns-3
 unfolding end-of-binary
 returns-3 c = rw (← c .before .before .run-end .ensures, ne-eqb _ _ (c .before .if1 .left), le-leb _ _ (c .if2 .left))

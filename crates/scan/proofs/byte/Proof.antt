@@ -5,10 +5,13 @@ use Rattle.scan.proofs.byte.Reads as reads
 use Rattle.scan.proofs.byte.Lts as lts
 use mathlib.Core.Path.{sym}
 use lib.ListN.{List·getD-eq-default}
+
 shared-slice-read-result : tie.Need-shared-slice-read-result
 shared-slice-read-result c = search needs
+
 returns : tie.Need-returns
 returns c = search needs
+
 returns-2 : tie.Need-returns-2
 returns-2 c = sym (List·getD-eq-default (c .before .args .s .now) 0 (c .if1 .left))
 

@@ -16,24 +16,34 @@ use Rattle.express.specs.tokens.Lexis.{end-of-exponent, digits-of-exponent, run
 use Rattle.scan.proofs.Numbers.{exponent-over, exponent-none, exponent-bare, exponent-is}
 use Rattle.scan.specs.Scan.{member}
 use Rattle.scan.specs.declared.Class.the-variants.{Digit}
+
 returns : tie.Need-returns
 returns c = sym (exponent-over _ _ (c .if1 .taken))
+
 shared-slice-read-is-either : tie.Need-shared-slice-read-is-either
 shared-slice-read-is-either c = search needs
+
 is-either-requires : tie.Need-is-either-requires
 is-either-requires c κs = search needs
+
 returns-2 : tie.Need-returns-2
 returns-2 c = sym (exponent-none _ _ (sym (c .before .is-either .ensures) ∙ not-true _ (c .if2 .taken)))
+
 exponent-digits-requires : tie.Need-exponent-digits-requires
 exponent-digits-requires c κs = search needs
+
 byte-requires : tie.Need-byte-requires
 byte-requires c κs = search needs
+
 is-within-requires : tie.Need-is-within-requires
 is-within-requires c κs = search needs
+
 returns-3 : tie.Need-returns-3
 returns-3 c = sym (exponent-bare _ _ (sym (c .before .is-within .ensures ∙ ap (within 48 57) (c .before .before .byte .ensures ∙ ap (λ g. getD (c .before .before .before .before .before .before .before .before .before .args .s .now) g 0) (c .before .before .before .exponent-digits .ensures))) ∙ not-true _ (c .if3 .taken)))
+
 run-end-requires : tie.Need-run-end-requires
 run-end-requires c κs = search needs
+
 returns-4 : tie.Need-returns-4
 returns-4 c = c .run-end .ensures ∙ ap (λ g. run (member Digit) (c .before .before .before .before .before .before .before .before .before .before .args .s .now) g) (c .before .before .before .before .exponent-digits .ensures) ∙ sym (exponent-is _ _ (sym (c .before .before .before .before .before .before .is-either .ensures) ∙ not-false _ (c .before .before .before .before .before .if2 .left)) (sym (c .before .before .is-within .ensures ∙ ap (within 48 57) (c .before .before .before .byte .ensures ∙ ap (λ g. getD (c .before .before .before .before .before .before .before .before .before .before .args .s .now) g 0) (c .before .before .before .before .exponent-digits .ensures))) ∙ not-false _ (c .before .if3 .left)))
 

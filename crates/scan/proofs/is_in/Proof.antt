@@ -6,12 +6,16 @@ use Rattle.scan.proofs.is_in.Lts as lts
 use Rattle.scan.proofs.half.Reads as half-reads
 use Rattle.scan.proofs.wide.Reads as wide-reads
 use mathlib.Core.Path.{refl}
+
 wide-requires : tie.Need-wide-requires
 wide-requires c κs = search needs
+
 half-requires : tie.Need-half-requires
 half-requires c κs = search needs
+
 shr-result : tie.Need-shr-result
 shr-result c = search needs
+
 returns : tie.Need-returns
 returns c = rw (← c .half .ensures, ← c .before .wide .ensures)
 

@@ -7,8 +7,10 @@ use Rattle.scan.proofs.is_in.Reads as is-in-reads
 use mathlib.Core.Path.{_∙_}
 use Rattle.scan.proofs.Bits.{lone-is}
 use native.Mathlib.Omega.{arith}
+
 is-in-requires : tie.Need-is-in-requires
 is-in-requires c κs = search needs
+
 returns : tie.Need-returns
 returns c = c .is-in .ensures ∙ lone-is _ (omega (arith, c .before .fits .b))
 

@@ -3,8 +3,10 @@ use Rattle.scan.proofs.is_pair.Tie as tie
 use Rattle.scan.proofs.is_pair.Reads as reads
 use Rattle.scan.proofs.is_pair.Lts as lts
 use borrow.Author.Tests.{eq-eqb, ne-eqb}
+
 returns : tie.Need-returns
 returns c = rw (ne-eqb _ _ (c .if1 .taken))
+
 returns-2 : tie.Need-returns-2
 returns-2 c = rw (eq-eqb _ _ (c .if1 .left))
 

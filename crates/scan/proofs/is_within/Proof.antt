@@ -3,8 +3,10 @@ use Rattle.scan.proofs.is_within.Tie as tie
 use Rattle.scan.proofs.is_within.Reads as reads
 use Rattle.scan.proofs.is_within.Lts as lts
 use borrow.Author.Tests.{le-leb, lt-leb}
+
 returns : tie.Need-returns
 returns c = rw (lt-leb _ _ (c .if1 .taken))
+
 returns-2 : tie.Need-returns-2
 returns-2 c = rw (le-leb _ _ (c .if1 .left))
 

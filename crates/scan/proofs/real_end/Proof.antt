@@ -7,12 +7,16 @@ use Rattle.scan.proofs.exponent_end.Reads as exponent-end-reads
 use Rattle.scan.proofs.run_end.Reads as run-end-reads
 use mathlib.Core.Path.{_∙_, ap}
 use Rattle.express.specs.tokens.Lexis.{end-of-exponent}
+
 add-run-end : tie.Need-add-run-end
 add-run-end c = search needs
+
 run-end-requires : tie.Need-run-end-requires
 run-end-requires c κs = search needs
+
 exponent-end-requires : tie.Need-exponent-end-requires
 exponent-end-requires c κs = search needs
+
 returns : tie.Need-returns
 returns c = c .exponent-end .ensures ∙ ap (end-of-exponent (c .before .before .before .args .s .now)) (c .before .run-end .ensures)
 

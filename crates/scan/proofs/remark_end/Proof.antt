@@ -16,56 +16,82 @@ Inv-loop s from i₀ depth₀ i depth = (i ≤ length s) × (1 ≤ depth) × (de
 
 abbrev μ-loop : tie.MeasureT-loop
 μ-loop s from i₀ depth₀ i depth = length s - i
+
 add-i : tie.Need-add-i Inv-loop μ-loop
 add-i c = omega arith
+
 loop-holds : tie.Need-loop-holds Inv-loop μ-loop
 loop-holds c = (omega arith, omega arith, omega arith, refl)
+
 add-loop : tie.Need-add-loop Inv-loop μ-loop
 add-loop c = omega arith
+
 shared-slice-read-b : tie.Need-shared-slice-read-b Inv-loop μ-loop
 shared-slice-read-b c = omega arith
+
 is-either-requires : tie.Need-is-either-requires Inv-loop μ-loop
 is-either-requires c κs = tt
+
 add-c : tie.Need-add-c Inv-loop μ-loop
 add-c c = omega arith
+
 shared-slice-read-c : tie.Need-shared-slice-read-c Inv-loop μ-loop
 shared-slice-read-c c = omega arith
+
 is-pair-requires : tie.Need-is-pair-requires Inv-loop μ-loop
 is-pair-requires c κs = tt
+
 add-depth : tie.Need-add-depth Inv-loop μ-loop
 add-depth c = omega arith
+
 add-i-2 : tie.Need-add-i-2 Inv-loop μ-loop
 add-i-2 c = omega arith
+
 loop-less : tie.Need-loop-less Inv-loop μ-loop
 loop-less c = omega arith
+
 loop-again : tie.Need-loop-again Inv-loop μ-loop
 loop-again c = (omega arith, omega arith, omega arith, sym (remark-deeper _ _ _ _ (c .before .before .before .before .before .before .loop-test .taken) (sym (c .before .is-pair .ensures) ∙ c .if2 .taken)) ∙ c .before .before .before .before .before .before .before .loop .inv .3)
+
 is-pair-requires-2 : tie.Need-is-pair-requires-2 Inv-loop μ-loop
 is-pair-requires-2 c κs = tt
+
 add-t19 : tie.Need-add-t19 Inv-loop μ-loop
 add-t19 c = omega arith
+
 returns : tie.Need-returns Inv-loop μ-loop
 returns c = sym (remark-done _ _ _ _ (c .before .before .before .before .before .before .before .before .before .loop-test .taken) (sym (c .before .before .before .before .is-pair .ensures) ∙ c .before .before .before .if2 .left) (sym (c .before .before .is-pair2 .ensures) ∙ c .before .if3 .taken) (c .if4 .taken)) ∙ c .before .before .before .before .before .before .before .before .before .before .loop .inv .3
+
 sub-depth : tie.Need-sub-depth Inv-loop μ-loop
 sub-depth c = omega arith
+
 add-i-3 : tie.Need-add-i-3 Inv-loop μ-loop
 add-i-3 c = omega arith
+
 loop-less-2 : tie.Need-loop-less-2 Inv-loop μ-loop
 loop-less-2 c = omega arith
+
 loop-again-2 : tie.Need-loop-again-2 Inv-loop μ-loop
 loop-again-2 c = (omega arith, omega arith, omega arith, sym (remark-out _ _ _ _ (c .before .before .before .before .before .before .before .before .before .loop-test .taken) (sym (c .before .before .before .before .is-pair .ensures) ∙ c .before .before .before .if2 .left) (sym (c .before .before .is-pair2 .ensures) ∙ c .before .if3 .taken) (c .if4 .left)) ∙ c .before .before .before .before .before .before .before .before .before .before .loop .inv .3)
+
 add-i-4 : tie.Need-add-i-4 Inv-loop μ-loop
 add-i-4 c = omega arith
+
 loop-less-3 : tie.Need-loop-less-3 Inv-loop μ-loop
 loop-less-3 c = omega arith
+
 loop-again-3 : tie.Need-loop-again-3 Inv-loop μ-loop
 loop-again-3 c = (omega arith, omega arith, omega arith, sym (remark-on _ _ _ _ (c .before .before .before .before .before .before .before .before .loop-test .taken) (sym (c .before .before .before .is-pair .ensures) ∙ c .before .before .if2 .left) (sym (c .before .is-pair2 .ensures) ∙ c .if3 .left)) ∙ c .before .before .before .before .before .before .before .before .before .loop .inv .3)
+
 add-i-5 : tie.Need-add-i-5 Inv-loop μ-loop
 add-i-5 c = omega arith
+
 loop-less-4 : tie.Need-loop-less-4 Inv-loop μ-loop
 loop-less-4 c = omega arith
+
 loop-again-4 : tie.Need-loop-again-4 Inv-loop μ-loop
 loop-again-4 c = (omega arith, omega arith, omega arith, sym (remark-pass _ _ _ _ (c .before .before .before .loop-test .taken) (sym (c .before .is-either .ensures) ∙ c .if1 .left)) ∙ c .before .before .before .before .loop .inv .3)
+
 returns-2 : tie.Need-returns-2 Inv-loop μ-loop
 returns-2 c = sym (remark-over _ _ _ _ (c .loop-test .left)) ∙ c .before .loop .inv .3
 

@@ -17,20 +17,28 @@ Inv-loop s at class i₀ i = run (member class) s i ≡ run (member class) s at
 
 abbrev μ-loop : tie.MeasureT-loop
 μ-loop s at class i₀ i = length s - i
+
 loop-holds : tie.Need-loop-holds Inv-loop μ-loop
 loop-holds c = refl
+
 shared-slice-read-b : tie.Need-shared-slice-read-b Inv-loop μ-loop
 shared-slice-read-b c = omega arith
+
 is-member-requires : tie.Need-is-member-requires Inv-loop μ-loop
 is-member-requires c κs = tt
+
 returns : tie.Need-returns Inv-loop μ-loop
 returns c = sym (run-stop _ _ _ (c .before .before .before .loop-test .taken) (sym (c .before .is-member .ensures) ∙ not-true _ (c .if1 .taken))) ∙ c .before .before .before .before .loop .inv
+
 add-i : tie.Need-add-i Inv-loop μ-loop
 add-i c = omega arith
+
 loop-less : tie.Need-loop-less Inv-loop μ-loop
 loop-less c = omega arith
+
 loop-again : tie.Need-loop-again Inv-loop μ-loop
 loop-again c = sym (run-more _ _ _ (c .before .before .before .loop-test .taken) (sym (c .before .is-member .ensures) ∙ not-false _ (c .if1 .left))) ∙ c .before .before .before .before .loop .inv
+
 returns-2 : tie.Need-returns-2 Inv-loop μ-loop
 returns-2 c = sym (run-over _ _ _ (c .loop-test .left)) ∙ c .before .loop .inv
 

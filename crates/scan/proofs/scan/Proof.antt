@@ -10,38 +10,55 @@ use lib.ListN.{length}
 use Prim.Native.Nat.{min}
 use Rattle.scan.proofs.Rows.{scan-refused, scan-short, scan-fits}
 use native.Mathlib.Omega.{arith}
+
 shorter-requires : tie.Need-shorter-requires
 shorter-requires c κs = search needs
+
 shorter-requires-2 : tie.Need-shorter-requires-2
 shorter-requires-2 c κs = search needs
+
 fill-requires : tie.Need-fill-requires
 fill-requires c κs = (omega (arith, c .before .before .before .before .shorter .ensures, c .before .before .before .shorter2 .ensures), omega (arith, c .before .before .before .before .shorter .ensures, c .before .before .before .shorter2 .ensures), omega (arith, c .before .before .before .before .shorter .ensures, c .before .before .before .shorter2 .ensures))
+
 enum-known-step : tie.Need-enum-known-step
 enum-known-step c = search needs
+
 enum-told : tie.Need-enum-told
 enum-told c = search needs
+
 same-length : tie.Need-same-length
 same-length c = search needs
+
 same-length-2 : tie.Need-same-length-2
 same-length-2 c = search needs
+
 same-length-3 : tie.Need-same-length-3
 same-length-3 c = search needs
+
 returns : tie.Need-returns
 returns c = scan-refused (c .before .before .before .before .before .before .before .before .fill .ensures) (c .enum-told .given .1)
+
 same-length-4 : tie.Need-same-length-4
 same-length-4 c = search needs
+
 same-length-5 : tie.Need-same-length-5
 same-length-5 c = search needs
+
 same-length-6 : tie.Need-same-length-6
 same-length-6 c = search needs
+
 returns-2 : tie.Need-returns-2
 returns-2 c = scan-short (c .before .before .before .before .before .before .before .before .before .before .fill .ensures) (c .before .before .step .given .1) (c .before .before .before .before .before .before .before .before .before .before .before .before .before .before .shorter2 .ensures ∙ ap (min (length (c .before .before .before .before .before .before .before .before .before .before .before .before .before .before .before .before .before .before .before .before .args .kinds .now))) (c .before .before .before .before .before .before .before .before .before .before .before .before .before .before .before .shorter .ensures)) (c .if1 .taken)
+
 same-length-7 : tie.Need-same-length-7
 same-length-7 c = search needs
+
 same-length-8 : tie.Need-same-length-8
 same-length-8 c = search needs
+
 same-length-9 : tie.Need-same-length-9
 same-length-9 c = search needs
+
 returns-3 : tie.Need-returns-3
 returns-3 c = scan-fits (c .before .before .before .before .before .before .before .before .before .before .fill .ensures) (c .before .before .step .given .1) (c .before .before .before .before .before .before .before .before .before .before .before .before .before .before .shorter2 .ensures ∙ ap (min (length (c .before .before .before .before .before .before .before .before .before .before .before .before .before .before .before .before .before .before .before .before .args .kinds .now))) (c .before .before .before .before .before .before .before .before .before .before .before .before .before .before .before .shorter .ensures)) (c .if1 .left)
 

@@ -21,56 +21,82 @@ Inv-loop s at i₀ i = Left s i (skipped s at)
 
 abbrev μ-loop : tie.MeasureT-loop
 μ-loop s at i₀ i = length s - i
+
 loop-holds : tie.Need-loop-holds Inv-loop μ-loop
 loop-holds c = left-first _ _
+
 shared-slice-read-b : tie.Need-shared-slice-read-b Inv-loop μ-loop
 shared-slice-read-b c = omega arith
+
 add-i : tie.Need-add-i Inv-loop μ-loop
 add-i c = omega arith
+
 loop-less : tie.Need-loop-less Inv-loop μ-loop
 loop-less c = omega arith
+
 loop-again : tie.Need-loop-again Inv-loop μ-loop
 loop-again c = left-space _ _ _ (c .before .before .loop-test .taken) (c .before .before .before .loop .inv) _ refl (is-blank _ (c .if1 .taken))
+
 returns : tie.Need-returns Inv-loop μ-loop
 returns c = left-past _ _ _ (c .before .before .before .loop-test .taken) (c .before .before .before .before .loop .inv) (c .if2 .taken)
+
 is-within-requires : tie.Need-is-within-requires Inv-loop μ-loop
 is-within-requires c κs = tt
+
 add-i-2 : tie.Need-add-i-2 Inv-loop μ-loop
 add-i-2 c = omega arith
+
 loop-less-2 : tie.Need-loop-less-2 Inv-loop μ-loop
 loop-less-2 c = omega arith
+
 loop-again-2 : tie.Need-loop-again-2 Inv-loop μ-loop
 loop-again-2 c = left-space _ _ _ (c .before .before .before .before .before .loop-test .taken) (c .before .before .before .before .before .before .loop .inv) _ refl (is-control _ (sym (c .before .is-within .ensures) ∙ c .if3 .taken))
+
 add-byte : tie.Need-add-byte Inv-loop μ-loop
 add-byte c = omega arith
+
 byte-requires : tie.Need-byte-requires Inv-loop μ-loop
 byte-requires c κs = tt
+
 is-pair-requires : tie.Need-is-pair-requires Inv-loop μ-loop
 is-pair-requires c κs = tt
+
 add-run-end : tie.Need-add-run-end Inv-loop μ-loop
 add-run-end c = omega arith
+
 run-end-requires : tie.Need-run-end-requires Inv-loop μ-loop
 run-end-requires c κs = tt
+
 loop-less-3 : tie.Need-loop-less-3 Inv-loop μ-loop
 loop-less-3 c = omega (arith, c .run-end .ensures, run-low in-line (c .before .before .before .before .before .before .before .before .before .before .before .before .args .s .now) (c .before .before .before .before .before .before .before .before .before .before .loop .i + 2))
+
 loop-again-3 : tie.Need-loop-again-3 Inv-loop μ-loop
 loop-again-3 c = left-line _ _ _ (c .before .before .before .before .before .before .before .before .before .loop-test .taken) (c .before .before .before .before .before .before .before .before .before .before .loop .inv) _ (c .before .before .before .byte .ensures) (no-space _ (c .before .before .before .before .before .before .before .if1 .left) (sym (c .before .before .before .before .before .is-within .ensures) ∙ c .before .before .before .before .if3 .left)) (sym (c .before .before .is-pair .ensures) ∙ c .before .if4 .taken) _ (c .run-end .ensures) (omega (arith, c .run-end .ensures, run-low in-line (c .before .before .before .before .before .before .before .before .before .before .before .before .args .s .now) (c .before .before .before .before .before .before .before .before .before .before .loop .i + 2)))
+
 is-pair-requires-2 : tie.Need-is-pair-requires-2 Inv-loop μ-loop
 is-pair-requires-2 c κs = tt
+
 remark-end-requires : tie.Need-remark-end-requires Inv-loop μ-loop
 remark-end-requires c κs = omega (arith, pair-in 40 42 (getD (c .before .before .before .before .before .before .before .before .before .before .before .before .before .args .s .now) (c .before .before .before .before .before .before .before .before .before .before .before .loop .i) 0) (c .before .before .before .before .before .before .before .before .before .before .before .before .before .args .s .now) (c .before .before .before .before .before .before .before .before .before .before .before .loop .i + 1) refl (ap (pair 40 42 (getD (c .before .before .before .before .before .before .before .before .before .before .before .before .before .args .s .now) (c .before .before .before .before .before .before .before .before .before .before .before .loop .i) 0)) (sym (c .before .before .before .before .byte .ensures)) ∙ sym (c .before .is-pair2 .ensures) ∙ c .if5 .taken))
+
 enum-known-step : tie.Need-enum-known-step Inv-loop μ-loop
 enum-known-step c = search needs
+
 enum-told : tie.Need-enum-told Inv-loop μ-loop
 enum-told c = search needs
+
 returns-2 : tie.Need-returns-2 Inv-loop μ-loop
 returns-2 c = left-refused _ _ _ (c .before .before .before .before .before .before .before .before .before .before .before .before .before .loop-test .taken) (c .before .before .before .before .before .before .before .before .before .before .before .before .before .before .loop .inv) _ (c .before .before .before .before .before .before .before .byte .ensures) (no-space _ (c .before .before .before .before .before .before .before .before .before .before .before .if1 .left) (sym (c .before .before .before .before .before .before .before .before .before .is-within .ensures) ∙ c .before .before .before .before .before .before .before .before .if3 .left)) (sym (c .before .before .before .before .before .before .is-pair .ensures) ∙ c .before .before .before .before .before .if4 .left) (sym (c .before .before .before .before .is-pair2 .ensures) ∙ c .before .before .before .if5 .taken) _ (c .before .before .remark-end .ensures) _ _ (c .enum-told .given .1)
+
 loop-less-4 : tie.Need-loop-less-4 Inv-loop μ-loop
 loop-less-4 c = omega (arith, remark-passes _ _ _ _ (c .before .before .before .remark-end .ensures) (c .before .step .given .1))
+
 loop-again-4 : tie.Need-loop-again-4 Inv-loop μ-loop
 loop-again-4 c = left-remark _ _ _ (c .before .before .before .before .before .before .before .before .before .before .before .before .before .before .loop-test .taken) (c .before .before .before .before .before .before .before .before .before .before .before .before .before .before .before .loop .inv) _ (c .before .before .before .before .before .before .before .before .byte .ensures) (no-space _ (c .before .before .before .before .before .before .before .before .before .before .before .before .if1 .left) (sym (c .before .before .before .before .before .before .before .before .before .before .is-within .ensures) ∙ c .before .before .before .before .before .before .before .before .before .if3 .left)) (sym (c .before .before .before .before .before .before .before .is-pair .ensures) ∙ c .before .before .before .before .before .before .if4 .left) (sym (c .before .before .before .before .before .is-pair2 .ensures) ∙ c .before .before .before .before .if5 .taken) _ (c .before .before .before .remark-end .ensures) _ (c .before .step .given .1) (remark-passes _ _ _ _ (c .before .before .before .remark-end .ensures) (c .before .step .given .1))
+
 returns-3 : tie.Need-returns-3 Inv-loop μ-loop
 returns-3 c = left-stop _ _ _ (c .before .before .before .before .before .before .before .before .before .before .loop-test .taken) (c .before .before .before .before .before .before .before .before .before .before .before .loop .inv) _ (c .before .before .before .before .byte .ensures) (no-space _ (c .before .before .before .before .before .before .before .before .if1 .left) (sym (c .before .before .before .before .before .before .is-within .ensures) ∙ c .before .before .before .before .before .if3 .left)) (sym (c .before .before .before .is-pair .ensures) ∙ c .before .before .if4 .left) (sym (c .before .is-pair2 .ensures) ∙ c .if5 .left)
+
 returns-4 : tie.Need-returns-4 Inv-loop μ-loop
 returns-4 c = left-over _ _ _ (c .loop-test .left) (c .before .loop .inv)
 

@@ -17,38 +17,55 @@ Inv-loop s at i₀ quote₀ i quote = (i ≤ length s) × (end-of-string at quot
 
 abbrev μ-loop : tie.MeasureT-loop
 μ-loop s at i₀ quote₀ i quote = length s - i
+
 add-i : tie.Need-add-i Inv-loop μ-loop
 add-i c = omega arith
+
 loop-holds : tie.Need-loop-holds Inv-loop μ-loop
 loop-holds c = (omega arith, refl)
+
 shared-slice-read-b : tie.Need-shared-slice-read-b Inv-loop μ-loop
 shared-slice-read-b c = omega arith
+
 returns : tie.Need-returns Inv-loop μ-loop
 returns c = sym (string-shut _ _ _ (c .before .before .before .loop-test .taken) (c .if2 .taken)) ∙ rw (c .before .if1 .taken) at (c .before .before .before .before .loop .inv .1)
+
 add-i-2 : tie.Need-add-i-2 Inv-loop μ-loop
 add-i-2 c = omega arith
+
 loop-less : tie.Need-loop-less Inv-loop μ-loop
 loop-less c = omega arith
+
 loop-again : tie.Need-loop-again Inv-loop μ-loop
 loop-again c = (omega arith, sym (string-doubled _ _ _ (c .before .before .before .loop-test .taken) (c .if2 .left)) ∙ rw (c .before .if1 .taken) at (c .before .before .before .before .loop .inv .1))
+
 add-i-3 : tie.Need-add-i-3 Inv-loop μ-loop
 add-i-3 c = omega arith
+
 loop-less-2 : tie.Need-loop-less-2 Inv-loop μ-loop
 loop-less-2 c = omega arith
+
 loop-again-2 : tie.Need-loop-again-2 Inv-loop μ-loop
 loop-again-2 c = (omega arith, sym (string-quote _ _ _ (c .before .before .before .loop-test .taken) (c .if3 .taken)) ∙ rw (c .before .if1 .left) at (c .before .before .before .before .loop .inv .1))
+
 is-within-requires : tie.Need-is-within-requires Inv-loop μ-loop
 is-within-requires c κs = tt
+
 returns-2 : tie.Need-returns-2 Inv-loop μ-loop
 returns-2 c = sym (string-bad _ _ _ (c .before .before .before .before .before .loop-test .taken) (c .before .before .if3 .left) (sym (c .before .is-within .ensures) ∙ not-true _ (c .if4 .taken))) ∙ rw (c .before .before .before .if1 .left) at (c .before .before .before .before .before .before .loop .inv .1)
+
 add-i-4 : tie.Need-add-i-4 Inv-loop μ-loop
 add-i-4 c = omega arith
+
 loop-less-3 : tie.Need-loop-less-3 Inv-loop μ-loop
 loop-less-3 c = omega arith
+
 loop-again-3 : tie.Need-loop-again-3 Inv-loop μ-loop
 loop-again-3 c = (omega arith, rw (c .before .before .before .if1 .left) (sym (string-on _ _ _ (c .before .before .before .before .before .loop-test .taken) (c .before .before .if3 .left) (sym (c .before .is-within .ensures) ∙ not-false _ (c .if4 .left))) ∙ rw (c .before .before .before .if1 .left) at (c .before .before .before .before .before .before .loop .inv .1)))
+
 returns-3 : tie.Need-returns-3 Inv-loop μ-loop
 returns-3 c = sym (string-end _ _ _ (c .before .loop-test .left)) ∙ rw (c .if5 .taken) at (c .before .before .loop .inv .1)
+
 returns-4 : tie.Need-returns-4 Inv-loop μ-loop
 returns-4 c = sym (string-open _ _ _ (c .before .loop-test .left)) ∙ rw (c .if5 .left) at (c .before .before .loop .inv .1)
 

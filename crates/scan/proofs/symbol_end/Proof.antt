@@ -13,48 +13,69 @@ use Rattle.express.specs.tokens.Lexis.{at, end-of-symbol, size-of-symbol}
 use Rattle.express.proofs.tokens.Places.{size-is, size-inside}
 use Rattle.scan.proofs.Symbols.{assign-is}
 use native.Mathlib.Omega.{arith}
+
 shared-slice-read-b : tie.Need-shared-slice-read-b
 shared-slice-read-b c = search needs
+
 is-lone-requires : tie.Need-is-lone-requires
 is-lone-requires c κs = search needs
+
 add-t9 : tie.Need-add-t9
 add-t9 c = search needs
+
 returns : tie.Need-returns
 unfolding end-of-symbol size-of-symbol
 returns c = rw (sym (c .before .is-lone .ensures) ∙ c .if1 .taken)
+
 add-byte : tie.Need-add-byte
 add-byte c = search needs
+
 byte-requires : tie.Need-byte-requires
 byte-requires c κs = search needs
+
 is-pair-requires : tie.Need-is-pair-requires
 is-pair-requires c κs = search needs
+
 add-byte-2 : tie.Need-add-byte-2
 add-byte-2 c = search needs
+
 byte-requires-2 : tie.Need-byte-requires-2
 byte-requires-2 c κs = search needs
+
 add-t15 : tie.Need-add-t15
 add-t15 c = search needs
+
 returns-2 : tie.Need-returns-2
 returns-2 c = rw (eq-eqb _ _ (c .if3 .taken)) at (assign-is (c .before .before .before .before .before .before .before .before .before .args .s .now) (c .before .before .before .before .before .before .before .before .before .args .at) (c .before .before .before .before .byte .result) (c .before .byte2 .result) (c .before .before .before .before .byte .ensures) (sym (c .before .before .before .is-pair .ensures) ∙ c .before .before .if2 .taken) (c .before .byte2 .ensures))
+
 add-t13 : tie.Need-add-t13
 add-t13 c = search needs
+
 returns-3 : tie.Need-returns-3
 returns-3 c = rw (ne-eqb _ _ (c .if3 .left)) at (assign-is (c .before .before .before .before .before .before .before .before .before .args .s .now) (c .before .before .before .before .before .before .before .before .before .args .at) (c .before .before .before .before .byte .result) (c .before .byte2 .result) (c .before .before .before .before .byte .ensures) (sym (c .before .before .before .is-pair .ensures) ∙ c .before .before .if2 .taken) (c .before .byte2 .ensures))
+
 add-byte-3 : tie.Need-add-byte-3
 add-byte-3 c = search needs
+
 byte-requires-3 : tie.Need-byte-requires-3
 byte-requires-3 c κs = search needs
+
 add-byte-4 : tie.Need-add-byte-4
 add-byte-4 c = search needs
+
 byte-requires-4 : tie.Need-byte-requires-4
 byte-requires-4 c κs = search needs
+
 symbol-size-requires : tie.Need-symbol-size-requires
 symbol-size-requires c κs = search needs
+
 returns-4 : tie.Need-returns-4
 unfolding end-of-symbol
 returns-4 c = rw (← size-is _ _ _ _ _ _ (c .before .before .before .before .before .before .byte .ensures) (c .before .before .before .byte3 .ensures) (c .before .before .byte4 .ensures) (c .before .symbol-size .ensures), eq-eqb _ _ (c .if4 .taken))
+
 add-t10 : tie.Need-add-t10
 add-t10 c = omega (arith, size-is (c .before .before .before .before .before .before .before .before .before .before .before .args .s .now) (c .before .before .before .before .before .before .before .before .before .before .before .args .at) (c .before .symbol-size .result) _ _ _ (c .before .before .before .before .before .before .byte .ensures) (c .before .before .before .byte3 .ensures) (c .before .before .byte4 .ensures) (c .before .symbol-size .ensures), size-inside (c .before .before .before .before .before .before .before .before .before .before .before .args .s .now) (c .before .before .before .before .before .before .before .before .before .before .before .args .at) (c .before .before .before .before .before .before .before .before .before .before .before .pre))
+
 returns-5 : tie.Need-returns-5
 unfolding end-of-symbol
 returns-5 c = rw (← size-is _ _ _ _ _ _ (c .before .before .before .before .before .before .byte .ensures) (c .before .before .before .byte3 .ensures) (c .before .before .byte4 .ensures) (c .before .symbol-size .ensures), ne-eqb _ _ (c .if4 .left))

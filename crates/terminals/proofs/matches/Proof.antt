@@ -15,22 +15,31 @@ Inv-loop s start n fold text from j₀ j = (j ≤ n) × (rest (take n (drop from
 
 abbrev μ-loop : tie.MeasureT-loop
 μ-loop s start n fold text from j₀ j = n - j
+
 loop-holds : tie.Need-loop-holds Inv-loop μ-loop
 loop-holds c = (omega arith, refl)
+
 letter-requires : tie.Need-letter-requires Inv-loop μ-loop
 letter-requires c κs = c .before .before .before .pre .0
+
 add-if1 : tie.Need-add-if1 Inv-loop μ-loop
 add-if1 c = omega arith
+
 element-copy-out-if1 : tie.Need-element-copy-out-if1 Inv-loop μ-loop
 element-copy-out-if1 c = omega arith
+
 returns : tie.Need-returns Inv-loop μ-loop
 returns c = sym (compare-stop (c .before .before .before .before .before .before .args .text .now) (c .before .before .before .before .before .before .args .s .now) (c .before .before .before .before .before .before .args .start) (c .before .before .before .before .before .before .args .n) (c .before .before .before .before .before .before .args .from) (c .before .before .before .before .loop .j) (c .before .before .before .before .before .before .pre .0) (c .before .before .before .before .before .before .pre .1) (c .before .before .before .before .before .before .pre .2) (c .before .before .before .before .before .before .args .fold) (c .before .before .before .loop-test .taken) _ (c .before .before .letter .ensures) (c .if1 .taken)) ∙ c .before .before .before .before .loop .inv .1
+
 add-j : tie.Need-add-j Inv-loop μ-loop
 add-j c = omega arith
+
 loop-less : tie.Need-loop-less Inv-loop μ-loop
 loop-less c = omega arith
+
 loop-again : tie.Need-loop-again Inv-loop μ-loop
 loop-again c = (omega arith, sym (compare-more (c .before .before .before .before .before .before .args .text .now) (c .before .before .before .before .before .before .args .s .now) (c .before .before .before .before .before .before .args .start) (c .before .before .before .before .before .before .args .n) (c .before .before .before .before .before .before .args .from) (c .before .before .before .before .loop .j) (c .before .before .before .before .before .before .pre .0) (c .before .before .before .before .before .before .pre .1) (c .before .before .before .before .before .before .pre .2) (c .before .before .before .before .before .before .args .fold) (c .before .before .before .loop-test .taken) _ (c .before .before .letter .ensures) (c .if1 .left)) ∙ c .before .before .before .before .loop .inv .1)
+
 returns-2 : tie.Need-returns-2 Inv-loop μ-loop
 returns-2 c = sym (compare-over (c .before .before .before .args .text .now) (c .before .before .before .args .s .now) (c .before .before .before .args .start) (c .before .before .before .args .n) (c .before .before .before .args .from) (c .before .loop .j) (c .before .before .before .pre .0) (c .before .before .before .pre .1) (c .before .before .before .pre .2) (c .before .before .before .args .fold) (c .loop-test .left)) ∙ c .before .loop .inv .1
 

@@ -16,42 +16,61 @@ Inv-loop src kinds starts lengths out₀ slots froms text i₀ out i = Progress 
 
 abbrev μ-loop : tie.MeasureT-loop
 μ-loop src kinds starts lengths out₀ slots froms text i₀ out i = length kinds - i
+
 loop-holds : tie.Need-loop-holds Inv-loop μ-loop
 loop-holds c = progress-first _ _ _ _ _
+
 same-length : tie.Need-same-length Inv-loop μ-loop
 same-length c = c .before .before .loop .inv .kept
+
 returns : tie.Need-returns Inv-loop μ-loop
 returns c = no-start (c .before .before .loop .inv) (c .before .loop-test .taken) (c .if1 .taken)
+
 same-length-2 : tie.Need-same-length-2 Inv-loop μ-loop
 same-length-2 c = c .before .before .before .loop .inv .kept
+
 returns-2 : tie.Need-returns-2 Inv-loop μ-loop
 returns-2 c = no-size (c .before .before .before .loop .inv) (c .before .before .loop-test .taken) (c .before .if1 .left) (c .if2 .taken)
+
 mul-index : tie.Need-mul-index Inv-loop μ-loop
 mul-index c = omega arith
+
 shared-slice-read-index : tie.Need-shared-slice-read-index Inv-loop μ-loop
 shared-slice-read-index c = omega arith
+
 index-requires : tie.Need-index-requires Inv-loop μ-loop
 index-requires c κs = tt
+
 mul-index-2 : tie.Need-mul-index-2 Inv-loop μ-loop
 mul-index-2 c = omega arith
+
 shared-slice-read-index-2 : tie.Need-shared-slice-read-index-2 Inv-loop μ-loop
 shared-slice-read-index-2 c = omega arith
+
 index-requires-2 : tie.Need-index-requires-2 Inv-loop μ-loop
 index-requires-2 c κs = tt
+
 shared-slice-read-terminal : tie.Need-shared-slice-read-terminal Inv-loop μ-loop
 shared-slice-read-terminal c = omega arith
+
 terminal-requires : tie.Need-terminal-requires Inv-loop μ-loop
 terminal-requires c κs = (refl, refl, refl)
+
 put8-requires : tie.Need-put8-requires Inv-loop μ-loop
 put8-requires c κs = tt
+
 add-i : tie.Need-add-i Inv-loop μ-loop
 add-i c = omega arith
+
 loop-less : tie.Need-loop-less Inv-loop μ-loop
 loop-less c = omega arith
+
 loop-again : tie.Need-loop-again Inv-loop μ-loop
 loop-again c = one-more (c .before .before .before .before .before .before .before .before .before .before .before .before .before .before .before .before .loop .inv) (c .before .before .before .before .before .before .before .before .before .before .before .before .before .before .before .loop-test .taken) (c .before .before .before .before .before .before .before .before .before .before .before .before .before .before .if1 .left) (c .before .before .before .before .before .before .before .before .before .before .before .before .before .if2 .left) (c .before .before .before .before .before .before .before .before .before .before .before .index .ensures) (c .before .before .before .before .before .before .before .before .before .index2 .ensures) (c .before .before .before .terminal .ensures) (c .before .before .put8 .ensures)
+
 same-length-3 : tie.Need-same-length-3 Inv-loop μ-loop
 same-length-3 c = c .before .loop .inv .kept
+
 returns-3 : tie.Need-returns-3 Inv-loop μ-loop
 returns-3 c = no-kind (c .before .loop .inv) (c .loop-test .left)
 

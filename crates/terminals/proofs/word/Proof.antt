@@ -7,14 +7,19 @@ use Rattle.terminals.proofs.number.Reads as number-reads
 use lib.ListN.{take, drop}
 use Rattle.terminals.proofs.Entries.{word-low, word-high, named-few}
 use native.Mathlib.Omega.{arith}
+
 number-requires : tie.Need-number-requires
 number-requires c κs = search needs
+
 returns : tie.Need-returns
 returns c = word-low (take (c .before .before .before .args .n) (drop (c .before .before .before .args .start) (c .before .before .before .args .s .now))) _ (c .before .number .ensures) (c .if1 .taken)
+
 add-result : tie.Need-add-result
 add-result c = omega (arith, named-few _ _ (c .before .number .ensures))
+
 cast-result : tie.Need-cast-result
 cast-result c = omega (arith, named-few _ _ (c .before .number .ensures))
+
 returns-2 : tie.Need-returns-2
 returns-2 c = word-high (take (c .before .before .before .args .n) (drop (c .before .before .before .args .start) (c .before .before .before .args .s .now))) _ (c .before .number .ensures) (c .if1 .left)
 
