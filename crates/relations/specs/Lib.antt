@@ -1,2 +1,3 @@
+pub mod Order
 pub mod Reach
 pub mod Select
