@@ -5,8 +5,9 @@ use mathlib.Core.Bool.{Bool, true, false, cond, not, _&&_, _||_}
 use mathlib.Core.List.{List, [], _∷_, map, List·Memᴰ, List·Memᴰ·head, Memᴰ·map, Memᴰ·append-left}
 use Prim.Native.Nat.{ℕ, zero, suc, _+_, _≤_, _<_}
 use native.Mathlib.Omega.{arith}
-use borrow.Author.Tests.{eqb-true, eqb-false, ne-eqb, leb-true, not-true}
-use lib.Dec.{eqb, leb}
+use borrow.Author.Tests.{eqb-true, eqb-false, not-true}
+use lib.Dec.{eqb}
+use Rattle.ebnf.specs.Set.{mem, disjoint}
 use lib.ListN.{length, getD, List·getD-eq-default}
 use Rattle.ebnf.proofs.Sorts.{every}
 use Rattle.express.specs.syntax.NodeKind as node
@@ -27,6 +28,8 @@ use Rattle.relations.proofs.Reach.{reaches-iff}
 use Rattle.express.proofs.syntax.FormedRows.{formed-rows}
 use Rattle.express.proofs.syntax.Nodes.{all-below}
 use Rattle.express.proofs.syntax.Within.{all-pass-below}
+use Rattle.express.proofs.syntax.KindSets as set
+use Rattle.express.proofs.names.Owned.{undeclared}
 
 -- Node n is or names the type d: `declared`, by rules and without a number of turns
 pub data Denotes (t : Table) (b : List ℕ) : ℕ → Declared → Type 0 where
@@ -73,21 +76,12 @@ one-mem [] k e = absurd (let z : _≡_ {A = ℕ} 0 1 = cc in omega arith)
 one-mem (j ∷ []) k e = let q : k ≡ j = cc in List·Memᴰ·head q
 one-mem (j ∷ l ∷ ks) k e = absurd (let z : _≡_ {A = ℕ} 0 1 = cc in omega arith)
 
--- the kinds and roles of nodes in a type
+-- the kinds and roles of nodes below a type
 abbrev in-type : ℕ → Bool
-in-type k = leb k 16 || eqb k node.rule
+in-type k = mem k set.below-type
 
 abbrev role-in-type : ℕ → ℕ → Bool
 role-in-type k o = in-type k && (not (eqb k node.name) || (eqb o node.in-expression || (eqb o node.renamed-type || eqb o node.select-name)))
-
-undeclared : (k : ℕ) → in-type k ≡ true → eqb k node.constant || eqb k node.type || eqb k node.entity ≡ false
-undeclared k h = by (or-cases (leb k 16) (eqb k node.rule) h)
-  where
-    by : (leb k 16 ≡ true) ⊎ (eqb k node.rule ≡ true) → eqb k node.constant || eqb k node.type || eqb k node.entity ≡ false
-    by (inl e) =
-        let l : k ≤ 16 = leb-true k 16 e in
-        rw (ne-eqb k node.constant (λ q. omega arith), ne-eqb k node.type (λ q. omega arith), ne-eqb k node.entity (λ q. omega arith))
-    by (inr e) = rw (eqb-true k node.rule e)
 
 length-all : (xs : List ℕ) → length (keep (λ (x : ℕ). true) xs) ≡ length xs
 unfolding keep
@@ -175,16 +169,16 @@ module _ {t : Table} (R : Read file t) (W : WellNamed t) where
 
   -- the nodes of a type, by kind and role
   inside-type : (d : ℕ) → is t node.type d ≡ true → (n : ℕ) → first t d ≤ n → n < d → role-in-type (kind t n) (role t n) ≡ true
-  unfolding all-below every
+  unfolding all-below every mem
   inside-type d h n u v =
       all-pass-below R in-type role-in-type (λ k o i. and-fst (in-type k) _ i) refl d (type-below d h) (rw (eqb-true (kind t d) node.type h) refl) n u v
 
   -- they belong to it
   type-owns : (d : ℕ) → is t node.type d ≡ true → (n : ℕ) → first t d ≤ n → n < d → owner t n ≡ d
-  unfolding owner
+  unfolding owner mem disjoint
   type-owns d h n u v =
       first-of (is-declaration t) (count t) n d (omega arith) (type-below d h) (rw (eqb-true (kind t d) node.type h))
-      (λ j lo hi. undeclared (kind t j) (and-fst (in-type (kind t j)) _ (inside-type d h j (omega arith) hi)))
+      (λ j lo hi. undeclared t j set.below-type refl (and-fst (in-type (kind t j)) _ (inside-type d h j (omega arith) hi)))
 
   renaming-edge : (d : ℕ) → is t node.type d ≡ true → bound t b node.type (first t d) ≡ true → Joins (type-edges t) d (declaration b (first t d))
   unfolding type-edges renaming-edges

@@ -69,6 +69,10 @@ first t n = n + 1 - size t n
 abbrev pub left : Table → ℕ → ℕ
 left t n = before t (last n)
 
+-- the type of a declaration that has an expression: it stands before that
+abbrev pub type-node : Table → ℕ → ℕ
+type-node t d = left t d
+
 -- "interval (low, operator, item, operator, high)": its operators are `lower` and `upper`
 abbrev pub upper : Table → ℕ → ℕ
 upper t n = left t n
