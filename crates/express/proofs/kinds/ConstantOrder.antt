@@ -19,7 +19,7 @@ use Rattle.express.specs.names.Fault.{Fault, judged, suits, type-name-fa
 use Rattle.express.specs.names.Names.{WellNamed}
 use Rattle.express.specs.syntax.Grammar.{Nonterminal}
 use Rattle.express.specs.syntax.Syntax.{Read}
-use Rattle.express.specs.kinds.Declared.{declaration, bound, declared}
+use Rattle.express.specs.kinds.Declared.{declaration, bound, denoted}
 use Rattle.express.specs.kinds.Shape.{Shape, Operator, name, shape, shape-in, named, operator-of, evaluated}
 use Rattle.express.specs.kinds.Order.{Ordered, done, next, Order, order}
 use Rattle.relations.proofs.Select.{and-fst, and-snd, and-both, or-cases, or-left, untrue, le-or, mem-upto, keep-mem, mem-keep, flat-mem, mem-flat, column-at}
@@ -51,7 +51,7 @@ named-is : (t : Table) (b : List ℕ) (n c : ℕ) → is t node.name n || is t n
 named-is t b n c h e = by (bound t b node.enumeration-item n) (bound t b node.constant n) refl e
   where
     by : (x y : Bool) → bound t b node.constant n ≡ y
-        → cond x (Shape.item (declaration b n)) (cond y (name (declaration b n)) (Shape.type (declared t b n))) ≡ name c → Named t b n c
+        → cond x (Shape.item (declaration b n)) (cond y (name (declaration b n)) (Shape.type (denoted t b n))) ≡ name c → Named t b n c
     by true y q e = let z : _≡_ {A = ℕ} 0 1 = cc in absurd (omega arith)
     by false true q e = record { is-name = h; bound-to = q; constant = cc }
     by false false q e = let z : _≡_ {A = ℕ} 0 1 = cc in absurd (omega arith)

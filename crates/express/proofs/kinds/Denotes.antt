@@ -22,7 +22,7 @@ use Rattle.express.specs.names.Fault as stage
 use Rattle.express.specs.names.Names.{WellNamed}
 use Rattle.express.specs.syntax.Grammar.{file}
 use Rattle.express.specs.syntax.Syntax.{Read}
-use Rattle.express.specs.kinds.Declared.{Declared, enumeration, other, declaration, bound, simple, renames, declared-in, declared}
+use Rattle.express.specs.kinds.Declared.{Declared, enumeration, other, declaration, bound, simple, renames, denoted-in, denoted}
 use Rattle.relations.proofs.Select.{and-fst, and-snd, or-cases, untrue, le-or, mem-upto, keep-mem, mem-keep, keep-lt, mem-flat, column-at, first-of}
 use Rattle.relations.proofs.Reach.{reaches-iff}
 use Rattle.express.proofs.syntax.FormedRows.{formed-rows}
@@ -31,7 +31,7 @@ use Rattle.express.proofs.syntax.Within.{all-pass-below}
 use Rattle.express.proofs.syntax.KindSets as set
 use Rattle.express.proofs.names.Owned.{undeclared}
 
--- Node n is or names the type d: `declared`, by rules and without a number of turns
+-- Node n is or names the type d: `denoted`, by rules and without a number of turns
 pub data Denotes (t : Table) (b : List ℕ) : ℕ → Declared → Type 0 where
   a-simple-type : {n : ℕ} → is t node.simple-type n ≡ true → Denotes t b n (simple (tree.terminal t n))
   an-enumeration :
@@ -49,8 +49,8 @@ pub data Denotes (t : Table) (b : List ℕ) : ℕ → Declared → Type 0 where
 
 module _ (t : Table) (b : List ℕ) (rank : ℕ → ℕ)
     (falls : (n : ℕ) → is t node.simple-type n ≡ false → bound t b node.type n ≡ true → is t node.enumeration-item (first t (declaration b n)) ≡ false → rank (first t (declaration b n)) < rank n) where
-  enough : (f n : ℕ) → rank n < f → Denotes t b n (declared-in f t b n)
-  unfolding declared-in
+  enough : (f n : ℕ) → rank n < f → Denotes t b n (denoted-in f t b n)
+  unfolding denoted-in
   enough zero n l = absurd (omega arith)
   enough (suc f) n l =
       by (is t node.simple-type n) (bound t b node.type n) (is t node.enumeration-item u) (renames t (declaration b n)) refl refl refl refl
@@ -61,8 +61,8 @@ module _ (t : Table) (b : List ℕ) (rank : ℕ → ℕ)
 
       by :
           (p q r s : Bool) → is t node.simple-type n ≡ p → bound t b node.type n ≡ q → is t node.enumeration-item u ≡ r → renames t (declaration b n) ≡ s →
-          (rank u < rank n → Denotes t b u (declared-in f t b u)) →
-          Denotes t b n (cond p (simple (tree.terminal t n)) (cond q (cond r (enumeration (declaration b n)) (cond s (declared-in f t b u) other)) other))
+          (rank u < rank n → Denotes t b u (denoted-in f t b u)) →
+          Denotes t b n (cond p (simple (tree.terminal t n)) (cond q (cond r (enumeration (declaration b n)) (cond s (denoted-in f t b u) other)) other))
       by true q r s e i j k more = a-simple-type e
       by false false r s e i j k more = no-type e i
       by false true true s e i j k more = an-enumeration e i j
@@ -120,7 +120,7 @@ module _ {t : Table} (R : Read file t) (W : WellNamed t) where
   type-value : (k : ℕ) → is t node.type k ≡ true → is-value t k ≡ false
   type-value k h = rw (eqb-true (kind t k) node.type h)
 
-  record Typed-name (n : ℕ) : Type 0 where
+  record TypeName (n : ℕ) : Type 0 where
     is-name : is t node.name n ≡ true
     role-is : is-name-in t node.in-expression n ≡ false
     among : List·Memᴰ (declaration b n) (declared-as t n)
@@ -133,7 +133,7 @@ module _ {t : Table} (R : Read file t) (W : WellNamed t) where
       let g = W .expressions n (mem-upto (count t) n l) in
       omega arith
 
-  type-name : (n : ℕ) → n < count t → bound t b node.type n ≡ true → Typed-name n
+  type-name : (n : ℕ) → n < count t → bound t b node.type n ≡ true → TypeName n
   unfolding means item-meant items-of
   type-name n l h = by (is-name-in t node.in-expression n) (is t node.name n) (is t node.qualified-item n) refl refl refl (bound-means n node.type l h)
     where
@@ -152,7 +152,7 @@ module _ {t : Table} (R : Read file t) (W : WellNamed t) where
 
       by :
           (p q r : Bool) → is-name-in t node.in-expression n ≡ p → is t node.name n ≡ q → is t node.qualified-item n ≡ r →
-          means t n ≡ one (declaration b n) → Typed-name n
+          means t n ≡ one (declaration b n) → TypeName n
       by true q r e i j m = absurd (no-value n (declaration b n) l e m y)
       by false true r e i j m = record { is-name = i; role-is = e; among = one-mem (declared-as t n) (declaration b n) (rw (e, i) at m) }
       by false false true e i j m = absurd (item-type (type-meant t n) (rw (e, i, j) at m))
@@ -194,7 +194,7 @@ module _ {t : Table} (R : Read file t) (W : WellNamed t) where
       (by (first t d) (n .is-name) (n .role-is) (inside-type d h (first t d) (omega arith) u)))
       (subst (λ (a : ℕ). List·Memᴰ (edge d (declaration b (first t d))) (map (edge a) (declared-as t (first t d)))) (sym o) (Memᴰ·map (edge d) (n .among))))
     where
-      first-under : Typed-name (first t d) → 1 ≤ size t d → first t d < d
+      first-under : TypeName (first t d) → 1 ≤ size t d → first t d < d
       first-under n s =
           ⊎-elim
           (λ (g : d ≤ first t d).
@@ -280,5 +280,5 @@ module _ {t : Table} (R : Read file t) (W : WellNamed t) where
           omega (arith, fewer)
 
   -- THE DECLARED TYPE at a node, other than a type itself, is the one that the rules say.
-  pub declared-denotes : (n : ℕ) → n < count t → is t node.type n ≡ false → Denotes t (bindings t) n (declared t (bindings t) n)
-  declared-denotes n l h = enough t b rank (λ n e i j. falls n i) (count t) n (few n l h)
+  pub denoted-is : (n : ℕ) → n < count t → is t node.type n ≡ false → Denotes t (bindings t) n (denoted t (bindings t) n)
+  denoted-is n l h = enough t b rank (λ n e i j. falls n i) (count t) n (few n l h)

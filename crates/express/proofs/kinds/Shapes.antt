@@ -10,7 +10,7 @@ use lib.ListN.{getD}
 use Rattle.express.specs.tokens.Lexis.{integer-value, binary-bits}
 use Rattle.express.specs.syntax.NodeKind as node
 use Rattle.express.specs.syntax.Tree.{Table, kind, terminal, is, left}
-use Rattle.express.specs.kinds.Declared.{declaration, bound, declared}
+use Rattle.express.specs.kinds.Declared.{declaration, bound, declared-type}
 use Rattle.express.specs.kinds.Shape.{Operator, Shape, integer-literal, logical-literal, binary-literal, question, item, name, unary, operator, interval, interval-operator, type, constant, unevaluated, text, operator-of, evaluated, named, shape, shape-in}
 use Rattle.relations.proofs.Select.{and-snd}
 
@@ -26,7 +26,7 @@ Told t b n (operator o) = kind t n ≡ node.two-operand
 Told t b n (interval o p) = kind t n ≡ node.interval
 Told t b n interval-operator = Unit {0}
 Told t b n (type d) = Unit {0}
-Told t b n (constant d) = (kind t n ≡ node.constant) × (d ≡ declared t b (left t n))
+Told t b n (constant d) = (kind t n ≡ node.constant) × (d ≡ declared-type t b n)
 Told t b n unevaluated = Unit {0}
 
 -- a property of what a test chooses
@@ -66,6 +66,6 @@ module _ (t : Table) (b : List ℕ) (n : ℕ) where
       (choose (Told t b n) (is t node.constant n) (λ e. (is-kind node.constant e, refl)) tt))))))))))
 
   -- and a constant has the shape of one
-  pub constant-shape : kind t n ≡ node.constant → shape t b n ≡ constant (declared t b (left t n))
+  pub constant-shape : kind t n ≡ node.constant → shape t b n ≡ constant (declared-type t b n)
   unfolding shape-in
   constant-shape e = rw e

@@ -14,7 +14,7 @@ use Rattle.express.specs.syntax.NodeKind as node
 use Rattle.relations.specs.Select.{span}
 use Rattle.express.specs.syntax.Tree.{Table, count, kind, size, first, last, left, middle, low}
 use Rattle.express.proofs.syntax.Formed.{Formed}
-use Rattle.express.specs.kinds.Declared.{Declared, BOOLEAN, declared}
+use Rattle.express.specs.kinds.Declared.{Declared, BOOLEAN, declared-type}
 use Rattle.express.specs.kinds.Shape.{relation, Shape, integer-literal, logical-literal, binary-literal, question, name, unary, operator, interval, interval-operator, type, constant, unevaluated, shape, Literals}
 use Rattle.express.specs.kinds.Shape as shapes
 use Rattle.express.specs.kinds.Operate.{Kind, integers, logicals, binaries, undetermined, untyped, comparable, takes, takes-one, combined, signed}
@@ -25,7 +25,7 @@ use Rattle.express.specs.kinds.Kind as found
 use Rattle.express.specs.kinds.Evaluate.{held, answer-of, answer-at, run, answers}
 use Rattle.express.specs.kinds.Order.{Ordered, done, next, Order}
 use Rattle.relations.proofs.Select.{and-fst, and-snd}
-use Rattle.express.proofs.kinds.Operations.{Good, good-?, good-integer, good-logical, good-binary, good-item, good-of, recast, common-good, declared-good, common-typed, takes-comparable, takes-one-comparable, combined-good, between-good, signed-good, Kept, itself, unknown, held-good, holds-held}
+use Rattle.express.proofs.kinds.Operations.{unknown-boolean-end, Good, good-?, good-integer, good-logical, good-binary, good-item, good-of, recast, common-good, declared-good, common-typed, takes-comparable, takes-one-comparable, combined-good, between-good, signed-good, Kept, itself, unknown, held-good, holds-held}
 use Rattle.express.proofs.kinds.Shapes.{Told, told, constant-shape}
 use Rattle.express.proofs.kinds.Spans.{Below, last-below, left-below, five-below, value-below, in-constant}
 use Rattle.express.proofs.kinds.Typed.{typing-fits}
@@ -127,8 +127,8 @@ module _ (t : Table) (b : List ℕ) (v : Literals t) (k : ℕ → Kind) (g : ℕ
   one n question e o i h c = let q : undetermined ≡ k n = cc in made n q (a-question e) good-?
   one n (shapes.item m) e o i h c = made n (cc) (rule.an-item e) (good-item o refl)
   one n (name d) e o i h c =
-      let f : kind-of-type (declared t b (left t d)) ≡ k d = fits-kind (comparable (common (kind-of-type (declared t b (left t d))) (k (last d)))) (rw (constant-shape t b d o) at (h .fit)) .1 in
-      let q : k d ≡ k n = sym f ∙ evaluated-kind (declared t b (left t d)) i in
+      let f : kind-of-type (declared-type t b d) ≡ k d = fits-kind (comparable (common (kind-of-type (declared-type t b d)) (k (last d)))) (rw (constant-shape t b d o) at (h .fit)) .1 in
+      let q : k d ≡ k n = sym f ∙ evaluated-kind (declared-type t b d) i in
       let m = h .made (ap comparable q ∙ c) in
       made n q (a-name e (m .gives)) (m .good)
   one n (unary s) e o i h c =
@@ -319,7 +319,7 @@ constant-holds t b d (a-sign e x u) i = clash (cc)
 constant-holds t b d (an-operator e x y u) i = clash (cc)
 constant-holds t b d (an-interval e x y z u w) i = clash (cc)
 constant-holds t b d (a-constant {d = j} {a} e x u) i = let q : j ≡ d = cc in subst (λ (d : Declared). Holds t d a) q u
-constant-holds t b d (an-unknown-boolean e x) i = an-end {e = 19} (omega arith) (omega arith)
+constant-holds t b d (an-unknown-boolean e x) i = an-end unknown-boolean-end
 
 -- whatever the list of answers holds before
 pub run-exact :
@@ -331,7 +331,7 @@ run-exact t b f v ks e ds o xs x c l g =
     all-sound t b f v (kind-at ks) (typing-fits t b f ks e) xs x (o .ordered) (λ m h. absurd (List·Memᴰ·not-nil h)) c
     (inr (o .complete c l g))
     in
-    let d = declared t b (left t c) in
+    let d = declared-type t b c in
     let j = common (kind-of-type d) (kind-at ks (last c)) in
     let i : shape t b c ≡ constant d = constant-shape t b c g in
     let w = fits-kind (comparable j) {k = kind-at ks c} (rw i at (s .fit)) in

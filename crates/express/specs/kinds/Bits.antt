@@ -5,7 +5,7 @@ use Prim.Native.Nat.{ℕ, zero, suc, _+_, _*_, _/_, _%_, _^_, compare, Ordering}
 use lib.Dec.{eqb, leb}
 use lib.ListN.{length}
 use Rattle.relations.specs.Order.{compare-lists}
-use Rattle.express.specs.kinds.Answer.{Answer, binary, end}
+use Rattle.express.specs.kinds.Answer.{Answer, binary, end, outside}
 
 abbrev pub bit : Bool → ℕ
 bit true = 1
@@ -23,7 +23,7 @@ bits (suc l) n = eqb (n / 2 ^ l % 2) 1 ∷ bits l n
 
 -- "Between two operands `+` also joins binaries"; "16 .. over 63 joined bits"
 unfoldable pub join : List Bool → List Bool → Answer
-join xs ys = cond (leb (length (xs ++ ys)) 63) (binary (xs ++ ys)) (end 16)
+join xs ys = cond (leb (length (xs ++ ys)) 63) (binary (xs ++ ys)) (end outside)
 
 -- Binaries compare from the left, 0 below 1; a proper prefix is less.
 abbrev pub compare-bit : Bool → Bool → Ordering

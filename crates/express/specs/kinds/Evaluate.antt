@@ -3,7 +3,7 @@ use mathlib.Core.List.{List, [], _∷_}
 use Prim.Native.Nat.{ℕ}
 use lib.ListN.{getD, set, replicate}
 use lib.IntN.{pos}
-use Rattle.express.specs.kinds.Answer.{Logical, FALSE, UNKNOWN, TRUE, Answer, indeterminate, integer, logical, binary, item, end}
+use Rattle.express.specs.kinds.Answer.{Logical, FALSE, UNKNOWN, TRUE, Answer, indeterminate, integer, logical, binary, item, end, unknown-boolean}
 use Rattle.express.specs.syntax.Tree.{Table, count, last, left, middle, low}
 use Rattle.express.specs.kinds.Declared.{Declared, INTEGER, BOOLEAN, LOGICAL, BINARY, enumeration, other}
 use Rattle.express.specs.kinds.Shape.{Shape, integer-literal, logical-literal, binary-literal, question, name, unary, operator, interval, interval-operator, type, constant, unevaluated, shape-in, shape}
@@ -14,7 +14,7 @@ use Rattle.express.specs.kinds.Kind.{all-within}
 -- "19 UNKNOWN for a BOOLEAN"
 abbrev pub known : Logical → Answer
 known FALSE = logical FALSE
-known UNKNOWN = end 19
+known UNKNOWN = end unknown-boolean
 known TRUE = logical TRUE
 
 abbrev pub held : Declared → Answer → Answer

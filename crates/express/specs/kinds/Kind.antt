@@ -9,7 +9,7 @@ use Rattle.express.specs.syntax.NodeKind as node
 use Rattle.relations.specs.Select.{span, keep}
 use Rattle.express.specs.syntax.Tree.{Table, count, size, first, last, nodes, is, owner, left, middle, low}
 use Rattle.express.specs.syntax.Tree as tree
-use Rattle.express.specs.kinds.Declared.{Declared, INTEGER, BOOLEAN, LOGICAL, BINARY, enumeration, other, declared}
+use Rattle.express.specs.kinds.Declared.{Declared, INTEGER, BOOLEAN, LOGICAL, BINARY, enumeration, other, declared-type}
 use Rattle.express.specs.kinds.Shape.{Operator, plus, arithmetic, relation, connective, Sign, positive, negative, not, Shape, integer-literal, logical-literal, binary-literal, question, item, name, unary, operator, interval, interval-operator, type, constant, unevaluated, shape-in, shape}
 use Rattle.express.specs.kinds.Operate.{Kind, integers, logicals, binaries, items, undetermined, untyped, takes, takes-one, comparable}
 
@@ -71,7 +71,7 @@ finding-in t b e k n (logical-literal l) = kind logicals
 finding-in t b e k n (binary-literal s) = kind binaries
 finding-in t b e k n question = kind undetermined
 finding-in t b e k n (item m) = kind (items (owner t m))
-finding-in t b e k n (name c) = if-evaluated (declared t b (left t c)) (kind-of-type (declared t b (left t c)))
+finding-in t b e k n (name c) = if-evaluated (declared-type t b c) (kind-of-type (declared-type t b c))
 finding-in t b e k n (unary o) = if-fits (takes-one o (k (last n))) (result-of-one o)
 finding-in t b e k n (operator o) = let j = common (k (left e n)) (k (last n)) in if-fits (takes o j) (result o j)
 finding-in t b e k n (interval o p) =
