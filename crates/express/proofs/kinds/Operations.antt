@@ -22,8 +22,8 @@ use Rattle.express.specs.kinds.Declared.{Declared, INTEGER, BOOLEAN, LOG
 use Rattle.express.specs.kinds.Shape.{Arithmetic, minus, times, divide, modulo, power, and, Operator, plus, arithmetic, relation, connective, Sign, positive, negative, not}
 use Rattle.express.specs.kinds.Operate.{Kind, integers, logicals, binaries, items, undetermined, untyped, Of, of-?, of-end, of-integer, of-logical, of-binary, of-item, integral, truthful, summable, comparable, takes, takes-one, end-in, given, computed, operated, combined, signed, between}
 use Rattle.express.specs.kinds.Rule.{Member, an-integer, is-false, is-true, a-logical, a-binary, an-item, Holds, no-value, an-end, a-member}
-use Rattle.express.specs.kinds.Kind.{number, same, common, kind-of-type, result, result-of-one}
-use Rattle.express.specs.kinds.Evaluate.{known, held}
+use Rattle.express.specs.kinds.Kind.{kind-number, same, common, kind-of-type, result, result-of-one}
+use Rattle.express.specs.kinds.Evaluate.{boolean-answer, held}
 
 -- an end's number
 abbrev pub Ends : ℕ → Type 0
@@ -66,7 +66,7 @@ of-number n =
     cond (eqb n 0) untyped
     (cond (eqb n 1) undetermined (cond (eqb n 2) integers (cond (eqb n 3) logicals (cond (eqb n 4) binaries (items (n - 5))))))
 
-number-back : (k : Kind) → of-number (number k) ≡ k
+number-back : (k : Kind) → of-number (kind-number k) ≡ k
 number-back integers = refl
 number-back logicals = refl
 number-back binaries = refl
@@ -77,7 +77,7 @@ number-back undetermined = refl
 number-back untyped = refl
 
 same-kinds : (j k : Kind) → same j k ≡ true → j ≡ k
-same-kinds j k e = sym (number-back j) ∙ ap of-number (eqb-true (number j) (number k) e) ∙ number-back k
+same-kinds j k e = sym (number-back j) ∙ ap of-number (eqb-true (kind-number j) (kind-number k) e) ∙ number-back k
 
 -- what an operator takes, and what fits a type, has a kind
 integral-comparable : (k : Kind) → integral k ≡ true → comparable k ≡ true
@@ -296,7 +296,7 @@ module _ {t : Table} where
   kept : {d : Declared} {a : Answer} → Good t (kind-of-type d) a → Holds t d a → Result t d a a
   kept g h = record { good = g; kept = itself h }
 
-  held-logical : (l : Logical) → Result t BOOLEAN (logical l) (known l)
+  held-logical : (l : Logical) → Result t BOOLEAN (logical l) (boolean-answer l)
   held-logical FALSE = kept good-logical (a-member is-false)
   held-logical UNKNOWN = record { good = good-end unknown-boolean-end; kept = unknown refl }
   held-logical TRUE = kept good-logical (a-member is-true)

@@ -6,15 +6,18 @@ use mathlib.Core.List.{_++_}
 use Prim.Native.Nat.{ℕ, zero, suc, _+_, _-_, _≤_, _<_}
 use native.Mathlib.Decide.{ℕ-discrete, decLt}
 use native.Mathlib.Omega.{arith}
-use borrow.Author.Tests.{eqb-true}
-use lib.Dec.{eqb}
-use Rattle.ebnf.specs.Set.{mem, subset}
+use borrow.Author.Tests.{eqb-true, eq-eqb, leb-true, le-leb}
+use lib.Dec.{eqb, leb}
+use lib.ListN.{List·getD-eq-default}
+use Rattle.ebnf.specs.Set.{mem, subset, disjoint}
 use Rattle.ebnf.proofs.Sets.{in-more, in-left, in-cases, mem-one}
 use Rattle.express.specs.syntax.NodeKind as node
-use Rattle.express.specs.syntax.Tree.{Table, count, kind, size, last, first, left, upper, middle, lower, low}
+use Rattle.express.specs.syntax.Tree.{Table, count, kind, size, last, first, left, upper, middle, lower, low, is, is-declaration, owner}
+use Rattle.express.specs.kinds.Kind.{Constant}
 use Rattle.express.proofs.syntax.KindSets.{expressions, bases, leaves, operations, below-constant, base-leaf}
 use Rattle.express.proofs.syntax.Formed.{Formed}
-use Rattle.relations.proofs.Select.{or-cases}
+use Rattle.express.proofs.names.Owned.{undeclared}
+use Rattle.relations.proofs.Select.{and-fst, and-snd, and-both, or-cases, le-or, first-is, first-of}
 
 -- The kinds of nodes that lie in a constant, other than itself
 abbrev pub Part : ℕ → Type 0
@@ -248,6 +251,13 @@ module _ (t : Table) (f : Formed t) where
       let i = inside-below (suc (r .root)) (r .root) m (omega arith) (omega arith) (r .part) (r .lies) in
       record { whole = omega (arith, r .low, i .whole); part = i .part }
 
+  -- they belong to it
+  pub constant-owner : (d m : ℕ) → d < count t → kind t d ≡ node.constant → first t d ≤ m → m ≤ d → owner t m ≡ d
+  unfolding owner mem disjoint
+  constant-owner d m l e a b =
+      first-of (is-declaration t) (count t) m d b l (rw e)
+      (λ j lo hi. undeclared t j below-constant refl (in-constant d j l e (omega arith) hi .part))
+
   -- so no constant lies in another
   pub apart : (c d : ℕ) → d < count t → kind t c ≡ node.constant → kind t d ≡ node.constant → c < d → c < first t d
   unfolding mem
@@ -256,3 +266,32 @@ module _ (t : Table) (f : Formed t) where
       by : Dec (c < first t d) → c < first t d
       by (yes h) = h
       by (no h) = absurd (false≢true (rw e at (in-constant d c l g (omega arith) a .part)))
+
+-- ---- the nodes of constants
+
+-- node n lies in the tree of a constant, or is it
+pub record OfConstant (t : Table) (n : ℕ) : Type 0 where
+  pub root : ℕ
+  pub known : root < count t
+  pub is-constant : kind t root ≡ node.constant
+  pub from : first t root ≤ n
+  pub upto : n ≤ root
+
+-- the same by the test of its owner
+pub of-constant : (t : Table) (n : ℕ) → Constant t n → OfConstant t n
+unfolding owner
+of-constant t n h =
+    let o = owner t n in
+    let e = eqb-true (kind t o) node.constant (and-fst (is t node.constant o) (leb (first t o) n) h) in
+    record {
+      root = o;
+      known = ⊎-elim (λ l. let z : kind t o ≡ 0 = List·getD-eq-default (t .kinds) 0 l in absurd (omega arith)) (λ l. l) (le-or (count t) o);
+      is-constant = e;
+      from = leb-true (first t o) n (and-snd (is t node.constant o) (leb (first t o) n) h);
+      upto = first-is (is-declaration t) n (count t - n) .from;
+    }
+
+pub constant-of : (t : Table) → Formed t → (n : ℕ) → OfConstant t n → Constant t n
+constant-of t f n c =
+    let o : owner t n ≡ c .root = constant-owner t f (c .root) n (c .known) (c .is-constant) (c .from) (c .upto) in
+    rw o (and-both _ _ (eq-eqb _ _ (c .is-constant)) (le-leb _ _ (c .from)))

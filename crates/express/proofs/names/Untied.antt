@@ -11,10 +11,10 @@ use lib.Dec.{eqb}
 use lib.ListN.{length, List·getD-eq-default}
 use Rattle.express.specs.syntax.NodeKind.{name, qualified-item, self, attribute-name, derived-attribute, rule, labelled, in-expression}
 use Rattle.relations.specs.Select.{span, any}
-use Rattle.express.specs.syntax.Tree.{Table, count, kind, token, role, place, place-at, nodes, is, is-name-in, is-declaration, is-scope-member}
+use Rattle.express.specs.syntax.Tree.{Table, count, kind, token, role, place, place-at, nodes, is, is-name-in, is-declaration, is-scope-member, in-constant}
 use Rattle.relations.specs.Reach.{Edge, reaches}
 use Rattle.express.specs.names.Scope.{Meaning, none, one, several, means, type-token, type-meant, type-edges}
-use Rattle.express.specs.names.Fault.{Fault, fault, fine, or-later, sort, alike, repeated, judged, suits, type-name-fault, cyclic, is-value, is-enumeration, qualified, clashes, within-constant, expression, constant-edges}
+use Rattle.express.specs.names.Fault.{Fault, fault, fine, or-later, sort, alike, repeated, judged, suits, type-name-fault, cyclic, is-value, is-enumeration, qualified, clashes, expression, constant-edges}
 use Rattle.express.specs.names.Names.{Stage, stages, names, Refused}
 use Rattle.relations.proofs.Select.{and-fst, or-left, or-right, le-or}
 use Rattle.express.proofs.names.Names.{Untied, names-only}
@@ -105,13 +105,13 @@ module _ (t : Table) (n : ℕ) where
 
   expression-placed : Placed t n (expression t n)
   unfolding expression
-  expression-placed = by (is-name-in t in-expression n) (is t qualified-item n) (is t self n && within-constant t n) (clashes t n) refl refl refl refl
+  expression-placed = by (is-name-in t in-expression n) (is t qualified-item n) (is t self n && in-constant t n) (clashes t n) refl refl refl refl
     where
-      by : (a b c d : Bool) → is-name-in t in-expression n ≡ a → is t qualified-item n ≡ b → is t self n && within-constant t n ≡ c → clashes t n ≡ d
+      by : (a b c d : Bool) → is-name-in t in-expression n ≡ a → is t qualified-item n ≡ b → is t self n && in-constant t n ≡ c → clashes t n ≡ d
           → Placed t n (cond a (judged (is-value t) (means t n) (place t n)) (cond b (qualified t n) (cond c (fault 11 (place t n)) (cond d (fault 12 (place t n)) fine))))
       by true b c d e f g h = judged-at (is-value t) (means t n) (is-name (and-fst (is t name n) (eqb (role t n) in-expression) e))
       by false true c d e f g h = qualified-placed f
-      by false false true d e f g h = at-name (is-self (and-fst (is t self n) (within-constant t n) g)) refl
+      by false false true d e f g h = at-name (is-self (and-fst (is t self n) (in-constant t n) g)) refl
       by false false false true e f g h =
           at-name (or-right (is t name n || is t qualified-item n || is t self n) (is-scope-member t n) (and-fst (is-scope-member t n) _ h)) refl
       by false false false false e f g h = nowhere refl

@@ -34,8 +34,8 @@ use Rattle.express.specs.names.Names.{stages, least, first-fault, names}
 use Rattle.express.specs.tokens.Scanned.{Scanned}
 use Rattle.express.specs.kinds.Rule.{Exactly}
 use Rattle.express.specs.kinds.Operate.{Kind}
-use Rattle.express.specs.kinds.Kind.{Typing, typed, refused, type-nodes, type-nodes-in, typing}
-use Rattle.express.specs.kinds.Evaluate.{run, answers, answer-at}
+use Rattle.express.specs.kinds.Kind.{Typing, typed, ill-typed, type-nodes-in, type-constants, typing}
+use Rattle.express.specs.kinds.Evaluate.{run-in, evaluate, answers, answer-at}
 use Rattle.express.proofs.syntax.Syntax.{read-good}
 use Rattle.express.proofs.names.Names.{names-passes}
 use Rattle.express.proofs.kinds.OrderTest.{every, in-order, order-passes}
@@ -44,7 +44,7 @@ use Rattle.express.proofs.theorems.File.{file-exact}
 
 abbrev kinds-in : Typing → List Kind
 kinds-in (typed ks) = ks
-kinds-in (refused k n) = []
+kinds-in (ill-typed k n) = []
 
 abbrev row : ℕ → ℕ → ℕ → ℕ → Row
 row k t n o = record { kind = k; token = t; size = n; role = o }
@@ -108,11 +108,11 @@ unfolding span first-from keep any owner schema-of added closure declared items 
 press-named = refl
 
 press-typed : typing press press-bindings ≡ typed (kinds-in (typing press press-bindings))
-unfolding typing type-nodes-in span keep flatMap numeral integer-value binary-bits exact quotient remainder DIV MOD power AND OR XOR join compare-lists simple denoted-in operator-of shape-in run answers owner first-from
+unfolding typing type-constants type-nodes-in span keep flatMap numeral integer-value binary-bits exact quotient remainder DIV MOD power AND OR XOR join compare-lists simple denoted-in operator-of shape-in run-in evaluate answers owner first-from
 press-typed = refl
 
 press-order : (in-order press press-bindings [] press-plan ≡ true) × (every (λ c. not (is press constant c) || order.among press-plan c) (nodes press) ≡ true)
-unfolding in-order every any span keep flatMap numeral integer-value binary-bits exact quotient remainder DIV MOD power AND OR XOR join compare-lists simple denoted-in operator-of shape-in run answers owner first-from
+unfolding in-order every any span keep flatMap numeral integer-value binary-bits exact quotient remainder DIV MOD power AND OR XOR join compare-lists simple denoted-in operator-of shape-in run-in evaluate answers owner first-from
 press-order = (refl, refl)
 
 press-file : (c : ℕ) → c < 28 → kind press c ≡ constant → Exactly press (bindings press) c (answer-at (answers press press-bindings press-plan) c)
@@ -126,7 +126,7 @@ pub press-exact :
     Exactly press (bindings press) 10 (integer (negsuc 3)) ×
     Exactly press (bindings press) 20 (logical UNKNOWN) ×
     Exactly press (bindings press) 25 (binary (true ∷ false ∷ false ∷ true ∷ true ∷ []))
-unfolding span keep flatMap numeral integer-value binary-bits exact quotient remainder DIV MOD power AND OR XOR join compare-lists simple denoted-in operator-of shape-in run answers owner first-from
+unfolding span keep flatMap numeral integer-value binary-bits exact quotient remainder DIV MOD power AND OR XOR join compare-lists simple denoted-in operator-of shape-in run-in evaluate answers owner first-from
 press-exact = (press-file 4 (omega arith) refl, press-file 10 (omega arith) refl, press-file 20 (omega arith) refl, press-file 25 (omega arith) refl)
 
 -- an enumeration, a renaming of it, UNKNOWN for a BOOLEAN, and the first of two ends
@@ -193,11 +193,11 @@ unfolding span first-from keep any owner schema-of added closure declared items 
 shade-named = refl
 
 shade-typed : typing shade shade-bindings ≡ typed (kinds-in (typing shade shade-bindings))
-unfolding typing type-nodes-in span keep flatMap numeral integer-value binary-bits exact quotient remainder DIV MOD power AND OR XOR join compare-lists simple denoted-in operator-of shape-in run answers owner first-from
+unfolding typing type-constants type-nodes-in span keep flatMap numeral integer-value binary-bits exact quotient remainder DIV MOD power AND OR XOR join compare-lists simple denoted-in operator-of shape-in run-in evaluate answers owner first-from
 shade-typed = refl
 
 shade-order : (in-order shade shade-bindings [] shade-plan ≡ true) × (every (λ c. not (is shade constant c) || order.among shade-plan c) (nodes shade) ≡ true)
-unfolding in-order every any span keep flatMap numeral integer-value binary-bits exact quotient remainder DIV MOD power AND OR XOR join compare-lists simple denoted-in operator-of shape-in run answers owner first-from
+unfolding in-order every any span keep flatMap numeral integer-value binary-bits exact quotient remainder DIV MOD power AND OR XOR join compare-lists simple denoted-in operator-of shape-in run-in evaluate answers owner first-from
 shade-order = (refl, refl)
 
 shade-file : (c : ℕ) → c < 31 → kind shade c ≡ constant → Exactly shade (bindings shade) c (answer-at (answers shade shade-bindings shade-plan) c)
@@ -211,5 +211,5 @@ pub shade-exact :
     Exactly shade (bindings shade) 8 (item 23) ×
     Exactly shade (bindings shade) 13 (end 19) ×
     Exactly shade (bindings shade) 22 (end 19)
-unfolding span keep flatMap numeral integer-value binary-bits exact quotient remainder DIV MOD power AND OR XOR join compare-lists simple denoted-in operator-of shape-in run answers owner first-from
+unfolding span keep flatMap numeral integer-value binary-bits exact quotient remainder DIV MOD power AND OR XOR join compare-lists simple denoted-in operator-of shape-in run-in evaluate answers owner first-from
 shade-exact = (shade-file 5 (omega arith) refl, shade-file 8 (omega arith) refl, shade-file 13 (omega arith) refl, shade-file 22 (omega arith) refl)

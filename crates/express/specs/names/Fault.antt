@@ -5,7 +5,7 @@ use Prim.Native.Nat.{ℕ}
 use lib.Dec.{eqb, leb}
 use Rattle.express.specs.syntax.NodeKind.{name, qualified-item, self, enumeration-item, constant, type, entity, schema, in-expression, renamed-type, supertype-name}
 use Rattle.relations.specs.Select.{span, keep, any, empty}
-use Rattle.express.specs.syntax.Tree.{Table, role, symbol, place, place-at, first, nodes, is, is-name-in, is-declaration, is-attribute, is-scope-member, owner, schema-of}
+use Rattle.express.specs.syntax.Tree.{Table, role, symbol, place, place-at, first, nodes, is, is-name-in, is-declaration, is-attribute, is-scope-member, owner, schema-of, in-constant}
 use Rattle.relations.specs.Reach.{Edge, reaches}
 use Rattle.express.specs.names.Scope.{Meaning, none, one, several, means, declared, inherited, edges, type-token, type-meant}
 
@@ -77,15 +77,12 @@ qualified t n =
 abbrev pub clashes : Table → ℕ → Bool
 clashes t n = is-scope-member t n && not (empty (inherited t n (symbol t n)))
 
--- "11: SELF in a constant"
-abbrev pub within-constant : Table → ℕ → Bool
-within-constant t n = is t constant (owner t n)
-
+-- and 11 for SELF in a constant
 unfoldable pub expression : Table → ℕ → Fault
 expression t n =
     cond (is-name-in t in-expression n) (judged (is-value t) (means t n) (place t n))
     (cond (is t qualified-item n) (qualified t n)
-    (cond (is t self n && within-constant t n) (fault 11 (place t n)) (cond (clashes t n) (fault 12 (place t n)) fine)))
+    (cond (is t self n && in-constant t n) (fault 11 (place t n)) (cond (clashes t n) (fault 12 (place t n)) fine)))
 
 -- from constants to the constants that their expressions name
 abbrev pub constants-meant : Table → Meaning → List ℕ
@@ -94,4 +91,4 @@ constants-meant t several = []
 constants-meant t (one k) = cond (is t constant k) (k ∷ []) []
 
 unfoldable pub constant-edges : Table → List Edge
-constant-edges t = edges t (λ n. is-name-in t in-expression n && within-constant t n) (λ n. constants-meant t (means t n))
+constant-edges t = edges t (λ n. is-name-in t in-expression n && in-constant t n) (λ n. constants-meant t (means t n))
