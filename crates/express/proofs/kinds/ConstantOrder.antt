@@ -13,9 +13,9 @@ use Rattle.express.specs.syntax.NodeKind as node
 use Rattle.relations.specs.Select.{keep}
 use Rattle.express.specs.syntax.Tree.{Table, count, kind, role, symbol, first, nodes, is, is-name-in, is-declaration, owner, in-constant}
 use Rattle.relations.specs.Reach.{Reaches, direct, onward, Edge, edge, Joins, reaches}
-use Rattle.express.specs.names.Scope.{Meaning, several, one, meaning, spelled, items-of, item-meant, candidates, declared-as, type-meant, means, binding-of, binding, bindings}
+use Rattle.express.specs.names.Scope.{Meaning, several, one, meaning, spelled, items-of, item-meant, candidates, declarations-of, is-use, type-meant, means, binding-of, binding, bindings}
 use Rattle.express.specs.names.Scope as scope
-use Rattle.express.specs.names.Fault.{Fault, judged, suits, type-name-fault, cyclic, constants-meant, constant-edges}
+use Rattle.express.specs.names.Fault.{Fault, judged, suits, right, type-name-fault, cyclic, constants-meant, constant-edges}
 use Rattle.express.specs.names.Names.{WellNamed}
 use Rattle.express.specs.kinds.Declared.{declaration, bound, denoted}
 use Rattle.express.specs.kinds.Shape.{Shape, Operator, name, shape, shape-in, operator-of, evaluated, name-shape-in}
@@ -144,7 +144,8 @@ module _ (t : Table) where
     type-no : (n c : ℕ) → n < count t → is t node.name n ≡ true → eqb (role t n) node.in-expression ≡ false → means t n ≡ one c → is t node.constant c ≡ true → ⊥
     unfolding type-name-fault
     type-no n c l h r e k =
-        let f : type-name-fault t n .number ≡ 11 = rw (h, r, e, suits-no (role t n) c k) in
+        let q : right t n c ≡ false = rw (h, r) (suits-no (role t n) c k) in
+        let f : type-name-fault t n .number ≡ 11 = rw (h, r, e, q) in
         let g = W .types n (mem-upto (count t) n l) in omega arith
 
     -- a name of a constant, in a constant, is an edge between the two
@@ -153,16 +154,16 @@ module _ (t : Table) where
     named-edge n c l own e =
         let N = shape-named t (bindings t) n c e in
         let m = bound-means n c l (N .bound-to) (N .constant) in
-        mem-flat (λ k. map (edge (owner t k)) (constants-meant t (means t k))) (keep (λ k. is-name-in t node.in-expression k && in-constant t k) (nodes t))
-        (mem-keep (λ k. is-name-in t node.in-expression k && in-constant t k) (nodes t) (mem-upto (count t) n l)
-        (and-both (is-name-in t node.in-expression n) (in-constant t n) (by (is-name-in t node.in-expression n) (is t node.name n) (is t node.qualified-item n) refl refl refl (N .is-name) (m .0) (m .1)) own))
+        mem-flat (λ k. map (edge (owner t k)) (constants-meant t (means t k))) (keep (λ k. is-use t k && in-constant t k) (nodes t))
+        (mem-keep (λ k. is-use t k && in-constant t k) (nodes t) (mem-upto (count t) n l)
+        (and-both (is-use t n) (in-constant t n) (by (is-use t n) (is t node.name n) (is t node.qualified-item n) refl refl refl (N .is-name) (m .0) (m .1)) own))
         (Memᴰ·map (edge (owner t n)) (meant (m .0) (m .1)))
       where
         meant : means t n ≡ one c → is t node.constant c ≡ true → List·Memᴰ c (constants-meant t (means t n))
         meant m k = rw (m, k) (List·Memᴰ·head refl)
 
-        by : (x y z : Bool) → is-name-in t node.in-expression n ≡ x → is t node.name n ≡ y → is t node.qualified-item n ≡ z → is t node.name n || is t node.qualified-item n ≡ true
-            → means t n ≡ one c → is t node.constant c ≡ true → is-name-in t node.in-expression n ≡ true
+        by : (x y z : Bool) → is-use t n ≡ x → is t node.name n ≡ y → is t node.qualified-item n ≡ z → is t node.name n || is t node.qualified-item n ≡ true
+            → means t n ≡ one c → is t node.constant c ≡ true → is-use t n ≡ true
         by true y z p q r h m k = p
         by false true z p q r h m k = absurd (type-no n c l q (untrue (eqb (role t n) node.in-expression) (λ x. false≢true (sym p ∙ and-both (is t node.name n) (eqb (role t n) node.in-expression) q x))) m k)
         by false false true p q r h m k = absurd (item-no (symbol t n) c (type-meant t n) (sym (item-means n q r) ∙ m) k)
@@ -172,9 +173,9 @@ module _ (t : Table) where
     edge-constants : (a c : ℕ) → Joins (constant-edges t) a c → (is t node.constant a ≡ true) × (is t node.constant c ≡ true)
     unfolding constant-edges
     edge-constants a c m =
-        let r = edge-start t (λ k. is-name-in t node.in-expression k && in-constant t k) (λ k. constants-meant t (means t k)) a c m in
+        let r = edge-start t (λ k. is-use t k && in-constant t k) (λ k. constants-meant t (means t k)) a c m in
         let n = r .0 in
-        (subst (λ (x : ℕ). is t node.constant x ≡ true) (r .3) (and-fst (is t node.constant (owner t n)) (leb (first t (owner t n)) n) (and-snd (is-name-in t node.in-expression n) (in-constant t n) (r .2))), by (means t n) (r .4))
+        (subst (λ (x : ℕ). is t node.constant x ≡ true) (r .3) (and-fst (is t node.constant (owner t n)) (leb (first t (owner t n)) n) (and-snd (is-use t n) (in-constant t n) (r .2))), by (means t n) (r .4))
       where
         if : (k x : ℕ) (b : Bool) → is t node.constant k ≡ b → List·Memᴰ x (cond b (k ∷ []) []) → is t node.constant x ≡ true
         if k x true e m = let q = List·Memᴰ·eq-of-singleton m in subst (λ (y : ℕ). is t node.constant y ≡ true) (sym q) e
@@ -195,8 +196,7 @@ module _ (t : Table) where
     pub no-cycle : (c : ℕ) → is t node.constant c ≡ true → Reaches (Joins (constant-edges t)) c c → ⊥
     unfolding cyclic
     no-cycle c h r =
-        let d : is-declaration t c ≡ true = or-left (is t node.constant c || is t node.type c) (is t node.entity c) (or-left (is t node.constant c) (is t node.type c) h) in
-        let f : cyclic t (constant-edges t) c .number ≡ 13 = rw (d, reaches-iff (constant-edges t) c c .1 r) in
+        let f : cyclic t (is t node.constant) (constant-edges t) c .number ≡ 13 = rw (h, reaches-iff (constant-edges t) c c .1 r) in
         let g = W .constant-cycles c (mem-upto (count t) c (constant-below c h)) in omega arith
 
     -- the constants in an order

@@ -15,7 +15,7 @@ use Rattle.relations.specs.Select.{span, keep}
 use Rattle.express.specs.syntax.Tree.{Table, count, kind, role, size, symbol, first, nodes, is, is-name-in, is-declaration, owner}
 use Rattle.express.specs.syntax.Tree as tree
 use Rattle.relations.specs.Reach.{Reaches, direct, onward, edge, Joins, reaches}
-use Rattle.express.specs.names.Scope.{Meaning, several, one, meaning, items-of, item-meant, declared-as, type-meant, means, binding-of, binding, bindings, super-edges, renaming-edges, type-edges}
+use Rattle.express.specs.names.Scope.{Meaning, several, one, meaning, items-of, item-meant, declarations-of, is-use, type-meant, means, binding-of, binding, bindings, super-edges, renaming-edges, type-edges}
 use Rattle.express.specs.names.Scope as scope
 use Rattle.express.specs.names.Fault.{is-value, cyclic}
 use Rattle.express.specs.names.Fault as stage
@@ -122,20 +122,21 @@ module _ {t : Table} (R : Read file t) (W : WellNamed t) where
 
   record TypeName (n : ℕ) : Type 0 where
     is-name : is t node.name n ≡ true
-    role-is : is-name-in t node.in-expression n ≡ false
-    among : List·Memᴰ (declaration b n) (declared-as t n)
+    role-is : is-use t n ≡ false
+    among : List·Memᴰ (declaration b n) (declarations-of t n)
 
   -- "A name in an expression must be an attribute, constant or item."
-  no-value : (n k : ℕ) → n < count t → is-name-in t node.in-expression n ≡ true → means t n ≡ one k → is t node.type k ≡ true → ⊥
+  no-value : (n k : ℕ) → n < count t → is-use t n ≡ true → means t n ≡ one k → is t node.type k ≡ true → ⊥
   unfolding stage.expression
   no-value n k l e m y =
-      let f : stage.expression t n .number ≡ 11 = rw (e, m, type-value k y) in
+      let q : stage.right t n k ≡ false = rw (e, type-value k y) in
+      let f : stage.expression t n .number ≡ 11 = rw (e, m, q) in
       let g = W .expressions n (mem-upto (count t) n l) in
       omega arith
 
   type-name : (n : ℕ) → n < count t → bound t b node.type n ≡ true → TypeName n
   unfolding means item-meant items-of
-  type-name n l h = by (is-name-in t node.in-expression n) (is t node.name n) (is t node.qualified-item n) refl refl refl (bound-means n node.type l h)
+  type-name n l h = by (is-use t n) (is t node.name n) (is t node.qualified-item n) refl refl refl (bound-means n node.type l h)
     where
       y : is t node.type (declaration b n) ≡ true
       y = bound-is n node.type h
@@ -151,10 +152,10 @@ module _ {t : Table} (R : Read file t) (W : WellNamed t) where
           omega arith
 
       by :
-          (p q r : Bool) → is-name-in t node.in-expression n ≡ p → is t node.name n ≡ q → is t node.qualified-item n ≡ r →
+          (p q r : Bool) → is-use t n ≡ p → is t node.name n ≡ q → is t node.qualified-item n ≡ r →
           means t n ≡ one (declaration b n) → TypeName n
       by true q r e i j m = absurd (no-value n (declaration b n) l e m y)
-      by false true r e i j m = record { is-name = i; role-is = e; among = one-mem (declared-as t n) (declaration b n) (rw (e, i) at m) }
+      by false true r e i j m = record { is-name = i; role-is = e; among = one-mem (declarations-of t n) (declaration b n) (rw (e, i) at m) }
       by false false true e i j m = absurd (item-type (type-meant t n) (rw (e, i, j) at m))
       by false false false e i j m = absurd (let z : _≡_ {A = ℕ} 0 1 = let c : scope.none ≡ one (declaration b n) = rw (e, i, j) at m in cc in omega arith)
 
@@ -189,10 +190,10 @@ module _ {t : Table} (R : Read file t) (W : WellNamed t) where
       let u : first t d < d = first-under n s in
       let o : owner t (first t d) ≡ d = type-owns d h (first t d) (omega arith) u in
       Memᴰ·append-left (super-edges t)
-      (mem-flat (λ k. map (edge (owner t k)) (declared-as t k)) (keep (λ k. is-name-in t node.renamed-type k || is-name-in t node.select-name k) (nodes t))
+      (mem-flat (λ k. map (edge (owner t k)) (declarations-of t k)) (keep (λ k. is-name-in t node.renamed-type k || is-name-in t node.select-name k) (nodes t))
       (mem-keep (λ k. is-name-in t node.renamed-type k || is-name-in t node.select-name k) (nodes t) (mem-upto (count t) (first t d) (omega arith))
       (by (first t d) (n .is-name) (n .role-is) (inside-type d h (first t d) (omega arith) u)))
-      (subst (λ (a : ℕ). List·Memᴰ (edge d (declaration b (first t d))) (map (edge a) (declared-as t (first t d)))) (sym o) (Memᴰ·map (edge d) (n .among))))
+      (subst (λ (a : ℕ). List·Memᴰ (edge d (declaration b (first t d))) (map (edge a) (declarations-of t (first t d)))) (sym o) (Memᴰ·map (edge d) (n .among))))
     where
       first-under : TypeName (first t d) → 1 ≤ size t d → first t d < d
       first-under n s =
@@ -206,7 +207,7 @@ module _ {t : Table} (R : Read file t) (W : WellNamed t) where
           (λ g. g) (le-or d (first t d))
 
       by :
-          (m : ℕ) → is t node.name m ≡ true → is-name-in t node.in-expression m ≡ false → role-in-type (kind t m) (role t m) ≡ true →
+          (m : ℕ) → is t node.name m ≡ true → is-use t m ≡ false → role-in-type (kind t m) (role t m) ≡ true →
           is-name-in t node.renamed-type m || is-name-in t node.select-name m ≡ true
       by m x y z = rw x (other-role (role t m) (rw x at y) (and-snd (in-type (kind t m)) _ z))
         where
@@ -221,7 +222,7 @@ module _ {t : Table} (R : Read file t) (W : WellNamed t) where
   unfolding cyclic
   no-cycle d h r =
       let e : is-declaration t d ≡ true = rw (eqb-true (kind t d) node.type h) in
-      let f : cyclic t (type-edges t) d .number ≡ 13 = rw (e, reaches-iff (type-edges t) d d .1 r) in
+      let f : cyclic t (is-declaration t) (type-edges t) d .number ≡ 13 = rw (e, reaches-iff (type-edges t) d d .1 r) in
       let g = W .type-cycles d (mem-upto (count t) d (type-below d h)) in
       omega arith
 

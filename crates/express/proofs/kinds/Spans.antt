@@ -14,7 +14,7 @@ use Rattle.ebnf.proofs.Sets.{in-more, in-left, in-cases, mem-one}
 use Rattle.express.specs.syntax.NodeKind as node
 use Rattle.express.specs.syntax.Tree.{Table, count, kind, size, last, first, left, upper, middle, lower, low, is, is-declaration, owner}
 use Rattle.express.specs.kinds.Kind.{Constant}
-use Rattle.express.proofs.syntax.KindSets.{expressions, bases, leaves, operations, below-constant, base-leaf}
+use Rattle.express.proofs.syntax.KindSets.{expression-kinds, base-kinds, leaf-kinds, operation-kinds, below-constant, base-leaf}
 use Rattle.express.proofs.syntax.Formed.{Formed}
 use Rattle.express.proofs.names.Owned.{undeclared}
 use Rattle.relations.proofs.Select.{and-fst, and-snd, and-both, or-cases, le-or, first-is, first-of}
@@ -23,29 +23,29 @@ use Rattle.relations.proofs.Select.{and-fst, and-snd, and-both, or-cases, le-or
 abbrev pub Part : ℕ → Type 0
 Part k = mem k below-constant ≡ true
 
-expression-part : (k : ℕ) → mem k expressions ≡ true → Part k
+expression-part : (k : ℕ) → mem k expression-kinds ≡ true → Part k
 unfolding mem subset
-expression-part k e = in-more k expressions below-constant refl e
+expression-part k e = in-more k expression-kinds below-constant refl e
 
 operator-part : (k : ℕ) → k ≡ node.interval-operator → Part k
 unfolding mem
 operator-part k e = rw e
 
-base-part : (k : ℕ) → mem k bases ≡ true → Part k
-base-part k e = in-left k leaves operations (base-leaf k e)
+base-part : (k : ℕ) → mem k base-kinds ≡ true → Part k
+base-part k e = in-left k leaf-kinds operation-kinds (base-leaf k e)
 
 -- Which children a node has
 pub data Class (k : ℕ) : Type 0 where
-  none : mem k leaves ≡ true → Class k
+  none : mem k leaf-kinds ≡ true → Class k
   one : k ≡ node.unary → Class k
   two : k ≡ node.two-operand → Class k
   five : k ≡ node.interval → Class k
 
 class : (k : ℕ) → Part k → Class k
 unfolding mem
-class k p = ⊎-elim (λ e. none e) operation (in-cases k leaves operations p)
+class k p = ⊎-elim (λ e. none e) operation (in-cases k leaf-kinds operation-kinds p)
   where
-    operation : mem k operations ≡ true → Class k
+    operation : mem k operation-kinds ≡ true → Class k
     operation e =
         ⊎-elim (λ i. one (eqb-true k node.unary i))
         (λ i. ⊎-elim (λ j. two (eqb-true k node.two-operand j)) (λ j. five (mem-one k node.interval j)) (or-cases (eqb k node.two-operand) _ i))
@@ -104,14 +104,14 @@ record Places (n h u m o l sh su sm so sl : ℕ) : Type 0 where
   upper-at : m + su ≡ u
   item : o + sm ≡ m
   lower-at : l + so ≡ o
-  leaves : (su ≡ 1) × (so ≡ 1)
+  leaf-kinds : (su ≡ 1) × (so ≡ 1)
 
 places :
     (n h u m o l sh su sm so sl sn : ℕ) → h ≡ n - 1 → u ≡ h - sh → m ≡ u - su → o ≡ m - sm → l ≡ o - so →
     sn ≡ sl + 1 + sm + 1 + sh + 1 → su ≡ 1 → so ≡ 1 → sn ≤ n + 1 → 1 ≤ sl → Places n h u m o l sh su sm so sl
 places n h u m o l sh su sm so sl sn a b c d e z p q i w =
     let v : n ≡ h + 1 = omega arith in
-    record { parent = v; high = omega arith; upper-at = omega arith; item = omega arith; lower-at = omega arith; leaves = (p, q) }
+    record { parent = v; high = omega arith; upper-at = omega arith; item = omega arith; lower-at = omega arith; leaf-kinds = (p, q) }
 
 module _ (t : Table) (f : Formed t) where
   -- ---- children

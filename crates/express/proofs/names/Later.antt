@@ -127,9 +127,9 @@ module _ {x : Nonterminal} {t : Table} (d : Read x t) where
       by (a-schema s q) =
           false≢true (rw (sort-one (sorted t k) (e ∙ s)) at (passes-below d (λ j. mem j set.below-schema) refl n l (rw q refl) k u v))
       by (a-declaration s h) =
-          set.not-both (kind t k) set.below-declaration set.declarations refl (below-declaration (declaring t n h)) (declaring-kind (kind t k) (sort-two (sorted t k) (e ∙ s)))
+          set.not-both (kind t k) set.below-declaration set.declaration-kinds refl (below-declaration (declaring t n h)) (declaring-kind (kind t k) (sort-two (sorted t k) (e ∙ s)))
       by (an-item s q) = let z = alone d n node.enumeration-item l q refl in omega arith
-      by (a-member s h) = set.not-both (kind t k) set.below-constant set.members refl (below-member (member t n h)) (member-kind t k (sort-four (sorted t k) (e ∙ s)))
+      by (a-member s h) = set.not-both (kind t k) set.below-constant set.member-kinds refl (below-member (member t n h)) (member-kind t k (sort-four (sorted t k) (e ∙ s)))
       by (a-supertype s q) = let z = alone d n node.name l q refl in omega arith
       by (nothing s) = nz s
 

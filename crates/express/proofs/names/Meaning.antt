@@ -11,7 +11,7 @@ use Rattle.express.specs.syntax.NodeKind.{enumeration-item}
 use Rattle.relations.specs.Select.{keep}
 use Rattle.express.specs.syntax.Tree.{Table, count, symbol, place, nodes, is, is-declaration, is-attribute, is-scope-member, owner, schema-of}
 use Rattle.relations.specs.Reach.{Reaches, Edge, edge, Joins, reaches}
-use Rattle.express.specs.names.Scope.{spelled, declared, items, own, inherited, edges, super-edges}
+use Rattle.express.specs.names.Scope.{spelled, declarations, items, items-of, own, inherited, edges, super-edges}
 use Rattle.express.specs.names.Fault.{Fault, fault, fine, cyclic}
 use Rattle.relations.proofs.Select.{and-fst, and-snd, and-both, mem-upto, upto-mem, keep-mem, mem-keep, flat-mem}
 use Rattle.relations.proofs.Reach.{reaches-iff}
@@ -37,37 +37,43 @@ module _ (t : Table) where
   same-iff : (b : Bool) (x y : ℕ) → (b && eqb x y ≡ true) ↔ ((b ≡ true) × (x ≡ y))
   same-iff b x y = (λ e. (and-fst b (eqb x y) e, eqb-true x y (and-snd b (eqb x y) e)), λ r. and-both b (eqb x y) (r .0) (eq-eqb x y (r .1)))
 
-  pub declared-iff : (n s k : ℕ) → List·Memᴰ k (declared t n s) ↔ Candidate s (λ k. (is-declaration t k ≡ true) × (schema-of t k ≡ schema-of t n)) k
-  unfolding declared
-  declared-iff n s k = candidate-iff s _ _ (λ k. same-iff (is-declaration t k) (schema-of t k) (schema-of t n)) k
+  pub declarations-iff : (h s k : ℕ) → List·Memᴰ k (declarations t h s) ↔ Candidate s (λ k. (is-declaration t k ≡ true) × (schema-of t k ≡ h)) k
+  unfolding declarations
+  declarations-iff h s k = candidate-iff s _ _ (λ k. same-iff (is-declaration t k) (schema-of t k) h) k
 
-  pub items-iff : (n s k : ℕ) → List·Memᴰ k (items t n s) ↔ Candidate s (λ k. (is t enumeration-item k ≡ true) × (schema-of t k ≡ schema-of t n)) k
+  pub items-iff : (h s k : ℕ) → List·Memᴰ k (items t h s) ↔ Candidate s (λ k. (is t enumeration-item k ≡ true) × (schema-of t k ≡ h)) k
   unfolding items
-  items-iff n s k = candidate-iff s _ _ (λ k. same-iff (is t enumeration-item k) (schema-of t k) (schema-of t n)) k
+  items-iff h s k = candidate-iff s _ _ (λ k. same-iff (is t enumeration-item k) (schema-of t k) h) k
 
-  pub own-iff : (n s k : ℕ) → List·Memᴰ k (own t n s) ↔ Candidate s (λ k. (is-scope-member t k ≡ true) × (owner t k ≡ owner t n)) k
+  pub items-of-iff : (y s k : ℕ) → List·Memᴰ k (items-of t y s) ↔ Candidate s (λ k. (is t enumeration-item k ≡ true) × (owner t k ≡ y)) k
+  unfolding items-of
+  items-of-iff y s k = candidate-iff s _ _ (λ k. same-iff (is t enumeration-item k) (owner t k) y) k
+
+  pub own-iff : (d s k : ℕ) → List·Memᴰ k (own t d s) ↔ Candidate s (λ k. (is-scope-member t k ≡ true) × (owner t k ≡ d)) k
   unfolding own
-  own-iff n s k = candidate-iff s _ _ (λ k. same-iff (is-scope-member t k) (owner t k) (owner t n)) k
+  own-iff d s k = candidate-iff s _ _ (λ k. same-iff (is-scope-member t k) (owner t k) d) k
 
   -- an attribute of an entity that is reached over supertypes
-  pub inherited-iff : (n s k : ℕ) → List·Memᴰ k (inherited t n s) ↔ Candidate s (λ k. (is-attribute t k ≡ true) × Reaches (Joins (super-edges t)) (owner t n) (owner t k)) k
+  pub inherited-iff : (d s k : ℕ) → List·Memᴰ k (inherited t d s) ↔ Candidate s (λ k. (is-attribute t k ≡ true) × Reaches (Joins (super-edges t)) d (owner t k)) k
   unfolding inherited
-  inherited-iff n s k =
+  inherited-iff d s k =
       candidate-iff s _ _
       (λ k. (
-        λ e. (and-fst (is-attribute t k) (reaches (super-edges t) (owner t n) (owner t k)) e, reaches-iff (super-edges t) (owner t n) (owner t k) .0 (and-snd (is-attribute t k) (reaches (super-edges t) (owner t n) (owner t k)) e)),
-        λ r. and-both (is-attribute t k) (reaches (super-edges t) (owner t n) (owner t k)) (r .0) (reaches-iff (super-edges t) (owner t n) (owner t k) .1 (r .1)),
+        λ e.
+            (and-fst (is-attribute t k) (reaches (super-edges t) d (owner t k)) e,
+            reaches-iff (super-edges t) d (owner t k) .0 (and-snd (is-attribute t k) (reaches (super-edges t) d (owner t k)) e)),
+        λ r. and-both (is-attribute t k) (reaches (super-edges t) d (owner t k)) (r .0) (reaches-iff (super-edges t) d (owner t k) .1 (r .1)),
       )) k
 
-  -- 13 is given for the declarations that reach themselves
-  pub cyclic-iff : (es : List Edge) (n : ℕ) → (cyclic t es n ≡ fault 13 (place t n)) ↔ ((is-declaration t n ≡ true) × Reaches (Joins es) n n)
+  -- 13 is given for the nodes that pass the test and reach themselves
+  pub cyclic-iff : (p : ℕ → Bool) (es : List Edge) (n : ℕ) → (cyclic t p es n ≡ fault 13 (place t n)) ↔ ((p n ≡ true) × Reaches (Joins es) n n)
   unfolding cyclic
-  cyclic-iff es n = (
-    λ e. let h = by (is-declaration t n && reaches es n n) refl e in (and-fst (is-declaration t n) (reaches es n n) h, reaches-iff es n n .0 (and-snd (is-declaration t n) (reaches es n n) h)),
-    λ r. rw (and-both (is-declaration t n) (reaches es n n) (r .0) (reaches-iff es n n .1 (r .1))),
+  cyclic-iff p es n = (
+    λ e. let h = by (p n && reaches es n n) refl e in (and-fst (p n) (reaches es n n) h, reaches-iff es n n .0 (and-snd (p n) (reaches es n n) h)),
+    λ r. rw (and-both (p n) (reaches es n n) (r .0) (reaches-iff es n n .1 (r .1))),
   )
     where
-      by : (b : Bool) → is-declaration t n && reaches es n n ≡ b → cond b (fault 13 (place t n)) fine ≡ fault 13 (place t n) → is-declaration t n && reaches es n n ≡ true
+      by : (b : Bool) → p n && reaches es n n ≡ b → cond b (fault 13 (place t n)) fine ≡ fault 13 (place t n) → p n && reaches es n n ≡ true
       by true q e = q
       by false q e = let z : _≡_ {A = ℕ} 0 13 = ap (λ (f : Fault). f .number) e in absurd (omega arith)
 

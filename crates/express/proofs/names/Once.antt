@@ -10,7 +10,7 @@ use lib.Dec.{eqb, leb}
 use Rattle.express.specs.syntax.NodeKind.{name, constant, type, entity, attribute-name, derived-attribute, rule, enumeration-item, schema, qualified-item, labelled, in-expression}
 use Rattle.relations.specs.Select.{span, keep, any, nearest}
 use Rattle.express.specs.syntax.Tree.{Table, count, kind, role, symbol, place, nodes, is, is-name-in, is-declaration, is-attribute, is-scope-member, owner, schema-of}
-use Rattle.express.specs.names.Scope.{Meaning, none, one, several, meaning, spelled, declared, items, own, inherited, items-of, candidates, type-meant, item-meant, means}
+use Rattle.express.specs.names.Scope.{Meaning, none, one, several, meaning, spelled, declarations, declarations-of, is-use, items, own, inherited, items-of, candidates, type-meant, item-meant, means}
 use Rattle.express.specs.names.Fault.{Fault, fault, fine, sort, scope, alike, repeated}
 use Rattle.express.specs.names.Names.{Passes}
 use Rattle.relations.proofs.Select.{and-fst, and-snd, and-both, or-cases, span-mem, mem-upto, keep-mem, mem-any}
@@ -105,20 +105,20 @@ module _ (t : Table) (stage9 : Passes (nodes t) (repeated t)) where
       once x y (T .rise) (omega (arith, T .within)) (λ (q : sort t y ≡ 0). nz (sym (v .0) ∙ q)) (u .0 ∙ sym (v .0)) (u .1 ∙ sym (v .1)) (a ∙ sym b)
 
   -- the schema's constants, types and entities
-  pub declared-once : (n s : ℕ) → meaning (declared t n s) ≢ several
-  unfolding declared
-  declared-once n s =
-      spelled-once s (λ k. is-declaration t k && eqb (schema-of t k) (schema-of t n)) 2 (schema-of t n) (λ (e : 2 ≡ 0). omega arith)
-      (λ k h. let e = sort-declaration t k (and-fst (is-declaration t k) (eqb (schema-of t k) (schema-of t n)) h) in
-      (e, scope-declaration t k e ∙ eqb-true _ _ (and-snd (is-declaration t k) (eqb (schema-of t k) (schema-of t n)) h)))
+  pub declarations-once : (h s : ℕ) → meaning (declarations t h s) ≢ several
+  unfolding declarations
+  declarations-once h s =
+      spelled-once s (λ k. is-declaration t k && eqb (schema-of t k) h) 2 h (λ (e : 2 ≡ 0). omega arith)
+      (λ k i. let e = sort-declaration t k (and-fst (is-declaration t k) (eqb (schema-of t k) h) i) in
+      (e, scope-declaration t k e ∙ eqb-true _ _ (and-snd (is-declaration t k) (eqb (schema-of t k) h) i)))
 
   -- own attributes and labels
-  pub own-once : (n s : ℕ) → meaning (own t n s) ≢ several
+  pub own-once : (d s : ℕ) → meaning (own t d s) ≢ several
   unfolding own
-  own-once n s =
-      spelled-once s (λ k. is-scope-member t k && eqb (owner t k) (owner t n)) 4 (owner t n) (λ (e : 4 ≡ 0). omega arith)
-      (λ k h. let e = sort-member t k (and-fst (is-scope-member t k) (eqb (owner t k) (owner t n)) h) in
-      (e, scope-member t k e ∙ eqb-true _ _ (and-snd (is-scope-member t k) (eqb (owner t k) (owner t n)) h)))
+  own-once d s =
+      spelled-once s (λ k. is-scope-member t k && eqb (owner t k) d) 4 d (λ (e : 4 ≡ 0). omega arith)
+      (λ k h. let e = sort-member t k (and-fst (is-scope-member t k) (eqb (owner t k) d) h) in
+      (e, scope-member t k e ∙ eqb-true _ _ (and-snd (is-scope-member t k) (eqb (owner t k) d) h)))
 
   -- the items of one enumeration
   pub item-once : (y s : ℕ) → meaning (items-of t y s) ≢ several
@@ -130,21 +130,21 @@ module _ (t : Table) (stage9 : Passes (nodes t) (repeated t)) where
 
   -- two meanings: of a name in an expression, with no own meaning; two inherited attributes, or none and no declaration, and two items
   pub record Several (n : ℕ) : Type 0 where
-    pub in-an-expression : is-name-in t in-expression n ≡ true
-    pub no-own : own t n (symbol t n) ≡ []
+    pub in-an-expression : is-use t n ≡ true
+    pub no-own : own t (owner t n) (symbol t n) ≡ []
     pub from :
-        (meaning (inherited t n (symbol t n)) ≡ several)
-        ⊎ ((inherited t n (symbol t n) ≡ []) × (declared t n (symbol t n) ≡ []) × (meaning (items t n (symbol t n)) ≡ several))
+        (meaning (inherited t (owner t n) (symbol t n)) ≡ several)
+        ⊎ ((inherited t (owner t n) (symbol t n) ≡ []) × (declarations-of t n ≡ []) × (meaning (items t (schema-of t n) (symbol t n)) ≡ several))
 
-  candidates-several : (n : ℕ) → is-name-in t in-expression n ≡ true → meaning (candidates t n (symbol t n)) ≡ several → Several n
+  candidates-several : (n : ℕ) → is-use t n ≡ true → meaning (candidates t n (symbol t n)) ≡ several → Several n
   unfolding candidates
-  candidates-several n h e = by (own t n (symbol t n)) (inherited t n (symbol t n)) (declared t n (symbol t n)) refl refl refl e
+  candidates-several n h e = by (own t (owner t n) (symbol t n)) (inherited t (owner t n) (symbol t n)) (declarations-of t n) refl refl refl e
     where
-      by : (os hs ds : List ℕ) → own t n (symbol t n) ≡ os → inherited t n (symbol t n) ≡ hs → declared t n (symbol t n) ≡ ds
-          → meaning (nearest os (nearest hs (nearest ds (items t n (symbol t n))))) ≡ several → Several n
-      by (o ∷ os) hs ds a b c e = absurd (own-once n (symbol t n) (ap meaning a ∙ e))
+      by : (os hs ds : List ℕ) → own t (owner t n) (symbol t n) ≡ os → inherited t (owner t n) (symbol t n) ≡ hs → declarations-of t n ≡ ds
+          → meaning (nearest os (nearest hs (nearest ds (items t (schema-of t n) (symbol t n))))) ≡ several → Several n
+      by (o ∷ os) hs ds a b c e = absurd (own-once (owner t n) (symbol t n) (ap meaning a ∙ e))
       by [] (h₁ ∷ hs) ds a b c e = record { in-an-expression = h; no-own = a; from = inl (ap meaning b ∙ e) }
-      by [] [] (d ∷ ds) a b c e = absurd (declared-once n (symbol t n) (ap meaning c ∙ e))
+      by [] [] (d ∷ ds) a b c e = absurd (declarations-once (schema-of t n) (symbol t n) (ap meaning c ∙ e))
       by [] [] [] a b c e = record { in-an-expression = h; no-own = a; from = inr (b, c, e) }
 
   item-meant-once : (s : ℕ) (m : Meaning) → item-meant t s m ≢ several
@@ -155,11 +155,11 @@ module _ (t : Table) (stage9 : Passes (nodes t) (repeated t)) where
 
   pub several-only : (n : ℕ) → means t n ≡ several → Several n
   unfolding means
-  several-only n e = by (is-name-in t in-expression n) (is t name n) (is t qualified-item n) refl e
+  several-only n e = by (is-use t n) (is t name n) (is t qualified-item n) refl e
     where
-      by : (a b c : Bool) → is-name-in t in-expression n ≡ a
-          → cond a (meaning (candidates t n (symbol t n))) (cond b (meaning (declared t n (symbol t n))) (cond c (item-meant t (symbol t n) (type-meant t n)) none)) ≡ several → Several n
+      by : (a b c : Bool) → is-use t n ≡ a
+          → cond a (meaning (candidates t n (symbol t n))) (cond b (meaning (declarations-of t n)) (cond c (item-meant t (symbol t n) (type-meant t n)) none)) ≡ several → Several n
       by true b c h e = candidates-several n h e
-      by false true c h e = absurd (declared-once n (symbol t n) e)
+      by false true c h e = absurd (declarations-once (schema-of t n) (symbol t n) e)
       by false false true h e = absurd (item-meant-once (symbol t n) (type-meant t n) e)
       by false false false h e = absurd (none-several e)

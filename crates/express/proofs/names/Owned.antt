@@ -17,7 +17,7 @@ use Rattle.express.specs.syntax.Tree.{Table, count, kind, role, first, n
 use Rattle.express.specs.syntax.Grammar.{Nonterminal, file}
 use Rattle.express.specs.syntax.Syntax.{Read}
 use Rattle.relations.specs.Reach.{Reaches, direct, onward, Joins}
-use Rattle.express.specs.names.Scope.{super-edges, declared-as, own, inherited}
+use Rattle.express.specs.names.Scope.{super-edges, declarations-of, own, inherited}
 use Rattle.express.proofs.syntax.Nodes.{kinds, all-below}
 use Rattle.express.proofs.syntax.KindSets as set
 use Rattle.express.proofs.syntax.Within.{Over, all-pass-below, passes-below, file-last, schema-over, owner-over}
@@ -36,15 +36,15 @@ declaring t m h =
     (λ a. ⊎-elim (λ b. a-constant (eqb-true (kind t m) node.constant b)) (λ b. a-type (eqb-true (kind t m) node.type b)) (or-cases (is t node.constant m) (is t node.type m) a))
     (λ a. an-entity (eqb-true (kind t m) node.entity a)) (or-cases (is t node.constant m || is t node.type m) (is t node.entity m) h)
 
-pub declaring-kind : (k : ℕ) → Declaring k → mem k set.declarations ≡ true
+pub declaring-kind : (k : ℕ) → Declaring k → mem k set.declaration-kinds ≡ true
 unfolding mem
 declaring-kind k (a-constant q) = rw q
 declaring-kind k (a-type q) = rw q
 declaring-kind k (an-entity q) = rw q
 
 -- a node of a kind among others is no declaration
-pub undeclared : (t : Table) (n : ℕ) (ks : List ℕ) → disjoint ks set.declarations ≡ true → mem (kind t n) ks ≡ true → is-declaration t n ≡ false
-undeclared t n ks d h = untrue (is-declaration t n) (λ e. set.not-both (kind t n) ks set.declarations d h (declaring-kind (kind t n) (declaring t n e)))
+pub undeclared : (t : Table) (n : ℕ) (ks : List ℕ) → disjoint ks set.declaration-kinds ≡ true → mem (kind t n) ks ≡ true → is-declaration t n ≡ false
+undeclared t n ks d h = untrue (is-declaration t n) (λ e. set.not-both (kind t n) ks set.declaration-kinds d h (declaring-kind (kind t n) (declaring t n e)))
 
 -- ---- the nodes of a constant
 
@@ -67,7 +67,7 @@ module _ {x : Nonterminal} {t : Table} (d : Read x t) where
 
 -- ---- where names and members stand
 
-pub member-kind : (t : Table) (n : ℕ) → is-scope-member t n ≡ true → mem (kind t n) set.members ≡ true
+pub member-kind : (t : Table) (n : ℕ) → is-scope-member t n ≡ true → mem (kind t n) set.member-kinds ≡ true
 unfolding mem
 member-kind t n h =
     ⊎-elim
@@ -145,27 +145,27 @@ module _ {t : Table} (d : Read file t) where
   unfolding all-below every mem subset
   member-owner n l h q =
       away (λ k. mem k set.below-constant) (λ k o. (eqb k node.attribute-name || eqb k node.derived-attribute) || eqb k node.rule && eqb o node.labelled) refl n h
-      (in-owner n l (in-more (kind t n) set.members set.below-schema refl (member-kind t n h)) .0) node.constant refl
+      (in-owner n l (in-more (kind t n) set.member-kinds set.below-schema refl (member-kind t n h)) .0) node.constant refl
       (λ (z : kind t n ≡ node.constant). false≢true (rw z at (member-kind t n h))) q
 
   -- ---- what a name cannot see
 
-  -- "A type's WHERE has its labels, then the same from the schema on": nothing is inherited outside entities
-  pub nothing-inherited : (n s : ℕ) → kind t (owner t n) ≢ node.entity → inherited t n s ≡ []
+  -- nothing is inherited outside entities
+  pub nothing-inherited : (o s : ℕ) → kind t o ≢ node.entity → inherited t o s ≡ []
   unfolding super-edges
-  nothing-inherited n s h = no-members (inherited t n s) (λ k m. by (inherited-iff t n s k .0 m .suits .1))
+  nothing-inherited o s h = no-members (inherited t o s) (λ k m. by (inherited-iff t o s k .0 m .suits .1))
     where
-      start : (b : ℕ) → Joins (super-edges t) (owner t n) b → ⊥
+      start : (b : ℕ) → Joins (super-edges t) o b → ⊥
       start b e =
-          let r = edge-start t (is-name-in t node.supertype-name) (declared-as t) (owner t n) b e in
+          let r = edge-start t (is-name-in t node.supertype-name) (declarations-of t) o b e in
           h (ap (kind t) (sym (r .3)) ∙ super-owner (r .0) (r .1) (r .2))
 
-      by : {b : ℕ} → Reaches (Joins (super-edges t)) (owner t n) b → ⊥
+      by : {b : ℕ} → Reaches (Joins (super-edges t)) o b → ⊥
       by (direct {b = b} e) = start b e
       by (onward {b = b} e r) = start b e
 
   -- and a constant has nothing of its own
-  pub nothing-own : (n s : ℕ) → kind t (owner t n) ≡ node.constant → own t n s ≡ []
-  nothing-own n s h =
-      no-members (own t n s)
-      (λ k m. let c = own-iff t n s k .0 m in member-owner k (c .within) (c .suits .0) (ap (kind t) (c .suits .1) ∙ h))
+  pub nothing-own : (o s : ℕ) → kind t o ≡ node.constant → own t o s ≡ []
+  nothing-own o s h =
+      no-members (own t o s)
+      (λ k m. let c = own-iff t o s k .0 m in member-owner k (c .within) (c .suits .0) (ap (kind t) (c .suits .1) ∙ h))

@@ -41,9 +41,9 @@ five-sum n s s₁ s₂ s₃ s₄ s₅ p₂ p₃ p₄ p₅ u v a b c d e f g h i 
 
 -- ---- kinds without children
 
-leaf-kind : (k : ℕ) → mem k set.leaves ≡ true → kinds .children k ≡ []
+leaf-kind : (k : ℕ) → mem k set.leaf-kinds ≡ true → kinds .children k ≡ []
 unfolding all-below mem
-leaf-kind k h = childless-kind (λ j. mem j set.leaves) refl k h
+leaf-kind k h = childless-kind (λ j. mem j set.leaf-kinds) refl k h
 
 module _ {x : Nonterminal} {t : Table} (d : Read x t) where
   pub kind-is : (n : ℕ) → kind t n ≡ (row-at (d .rows) n) .kind
@@ -92,19 +92,19 @@ module _ {x : Nonterminal} {t : Table} (d : Read x t) where
 
   -- ---- the form that typing and evaluation go by
 
-  is-expression : (p : ℕ) → of-sorts (kind t p) (role t p) expressions ≡ true → mem (kind t p) set.expressions ≡ true
+  is-expression : (p : ℕ) → of-sorts (kind t p) (role t p) expressions ≡ true → mem (kind t p) set.expression-kinds ≡ true
   unfolding every mem
-  is-expression p h = every-of (λ k o. mem k set.expressions) expressions _ _ refl h
+  is-expression p h = every-of (λ k o. mem k set.expression-kinds) expressions _ _ refl h
 
   is-operator : (p : ℕ) → of-sorts (kind t p) (role t p) operators ≡ true → kind t p ≡ node.interval-operator
   unfolding every
   is-operator p h = eqb-true _ _ (every-of (λ k o. eqb k node.interval-operator) operators (kind t p) (role t p) refl h)
 
-  is-base : (p : ℕ) → of-sorts (kind t p) (role t p) bases ≡ true → mem (kind t p) set.bases ≡ true
+  is-base : (p : ℕ) → of-sorts (kind t p) (role t p) bases ≡ true → mem (kind t p) set.base-kinds ≡ true
   unfolding every mem
-  is-base p h = every-of (λ k o. mem k set.bases) bases (kind t p) (role t p) refl h
+  is-base p h = every-of (λ k o. mem k set.base-kinds) bases (kind t p) (role t p) refl h
 
-  leaf : (n : ℕ) → n < count t → mem (kind t n) set.leaves ≡ true → size t n ≡ 1
+  leaf : (n : ℕ) → n < count t → mem (kind t n) set.leaf-kinds ≡ true → size t n ≡ 1
   leaf n l h = alone n (kind t n) l refl (leaf-kind (kind t n) h)
 
   unary : (n : ℕ) → n < count t → kind t n ≡ node.unary → form.One t n

@@ -82,13 +82,13 @@ module _ {x : Nonterminal} {t : Table} (d : Read x t) where
   passes-below p c n l e m u v = all-pass-below p (λ k o. p k) (λ k o h. h) c n l e m u v
 
   -- THE NODES OF AN EXPRESSION, itself and those below it
-  pub expression-below : (n : ℕ) → n < count t → mem (kind t n) set.expressions ≡ true → (m : ℕ) → first t n ≤ m → m ≤ n →
+  pub expression-below : (n : ℕ) → n < count t → mem (kind t n) set.expression-kinds ≡ true → (m : ℕ) → first t n ≤ m → m ≤ n →
       mem (kind t m) set.in-expression ≡ true
   unfolding all-below every mem subset
   expression-below n l e m u v =
       ⊎-elim
-      (λ (w : m < n). passes-below (λ k. mem k set.in-expression) refl n l (children-pass (λ k. mem k set.expressions) (λ k. mem k set.in-expression) refl (kind t n) e) m u w)
-      (λ (w : n ≤ m). let z : m ≡ n = omega arith in rw z (in-more (kind t n) set.expressions set.in-expression refl e))
+      (λ (w : m < n). passes-below (λ k. mem k set.in-expression) refl n l (children-pass (λ k. mem k set.expression-kinds) (λ k. mem k set.in-expression) refl (kind t n) e) m u w)
+      (λ (w : n ≤ m). let z : m ≡ n = omega arith in rw z (in-more (kind t n) set.expression-kinds set.in-expression refl e))
       (lt-or-le m n)
 
 -- Node m is over node n, or is it: n lies in the subtree of m.

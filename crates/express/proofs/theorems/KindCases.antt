@@ -21,7 +21,7 @@ use Rattle.express.specs.syntax.Grammar.{file}
 use Rattle.express.specs.syntax.NodeKind.{constant}
 use Rattle.express.specs.tokens.Bytes.{upper, word-byte, space}
 use Rattle.relations.specs.Reach.{added, closure}
-use Rattle.express.specs.names.Scope.{declared, items, own, super-edges, renaming-edges, type-edges, inherited, candidates, type-meant, items-of, item-meant, means, binding, bindings}
+use Rattle.express.specs.names.Scope.{declarations, items, own, super-edges, renaming-edges, type-edges, inherited, candidates, type-meant, items-of, item-meant, means, binding, bindings}
 use Rattle.express.specs.tokens.Lexis.{end-of-run, end-of-remark, skipped-in, skipped, end-of-integer, end-of-exponent, end-of-real, end-of-string, end-of-binary, lone, size-of-symbol, end-of-symbol, token-kind-at, end-of-token, lexed-in, lexed, numeral, integer-value, binary-bits}
 use Rattle.express.specs.kinds.Integer.{exact, quotient, remainder, DIV, MOD, power}
 use Rattle.express.specs.kinds.Logic.{AND, OR, XOR}
@@ -88,7 +88,7 @@ abbrev press-bindings : List ℕ
 press-bindings = 0 ∷ 11 ∷ 0 ∷ 0 ∷ 0 ∷ 0 ∷ 0 ∷ 0 ∷ 0 ∷ 0 ∷ 0 ∷ 0 ∷ 0 ∷ 0 ∷ 11 ∷ 0 ∷ 0 ∷ 0 ∷ 0 ∷ 0 ∷ 0 ∷ 0 ∷ 0 ∷ 0 ∷ 0 ∷ 0 ∷ 0 ∷ 0 ∷ []
 
 press-bound : bindings press ≡ press-bindings
-unfolding span first-from keep any owner schema-of added closure declared items own super-edges renaming-edges type-edges inherited candidates type-meant items-of item-meant means binding bindings flatMap
+unfolding span first-from keep any owner schema-of added closure declarations items own super-edges renaming-edges type-edges inherited candidates type-meant items-of item-meant means binding bindings flatMap
 press-bound = refl
 
 -- an order of its constants
@@ -104,7 +104,7 @@ unfolding parsed first-deep parse descend mem budget
 press-parsed = refl
 
 press-named : names press .number ≡ 0
-unfolding span first-from keep any owner schema-of added closure declared items own super-edges renaming-edges type-edges inherited candidates type-meant items-of item-meant means binding bindings flatMap names stages least first-fault sort scope repeated type-name-fault cyclic qualified expression constant-edges
+unfolding span first-from keep any owner schema-of added closure declarations items own super-edges renaming-edges type-edges inherited candidates type-meant items-of item-meant means binding bindings flatMap names stages least first-fault sort scope repeated type-name-fault cyclic qualified expression constant-edges
 press-named = refl
 
 press-typed : typing press press-bindings ≡ typed (kinds-in (typing press press-bindings))
@@ -173,7 +173,7 @@ abbrev shade-bindings : List ℕ
 shade-bindings = 0 ∷ 9 ∷ 25 ∷ 0 ∷ 0 ∷ 0 ∷ 29 ∷ 24 ∷ 0 ∷ 0 ∷ 9 ∷ 0 ∷ 0 ∷ 0 ∷ 0 ∷ 14 ∷ 0 ∷ 0 ∷ 0 ∷ 0 ∷ 0 ∷ 0 ∷ 0 ∷ 0 ∷ 0 ∷ 0 ∷ 0 ∷ 27 ∷ 0 ∷ 0 ∷ 0 ∷ []
 
 shade-bound : bindings shade ≡ shade-bindings
-unfolding span first-from keep any owner schema-of added closure declared items own super-edges renaming-edges type-edges inherited candidates type-meant items-of item-meant means binding bindings flatMap
+unfolding span first-from keep any owner schema-of added closure declarations items own super-edges renaming-edges type-edges inherited candidates type-meant items-of item-meant means binding bindings flatMap
 shade-bound = refl
 
 -- an order of its constants
@@ -189,7 +189,7 @@ unfolding parsed first-deep parse descend mem budget
 shade-parsed = refl
 
 shade-named : names shade .number ≡ 0
-unfolding span first-from keep any owner schema-of added closure declared items own super-edges renaming-edges type-edges inherited candidates type-meant items-of item-meant means binding bindings flatMap names stages least first-fault sort scope repeated type-name-fault cyclic qualified expression constant-edges
+unfolding span first-from keep any owner schema-of added closure declarations items own super-edges renaming-edges type-edges inherited candidates type-meant items-of item-meant means binding bindings flatMap names stages least first-fault sort scope repeated type-name-fault cyclic qualified expression constant-edges
 shade-named = refl
 
 shade-typed : typing shade shade-bindings ≡ typed (kinds-in (typing shade shade-bindings))
