@@ -1,7 +1,7 @@
 -- In a well-named file the declared type of a constant is found in as many turns as there are nodes: renamings run in no cycle.
 use mathlib.Core.Path.{_≡_, refl, sym, ap, subst, _∙_}
-use mathlib.Core.Logic.{_≢_, _⊎_, inl, inr, ⊎-elim}
-use mathlib.Core.Bool.{Bool, true, false, cond, not, _&&_, _||_}
+use mathlib.Core.Logic.{_↔_, _≢_, _⊎_, inl, inr, ⊎-elim}
+use mathlib.Core.Bool.{Bool, true, false, cond, not, _&&_, _||_, false≢true}
 use mathlib.Core.List.{List, [], _∷_, map, List·Memᴰ, List·Memᴰ·head, Memᴰ·map, Memᴰ·append-left}
 use Prim.Native.Nat.{ℕ, zero, suc, _+_, _≤_, _<_}
 use native.Mathlib.Omega.{arith}
@@ -44,6 +44,34 @@ pub data Denotes (t : Table) (b : List ℕ) : ℕ → Declared → Type 0 where
       {n : ℕ} → is t node.simple-type n ≡ false → bound t b node.type n ≡ true → renames t (declaration b n) ≡ false →
       is t node.enumeration-item (first t (declaration b n)) ≡ false → Denotes t b n other
   no-type : {n : ℕ} → is t node.simple-type n ≡ false → bound t b node.type n ≡ false → Denotes t b n other
+
+-- a node denotes one type
+pub denotes-once : {t : Table} {b : List ℕ} {n : ℕ} {d e : Declared} → Denotes t b n d → Denotes t b n e → d ≡ e
+denotes-once (a-simple-type s) (a-simple-type s′) = refl
+denotes-once (a-simple-type s) (an-enumeration x′ y′ i′) = absurd (false≢true (sym x′ ∙ s))
+denotes-once (a-simple-type s) (a-renaming x′ y′ r′ j′ m′) = absurd (false≢true (sym x′ ∙ s))
+denotes-once (a-simple-type s) (a-select x′ y′ l′ j′) = absurd (false≢true (sym x′ ∙ s))
+denotes-once (a-simple-type s) (no-type x′ z′) = absurd (false≢true (sym x′ ∙ s))
+denotes-once (an-enumeration x y i) (a-simple-type s′) = absurd (false≢true (sym x ∙ s′))
+denotes-once (an-enumeration x y i) (an-enumeration x′ y′ i′) = refl
+denotes-once (an-enumeration x y i) (a-renaming x′ y′ r′ j′ m′) = absurd (false≢true (sym j′ ∙ i))
+denotes-once (an-enumeration x y i) (a-select x′ y′ l′ j′) = absurd (false≢true (sym j′ ∙ i))
+denotes-once (an-enumeration x y i) (no-type x′ z′) = absurd (false≢true (sym z′ ∙ y))
+denotes-once (a-renaming x y r j m) (a-simple-type s′) = absurd (false≢true (sym x ∙ s′))
+denotes-once (a-renaming x y r j m) (an-enumeration x′ y′ i′) = absurd (false≢true (sym j ∙ i′))
+denotes-once (a-renaming x y r j m) (a-renaming x′ y′ r′ j′ m′) = denotes-once m m′
+denotes-once (a-renaming x y r j m) (a-select x′ y′ l′ j′) = absurd (false≢true (sym l′ ∙ r))
+denotes-once (a-renaming x y r j m) (no-type x′ z′) = absurd (false≢true (sym z′ ∙ y))
+denotes-once (a-select x y l j) (a-simple-type s′) = absurd (false≢true (sym x ∙ s′))
+denotes-once (a-select x y l j) (an-enumeration x′ y′ i′) = absurd (false≢true (sym j ∙ i′))
+denotes-once (a-select x y l j) (a-renaming x′ y′ r′ j′ m′) = absurd (false≢true (sym l ∙ r′))
+denotes-once (a-select x y l j) (a-select x′ y′ l′ j′) = refl
+denotes-once (a-select x y l j) (no-type x′ z′) = absurd (false≢true (sym z′ ∙ y))
+denotes-once (no-type x z) (a-simple-type s′) = absurd (false≢true (sym x ∙ s′))
+denotes-once (no-type x z) (an-enumeration x′ y′ i′) = absurd (false≢true (sym z ∙ y′))
+denotes-once (no-type x z) (a-renaming x′ y′ r′ j′ m′) = absurd (false≢true (sym z ∙ y′))
+denotes-once (no-type x z) (a-select x′ y′ l′ j′) = absurd (false≢true (sym z ∙ y′))
+denotes-once (no-type x z) (no-type x′ z′) = refl
 
 -- ---- enough turns, where each renaming lowers a number
 
@@ -283,3 +311,7 @@ module _ {t : Table} (R : Read file t) (W : WellNamed t) where
   -- THE DECLARED TYPE at a node, other than a type itself, is the one that the rules say.
   pub denoted-is : (n : ℕ) → n < count t → is t node.type n ≡ false → Denotes t (bindings t) n (denoted t (bindings t) n)
   denoted-is n l h = enough t b rank (λ n e i j. falls n i) (count t) n (few n l h)
+
+  -- and no other is
+  pub denoted-iff : (n : ℕ) → n < count t → is t node.type n ≡ false → (d : Declared) → Denotes t (bindings t) n d ↔ (d ≡ denoted t (bindings t) n)
+  denoted-iff n l h d = (λ x. denotes-once x (denoted-is n l h), λ q. rw q (denoted-is n l h))
