@@ -15,7 +15,7 @@ use Rattle.express.specs.syntax.Tree.{Table, count, kind, token, role, p
 use Rattle.relations.specs.Reach.{Edge, reaches}
 use Rattle.express.specs.names.Scope.{Meaning, none, one, several, means, is-use, type-token, type-meant, type-edges}
 use Rattle.express.specs.names.Fault.{Fault, fault, fine, or-later, sort, alike, repeated, judged, right, named-fault, type-name-fault, cyclic, is-enumeration, qualified, clashes, expression, constant-edges}
-use Rattle.express.specs.names.Names.{Stage, stages, names, Refused}
+use Rattle.express.specs.names.Names.{Stage, stages, names, StageFault}
 use Rattle.relations.proofs.Select.{and-fst, or-left, or-right, le-or}
 use Rattle.express.proofs.names.Names.{Untied, names-only}
 use Rattle.ebnf.proofs.Parts.{Behind}
@@ -135,7 +135,7 @@ untied t A s m =
     (λ m₅. absurd (List·Memᴰ·not-nil m₅)) (List·Memᴰ·cases-cons m₄)) (List·Memᴰ·cases-cons m₃)) (List·Memᴰ·cases-cons m₂)) (List·Memᴰ·cases-cons m₁)) (List·Memᴰ·cases-cons m)
 
 -- THE FAULT of a file is one: whatever the least fault of its first stage with one is, it is `names`.
-pub refused-once : (t : Table) → Apart t → (f : Fault) → Refused (nodes t) f (stages t) → f ≡ names t
+pub refused-once : (t : Table) → Apart t → (f : Fault) → StageFault (nodes t) f (stages t) → f ≡ names t
 refused-once t A f r = names-only t (untied t A) f r
 
 -- ---- a file that the grammar derives
@@ -227,5 +227,5 @@ module _ {x : Nonterminal} {t : Table} (d : Read x t) (rise : Rising t) where
   }
 
   -- so in a file that the grammar derives the fault is one
-  pub fault-once : (f : Fault) → Refused (nodes t) f (stages t) → f ≡ names t
+  pub fault-once : (f : Fault) → StageFault (nodes t) f (stages t) → f ≡ names t
   fault-once f r = refused-once t read-apart f r

@@ -55,6 +55,6 @@ pub record Least (ns : List ℕ) (s : Stage) (f : Fault) : Type 0 where
   pub least : (n : ℕ) → List·Memᴰ n ns → s n .number ≢ 0 → f .place ≤ s n .place
 
 -- the stages before it pass, and f is the least fault of the next
-pub data Refused (ns : List ℕ) (f : Fault) : List Stage → Type 0 where
-  here : {s : Stage} {ss : List Stage} → Least ns s f → Refused ns f (s ∷ ss)
-  later : {s : Stage} {ss : List Stage} → Passes ns s → Refused ns f ss → Refused ns f (s ∷ ss)
+pub data StageFault (ns : List ℕ) (f : Fault) : List Stage → Type 0 where
+  here : {s : Stage} {ss : List Stage} → Least ns s f → StageFault ns f (s ∷ ss)
+  later : {s : Stage} {ss : List Stage} → Passes ns s → StageFault ns f ss → StageFault ns f (s ∷ ss)
