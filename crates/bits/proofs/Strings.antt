@@ -13,6 +13,7 @@ use lib.Seq.{take-at, length-take-le}
 use lib.Pow.{pow-pos, pow-mono, pow-lt, pow-add, high, low, shl-exact}
 use mir.Syntax.{w64}
 use mir.Val.{Fits}
+use Rattle.relations.specs.Order.{then, compare-lists}
 use Rattle.express.specs.kinds.Bits.{bit, number, bits, join, compare-bits}
 use Rattle.express.proofs.kinds.Bits.{length-bits, number-mod, number-lt, bits-mod, bits-append}
 use Rattle.express.proofs.kinds.Order.{compare-lt, compare-gt, compare-eq}
@@ -120,11 +121,6 @@ is-shorter : {l k r : ℕ} → Shorter l k r → (l ≤ k → r ≡ l) × (k ≤
 is-shorter {l} {k} {r} S = one-is l k r (S .one) (S .first) (S .second)
 
 -- ---- comparing: by the numbers of the first l bits, and then by what follows them
-abbrev then : Ordering → Ordering → Ordering
-then Ordering·lt o = Ordering·lt
-then Ordering·eq o = o
-then Ordering·gt o = Ordering·gt
-
 compare-add : (k m n : ℕ) → compare (k + m) (k + n) ≡ compare m n
 compare-add zero m n = rw (zero-add m, zero-add n)
 compare-add (suc k) m n = rw (suc-add k m, suc-add k n) (compare·suc-suc (k + m) (k + n) ∙ compare-add k m n)
@@ -154,7 +150,7 @@ head-more l xs ys g h =
     compare-gt _ _ r
 
 compare-first : (l : ℕ) (xs ys : List Bool) → l ≤ length xs → l ≤ length ys → compare-bits xs ys ≡ then (compare (number (take l xs)) (number (take l ys))) (compare-bits (drop l xs) (drop l ys))
-unfolding compare-bits
+unfolding compare-lists
 compare-first zero xs ys g h = rw (compare-eq (number []) (number []) refl)
 compare-first (suc l) [] ys g h = absurd (omega arith)
 compare-first (suc l) (x ∷ xs) [] g h = absurd (omega arith)
@@ -164,12 +160,12 @@ compare-first (suc l) (false ∷ xs) (false ∷ ys) g h = rw (same-head false l 
 compare-first (suc l) (true ∷ xs) (true ∷ ys) g h = rw (same-head true l xs ys (omega arith) (omega arith)) (compare-first l xs ys (omega arith) (omega arith))
 
 nil-less : (ys : List Bool) → 0 < length ys → compare-bits [] ys ≡ Ordering·lt
-unfolding compare-bits
+unfolding compare-lists
 nil-less [] h = absurd (omega arith)
 nil-less (y ∷ ys) h = refl
 
 more-nil : (xs : List Bool) → 0 < length xs → compare-bits xs [] ≡ Ordering·gt
-unfolding compare-bits
+unfolding compare-lists
 more-nil [] h = absurd (omega arith)
 more-nil (x ∷ xs) h = refl
 
@@ -182,7 +178,7 @@ module _ (l : ℕ) (xs ys : List Bool) where
   rest-more g h = rw (drop-of-length-le ys h) (more-nil (drop l xs) (rw length-drop (omega arith)))
 
   rest-same : length xs ≤ l → length ys ≤ l → compare-bits (drop l xs) (drop l ys) ≡ Ordering·eq
-  unfolding compare-bits
+  unfolding compare-lists
   rest-same g h = rw (drop-of-length-le xs g, drop-of-length-le ys h)
 
 module _ (a b : Binary) {l m n : ℕ} (S : Shorter (a .length) (b .length) l) (e : m ≡ number (take l (string a))) (f : n ≡ number (take l (string b))) where

@@ -61,6 +61,7 @@ at-none (other d) h = absurd (false≢true h)
 at-none (rule d) h = absurd (false≢true h)
 
 -- ---- the test of a rule. The state: 0, or 1 where the token that names the next node is claimed by none, or 2 where it also stands two before.
+-- A repetition keeps the state 1 where each of its turns does.
 
 module _ (own back : ℕ → ℕ → Bool) where
   abbrev stamp-ok : Mark → ℕ → Bool
@@ -93,7 +94,7 @@ module _ (own back : ℕ → ℕ → Bool) where
   after (step m cs a) f = stamp-state m f
   after (seq a b) f = after b (after a f)
   after (alt a b) f = min (after a f) (after b f)
-  after (star a) f = 0
+  after (star a) f = min (min f 1) (after a 1)
   after (fork m cs ds a b) f = min (after a 2) (after b f)
   after (nt x) f = min f 1
 
@@ -104,7 +105,7 @@ module _ (own back : ℕ → ℕ → Bool) where
   claims-once (step m cs a) f = is-none a && stamp-ok m f
   claims-once (seq a b) f = claims-once a f && claims-once b (after a f)
   claims-once (alt a b) f = claims-once a f && claims-once b f
-  claims-once (star a) f = claims-once a 0
+  claims-once (star a) f = claims-once a (after (star a) f)
   claims-once (fork m cs ds a b) f = is-here m && (claims-once a 2 && claims-once b f)
   claims-once (nt x) f = true
 
@@ -326,6 +327,18 @@ module _ (own back : ℕ → ℕ → Bool) where
   forked (node k o) r h K = absurd (false≢true h)
   forked (leaf k o) r h K = absurd (false≢true h)
 
+  -- a turn of a repetition keeps the state of the repetition
+  keeps : {N : Type 0} (a : Ebnf N) (f : ℕ) → after (star a) f ≤ after a (after (star a) f)
+  keeps a f = by (after (star a) f) refl
+    where
+      by : (g : ℕ) → after (star a) f ≡ g → g ≤ after a g
+      by zero e = omega arith
+      by (suc zero) e = omega arith
+      by (suc (suc g)) e = absurd (omega arith)
+
+  still : {N : Type 0} (a : Ebnf N) (f : ℕ) → after (star a) (after (star a) f) ≡ after (star a) f
+  still a f = omega arith
+
   module _ {N : Type 0} (rules : N → Ebnf N) (ok : (x : N) → claims-once (rules x) 0 ≡ true) (ts : List ℕ) where
     kept : {e : Ebnf N} {i j : ℕ} {r s : Rows} → Derives in-rows rules ts e i r j s → (b f : ℕ) → claims-once e f ≡ true → Kept b f i r → Kept b (after e f) j s
     kept nothing b f h K = K
@@ -338,8 +351,11 @@ module _ (own back : ℕ → ℕ → Bool) where
     kept (both {a = a} d e) b f h K = let p = and-split (claims-once a f) _ h in kept e b (after a f) (p .1) (kept d b f (p .0) K)
     kept (left {a = a} {b = c} d) b f h K = let p = and-split (claims-once a f) _ h in weaker (omega arith) (kept d b f (p .0) K)
     kept (right {a = a} {b = c} d) b f h K = let p = and-split (claims-once a f) _ h in weaker (omega arith) (kept d b f (p .1) K)
-    kept stop b f h K = weaker (omega arith) K
-    kept (more {a = a} d e) b f h K = kept e b 0 h (weaker (omega arith) (kept d b 0 h (weaker (omega arith) K)))
+    kept (stop {a = a}) b f h K = weaker (omega arith) K
+    kept (more {a = a} d e) b f h K =
+        let g = after (star a) f in
+        let K′ = weaker (keeps a f) (kept d b g h (weaker (omega arith) K)) in
+        weaker (omega arith) (kept e b g (ap (claims-once a) (still a f) ∙ h) K′)
     kept (label {m = m} {a = a} {b = c} {i = i} {r = r} g l d) b f h K =
         let p = and-split (is-here m) _ h in
         let q = and-split (claims-once a 2) _ (p .1) in

@@ -2,6 +2,7 @@ pub mod Count
 pub mod Descent
 pub mod Formed
 pub mod FormedRows
+pub mod KindSets
 pub mod Nodes
 pub mod Renaming
 pub mod Syntax

@@ -7,5 +7,6 @@ pub mod Files
 pub mod KindCases
 pub mod Longest
 pub mod NameCases
+pub mod NameReplies
 pub mod SyntaxExamples
 pub mod TokenExamples

@@ -1,3 +1,4 @@
+pub mod Order
 pub mod Reach
 pub mod Select
 pub mod Topological

@@ -1,13 +1,15 @@
 -- Laws of rows of numbers and of lists kept by a test.
 use mathlib.Core.Path.{_≡_, refl, sym, ap, _∙_}
-use mathlib.Core.Logic.{_⊎_, inl, inr, ⊎-elim}
+use mathlib.Core.Logic.{_↔_, _⊎_, inl, inr, ⊎-elim}
 use mathlib.Core.Bool.{Bool, true, false, cond, _&&_, _||_, false≢true, and-eq-true-iff}
 use mathlib.Core.List.{List, [], _∷_, _++_, map, flatMap, List·Memᴰ, List·Memᴰ·head, List·Memᴰ·tail, List·Memᴰ·cases-cons, List·Memᴰ·not-nil, List·Memᴰ·append-cases, Memᴰ·append-left, Memᴰ·append-right, Memᴰ·cast}
 use Prim.Native.Nat.{ℕ, zero, suc, _+_, _-_, _≤_, _<_}
 use native.Mathlib.Numerals.{add-one}
 use native.Mathlib.Omega.{arith}
+use borrow.Author.Tests.{lt-ltb, le-ltb}
+use lib.Dec.{ltb}
 use lib.ListN.{length, getD}
-use Rattle.relations.specs.Select.{span, first-from, keep, any}
+use Rattle.relations.specs.Select.{span, first-from, keep, any, nearest, Ascending, nil, cons}
 
 -- tests
 pub and-fst : (a b : Bool) → a && b ≡ true → a ≡ true
@@ -216,3 +218,67 @@ module _ {A B : Type 0} (f : A → List B) where
   mem-flat [] m l = absurd (List·Memᴰ·not-nil m)
   mem-flat (z ∷ zs) {x} {y} m l =
       ⊎-elim (λ q. let l′ : List·Memᴰ y (f z) = rw q at l in Memᴰ·append-left (flatMap f zs) l′) (λ m′. Memᴰ·append-right (f z) (mem-flat zs m′ l)) (List·Memᴰ·cases-cons m)
+
+-- ---- the nearer of two lists
+module _ {A : Type 0} where
+  pub nearest-mem : (xs ys : List A) (x : A) → List·Memᴰ x (nearest xs ys) ↔ (List·Memᴰ x xs ⊎ ((xs ≡ []) × List·Memᴰ x ys))
+  nearest-mem [] ys x = (λ m. inr (refl, m), λ s. ⊎-elim (λ m. absurd (List·Memᴰ·not-nil m)) (λ r. r .1) s)
+  nearest-mem (y ∷ xs) ys x = (λ m. inl m, λ s. ⊎-elim (λ m. m) (λ r. absurd (List·Memᴰ·not-nil (rw (r .0) at (there y xs)))) s)
+    where
+      there : (y : A) (xs : List A) → List·Memᴰ y (y ∷ xs)
+      there y xs = List·Memᴰ·head refl
+
+-- ---- numbers that rise
+pub ascending-from : {lo : ℕ} {ns : List ℕ} → Ascending lo ns → (m : ℕ) → List·Memᴰ m ns → lo ≤ m
+ascending-from nil m h = absurd (List·Memᴰ·not-nil h)
+ascending-from (cons {n = n} a r) m h =
+    ⊎-elim (λ (q : m ≡ n). omega arith) (λ h′. let z = ascending-from r m h′ in omega arith) (List·Memᴰ·cases-cons h)
+
+pub ascending-lower : {lo j : ℕ} {ns : List ℕ} → lo ≤ j → Ascending j ns → Ascending lo ns
+ascending-lower l nil = nil
+ascending-lower {lo} l (cons {n = n} a r) = let c : lo ≤ n = omega arith in cons c r
+
+pub ascending-span : (i d : ℕ) → Ascending i (span i d)
+unfolding span
+ascending-span i zero = nil
+ascending-span i (suc d) = cons {lo = i} {n = i} (omega arith) (ascending-span (suc i) d)
+
+pub ascending-append : {lo hi : ℕ} {ms ns : List ℕ} → Ascending lo ms → ((m : ℕ) → List·Memᴰ m ms → m < hi) → lo ≤ hi → Ascending hi ns → Ascending lo (ms ++ ns)
+ascending-append nil h l r = ascending-lower l r
+ascending-append (cons {n = n} a x) h l r = cons a (ascending-append x (λ m i. h m (List·Memᴰ·tail i)) (let z = h n (List·Memᴰ·head refl) in z) r)
+
+pub ascending-keep : (p : ℕ → Bool) {lo : ℕ} {ns : List ℕ} → Ascending lo ns → Ascending lo (keep p ns)
+unfolding keep
+ascending-keep p nil = nil
+ascending-keep p (cons {lo} {n} {ns} a r) = by (p n) (ascending-keep p r)
+  where
+    by : (b : Bool) → Ascending (suc n) (keep p ns) → Ascending lo (cond b (n ∷ keep p ns) (keep p ns))
+    by true x = cons a x
+    by false x = ascending-lower (omega arith) x
+
+pub ascending-nearest : {lo : ℕ} (xs ys : List ℕ) → Ascending lo xs → Ascending lo ys → Ascending lo (nearest xs ys)
+ascending-nearest [] ys a b = b
+ascending-nearest (x ∷ xs) ys a b = a
+
+-- ---- what is kept of numbers in a row, by the first that passes and what comes after it
+keep-first-in :
+    (p : ℕ → Bool) (i d : ℕ) →
+    keep p (span i d) ≡ cond (ltb (first-from p i d) (i + d)) (first-from p i d ∷ keep p (span (suc (first-from p i d)) (i + d - suc (first-from p i d)))) []
+unfolding keep span first-from
+keep-first-in p i zero = rw (le-ltb i (i + 0) (omega arith))
+keep-first-in p i (suc d) = by (p i) refl (keep-first-in p (suc i) d)
+  where
+    by : (b : Bool) → p i ≡ b
+        → keep p (span (suc i) d)
+        ≡ cond (ltb (first-from p (suc i) d) (suc i + d)) (first-from p (suc i) d ∷ keep p (span (suc (first-from p (suc i) d)) (suc i + d - suc (first-from p (suc i) d)))) []
+        → cond b (i ∷ keep p (span (suc i) d)) (keep p (span (suc i) d))
+        ≡ cond (ltb (cond b i (first-from p (suc i) d)) (i + suc d))
+          (cond b i (first-from p (suc i) d) ∷ keep p (span (suc (cond b i (first-from p (suc i) d))) (i + suc d - suc (cond b i (first-from p (suc i) d))))) []
+    by true e more = let q : i + suc d - suc i ≡ d = omega arith in rw (lt-ltb i (i + suc d) (omega arith), q)
+    by false e more = let q : suc i + d ≡ i + suc d = omega arith in rw (← q) more
+
+pub keep-first :
+    (p : ℕ → Bool) (n i : ℕ) → i ≤ n →
+    keep p (span i (n - i)) ≡
+    cond (ltb (first-from p i (n - i)) n) (first-from p i (n - i) ∷ keep p (span (first-from p i (n - i) + 1) (n - (first-from p i (n - i) + 1)))) []
+keep-first p n i l = let q : i + (n - i) ≡ n = omega arith in rw add-one (rw q at (keep-first-in p i (n - i)))

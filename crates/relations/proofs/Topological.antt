@@ -10,19 +10,33 @@ use lib.Dec.{eqb}
 use lib.ListN.{length}
 use Rattle.relations.specs.Select.{span, keep}
 use Rattle.relations.specs.Reach.{Reaches, direct, onward, Edge, Joins, reaches}
+pub use Rattle.relations.specs.Sorted.{Sorted, done, next, Arranged}
 use Rattle.relations.proofs.Select.{untrue, mem-upto, keep-mem, mem-keep, keep-lt, keep-short, flat-mem, mem-flat}
 use Rattle.relations.proofs.Reach.{reaches-iff}
 
--- each of a list has edges only to those before it, in the list or already passed
-pub data Sorted (E : ℕ → ℕ → Type 0) : List ℕ → List ℕ → Type 0 where
-  done : {passed : List ℕ} → Sorted E passed []
-  next : {passed ds : List ℕ} {d : ℕ} → ((c : ℕ) → E d c → List·Memᴰ c passed) → Sorted E (d ∷ passed) ds → Sorted E passed (d ∷ ds)
+-- in a list that is sorted by edges, what is reached has passed too, if what has passed has edges to nothing else
+pub sorted-reaches :
+    {E : ℕ → ℕ → Type 0} {passed ds : List ℕ} → ((a b : ℕ) → List·Memᴰ a passed → E a b → List·Memᴰ b passed) → Sorted E passed ds →
+    Sorted (Reaches E) passed ds
+sorted-reaches closed done = done
+sorted-reaches {E} {passed} closed (next {d = d} h more) = next (λ c r. by r) (sorted-reaches wider more)
+  where
+    on : {a c : ℕ} → List·Memᴰ a passed → Reaches E a c → List·Memᴰ c passed
+    on m (direct {a} {b} e) = closed a b m e
+    on m (onward {a} {b} e r) = on (closed a b m e) r
 
--- a sorted list of some vertices
-pub record Arranged (E : ℕ → ℕ → Type 0) (vs order : List ℕ) : Type 0 where
-  pub sorted : Sorted E [] order
-  pub complete : (v : ℕ) → List·Memᴰ v vs → List·Memᴰ v order
-  pub among : (v : ℕ) → List·Memᴰ v order → List·Memᴰ v vs
+    by : {c : ℕ} → Reaches E d c → List·Memᴰ c passed
+    by (direct {b = b} e) = h b e
+    by (onward {b = b} e r) = on (h b e) r
+
+    wider : (a b : ℕ) → List·Memᴰ a (d ∷ passed) → E a b → List·Memᴰ b (d ∷ passed)
+    wider a b m e =
+        ⊎-elim (λ q. List·Memᴰ·tail (h b (subst (λ (x : ℕ). E x b) q e))) (λ m′. List·Memᴰ·tail (closed a b m′ e)) (List·Memᴰ·cases-cons m)
+
+-- by a relation that says more, a list that is sorted stays so
+pub sorted-narrower : {E F : ℕ → ℕ → Type 0} {passed ds : List ℕ} → ((d c : ℕ) → List·Memᴰ d ds → E d c → F d c) → Sorted F passed ds → Sorted E passed ds
+sorted-narrower w done = done
+sorted-narrower w (next {d = d} h more) = next (λ c e. h c (w d c (List·Memᴰ·head refl) e)) (sorted-narrower (λ x c m e. w x c (List·Memᴰ·tail m) e) more)
 
 -- vertices by rank, where an edge leads to a vertex of a smaller rank
 module _ (E : ℕ → ℕ → Type 0) (vs : List ℕ) (rank : ℕ → ℕ) (falls : (d c : ℕ) → List·Memᴰ d vs → E d c → List·Memᴰ c vs × (rank c < rank d)) where

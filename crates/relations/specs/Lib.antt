@@ -1,2 +1,4 @@
+pub mod Order
 pub mod Reach
 pub mod Select
+pub mod Sorted

@@ -1,7 +1,7 @@
 -- Numbers in a row, and lists kept by a test.
 use mathlib.Core.Bool.{Bool, true, false, cond, _||_}
 use mathlib.Core.List.{List, [], _∷_}
-use Prim.Native.Nat.{ℕ, zero, suc}
+use Prim.Native.Nat.{ℕ, zero, suc, _≤_}
 
 -- d numbers, from i on
 unfoldable pub span : ℕ → ℕ → List ℕ
@@ -31,3 +31,8 @@ module _ {A : Type 0} where
   abbrev pub nearest : List A → List A → List A
   nearest [] ys = ys
   nearest (x ∷ xs) ys = x ∷ xs
+
+-- numbers that rise, from lo on; so none stands in the list twice
+pub data Ascending : ℕ → List ℕ → Type 0 where
+  nil : {lo : ℕ} → Ascending lo []
+  cons : {lo n : ℕ} {ns : List ℕ} → lo ≤ n → Ascending (suc n) ns → Ascending lo (n ∷ ns)

@@ -1,4 +1,4 @@
--- A well-named file has an order of its constants in which each stands after those that it names.
+-- A well-named file has an order of its constants in which each stands after those that it needs.
 use mathlib.Core.Path.{_≡_, refl, sym, ap, subst, _∙_}
 use mathlib.Core.Logic.{_≢_, _⊎_, inl, inr, ⊎-elim}
 use mathlib.Core.Bool.{Bool, true, false, cond, not, _&&_, _||_, false≢true}
@@ -6,30 +6,28 @@ use mathlib.Core.Option.{Option, none, some}
 use mathlib.Core.List.{List, [], _∷_, map, flatMap, List·Memᴰ, List·Memᴰ·head, List·Memᴰ·tail, List·Memᴰ·eq-of-singleton, List·Memᴰ·not-nil, Memᴰ·map, Memᴰ·of-map}
 use Prim.Native.Nat.{ℕ, zero, suc, _+_, _-_, _≤_, _<_}
 use native.Mathlib.Omega.{arith}
-use borrow.Author.Tests.{eqb-true, eqb-false, eq-eqb, not-true}
-use lib.Dec.{eqb}
+use borrow.Author.Tests.{eqb-true, eqb-false, eq-eqb, not-true, le-leb}
+use lib.Dec.{eqb, leb}
 use lib.ListN.{length, getD, List·getD-eq-default}
 use Rattle.express.specs.syntax.NodeKind as node
 use Rattle.relations.specs.Select.{keep}
-use Rattle.express.specs.syntax.Tree.{Table, count, kind, role, symbol, first, nodes, is, is-name-in, is-declaration, owner}
-use Rattle.relations.specs.Reach.{Reaches, Edge, edge, Joins, reaches}
-use Rattle.express.specs.names.Scope.{Meaning, several, one, meaning, spelled, items-of, item-meant, candidates, declared-as, type-meant, means, binding-of, binding, bindings}
+use Rattle.express.specs.syntax.Tree.{Table, count, kind, role, symbol, first, nodes, is, is-name-in, is-declaration, owner, in-constant}
+use Rattle.relations.specs.Reach.{Reaches, direct, onward, Edge, edge, Joins, reaches}
+use Rattle.express.specs.names.Scope.{Meaning, several, one, meaning, spelled, items-of, item-meant, candidates, declarations-of, is-use, type-meant, means, binding-of, binding, bindings}
 use Rattle.express.specs.names.Scope as scope
-use Rattle.express.specs.names.Fault.{Fault, judged, suits, type-name-fault, cyclic, within-constant, constants-meant, constant-edges}
+use Rattle.express.specs.names.Fault.{Fault, judged, suits, right, type-name-fault, cyclic, constants-meant, constant-edges}
 use Rattle.express.specs.names.Names.{WellNamed}
-use Rattle.express.specs.syntax.Grammar.{Nonterminal}
-use Rattle.express.specs.syntax.Syntax.{Read}
-use Rattle.express.specs.kinds.Declared.{declaration, bound, declared}
-use Rattle.express.specs.kinds.Shape.{Shape, Operator, name, shape, shape-in, named, operator-of, evaluated}
-use Rattle.express.specs.kinds.Order.{Ordered, done, next, Order, order}
-use Rattle.relations.proofs.Select.{and-fst, and-snd, and-both, or-cases, or-left, untrue, le-or, mem-upto, keep-mem, mem-keep, flat-mem, mem-flat, column-at}
+use Rattle.express.specs.kinds.Declared.{declaration, bound, denoted}
+use Rattle.express.specs.kinds.Shape.{Shape, Operator, name, shape, shape-in, operator-of, evaluated, name-shape-in}
+use Rattle.express.specs.kinds.Order.{Uses, Needs, Order, constant-order}
+use Rattle.relations.proofs.Select.{and-fst, and-snd, and-both, or-cases, or-left, untrue, le-or, mem-upto, upto-mem, keep-mem, mem-keep, flat-mem, mem-flat, column-at}
 use Rattle.relations.proofs.Reach.{reaches-iff}
 use Rattle.express.proofs.names.Meaning.{edge-start}
 use Rattle.relations.proofs.Topological as topological
-use Rattle.express.proofs.names.Owned.{constant-owns}
+use Rattle.relations.proofs.Topological.{sorted-reaches, sorted-narrower}
 
 -- what a shape that names a constant tells
-pub record Named (t : Table) (b : List ℕ) (n c : ℕ) : Type 0 where
+pub record BoundName (t : Table) (b : List ℕ) (n c : ℕ) : Type 0 where
   pub is-name : is t node.name n || is t node.qualified-item n ≡ true
   pub bound-to : bound t b node.constant n ≡ true
   pub constant : declaration b n ≡ c
@@ -47,16 +45,16 @@ operator-no : {c : ℕ} (o : Option Operator) → evaluated o ≡ name c → ⊥
 operator-no none e = let z : _≡_ {A = ℕ} 0 1 = cc in omega arith
 operator-no (some o) e = let z : _≡_ {A = ℕ} 0 1 = cc in omega arith
 
-named-is : (t : Table) (b : List ℕ) (n c : ℕ) → is t node.name n || is t node.qualified-item n ≡ true → named t b n ≡ name c → Named t b n c
+named-is : (t : Table) (b : List ℕ) (n c : ℕ) → is t node.name n || is t node.qualified-item n ≡ true → name-shape-in t t b n ≡ name c → BoundName t b n c
 named-is t b n c h e = by (bound t b node.enumeration-item n) (bound t b node.constant n) refl e
   where
     by : (x y : Bool) → bound t b node.constant n ≡ y
-        → cond x (Shape.item (declaration b n)) (cond y (name (declaration b n)) (Shape.type (declared t b n))) ≡ name c → Named t b n c
+        → cond x (Shape.item (declaration b n)) (cond y (name (declaration b n)) (Shape.type (denoted t b n))) ≡ name c → BoundName t b n c
     by true y q e = let z : _≡_ {A = ℕ} 0 1 = cc in absurd (omega arith)
     by false true q e = record { is-name = h; bound-to = q; constant = cc }
     by false false q e = let z : _≡_ {A = ℕ} 0 1 = cc in absurd (omega arith)
 
-shape-named : (t : Table) (b : List ℕ) (n c : ℕ) → shape t b n ≡ name c → Named t b n c
+shape-named : (t : Table) (b : List ℕ) (n c : ℕ) → shape t b n ≡ name c → BoundName t b n c
 unfolding shape-in
 shape-named t b n c e =
     let e₁ = skip (is t node.integer-literal n) _ _ (λ q. let z : _≡_ {A = ℕ} 0 1 = cc in omega arith) e in
@@ -73,6 +71,15 @@ shape-named t b n c e =
     let e₁₁ = skip (is t node.constant n) _ _ (λ q. let z : _≡_ {A = ℕ} 0 1 = cc in omega arith) e₁₀ in
     let z : _≡_ {A = ℕ} 0 1 = cc in absurd (omega arith))
     (take (is t node.name n || is t node.qualified-item n) _ _ e₄)
+
+-- a node that names a constant is one of the table
+name-below : (t : Table) (b : List ℕ) (n c : ℕ) → shape t b n ≡ name c → n < count t
+name-below t b n c e =
+    ⊎-elim
+    (λ l.
+    let z : kind t n ≡ 0 = List·getD-eq-default (t .kinds) 0 l in
+    absurd (false≢true (rw z at (shape-named t b n c e .is-name))))
+    (λ l. l) (le-or (count t) n)
 
 module _ (t : Table) where
   constant-below : (n : ℕ) → is t node.constant n ≡ true → n < count t
@@ -137,25 +144,26 @@ module _ (t : Table) where
     type-no : (n c : ℕ) → n < count t → is t node.name n ≡ true → eqb (role t n) node.in-expression ≡ false → means t n ≡ one c → is t node.constant c ≡ true → ⊥
     unfolding type-name-fault
     type-no n c l h r e k =
-        let f : type-name-fault t n .number ≡ 11 = rw (h, r, e, suits-no (role t n) c k) in
+        let q : right t n c ≡ false = rw (h, r) (suits-no (role t n) c k) in
+        let f : type-name-fault t n .number ≡ 11 = rw (h, r, e, q) in
         let g = W .types n (mem-upto (count t) n l) in omega arith
 
     -- a name of a constant, in a constant, is an edge between the two
-    pub named-edge : (n c : ℕ) → n < count t → within-constant t n ≡ true → shape t (bindings t) n ≡ name c → Joins (constant-edges t) (owner t n) c
+    pub named-edge : (n c : ℕ) → n < count t → in-constant t n ≡ true → shape t (bindings t) n ≡ name c → Joins (constant-edges t) (owner t n) c
     unfolding constant-edges
     named-edge n c l own e =
         let N = shape-named t (bindings t) n c e in
         let m = bound-means n c l (N .bound-to) (N .constant) in
-        mem-flat (λ k. map (edge (owner t k)) (constants-meant t (means t k))) (keep (λ k. is-name-in t node.in-expression k && within-constant t k) (nodes t))
-        (mem-keep (λ k. is-name-in t node.in-expression k && within-constant t k) (nodes t) (mem-upto (count t) n l)
-        (and-both (is-name-in t node.in-expression n) (within-constant t n) (by (is-name-in t node.in-expression n) (is t node.name n) (is t node.qualified-item n) refl refl refl (N .is-name) (m .0) (m .1)) own))
+        mem-flat (λ k. map (edge (owner t k)) (constants-meant t (means t k))) (keep (λ k. is-use t k && in-constant t k) (nodes t))
+        (mem-keep (λ k. is-use t k && in-constant t k) (nodes t) (mem-upto (count t) n l)
+        (and-both (is-use t n) (in-constant t n) (by (is-use t n) (is t node.name n) (is t node.qualified-item n) refl refl refl (N .is-name) (m .0) (m .1)) own))
         (Memᴰ·map (edge (owner t n)) (meant (m .0) (m .1)))
       where
         meant : means t n ≡ one c → is t node.constant c ≡ true → List·Memᴰ c (constants-meant t (means t n))
         meant m k = rw (m, k) (List·Memᴰ·head refl)
 
-        by : (x y z : Bool) → is-name-in t node.in-expression n ≡ x → is t node.name n ≡ y → is t node.qualified-item n ≡ z → is t node.name n || is t node.qualified-item n ≡ true
-            → means t n ≡ one c → is t node.constant c ≡ true → is-name-in t node.in-expression n ≡ true
+        by : (x y z : Bool) → is-use t n ≡ x → is t node.name n ≡ y → is t node.qualified-item n ≡ z → is t node.name n || is t node.qualified-item n ≡ true
+            → means t n ≡ one c → is t node.constant c ≡ true → is-use t n ≡ true
         by true y z p q r h m k = p
         by false true z p q r h m k = absurd (type-no n c l q (untrue (eqb (role t n) node.in-expression) (λ x. false≢true (sym p ∙ and-both (is t node.name n) (eqb (role t n) node.in-expression) q x))) m k)
         by false false true p q r h m k = absurd (item-no (symbol t n) c (type-meant t n) (sym (item-means n q r) ∙ m) k)
@@ -165,9 +173,9 @@ module _ (t : Table) where
     edge-constants : (a c : ℕ) → Joins (constant-edges t) a c → (is t node.constant a ≡ true) × (is t node.constant c ≡ true)
     unfolding constant-edges
     edge-constants a c m =
-        let r = edge-start t (λ k. is-name-in t node.in-expression k && within-constant t k) (λ k. constants-meant t (means t k)) a c m in
+        let r = edge-start t (λ k. is-use t k && in-constant t k) (λ k. constants-meant t (means t k)) a c m in
         let n = r .0 in
-        (subst (λ (x : ℕ). is t node.constant x ≡ true) (r .3) (and-snd (is-name-in t node.in-expression n) (within-constant t n) (r .2)), by (means t n) (r .4))
+        (subst (λ (x : ℕ). is t node.constant x ≡ true) (r .3) (and-fst (is t node.constant (owner t n)) (leb (first t (owner t n)) n) (and-snd (is-use t n) (in-constant t n) (r .2))), by (means t n) (r .4))
       where
         if : (k x : ℕ) (b : Bool) → is t node.constant k ≡ b → List·Memᴰ x (cond b (k ∷ []) []) → is t node.constant x ≡ true
         if k x true e m = let q = List·Memᴰ·eq-of-singleton m in subst (λ (y : ℕ). is t node.constant y ≡ true) (sym q) e
@@ -188,35 +196,39 @@ module _ (t : Table) where
     pub no-cycle : (c : ℕ) → is t node.constant c ≡ true → Reaches (Joins (constant-edges t)) c c → ⊥
     unfolding cyclic
     no-cycle c h r =
-        let d : is-declaration t c ≡ true = or-left (is t node.constant c || is t node.type c) (is t node.entity c) (or-left (is t node.constant c) (is t node.type c) h) in
-        let f : cyclic t (constant-edges t) c .number ≡ 13 = rw (d, reaches-iff (constant-edges t) c c .1 r) in
+        let f : cyclic t (is t node.constant) (constant-edges t) c .number ≡ 13 = rw (h, reaches-iff (constant-edges t) c c .1 r) in
         let g = W .constant-cycles c (mem-upto (count t) c (constant-below c h)) in omega arith
 
     -- the constants in an order
-    pub arranged : topological.Arranged (Joins (constant-edges t)) constants (order t)
-    unfolding order
+    pub arranged : topological.Arranged (Joins (constant-edges t)) constants (constant-order t)
+    unfolding constant-order
     arranged =
         topological.acyclic-arranged (constant-edges t) constants (λ a b e m. constant-mem b (edge-constants a b e .1))
         (λ v m r. no-cycle v (keep-mem (is t node.constant) (nodes t) m .1) r)
 
-    -- and so as the evaluation asks for it
-    module _ {x : Nonterminal} (r : Read x t) where
-      ordered : {passed ds : List ℕ} → topological.Sorted (Joins (constant-edges t)) passed ds → ((d : ℕ) → List·Memᴰ d ds → is t node.constant d ≡ true) → Ordered t (bindings t) passed ds
-      ordered topological.done h = done
-      ordered (topological.next {d = v} e s) h =
-          let k = h v (List·Memᴰ·head refl) in
-          let b = constant-below v k in
-          let q = eqb-true (kind t v) node.constant k in
-          next b q
-          (λ n c lo hi x.
-          let o = constant-owns r v b q n lo hi in
-          e c (subst (λ (y : ℕ). Joins (constant-edges t) y c) o (named-edge n c (omega arith) (subst (λ (y : ℕ). is t node.constant y ≡ true) (sym o) k) x)))
-          (ordered s (λ x m. h x (List·Memᴰ·tail m)))
+    -- a use in a constant is an edge
+    use-edge : (d c : ℕ) → is t node.constant d ≡ true → Uses t (bindings t) d c → Joins (constant-edges t) d c
+    use-edge d c k u =
+        let o = u .owned in
+        let l = name-below t (bindings t) (u .node) c (u .names) in
+        let h : in-constant t (u .node) ≡ true = rw o (and-both _ _ k (le-leb _ _ (u .from))) in
+        subst (λ (x : ℕ). Joins (constant-edges t) x c) o (named-edge (u .node) c l h (u .names))
 
-      -- THE ORDER: of a well-named file's constants, each after those that it names
-      pub order-is : Order t (bindings t) (order t)
-      order-is =
-          record {
-            ordered = ordered (arranged .sorted) (λ d m. keep-mem (is t node.constant) (nodes t) (arranged .among d m) .1);
-            complete = λ c l q. arranged .complete c (constant-mem c (eq-eqb (kind t c) node.constant q));
-          }
+    -- so what a constant needs is reached over edges
+    needs-reached : {d c : ℕ} → is t node.constant d ≡ true → Reaches (Uses t (bindings t)) d c → Reaches (Joins (constant-edges t)) d c
+    needs-reached k (direct {a} {b} u) = direct (use-edge a b k u)
+    needs-reached k (onward {a} {b} u r) = let e = use-edge a b k u in onward e (needs-reached (edge-constants a b e .1) r)
+
+    -- THE ORDER: of a well-named file's constants, each after those that it needs
+    pub order-is : Order t (bindings t) (constant-order t)
+    order-is =
+        record {
+          sorted =
+              sorted-narrower (λ d c m N. needs-reached (kept d m .1) (N .reached))
+              (sorted-reaches (λ a c m e. absurd (List·Memᴰ·not-nil m)) (arranged .sorted));
+          among = λ c m. (upto-mem (count t) c (kept c m .0), eqb-true (kind t c) node.constant (kept c m .1));
+          complete = λ c l q. arranged .complete c (constant-mem c (eq-eqb (kind t c) node.constant q));
+        }
+      where
+        kept : (c : ℕ) → List·Memᴰ c (constant-order t) → List·Memᴰ c (nodes t) × (is t node.constant c ≡ true)
+        kept c m = keep-mem (is t node.constant) (nodes t) (arranged .among c m)

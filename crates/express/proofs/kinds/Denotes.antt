@@ -1,12 +1,13 @@
 -- In a well-named file the declared type of a constant is found in as many turns as there are nodes: renamings run in no cycle.
 use mathlib.Core.Path.{_≡_, refl, sym, ap, subst, _∙_}
-use mathlib.Core.Logic.{_≢_, _⊎_, inl, inr, ⊎-elim}
-use mathlib.Core.Bool.{Bool, true, false, cond, not, _&&_, _||_}
+use mathlib.Core.Logic.{_↔_, _≢_, _⊎_, inl, inr, ⊎-elim}
+use mathlib.Core.Bool.{Bool, true, false, cond, not, _&&_, _||_, false≢true}
 use mathlib.Core.List.{List, [], _∷_, map, List·Memᴰ, List·Memᴰ·head, Memᴰ·map, Memᴰ·append-left}
 use Prim.Native.Nat.{ℕ, zero, suc, _+_, _≤_, _<_}
 use native.Mathlib.Omega.{arith}
-use borrow.Author.Tests.{eqb-true, eqb-false, ne-eqb, leb-true, not-true}
-use lib.Dec.{eqb, leb}
+use borrow.Author.Tests.{eqb-true, eqb-false, not-true}
+use lib.Dec.{eqb}
+use Rattle.ebnf.specs.Set.{mem, disjoint}
 use lib.ListN.{length, getD, List·getD-eq-default}
 use Rattle.ebnf.proofs.Sorts.{every}
 use Rattle.express.specs.syntax.NodeKind as node
@@ -14,21 +15,23 @@ use Rattle.relations.specs.Select.{span, keep}
 use Rattle.express.specs.syntax.Tree.{Table, count, kind, role, size, symbol, first, nodes, is, is-name-in, is-declaration, owner}
 use Rattle.express.specs.syntax.Tree as tree
 use Rattle.relations.specs.Reach.{Reaches, direct, onward, edge, Joins, reaches}
-use Rattle.express.specs.names.Scope.{Meaning, several, one, meaning, items-of, item-meant, declared-as, type-meant, means, binding-of, binding, bindings, super-edges, renaming-edges, type-edges}
+use Rattle.express.specs.names.Scope.{Meaning, several, one, meaning, items-of, item-meant, declarations-of, is-use, type-meant, means, binding-of, binding, bindings, super-edges, renaming-edges, type-edges}
 use Rattle.express.specs.names.Scope as scope
 use Rattle.express.specs.names.Fault.{is-value, cyclic}
 use Rattle.express.specs.names.Fault as stage
 use Rattle.express.specs.names.Names.{WellNamed}
 use Rattle.express.specs.syntax.Grammar.{file}
 use Rattle.express.specs.syntax.Syntax.{Read}
-use Rattle.express.specs.kinds.Declared.{Declared, enumeration, other, declaration, bound, simple, renames, declared-in, declared}
+use Rattle.express.specs.kinds.Declared.{Declared, enumeration, other, declaration, bound, simple, renames, denoted-in, denoted}
 use Rattle.relations.proofs.Select.{and-fst, and-snd, or-cases, untrue, le-or, mem-upto, keep-mem, mem-keep, keep-lt, mem-flat, column-at, first-of}
 use Rattle.relations.proofs.Reach.{reaches-iff}
 use Rattle.express.proofs.syntax.FormedRows.{formed-rows}
 use Rattle.express.proofs.syntax.Nodes.{all-below}
 use Rattle.express.proofs.syntax.Within.{all-pass-below}
+use Rattle.express.proofs.syntax.KindSets as set
+use Rattle.express.proofs.names.Owned.{undeclared}
 
--- Node n is or names the type d: `declared`, by rules and without a number of turns
+-- Node n is or names the type d: `denoted`, by rules and without a number of turns
 pub data Denotes (t : Table) (b : List ℕ) : ℕ → Declared → Type 0 where
   a-simple-type : {n : ℕ} → is t node.simple-type n ≡ true → Denotes t b n (simple (tree.terminal t n))
   an-enumeration :
@@ -42,12 +45,40 @@ pub data Denotes (t : Table) (b : List ℕ) : ℕ → Declared → Type 0 where
       is t node.enumeration-item (first t (declaration b n)) ≡ false → Denotes t b n other
   no-type : {n : ℕ} → is t node.simple-type n ≡ false → bound t b node.type n ≡ false → Denotes t b n other
 
+-- a node denotes one type
+pub denotes-once : {t : Table} {b : List ℕ} {n : ℕ} {d e : Declared} → Denotes t b n d → Denotes t b n e → d ≡ e
+denotes-once (a-simple-type s) (a-simple-type s′) = refl
+denotes-once (a-simple-type s) (an-enumeration x′ y′ i′) = absurd (false≢true (sym x′ ∙ s))
+denotes-once (a-simple-type s) (a-renaming x′ y′ r′ j′ m′) = absurd (false≢true (sym x′ ∙ s))
+denotes-once (a-simple-type s) (a-select x′ y′ l′ j′) = absurd (false≢true (sym x′ ∙ s))
+denotes-once (a-simple-type s) (no-type x′ z′) = absurd (false≢true (sym x′ ∙ s))
+denotes-once (an-enumeration x y i) (a-simple-type s′) = absurd (false≢true (sym x ∙ s′))
+denotes-once (an-enumeration x y i) (an-enumeration x′ y′ i′) = refl
+denotes-once (an-enumeration x y i) (a-renaming x′ y′ r′ j′ m′) = absurd (false≢true (sym j′ ∙ i))
+denotes-once (an-enumeration x y i) (a-select x′ y′ l′ j′) = absurd (false≢true (sym j′ ∙ i))
+denotes-once (an-enumeration x y i) (no-type x′ z′) = absurd (false≢true (sym z′ ∙ y))
+denotes-once (a-renaming x y r j m) (a-simple-type s′) = absurd (false≢true (sym x ∙ s′))
+denotes-once (a-renaming x y r j m) (an-enumeration x′ y′ i′) = absurd (false≢true (sym j ∙ i′))
+denotes-once (a-renaming x y r j m) (a-renaming x′ y′ r′ j′ m′) = denotes-once m m′
+denotes-once (a-renaming x y r j m) (a-select x′ y′ l′ j′) = absurd (false≢true (sym l′ ∙ r))
+denotes-once (a-renaming x y r j m) (no-type x′ z′) = absurd (false≢true (sym z′ ∙ y))
+denotes-once (a-select x y l j) (a-simple-type s′) = absurd (false≢true (sym x ∙ s′))
+denotes-once (a-select x y l j) (an-enumeration x′ y′ i′) = absurd (false≢true (sym j ∙ i′))
+denotes-once (a-select x y l j) (a-renaming x′ y′ r′ j′ m′) = absurd (false≢true (sym l ∙ r′))
+denotes-once (a-select x y l j) (a-select x′ y′ l′ j′) = refl
+denotes-once (a-select x y l j) (no-type x′ z′) = absurd (false≢true (sym z′ ∙ y))
+denotes-once (no-type x z) (a-simple-type s′) = absurd (false≢true (sym x ∙ s′))
+denotes-once (no-type x z) (an-enumeration x′ y′ i′) = absurd (false≢true (sym z ∙ y′))
+denotes-once (no-type x z) (a-renaming x′ y′ r′ j′ m′) = absurd (false≢true (sym z ∙ y′))
+denotes-once (no-type x z) (a-select x′ y′ l′ j′) = absurd (false≢true (sym z ∙ y′))
+denotes-once (no-type x z) (no-type x′ z′) = refl
+
 -- ---- enough turns, where each renaming lowers a number
 
 module _ (t : Table) (b : List ℕ) (rank : ℕ → ℕ)
     (falls : (n : ℕ) → is t node.simple-type n ≡ false → bound t b node.type n ≡ true → is t node.enumeration-item (first t (declaration b n)) ≡ false → rank (first t (declaration b n)) < rank n) where
-  enough : (f n : ℕ) → rank n < f → Denotes t b n (declared-in f t b n)
-  unfolding declared-in
+  enough : (f n : ℕ) → rank n < f → Denotes t b n (denoted-in f t b n)
+  unfolding denoted-in
   enough zero n l = absurd (omega arith)
   enough (suc f) n l =
       by (is t node.simple-type n) (bound t b node.type n) (is t node.enumeration-item u) (renames t (declaration b n)) refl refl refl refl
@@ -58,8 +89,8 @@ module _ (t : Table) (b : List ℕ) (rank : ℕ → ℕ)
 
       by :
           (p q r s : Bool) → is t node.simple-type n ≡ p → bound t b node.type n ≡ q → is t node.enumeration-item u ≡ r → renames t (declaration b n) ≡ s →
-          (rank u < rank n → Denotes t b u (declared-in f t b u)) →
-          Denotes t b n (cond p (simple (tree.terminal t n)) (cond q (cond r (enumeration (declaration b n)) (cond s (declared-in f t b u) other)) other))
+          (rank u < rank n → Denotes t b u (denoted-in f t b u)) →
+          Denotes t b n (cond p (simple (tree.terminal t n)) (cond q (cond r (enumeration (declaration b n)) (cond s (denoted-in f t b u) other)) other))
       by true q r s e i j k more = a-simple-type e
       by false false r s e i j k more = no-type e i
       by false true true s e i j k more = an-enumeration e i j
@@ -73,21 +104,12 @@ one-mem [] k e = absurd (let z : _≡_ {A = ℕ} 0 1 = cc in omega arith)
 one-mem (j ∷ []) k e = let q : k ≡ j = cc in List·Memᴰ·head q
 one-mem (j ∷ l ∷ ks) k e = absurd (let z : _≡_ {A = ℕ} 0 1 = cc in omega arith)
 
--- the kinds and roles of nodes in a type
+-- the kinds and roles of nodes below a type
 abbrev in-type : ℕ → Bool
-in-type k = leb k 16 || eqb k node.rule
+in-type k = mem k set.below-type
 
 abbrev role-in-type : ℕ → ℕ → Bool
 role-in-type k o = in-type k && (not (eqb k node.name) || (eqb o node.in-expression || (eqb o node.renamed-type || eqb o node.select-name)))
-
-undeclared : (k : ℕ) → in-type k ≡ true → eqb k node.constant || eqb k node.type || eqb k node.entity ≡ false
-undeclared k h = by (or-cases (leb k 16) (eqb k node.rule) h)
-  where
-    by : (leb k 16 ≡ true) ⊎ (eqb k node.rule ≡ true) → eqb k node.constant || eqb k node.type || eqb k node.entity ≡ false
-    by (inl e) =
-        let l : k ≤ 16 = leb-true k 16 e in
-        rw (ne-eqb k node.constant (λ q. omega arith), ne-eqb k node.type (λ q. omega arith), ne-eqb k node.entity (λ q. omega arith))
-    by (inr e) = rw (eqb-true k node.rule e)
 
 length-all : (xs : List ℕ) → length (keep (λ (x : ℕ). true) xs) ≡ length xs
 unfolding keep
@@ -126,22 +148,23 @@ module _ {t : Table} (R : Read file t) (W : WellNamed t) where
   type-value : (k : ℕ) → is t node.type k ≡ true → is-value t k ≡ false
   type-value k h = rw (eqb-true (kind t k) node.type h)
 
-  record Typed-name (n : ℕ) : Type 0 where
+  record TypeName (n : ℕ) : Type 0 where
     is-name : is t node.name n ≡ true
-    role-is : is-name-in t node.in-expression n ≡ false
-    among : List·Memᴰ (declaration b n) (declared-as t n)
+    role-is : is-use t n ≡ false
+    among : List·Memᴰ (declaration b n) (declarations-of t n)
 
   -- "A name in an expression must be an attribute, constant or item."
-  no-value : (n k : ℕ) → n < count t → is-name-in t node.in-expression n ≡ true → means t n ≡ one k → is t node.type k ≡ true → ⊥
+  no-value : (n k : ℕ) → n < count t → is-use t n ≡ true → means t n ≡ one k → is t node.type k ≡ true → ⊥
   unfolding stage.expression
   no-value n k l e m y =
-      let f : stage.expression t n .number ≡ 11 = rw (e, m, type-value k y) in
+      let q : stage.right t n k ≡ false = rw (e, type-value k y) in
+      let f : stage.expression t n .number ≡ 11 = rw (e, m, q) in
       let g = W .expressions n (mem-upto (count t) n l) in
       omega arith
 
-  type-name : (n : ℕ) → n < count t → bound t b node.type n ≡ true → Typed-name n
+  type-name : (n : ℕ) → n < count t → bound t b node.type n ≡ true → TypeName n
   unfolding means item-meant items-of
-  type-name n l h = by (is-name-in t node.in-expression n) (is t node.name n) (is t node.qualified-item n) refl refl refl (bound-means n node.type l h)
+  type-name n l h = by (is-use t n) (is t node.name n) (is t node.qualified-item n) refl refl refl (bound-means n node.type l h)
     where
       y : is t node.type (declaration b n) ≡ true
       y = bound-is n node.type h
@@ -157,10 +180,10 @@ module _ {t : Table} (R : Read file t) (W : WellNamed t) where
           omega arith
 
       by :
-          (p q r : Bool) → is-name-in t node.in-expression n ≡ p → is t node.name n ≡ q → is t node.qualified-item n ≡ r →
-          means t n ≡ one (declaration b n) → Typed-name n
+          (p q r : Bool) → is-use t n ≡ p → is t node.name n ≡ q → is t node.qualified-item n ≡ r →
+          means t n ≡ one (declaration b n) → TypeName n
       by true q r e i j m = absurd (no-value n (declaration b n) l e m y)
-      by false true r e i j m = record { is-name = i; role-is = e; among = one-mem (declared-as t n) (declaration b n) (rw (e, i) at m) }
+      by false true r e i j m = record { is-name = i; role-is = e; among = one-mem (declarations-of t n) (declaration b n) (rw (e, i) at m) }
       by false false true e i j m = absurd (item-type (type-meant t n) (rw (e, i, j) at m))
       by false false false e i j m = absurd (let z : _≡_ {A = ℕ} 0 1 = let c : scope.none ≡ one (declaration b n) = rw (e, i, j) at m in cc in omega arith)
 
@@ -175,16 +198,16 @@ module _ {t : Table} (R : Read file t) (W : WellNamed t) where
 
   -- the nodes of a type, by kind and role
   inside-type : (d : ℕ) → is t node.type d ≡ true → (n : ℕ) → first t d ≤ n → n < d → role-in-type (kind t n) (role t n) ≡ true
-  unfolding all-below every
+  unfolding all-below every mem
   inside-type d h n u v =
       all-pass-below R in-type role-in-type (λ k o i. and-fst (in-type k) _ i) refl d (type-below d h) (rw (eqb-true (kind t d) node.type h) refl) n u v
 
   -- they belong to it
   type-owns : (d : ℕ) → is t node.type d ≡ true → (n : ℕ) → first t d ≤ n → n < d → owner t n ≡ d
-  unfolding owner
+  unfolding owner mem disjoint
   type-owns d h n u v =
       first-of (is-declaration t) (count t) n d (omega arith) (type-below d h) (rw (eqb-true (kind t d) node.type h))
-      (λ j lo hi. undeclared (kind t j) (and-fst (in-type (kind t j)) _ (inside-type d h j (omega arith) hi)))
+      (λ j lo hi. undeclared t j set.below-type refl (and-fst (in-type (kind t j)) _ (inside-type d h j (omega arith) hi)))
 
   renaming-edge : (d : ℕ) → is t node.type d ≡ true → bound t b node.type (first t d) ≡ true → Joins (type-edges t) d (declaration b (first t d))
   unfolding type-edges renaming-edges
@@ -195,12 +218,12 @@ module _ {t : Table} (R : Read file t) (W : WellNamed t) where
       let u : first t d < d = first-under n s in
       let o : owner t (first t d) ≡ d = type-owns d h (first t d) (omega arith) u in
       Memᴰ·append-left (super-edges t)
-      (mem-flat (λ k. map (edge (owner t k)) (declared-as t k)) (keep (λ k. is-name-in t node.renamed-type k || is-name-in t node.select-name k) (nodes t))
+      (mem-flat (λ k. map (edge (owner t k)) (declarations-of t k)) (keep (λ k. is-name-in t node.renamed-type k || is-name-in t node.select-name k) (nodes t))
       (mem-keep (λ k. is-name-in t node.renamed-type k || is-name-in t node.select-name k) (nodes t) (mem-upto (count t) (first t d) (omega arith))
       (by (first t d) (n .is-name) (n .role-is) (inside-type d h (first t d) (omega arith) u)))
-      (subst (λ (a : ℕ). List·Memᴰ (edge d (declaration b (first t d))) (map (edge a) (declared-as t (first t d)))) (sym o) (Memᴰ·map (edge d) (n .among))))
+      (subst (λ (a : ℕ). List·Memᴰ (edge d (declaration b (first t d))) (map (edge a) (declarations-of t (first t d)))) (sym o) (Memᴰ·map (edge d) (n .among))))
     where
-      first-under : Typed-name (first t d) → 1 ≤ size t d → first t d < d
+      first-under : TypeName (first t d) → 1 ≤ size t d → first t d < d
       first-under n s =
           ⊎-elim
           (λ (g : d ≤ first t d).
@@ -212,7 +235,7 @@ module _ {t : Table} (R : Read file t) (W : WellNamed t) where
           (λ g. g) (le-or d (first t d))
 
       by :
-          (m : ℕ) → is t node.name m ≡ true → is-name-in t node.in-expression m ≡ false → role-in-type (kind t m) (role t m) ≡ true →
+          (m : ℕ) → is t node.name m ≡ true → is-use t m ≡ false → role-in-type (kind t m) (role t m) ≡ true →
           is-name-in t node.renamed-type m || is-name-in t node.select-name m ≡ true
       by m x y z = rw x (other-role (role t m) (rw x at y) (and-snd (in-type (kind t m)) _ z))
         where
@@ -227,7 +250,7 @@ module _ {t : Table} (R : Read file t) (W : WellNamed t) where
   unfolding cyclic
   no-cycle d h r =
       let e : is-declaration t d ≡ true = rw (eqb-true (kind t d) node.type h) in
-      let f : cyclic t (type-edges t) d .number ≡ 13 = rw (e, reaches-iff (type-edges t) d d .1 r) in
+      let f : cyclic t (is-declaration t) (type-edges t) d .number ≡ 13 = rw (e, reaches-iff (type-edges t) d d .1 r) in
       let g = W .type-cycles d (mem-upto (count t) d (type-below d h)) in
       omega arith
 
@@ -286,5 +309,9 @@ module _ {t : Table} (R : Read file t) (W : WellNamed t) where
           omega (arith, fewer)
 
   -- THE DECLARED TYPE at a node, other than a type itself, is the one that the rules say.
-  pub declared-denotes : (n : ℕ) → n < count t → is t node.type n ≡ false → Denotes t (bindings t) n (declared t (bindings t) n)
-  declared-denotes n l h = enough t b rank (λ n e i j. falls n i) (count t) n (few n l h)
+  pub denoted-is : (n : ℕ) → n < count t → is t node.type n ≡ false → Denotes t (bindings t) n (denoted t (bindings t) n)
+  denoted-is n l h = enough t b rank (λ n e i j. falls n i) (count t) n (few n l h)
+
+  -- and no other is
+  pub denoted-iff : (n : ℕ) → n < count t → is t node.type n ≡ false → (d : Declared) → Denotes t (bindings t) n d ↔ (d ≡ denoted t (bindings t) n)
+  denoted-iff n l h d = (λ x. denotes-once x (denoted-is n l h), λ q. rw q (denoted-is n l h))

@@ -1,7 +1,8 @@
--- What operators make of good operands is good: of the kind that typing gives, within its bounds, and no end but 16 to 19.
+-- What operators make of good operands is good: of the kind that typing gives, within its bounds, and an end only if it is one of the ends.
 use mathlib.Core.Path.{_≡_, refl, sym, ap, subst, _∙_}
 use mathlib.Core.Bool.{Bool, true, false, cond, false≢true}
-use mathlib.Core.List.{List, _++_}
+use mathlib.Core.Logic.{⊎-elim}
+use mathlib.Core.List.{List, _++_, List·Memᴰ, List·Memᴰ·head, List·Memᴰ·tail, List·Memᴰ·cases-cons, List·Memᴰ·eq-of-singleton}
 use Prim.Native.Nat.{ℕ, _+_, _-_, _^_, _≤_, _<_}
 use native.Mathlib.Omega.{arith}
 use borrow.Author.Tests.{ltb-true, leb-true, eqb-true, ne-eqb}
@@ -9,7 +10,7 @@ use lib.Dec.{eqb, leb, ltb}
 use lib.ListN.{length, length-append}
 use lib.IntN.{ℤ, pos, negsuc, natAbs}
 use lib.Signed.{mag}
-use Rattle.express.specs.kinds.Answer.{Logical, FALSE, UNKNOWN, TRUE, Answer, indeterminate, integer, logical, binary, item, end}
+use Rattle.express.specs.kinds.Answer.{Logical, FALSE, UNKNOWN, TRUE, Answer, indeterminate, integer, logical, binary, item, end, outside, zero-divisor, negative-power, unknown-boolean, ends}
 use Rattle.express.specs.syntax.NodeKind.{enumeration-item}
 use Rattle.express.specs.syntax.Tree.{Table, owner}
 use Rattle.express.specs.syntax.Tree as tree
@@ -21,13 +22,12 @@ use Rattle.express.specs.kinds.Declared.{Declared, INTEGER, BOOLEAN, LOG
 use Rattle.express.specs.kinds.Shape.{Arithmetic, minus, times, divide, modulo, power, and, Operator, plus, arithmetic, relation, connective, Sign, positive, negative, not}
 use Rattle.express.specs.kinds.Operate.{Kind, integers, logicals, binaries, items, undetermined, untyped, Of, of-?, of-end, of-integer, of-logical, of-binary, of-item, integral, truthful, summable, comparable, takes, takes-one, end-in, given, computed, operated, combined, signed, between}
 use Rattle.express.specs.kinds.Rule.{Member, an-integer, is-false, is-true, a-logical, a-binary, an-item, Holds, no-value, an-end, a-member}
-use Rattle.express.specs.kinds.Kind.{number, same, common, kind-of-type, result, result-of-one}
-use Rattle.express.specs.kinds.Evaluate.{known, held}
+use Rattle.express.specs.kinds.Kind.{kind-number, same, common, kind-of-type, result, result-of-one}
+use Rattle.express.specs.kinds.Evaluate.{boolean-answer, held}
 
--- "Ends: 16 .. 17 .. 18 .. 19"
-pub record Ends (e : ℕ) : Type 0 where
-  pub least : 16 ≤ e
-  pub most : e ≤ 19
+-- an end's number
+abbrev pub Ends : ℕ → Type 0
+Ends e = List·Memᴰ e ends
 
 -- An answer of a kind, within its bounds
 pub data Good (t : Table) : Kind → Answer → Type 0 where
@@ -38,17 +38,25 @@ pub data Good (t : Table) : Kind → Answer → Type 0 where
   good-binary : {s : List Bool} → 1 ≤ length s → length s ≤ 63 → Good t binaries (binary s)
   good-item : {m y : ℕ} → tree.kind t m ≡ enumeration-item → owner t m ≡ y → Good t (items y) (item m)
 
-seventeen : Ends 17
-seventeen = record { least = omega arith; most = omega arith }
+outside-end : Ends outside
+outside-end = List·Memᴰ·head refl
 
-eighteen : Ends 18
-eighteen = record { least = omega arith; most = omega arith }
+zero-divisor-end : Ends zero-divisor
+zero-divisor-end = List·Memᴰ·tail (List·Memᴰ·head refl)
 
-sixteen : Ends 16
-sixteen = record { least = omega arith; most = omega arith }
+negative-power-end : Ends negative-power
+negative-power-end = List·Memᴰ·tail (List·Memᴰ·tail (List·Memᴰ·head refl))
 
-nineteen : Ends 19
-nineteen = record { least = omega arith; most = omega arith }
+pub unknown-boolean-end : Ends unknown-boolean
+unknown-boolean-end = List·Memᴰ·tail (List·Memᴰ·tail (List·Memᴰ·tail (List·Memᴰ·head refl)))
+
+-- the numbers of ends, for code
+pub ends-range : {e : ℕ} → Ends e → (16 ≤ e) × (e ≤ 19)
+ends-range m =
+    ⊎-elim (λ q. (omega arith, omega arith))
+    (λ m₁. ⊎-elim (λ q. (omega arith, omega arith))
+    (λ m₂. ⊎-elim (λ q. (omega arith, omega arith))
+    (λ m₃. let q = List·Memᴰ·eq-of-singleton m₃ in (omega arith, omega arith)) (List·Memᴰ·cases-cons m₂)) (List·Memᴰ·cases-cons m₁)) (List·Memᴰ·cases-cons m)
 
 -- ---- kinds
 
@@ -58,7 +66,7 @@ of-number n =
     cond (eqb n 0) untyped
     (cond (eqb n 1) undetermined (cond (eqb n 2) integers (cond (eqb n 3) logicals (cond (eqb n 4) binaries (items (n - 5))))))
 
-number-back : (k : Kind) → of-number (number k) ≡ k
+number-back : (k : Kind) → of-number (kind-number k) ≡ k
 number-back integers = refl
 number-back logicals = refl
 number-back binaries = refl
@@ -69,7 +77,7 @@ number-back undetermined = refl
 number-back untyped = refl
 
 same-kinds : (j k : Kind) → same j k ≡ true → j ≡ k
-same-kinds j k e = sym (number-back j) ∙ ap of-number (eqb-true (number j) (number k) e) ∙ number-back k
+same-kinds j k e = sym (number-back j) ∙ ap of-number (eqb-true (kind-number j) (kind-number k) e) ∙ number-back k
 
 -- what an operator takes, and what fits a type, has a kind
 integral-comparable : (k : Kind) → integral k ≡ true → comparable k ≡ true
@@ -117,7 +125,7 @@ pub record Common (t : Table) (j k m : Kind) (x y : Answer) : Type 0 where
 -- A constant's answer a, from its expression's answer x: x itself where that is `?`, an end or a member, or else 19 for UNKNOWN
 pub data Kept (t : Table) (d : Declared) : Answer → Answer → Type 0 where
   itself : {a : Answer} → Holds t d a → Kept t d a a
-  unknown : d ≡ BOOLEAN → Kept t d (logical UNKNOWN) (end 19)
+  unknown : d ≡ BOOLEAN → Kept t d (logical UNKNOWN) (end unknown-boolean)
 
 pub record Result (t : Table) (d : Declared) (x a : Answer) : Type 0 where
   pub good : Good t (kind-of-type d) a
@@ -204,12 +212,12 @@ module _ {t : Table} where
   unfolding exact
   exact-good z = by (ltb (mag z) (2 ^ 63)) refl
     where
-      by : (b : Bool) → ltb (mag z) (2 ^ 63) ≡ b → Good t integers (cond b (integer z) (end 16))
+      by : (b : Bool) → ltb (mag z) (2 ^ 63) ≡ b → Good t integers (cond b (integer z) (end outside))
       by true e = good-integer (ltb-true (mag z) (2 ^ 63) e)
-      by false e = good-end sixteen
+      by false e = good-end outside-end
 
-  divided-good : (b : Bool) (z : ℤ) → Good t integers (cond b (end 17) (exact z))
-  divided-good true z = good-end seventeen
+  divided-good : (b : Bool) (z : ℤ) → Good t integers (cond b (end zero-divisor) (exact z))
+  divided-good true z = good-end zero-divisor-end
   divided-good false z = exact-good z
 
   computed-good : (o : Arithmetic) (x y : ℤ) → Good t integers (computed o x y)
@@ -219,16 +227,16 @@ module _ {t : Table} where
   computed-good divide x y = divided-good (eqb (natAbs y) 0) (quotient x y)
   computed-good modulo x y = divided-good (eqb (natAbs y) 0) (remainder x y)
   computed-good power x (pos n) = exact-good _
-  computed-good power x (negsuc n) = good-end eighteen
+  computed-good power x (negsuc n) = good-end negative-power-end
 
   -- ---- binaries
   join-good : (x y : List Bool) → 1 ≤ length x → Good t binaries (join x y)
   unfolding join
   join-good x y l = by (leb (length (x ++ y)) 63) refl
     where
-      by : (b : Bool) → leb (length (x ++ y)) 63 ≡ b → Good t binaries (cond b (binary (x ++ y)) (end 16))
+      by : (b : Bool) → leb (length (x ++ y)) 63 ≡ b → Good t binaries (cond b (binary (x ++ y)) (end outside))
       by true e = good-binary {s = x ++ y} (simp length-append (omega arith)) (leb-true (length (x ++ y)) 63 e)
-      by false e = good-end sixteen
+      by false e = good-end outside-end
 
   -- ---- operators: an end of an operand, or what the operation gives
   unless-end : {j k : Kind} {x z : Answer} → Good t j x → Good t k z → Good t k (given (end-in x) end z)
@@ -288,32 +296,32 @@ module _ {t : Table} where
   kept : {d : Declared} {a : Answer} → Good t (kind-of-type d) a → Holds t d a → Result t d a a
   kept g h = record { good = g; kept = itself h }
 
-  held-logical : (l : Logical) → Result t BOOLEAN (logical l) (known l)
+  held-logical : (l : Logical) → Result t BOOLEAN (logical l) (boolean-answer l)
   held-logical FALSE = kept good-logical (a-member is-false)
-  held-logical UNKNOWN = record { good = good-end nineteen; kept = unknown refl }
+  held-logical UNKNOWN = record { good = good-end unknown-boolean-end; kept = unknown refl }
   held-logical TRUE = kept good-logical (a-member is-true)
 
   pub held-good : (d : Declared) {a : Answer} → comparable (kind-of-type d) ≡ true → Good t (kind-of-type d) a → Result t d a (held d a)
   held-good INTEGER e good-? = kept good-? no-value
-  held-good INTEGER e (good-end h) = kept (good-end h) (an-end (h .least) (h .most))
+  held-good INTEGER e (good-end h) = kept (good-end h) (an-end h)
   held-good INTEGER e (good-integer l) = kept (good-integer l) (a-member (an-integer l))
   held-good BOOLEAN e good-? = kept good-? no-value
-  held-good BOOLEAN e (good-end h) = kept (good-end h) (an-end (h .least) (h .most))
+  held-good BOOLEAN e (good-end h) = kept (good-end h) (an-end h)
   held-good BOOLEAN e (good-logical {l}) = held-logical l
   held-good LOGICAL e good-? = kept good-? no-value
-  held-good LOGICAL e (good-end h) = kept (good-end h) (an-end (h .least) (h .most))
+  held-good LOGICAL e (good-end h) = kept (good-end h) (an-end h)
   held-good LOGICAL e good-logical = kept good-logical (a-member a-logical)
   held-good BINARY e good-? = kept good-? no-value
-  held-good BINARY e (good-end h) = kept (good-end h) (an-end (h .least) (h .most))
+  held-good BINARY e (good-end h) = kept (good-end h) (an-end h)
   held-good BINARY e (good-binary l m) = kept (good-binary l m) (a-member (a-binary l m))
   held-good (enumeration y) e good-? = kept good-? no-value
-  held-good (enumeration y) e (good-end h) = kept (good-end h) (an-end (h .least) (h .most))
+  held-good (enumeration y) e (good-end h) = kept (good-end h) (an-end h)
   held-good (enumeration y) e (good-item i o) = kept (good-item i o) (a-member (an-item i o))
   held-good other e g = absurd (false≢true e)
 
   pub result-holds : {d : Declared} {x a : Answer} → Kept t d x a → Holds t d a
   result-holds (itself h) = h
-  result-holds (unknown e) = an-end (nineteen .least) (nineteen .most)
+  result-holds (unknown e) = an-end unknown-boolean-end
 
   pub declared-good :
       (d : Declared) (k : Kind) {a : Answer} → comparable (common (kind-of-type d) k) ≡ true → (comparable k ≡ true → Good t k a) →
@@ -334,5 +342,5 @@ module _ {t : Table} where
 
   pub holds-held : {d : Declared} {a : Answer} → Holds t d a → a ≡ held d a
   holds-held {d} no-value = no-value-held d
-  holds-held {d} (an-end {e} l m) = end-held d e
+  holds-held {d} (an-end {e} m) = end-held d e
   holds-held (a-member m) = member-held m

@@ -1,32 +1,18 @@
--- The orders of numbers, integers and lists of bits: each is exact, and exchanging two operands exchanges less and greater.
-use mathlib.Core.Path.{_≡_, refl, ap, _∙_}
+-- The orders of integers, logicals and lists of bits: what the machine's test tells of two integers; and the last two are total.
+use mathlib.Core.Path.{_≡_, refl}
 use mathlib.Core.Bool.{Bool, true, false}
-use mathlib.Core.List.{List, [], _∷_, _++_}
-use Prim.Native.Nat.{ℕ, zero, suc, _<_, compare, Ordering, Ordering·lt, Ordering·eq, Ordering·gt, compare·zero-zero, compare·zero-suc, compare·suc-zero, compare·suc-suc}
+use Prim.Native.Nat.{ℕ, Ordering·lt, Ordering·eq, Ordering·gt}
 use native.Mathlib.Omega.{arith}
 use borrow.Author.Tests.{ltb-true, ltb-false}
 use lib.IntN.{ℤ, pos, negsuc}
 use lib.Signed.{ltZ}
+use Rattle.relations.specs.Order.{Total}
+pub use Rattle.relations.proofs.Order.{compare-lt, compare-gt, compare-eq}
+use Rattle.relations.proofs.Order.{total-by, total-lists}
+use Rattle.express.specs.kinds.Answer.{Logical, FALSE, UNKNOWN, TRUE}
 use Rattle.express.specs.kinds.Integer.{compareℤ}
-use Rattle.express.specs.kinds.Bits.{compare-bits}
-
--- ---- natural numbers
-pub compare-lt : (m n : ℕ) → m < n → compare m n ≡ Ordering·lt
-compare-lt m zero h = absurd (omega arith)
-compare-lt zero (suc n) h = compare·zero-suc n
-compare-lt (suc m) (suc n) h = compare·suc-suc m n ∙ compare-lt m n (omega arith)
-
-pub compare-gt : (m n : ℕ) → n < m → compare m n ≡ Ordering·gt
-compare-gt zero n h = absurd (omega arith)
-compare-gt (suc m) zero h = compare·suc-zero m
-compare-gt (suc m) (suc n) h = compare·suc-suc m n ∙ compare-gt m n (omega arith)
-
-pub compare-refl : (n : ℕ) → compare n n ≡ Ordering·eq
-compare-refl zero = compare·zero-zero
-compare-refl (suc n) = compare·suc-suc n n ∙ compare-refl n
-
-pub compare-eq : (m n : ℕ) → m ≡ n → compare m n ≡ Ordering·eq
-compare-eq m n e = rw e (compare-refl n)
+use Rattle.express.specs.kinds.Logic.{rank, compare-logical}
+use Rattle.express.specs.kinds.Bits.{bit, compare-bit, compare-bits}
 
 -- ---- integers: `ltZ` is the test that the machine makes
 pub less-integer : (a b : ℤ) → ltZ a b ≡ true → compareℤ a b ≡ Ordering·lt
@@ -47,36 +33,26 @@ same-integer (pos m) (negsuc n) e f = let z : _≡_ {A = ℕ} 0 1 = cc in absurd
 same-integer (negsuc m) (pos n) e f = let z : _≡_ {A = ℕ} 0 1 = cc in absurd (omega arith)
 same-integer (negsuc m) (negsuc n) e f = let p = ltb-false n m e in let q = ltb-false m n f in compare-eq n m (omega arith)
 
--- ---- lists of bits
-abbrev pub opposite : Ordering → Ordering
-opposite Ordering·lt = Ordering·gt
-opposite Ordering·eq = Ordering·eq
-opposite Ordering·gt = Ordering·lt
+-- ---- logicals and lists of bits
+one-rank : (l m : Logical) → rank l ≡ rank m → l ≡ m
+one-rank FALSE FALSE e = refl
+one-rank FALSE UNKNOWN e = absurd (omega arith)
+one-rank FALSE TRUE e = absurd (omega arith)
+one-rank UNKNOWN FALSE e = absurd (omega arith)
+one-rank UNKNOWN UNKNOWN e = refl
+one-rank UNKNOWN TRUE e = absurd (omega arith)
+one-rank TRUE FALSE e = absurd (omega arith)
+one-rank TRUE UNKNOWN e = absurd (omega arith)
+one-rank TRUE TRUE e = refl
 
-pub opposite-bits : (xs ys : List Bool) → opposite (compare-bits xs ys) ≡ compare-bits ys xs
-unfolding compare-bits
-opposite-bits [] [] = refl
-opposite-bits [] (y ∷ ys) = refl
-opposite-bits (x ∷ xs) [] = refl
-opposite-bits (true ∷ xs) (false ∷ ys) = refl
-opposite-bits (false ∷ xs) (true ∷ ys) = refl
-opposite-bits (false ∷ xs) (false ∷ ys) = opposite-bits xs ys
-opposite-bits (true ∷ xs) (true ∷ ys) = opposite-bits xs ys
+pub total-logicals : Total compare-logical
+total-logicals = total-by rank one-rank
 
--- a list is the same as itself and less than what it begins
-pub after-prefix : (xs ys : List Bool) → compare-bits xs (xs ++ ys) ≡ compare-bits [] ys
-unfolding compare-bits
-after-prefix [] ys = refl
-after-prefix (false ∷ xs) ys = after-prefix xs ys
-after-prefix (true ∷ xs) ys = after-prefix xs ys
+one-bit : (x y : Bool) → bit x ≡ bit y → x ≡ y
+one-bit true true e = refl
+one-bit true false e = absurd (omega arith)
+one-bit false true e = absurd (omega arith)
+one-bit false false e = refl
 
--- nothing else is the same
-pub same-bits : (xs ys : List Bool) → compare-bits xs ys ≡ Ordering·eq → xs ≡ ys
-unfolding compare-bits
-same-bits [] [] e = refl
-same-bits [] (y ∷ ys) e = let z : _≡_ {A = ℕ} 0 1 = cc in absurd (omega arith)
-same-bits (x ∷ xs) [] e = let z : _≡_ {A = ℕ} 0 1 = cc in absurd (omega arith)
-same-bits (true ∷ xs) (false ∷ ys) e = let z : _≡_ {A = ℕ} 0 1 = cc in absurd (omega arith)
-same-bits (false ∷ xs) (true ∷ ys) e = let z : _≡_ {A = ℕ} 0 1 = cc in absurd (omega arith)
-same-bits (false ∷ xs) (false ∷ ys) e = ap (λ (l : List Bool). false ∷ l) (same-bits xs ys e)
-same-bits (true ∷ xs) (true ∷ ys) e = ap (λ (l : List Bool). true ∷ l) (same-bits xs ys e)
+pub total-bits : Total compare-bits
+total-bits = total-lists compare-bit (total-by bit one-bit)

@@ -3,16 +3,20 @@ use mathlib.Core.Path.{_≡_, sym, ap, _∙_}
 use mathlib.Core.Logic.{⊎-elim}
 use mathlib.Core.Bool.{Bool, true, not, _&&_, _||_}
 use mathlib.Core.List.{List, [], _∷_, List·Memᴰ, List·Memᴰ·not-nil, List·Memᴰ·cases-cons, Memᴰ·cast}
-use Prim.Native.Nat.{ℕ, _-_}
+use Prim.Native.Nat.{ℕ, _-_, _<_}
+use native.Mathlib.Decide.{ℕ-discrete}
 use native.Mathlib.Omega.{arith}
 use borrow.Author.Tests.{eqb-true, eq-eqb, ltb-true}
 use lib.Dec.{eqb, ltb}
 use Rattle.express.specs.syntax.NodeKind as node
 use Rattle.relations.specs.Select.{span, any}
-use Rattle.express.specs.syntax.Tree.{Table, count, kind, first, nodes, is}
+use Rattle.express.specs.syntax.Tree.{Table, count, kind, first, nodes, is, is-declaration, owner}
 use Rattle.express.specs.kinds.Shape.{Shape, integer-literal, logical-literal, binary-literal, question, item, name, unary, operator, interval, interval-operator, type, constant, unevaluated, shape}
-use Rattle.express.specs.kinds.Order.{Ordered, done, next, Order}
-use Rattle.relations.proofs.Select.{and-fst, and-snd, any-mem, mem-span}
+use Rattle.express.specs.kinds.Order.{Uses, Needs, Order}
+use Rattle.relations.specs.Sorted.{Sorted, done, next}
+use Rattle.relations.proofs.Select.{and-fst, and-snd, any-mem, mem-span, first-is}
+use Rattle.relations.proofs.Topological.{sorted-reaches, sorted-narrower}
+use Rattle.express.proofs.kinds.Shapes.{constant-shape}
 
 unfoldable pub every : (ℕ → Bool) → List ℕ → Bool
 every p [] = true
@@ -51,31 +55,58 @@ in-order t b passed [] = true
 in-order t b passed (d ∷ ds) =
     ltb d (count t) && is t node.constant d && every (λ n. names-pass (among passed) (shape t b n)) (span (first t d) (d - first t d)) && in-order t b (d ∷ passed) ds
 
-ordered : (t : Table) (b passed ds : List ℕ) → in-order t b passed ds ≡ true → Ordered t b passed ds
-unfolding in-order
-ordered t b passed [] e = done
-ordered t b passed (d ∷ ds) e =
-    let test = every (λ n. names-pass (among passed) (shape t b n)) (span (first t d) (d - first t d)) in
-    let last = and-snd (ltb d (count t) && is t node.constant d && test) (in-order t b (d ∷ passed) ds) e in
-    let three = and-fst (ltb d (count t) && is t node.constant d && test) (in-order t b (d ∷ passed) ds) e in
-    let two = and-fst (ltb d (count t) && is t node.constant d) test three in
-    next (ltb-true d (count t) (and-fst (ltb d (count t)) (is t node.constant d) two))
-    (eqb-true (kind t d) node.constant (and-snd (ltb d (count t)) (is t node.constant d) two))
-    (λ n c lo hi i.
-    among-mem passed c
-    (ap (names-pass (among passed)) (sym i) ∙
-    each (λ n. names-pass (among passed) (shape t b n)) (span (first t d) (d - first t d))
-    (and-snd (ltb d (count t) && is t node.constant d) test three) n (mem-span (first t d) (d - first t d) n lo (omega arith))))
-    (ordered t b (d ∷ passed) ds last)
+-- a node that is used stands before the constant that uses it
+use-before : (t : Table) (b : List ℕ) {d c : ℕ} → kind t d ≡ node.constant → (u : Uses t b d c) → u .node < d
+unfolding owner
+use-before t b {d} {c} e u = by (ℕ-discrete (u .node) d)
+  where
+    by : Dec (u .node ≡ d) → u .node < d
+    by (yes q) =
+        let x = constant-shape t b (u .node) (ap (kind t) q ∙ e) in
+        let y = u .names in
+        absurd (let z : _≡_ {A = ℕ} 0 1 = cc in omega arith)
+    by (no h) = let l = first-is (is-declaration t) (u .node) (count t - u .node) .from in omega (arith, u .owned)
 
-pub order-passes :
-    (t : Table) (b ds : List ℕ) → in-order t b [] ds ≡ true → every (λ c. not (is t node.constant c) || among ds c) (nodes t) ≡ true →
-    Order t b ds
-order-passes t b ds e f =
-    record {
-      ordered = ordered t b [] ds e;
-      complete = λ c l q.
-          among-mem ds c
-          (rw (eq-eqb (kind t c) node.constant q) at
-          (each (λ c. not (is t node.constant c) || among ds c) (nodes t) f c (mem-span 0 (count t) c (omega arith) (omega arith))));
-    }
+module _ (t : Table) (b : List ℕ) where
+  abbrev names-passed : List ℕ → ℕ → Bool
+  names-passed passed d = every (λ n. names-pass (among passed) (shape t b n)) (span (first t d) (d - first t d))
+
+  sorted : (passed ds : List ℕ) → in-order t b passed ds ≡ true → Sorted (Uses t b) passed ds
+  unfolding in-order
+  sorted passed [] e = done
+  sorted passed (d ∷ ds) e =
+      let test = names-passed passed d in
+      let three = and-fst (ltb d (count t) && is t node.constant d && test) (in-order t b (d ∷ passed) ds) e in
+      let two = and-fst (ltb d (count t) && is t node.constant d) test three in
+      let k = eqb-true (kind t d) node.constant (and-snd (ltb d (count t)) (is t node.constant d) two) in
+      next
+      (λ c u.
+      let l = use-before t b k u in
+      among-mem passed c
+      (ap (names-pass (among passed)) (sym (u .names)) ∙
+      each (λ n. names-pass (among passed) (shape t b n)) (span (first t d) (d - first t d))
+      (and-snd (ltb d (count t) && is t node.constant d) test three) (u .node) (mem-span (first t d) (d - first t d) (u .node) (u .from) (omega (arith, u .from)))))
+      (sorted (d ∷ passed) ds (and-snd (ltb d (count t) && is t node.constant d && test) (in-order t b (d ∷ passed) ds) e))
+
+  are-constants : (passed ds : List ℕ) → in-order t b passed ds ≡ true → (c : ℕ) → List·Memᴰ c ds → (c < count t) × (kind t c ≡ node.constant)
+  unfolding in-order
+  are-constants passed [] e c m = absurd (List·Memᴰ·not-nil m)
+  are-constants passed (d ∷ ds) e c m =
+      let test = names-passed passed d in
+      let three = and-fst (ltb d (count t) && is t node.constant d && test) (in-order t b (d ∷ passed) ds) e in
+      let two = and-fst (ltb d (count t) && is t node.constant d) test three in
+      ⊎-elim
+      (λ q. rw q (ltb-true d (count t) (and-fst (ltb d (count t)) (is t node.constant d) two), eqb-true (kind t d) node.constant (and-snd (ltb d (count t)) (is t node.constant d) two)))
+      (λ m′. are-constants (d ∷ passed) ds (and-snd (ltb d (count t) && is t node.constant d && test) (in-order t b (d ∷ passed) ds) e) c m′) (List·Memᴰ·cases-cons m)
+
+  pub order-passes :
+      (ds : List ℕ) → in-order t b [] ds ≡ true → every (λ c. not (is t node.constant c) || among ds c) (nodes t) ≡ true → Order t b ds
+  order-passes ds e f =
+      record {
+        sorted = sorted-narrower (λ d c m N. N .reached) (sorted-reaches (λ a c m u. absurd (List·Memᴰ·not-nil m)) (sorted [] ds e));
+        among = are-constants [] ds e;
+        complete = λ c l q.
+            among-mem ds c
+            (rw (eq-eqb (kind t c) node.constant q) at
+            (each (λ c. not (is t node.constant c) || among ds c) (nodes t) f c (mem-span 0 (count t) c (omega arith) (omega arith))));
+      }

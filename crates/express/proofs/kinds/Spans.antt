@@ -1,64 +1,55 @@
 -- The nodes of an expression and of a constant: where children stand, and that the nodes of a node hold those of each of them.
 use mathlib.Core.Path.{_≡_, refl}
-use mathlib.Core.Logic.{_⊎_, inl, inr}
-use mathlib.Core.Bool.{Bool, true, false, _||_}
+use mathlib.Core.Logic.{⊎-elim}
+use mathlib.Core.Bool.{true, false≢true}
+use mathlib.Core.List.{_++_}
 use Prim.Native.Nat.{ℕ, zero, suc, _+_, _-_, _≤_, _<_}
 use native.Mathlib.Decide.{ℕ-discrete, decLt}
 use native.Mathlib.Omega.{arith}
-use borrow.Author.Tests.{leb-true, leb-false, eqb-true, le-leb}
+use borrow.Author.Tests.{eqb-true, eq-eqb, leb-true, le-leb}
 use lib.Dec.{eqb, leb}
-use Rattle.express.specs.syntax.Tree.{Table, count, kind, size, last, first, left, upper, middle, lower, low}
-use Rattle.express.proofs.syntax.Formed.{expression, childless, Formed}
-use Rattle.relations.proofs.Select.{and-fst, and-snd, or-cases}
+use lib.ListN.{List·getD-eq-default}
+use Rattle.ebnf.specs.Set.{mem, subset, disjoint}
+use Rattle.ebnf.proofs.Sets.{in-more, in-left, in-cases, mem-one}
+use Rattle.express.specs.syntax.NodeKind as node
+use Rattle.express.specs.syntax.Tree.{Table, count, kind, size, last, first, left, upper, middle, lower, low, is, is-declaration, owner}
+use Rattle.express.specs.kinds.Kind.{Constant}
+use Rattle.express.proofs.syntax.KindSets.{expression-kinds, base-kinds, leaf-kinds, operation-kinds, below-constant, base-leaf}
+use Rattle.express.proofs.syntax.Formed.{Formed}
+use Rattle.express.proofs.names.Owned.{undeclared}
+use Rattle.relations.proofs.Select.{and-fst, and-snd, and-both, or-cases, le-or, first-is, first-of}
 
--- The kinds of nodes that lie in a constant
-pub record Part (k : ℕ) : Type 0 where
-  pub least : 1 ≤ k
-  pub most : k ≤ 13
+-- The kinds of nodes that lie in a constant, other than itself
+abbrev pub Part : ℕ → Type 0
+Part k = mem k below-constant ≡ true
 
-expression-part : (k : ℕ) → expression k ≡ true → Part k
-expression-part k e =
-    let l : 1 ≤ k = leb-true 1 k (and-fst (leb 1 k) (leb k 11) e) in
-    let m : k ≤ 11 = leb-true k 11 (and-snd (leb 1 k) (leb k 11) e) in
-    record { least = l; most = omega arith }
+expression-part : (k : ℕ) → mem k expression-kinds ≡ true → Part k
+unfolding mem subset
+expression-part k e = in-more k expression-kinds below-constant refl e
 
-twelve-part : (k : ℕ) → k ≡ 12 → Part k
-twelve-part k e = record { least = omega arith; most = omega arith }
+operator-part : (k : ℕ) → k ≡ node.interval-operator → Part k
+unfolding mem
+operator-part k e = rw e
 
-base-part : (k : ℕ) → eqb k 6 || eqb k 13 ≡ true → Part k
-base-part k e = by (or-cases (eqb k 6) (eqb k 13) e)
-  where
-    by : (eqb k 6 ≡ true) ⊎ (eqb k 13 ≡ true) → Part k
-    by (inl i) = let q : k ≡ 6 = eqb-true k 6 i in record { least = omega arith; most = omega arith }
-    by (inr i) = let q : k ≡ 13 = eqb-true k 13 i in record { least = omega arith; most = omega arith }
-
-base-childless : (k : ℕ) → eqb k 6 || eqb k 13 ≡ true → childless k ≡ true
-base-childless k e = by (or-cases (eqb k 6) (eqb k 13) e)
-  where
-    by : (eqb k 6 ≡ true) ⊎ (eqb k 13 ≡ true) → childless k ≡ true
-    by (inl i) = rw (eqb-true k 6 i)
-    by (inr i) = rw (eqb-true k 13 i)
+base-part : (k : ℕ) → mem k base-kinds ≡ true → Part k
+base-part k e = in-left k leaf-kinds operation-kinds (base-leaf k e)
 
 -- Which children a node has
 pub data Class (k : ℕ) : Type 0 where
-  none : childless k ≡ true → Class k
-  one : k ≡ 9 → Class k
-  two : k ≡ 10 → Class k
-  five : k ≡ 11 → Class k
+  none : mem k leaf-kinds ≡ true → Class k
+  one : k ≡ node.unary → Class k
+  two : k ≡ node.two-operand → Class k
+  five : k ≡ node.interval → Class k
 
 class : (k : ℕ) → Part k → Class k
-class k p = by (ℕ-discrete k 9) (ℕ-discrete k 10) (ℕ-discrete k 11) (ℕ-discrete k 12) (leb k 8) refl
+unfolding mem
+class k p = ⊎-elim (λ e. none e) operation (in-cases k leaf-kinds operation-kinds p)
   where
-    by : Dec (k ≡ 9) → Dec (k ≡ 10) → Dec (k ≡ 11) → Dec (k ≡ 12) → (b : Bool) → leb k 8 ≡ b → Class k
-    by (yes e) _ _ _ _ _ = one e
-    by (no _) (yes e) _ _ _ _ = two e
-    by (no _) (no _) (yes e) _ _ _ = five e
-    by (no _) (no _) (no _) _ true e = none (rw (le-leb 1 k (p .least), e))
-    by (no _) (no _) (no _) (yes e) false _ = none (rw e)
-    by (no i) (no j) (no l) (no m) false e =
-        let h : 8 < k = leb-false k 8 e in
-        let q : k ≡ 13 = omega (arith, p .most) in
-        none (rw q)
+    operation : mem k operation-kinds ≡ true → Class k
+    operation e =
+        ⊎-elim (λ i. one (eqb-true k node.unary i))
+        (λ i. ⊎-elim (λ j. two (eqb-true k node.two-operand j)) (λ j. five (mem-one k node.interval j)) (or-cases (eqb k node.two-operand) _ i))
+        (or-cases (eqb k node.unary) _ e)
 
 -- The nodes from lo up to hi, hi itself not, are those of whole trees of such kinds: the last one has the root c and begins at mid.
 data Forest (t : Table) (lo : ℕ) : ℕ → Type 0 where
@@ -113,14 +104,14 @@ record Places (n h u m o l sh su sm so sl : ℕ) : Type 0 where
   upper-at : m + su ≡ u
   item : o + sm ≡ m
   lower-at : l + so ≡ o
-  leaves : (su ≡ 1) × (so ≡ 1)
+  leaf-kinds : (su ≡ 1) × (so ≡ 1)
 
 places :
     (n h u m o l sh su sm so sl sn : ℕ) → h ≡ n - 1 → u ≡ h - sh → m ≡ u - su → o ≡ m - sm → l ≡ o - so →
     sn ≡ sl + 1 + sm + 1 + sh + 1 → su ≡ 1 → so ≡ 1 → sn ≤ n + 1 → 1 ≤ sl → Places n h u m o l sh su sm so sl
 places n h u m o l sh su sm so sl sn a b c d e z p q i w =
     let v : n ≡ h + 1 = omega arith in
-    record { parent = v; high = omega arith; upper-at = omega arith; item = omega arith; lower-at = omega arith; leaves = (p, q) }
+    record { parent = v; high = omega arith; upper-at = omega arith; item = omega arith; lower-at = omega arith; leaf-kinds = (p, q) }
 
 module _ (t : Table) (f : Formed t) where
   -- ---- children
@@ -128,14 +119,14 @@ module _ (t : Table) (f : Formed t) where
   abbrev Trees : ℕ → Type 0
   Trees n = Forest t (first t n) n
 
-  pub last-below : (n : ℕ) → n < count t → kind t n ≡ 9 → Below t n (last n)
+  pub last-below : (n : ℕ) → n < count t → kind t n ≡ node.unary → Below t n (last n)
   last-below n l e =
       let c = f .unary n l e in
       let i = f .inside n l in
       let s : 1 ≤ size t (last n) = f .some (last n) (omega arith) in
       record { from = omega (arith, c .all); under = omega (arith, c .all) }
 
-  one-trees : (n : ℕ) → n < count t → kind t n ≡ 9 → Trees n
+  one-trees : (n : ℕ) → n < count t → kind t n ≡ node.unary → Trees n
   one-trees n l e =
       let c = f .unary n l e in
       let i = f .inside n l in
@@ -143,7 +134,7 @@ module _ (t : Table) (f : Formed t) where
       let z = c .all in
       a-tree (first t n) (last n) (expression-part _ (c .operand)) (omega arith) (omega arith) (omega arith) (no-tree refl)
 
-  pub left-below : (n : ℕ) → n < count t → kind t n ≡ 10 → Below t n (left t n) × Below t n (last n)
+  pub left-below : (n : ℕ) → n < count t → kind t n ≡ node.two-operand → Below t n (left t n) × Below t n (last n)
   left-below n l e =
       let z = f .operator n l e .all in
       let i = f .inside n l in
@@ -151,7 +142,7 @@ module _ (t : Table) (f : Formed t) where
       let r : 1 ≤ size t (left t n) = f .some (left t n) (omega arith) in
       (record { from = omega arith; under = omega arith }, record { from = omega arith; under = omega arith })
 
-  two-trees : (n : ℕ) → n < count t → kind t n ≡ 10 → Trees n
+  two-trees : (n : ℕ) → n < count t → kind t n ≡ node.two-operand → Trees n
   two-trees n l e =
       let c = f .operator n l e in
       let z = c .all in
@@ -161,11 +152,12 @@ module _ (t : Table) (f : Formed t) where
       a-tree (left t n + 1) (last n) (expression-part _ (c .right-operand)) (omega arith) (omega arith) (omega arith)
       (a-tree (first t n) (left t n) (expression-part _ (c .left-operand)) refl (omega arith) (omega arith) (no-tree refl))
 
-  leaf-size : (n : ℕ) → n < count t → kind t n ≡ 12 → size t n ≡ 1
+  leaf-size : (n : ℕ) → n < count t → kind t n ≡ node.interval-operator → size t n ≡ 1
+  unfolding mem
   leaf-size n l e = f .leaf n l (rw e)
 
   five-places :
-      (n : ℕ) → n < count t → kind t n ≡ 11 →
+      (n : ℕ) → n < count t → kind t n ≡ node.interval →
       Places n (last n) (upper t n) (middle t n) (lower t n) (low t n)
       (size t (last n)) (size t (upper t n)) (size t (middle t n)) (size t (lower t n)) (size t (low t n))
   five-places n l e =
@@ -173,7 +165,7 @@ module _ (t : Table) (f : Formed t) where
       places n _ _ _ _ _ _ _ _ _ _ _ refl refl refl refl refl (c .all) (leaf-size (upper t n) (omega arith) (c .upper-operator))
       (leaf-size (lower t n) (omega arith) (c .lower-operator)) (f .inside n l) (f .some (low t n) (omega arith))
 
-  pub five-below : (n : ℕ) → n < count t → kind t n ≡ 11 → Operands t n
+  pub five-below : (n : ℕ) → n < count t → kind t n ≡ node.interval → Operands t n
   five-below n l e =
       let c = f .interval n l e in
       let z = c .all in
@@ -189,12 +181,12 @@ module _ (t : Table) (f : Formed t) where
         high-below = record { from = omega arith; under = omega arith };
       }
 
-  five-trees : (n : ℕ) → n < count t → kind t n ≡ 11 → Trees n
+  five-trees : (n : ℕ) → n < count t → kind t n ≡ node.interval → Trees n
   five-trees n l e =
       let c = f .interval n l e in
       five (last n) (upper t n) (middle t n) (lower t n) (low t n) (c .all) (f .inside n l) (five-places n l e)
-      (expression-part _ (c .high-operand)) (twelve-part _ (c .upper-operator)) (expression-part _ (c .item))
-      (twelve-part _ (c .lower-operator)) (expression-part _ (c .low-operand))
+      (expression-part _ (c .high-operand)) (operator-part _ (c .upper-operator)) (expression-part _ (c .item))
+      (operator-part _ (c .lower-operator)) (expression-part _ (c .low-operand))
     where
       five :
           (h u m o w : ℕ) → size t n ≡ size t w + 1 + size t m + 1 + size t h + 1 → size t n ≤ n + 1 →
@@ -207,20 +199,20 @@ module _ (t : Table) (f : Formed t) where
           (a-tree (w + 1) o d refl (omega arith) (omega arith)
           (a-tree (first t n) w g refl (omega arith) (omega arith) (no-tree refl)))))
 
-  pub value-below : (n : ℕ) → n < count t → kind t n ≡ 17 → Below t n (last n)
+  pub value-below : (n : ℕ) → n < count t → kind t n ≡ node.constant → Below t n (last n)
   value-below n l e =
       let z = f .constant n l e .all in
       let i = f .inside n l in
       let s : 1 ≤ size t (last n) = f .some (last n) (omega arith) in
       record { from = omega arith; under = omega arith }
 
-  constant-trees : (n : ℕ) → n < count t → kind t n ≡ 17 → Trees n
+  constant-trees : (n : ℕ) → n < count t → kind t n ≡ node.constant → Trees n
   constant-trees n l e =
       let c = f .constant n l e in
       let z = c .all in
       let i = f .inside n l in
       let s : 1 ≤ size t (last n) = f .some (last n) (omega arith) in
-      let r : size t (left t n) ≡ 1 = f .leaf (left t n) (omega arith) (base-childless (kind t (left t n)) (c .base)) in
+      let r : size t (left t n) ≡ 1 = f .leaf (left t n) (omega arith) (base-leaf (kind t (left t n)) (c .base)) in
       a-tree (left t n + 1) (last n) (expression-part _ (c .value)) (omega arith) (omega arith) (omega arith)
       (a-tree (first t n) (left t n) (base-part _ (c .base)) refl (omega arith) (omega arith) (no-tree refl))
 
@@ -252,17 +244,54 @@ module _ (t : Table) (f : Formed t) where
           record { whole = omega (arith, r .low, i .whole); part = i .part }
 
   -- the nodes of a constant, other than itself
-  pub in-constant : (d m : ℕ) → d < count t → kind t d ≡ 17 → first t d ≤ m → m < d → Inside d m
+  pub in-constant : (d m : ℕ) → d < count t → kind t d ≡ node.constant → first t d ≤ m → m < d → Inside d m
   in-constant d m l e a b =
       let r = find t (first t d) d m (constant-trees d l e) a b in
       let c = r .high in
       let i = inside-below (suc (r .root)) (r .root) m (omega arith) (omega arith) (r .part) (r .lies) in
       record { whole = omega (arith, r .low, i .whole); part = i .part }
 
+  -- they belong to it
+  pub constant-owner : (d m : ℕ) → d < count t → kind t d ≡ node.constant → first t d ≤ m → m ≤ d → owner t m ≡ d
+  unfolding owner mem disjoint
+  constant-owner d m l e a b =
+      first-of (is-declaration t) (count t) m d b l (rw e)
+      (λ j lo hi. undeclared t j below-constant refl (in-constant d j l e (omega arith) hi .part))
+
   -- so no constant lies in another
-  pub apart : (c d : ℕ) → d < count t → kind t c ≡ 17 → kind t d ≡ 17 → c < d → c < first t d
+  pub apart : (c d : ℕ) → d < count t → kind t c ≡ node.constant → kind t d ≡ node.constant → c < d → c < first t d
+  unfolding mem
   apart c d l e g a = by (decLt c (first t d))
     where
       by : Dec (c < first t d) → c < first t d
       by (yes h) = h
-      by (no h) = let p = in-constant d c l g (omega arith) a .part in absurd (omega (arith, p .most))
+      by (no h) = absurd (false≢true (rw e at (in-constant d c l g (omega arith) a .part)))
+
+-- ---- the nodes of constants
+
+-- node n lies in the tree of a constant, or is it
+pub record OfConstant (t : Table) (n : ℕ) : Type 0 where
+  pub root : ℕ
+  pub known : root < count t
+  pub is-constant : kind t root ≡ node.constant
+  pub from : first t root ≤ n
+  pub upto : n ≤ root
+
+-- the same by the test of its owner
+pub of-constant : (t : Table) (n : ℕ) → Constant t n → OfConstant t n
+unfolding owner
+of-constant t n h =
+    let o = owner t n in
+    let e = eqb-true (kind t o) node.constant (and-fst (is t node.constant o) (leb (first t o) n) h) in
+    record {
+      root = o;
+      known = ⊎-elim (λ l. let z : kind t o ≡ 0 = List·getD-eq-default (t .kinds) 0 l in absurd (omega arith)) (λ l. l) (le-or (count t) o);
+      is-constant = e;
+      from = leb-true (first t o) n (and-snd (is t node.constant o) (leb (first t o) n) h);
+      upto = first-is (is-declaration t) n (count t - n) .from;
+    }
+
+pub constant-of : (t : Table) → Formed t → (n : ℕ) → OfConstant t n → Constant t n
+constant-of t f n c =
+    let o : owner t n ≡ c .root = constant-owner t f (c .root) n (c .known) (c .is-constant) (c .from) (c .upto) in
+    rw o (and-both _ _ (eq-eqb _ _ (c .is-constant)) (le-leb _ _ (c .from)))

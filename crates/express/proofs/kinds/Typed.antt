@@ -11,15 +11,15 @@ use lib.ListN.{length, set, replicate, length-set, length-replicate}
 use lib.Seq.{getD-set-same, getD-set-other}
 use Rattle.express.specs.syntax.NodeKind as node
 use Rattle.relations.specs.Select.{span, keep}
-use Rattle.express.specs.syntax.Tree.{Table, count, kind, size, first, last, nodes, is, left, middle, low}
+use Rattle.express.specs.syntax.Tree.{Table, count, kind, size, first, last, nodes, is, left, middle, low, within}
 use Rattle.express.proofs.syntax.Formed.{Formed}
 use Rattle.express.specs.kinds.Shape.{Shape, integer-literal, logical-literal, binary-literal, question, item, name, unary, operator, interval, interval-operator, type, constant, unevaluated, shape}
 use Rattle.express.specs.kinds.Operate.{Kind, untyped}
-use Rattle.express.specs.kinds.Kind.{Finding, fault, finding, kind-at, Typing, typed, refused, then, type-nodes, type-nodes-in, within, all-within, constants, typing, Constant, Fits, WellTyped, FirstFault}
-use Rattle.express.specs.kinds.Kind as found
+use Rattle.express.specs.kinds.Kind.{Finding, of-kind, fault, finding, kind-at, Typing, typed, ill-typed, if-found, type-nodes, type-nodes-in, constants, typing, Constant, Fits, WellTyped, FirstFault}
 use Rattle.relations.proofs.Select.{mem-span, span-mem, mem-keep, keep-mem, mem-flat, flat-mem}
-use Rattle.express.proofs.kinds.Shapes.{Told, told}
-use Rattle.express.proofs.kinds.Spans.{last-below, left-below, five-below, value-below, in-constant, apart, Below}
+use Rattle.express.proofs.kinds.Shapes.{Decoded, decoded}
+use Rattle.express.proofs.kinds.Spans.{last-below, left-below, five-below, value-below, in-constant, apart, Below, OfConstant, of-constant, constant-of}
+use Rattle.express.proofs.kinds.Walk.{all-within, type-constants-is}
 
 -- ---- lists that rise, below a bound
 data Rising (hi : ℕ) : ℕ → List ℕ → Type 0 where
@@ -62,15 +62,15 @@ module _ (t : Table) (f : Formed t) where
   all-rising : Rising (count t) 0 all
   all-rising = constants-rising 0 (count t) 0 (omega arith) (λ d a h i. omega arith)
 
-  constant-all : (n : ℕ) → Constant t n → List·Memᴰ n all
+  constant-all : (n : ℕ) → OfConstant t n → List·Memᴰ n all
   constant-all n c =
-      let z = f .inside (c .node-of) (c .among) in
+      let z = f .inside (c .root) (c .known) in
       mem-flat (within t) (constants t)
-      (mem-keep (is t node.constant) (nodes t) (mem-span 0 (count t) (c .node-of) (omega arith) (omega (arith, c .among)))
-      (eq-eqb (kind t (c .node-of)) node.constant (c .is-one)))
-      (mem-span (first t (c .node-of)) (size t (c .node-of)) n (c .from) (omega (arith, c .upto)))
+      (mem-keep (is t node.constant) (nodes t) (mem-span 0 (count t) (c .root) (omega arith) (omega (arith, c .known)))
+      (eq-eqb (kind t (c .root)) node.constant (c .is-constant)))
+      (mem-span (first t (c .root)) (size t (c .root)) n (c .from) (omega (arith, c .upto)))
 
-  all-constant : (n : ℕ) → List·Memᴰ n all → Constant t n
+  all-constant : (n : ℕ) → List·Memᴰ n all → OfConstant t n
   all-constant n m =
       let r = flat-mem (within t) (constants t) m in
       let k = keep-mem (is t node.constant) (nodes t) (r .1) in
@@ -78,9 +78,9 @@ module _ (t : Table) (f : Formed t) where
       let w = span-mem (first t (r .0)) (size t (r .0)) n (r .2) in
       let z = f .inside (r .0) (omega arith) in
       record {
-        node-of = r .0;
-        among = omega arith;
-        is-one = eqb-true (kind t (r .0)) node.constant (k .1);
+        root = r .0;
+        known = omega arith;
+        is-constant = eqb-true (kind t (r .0)) node.constant (k .1);
         from = w .0;
         upto = omega arith;
       }
@@ -90,9 +90,9 @@ module _ (t : Table) (b : List ℕ) (f : Formed t) where
   same-finding :
       (j k : ℕ → Kind) (n : ℕ) → n < count t → ((c : ℕ) → Below t n c → j c ≡ k c) →
       finding t b j n (shape t b n) ≡ finding t b k n (shape t b n)
-  same-finding j k n l h = by (shape t b n) (told t b n)
+  same-finding j k n l h = by (shape t b n) (decoded t b n)
     where
-      by : (s : Shape) → Told t b n s → finding t b j n s ≡ finding t b k n s
+      by : (s : Shape) → Decoded t t b n s → finding t b j n s ≡ finding t b k n s
       by (integer-literal v) e = refl
       by (logical-literal v) e = refl
       by (binary-literal v) e = refl
@@ -110,20 +110,20 @@ module _ (t : Table) (b : List ℕ) (f : Formed t) where
       by unevaluated e = refl
 
   -- a child of a node of a constant is a node of it too
-  child-in : (n c : ℕ) → Constant t n → Below t n c → Constant t c
+  child-in : (n c : ℕ) → OfConstant t n → Below t n c → OfConstant t c
   child-in n c h q =
       record {
-        node-of = h .node-of;
-        among = h .among;
-        is-one = h .is-one;
-        from = by (ℕ-discrete n (h .node-of));
+        root = h .root;
+        known = h .known;
+        is-constant = h .is-constant;
+        from = by (ℕ-discrete n (h .root));
         upto = omega (arith, h .upto, q .under);
       }
     where
-      by : Dec (n ≡ h .node-of) → first t (h .node-of) ≤ c
+      by : Dec (n ≡ h .root) → first t (h .root) ≤ c
       by (yes e) = rw e at (q .from)
       by (no e) =
-          let w = in-constant t f (h .node-of) n (h .among) (h .is-one) (h .from) (omega (arith, h .upto)) .whole in
+          let w = in-constant t f (h .root) n (h .known) (h .is-constant) (h .from) (omega (arith, h .upto)) .whole in
           omega (arith, q .from)
 
   -- ---- a typing of nodes that rise from lo on, which begins with the kinds ks and goes on with kinds js: below lo they stay
@@ -132,7 +132,7 @@ module _ (t : Table) (b : List ℕ) (f : Formed t) where
 
   -- one more node, found to be of kind k
   module _ (lo n : ℕ) (ks js : List Kind) (k : Kind) (l : length ks ≡ count t) (a : lo ≤ n) (c : n < count t)
-      (i : finding t b (kind-at ks) n (shape t b n) ≡ found.kind k) (w : Stays (suc n) (set ks n k) js) where
+      (i : finding t b (kind-at ks) n (shape t b n) ≡ of-kind k) (w : Stays (suc n) (set ks n k) js) where
     old : (m : ℕ) → m < n → kind-at js m ≡ kind-at ks m
     old m h = w .stays m (omega arith) ∙ getD-set-other ks n m k untyped (λ q. omega arith)
 
@@ -140,7 +140,7 @@ module _ (t : Table) (b : List ℕ) (f : Formed t) where
     own = w .stays n (omega arith) ∙ getD-set-same ks n k untyped (omega arith)
 
     fits-there : Fits t b (kind-at js) n
-    fits-there = same-finding (kind-at js) (kind-at ks) n c (λ m q. old m (q .under)) ∙ i ∙ ap found.kind (sym own)
+    fits-there = same-finding (kind-at js) (kind-at ks) n c (λ m q. old m (q .under)) ∙ i ∙ ap of-kind (sym own)
 
     still : Stays lo ks js
     still = record { stays = λ m h. old m (omega arith) }
@@ -164,10 +164,10 @@ module _ (t : Table) (b : List ℕ) (f : Formed t) where
       by (finding t b (kind-at ks) n (shape t b n)) refl e (λ k i. fitted (suc n) ns (set ks n k) js r (rw length-set l) i)
     where
       by :
-          (x : Finding) → finding t b (kind-at ks) n (shape t b n) ≡ x → then x n (λ k. type-nodes t b ns (set ks n k)) ≡ typed js →
+          (x : Finding) → finding t b (kind-at ks) n (shape t b n) ≡ x → if-found x n (λ k. type-nodes t b ns (set ks n k)) ≡ typed js →
           ((k : Kind) → type-nodes t b ns (set ks n k) ≡ typed js → Fitted (suc n) ns (set ks n k) js) → Fitted lo (n ∷ ns) ks js
       by (fault p) i g more = absurd (let z : _≡_ {A = ℕ} 0 1 = cc in omega arith)
-      by (found.kind k) i g more =
+      by (of-kind k) i g more =
           let w = more k g in
           record {
             kept = still lo n ks js k l a c i (w .kept);
@@ -189,7 +189,7 @@ module _ (t : Table) (b : List ℕ) (f : Formed t) where
       ⊎-elim (λ (q : m ≡ n). omega arith) (λ h′. let z = rising-from hi (suc n) ns r m h′ in omega arith) (List·Memᴰ·cases-cons h)
 
   stopped :
-      (lo : ℕ) (ns : List ℕ) (ks : List Kind) (p n : ℕ) → Rising (count t) lo ns → length ks ≡ count t → type-nodes t b ns ks ≡ refused p n →
+      (lo : ℕ) (ns : List ℕ) (ks : List Kind) (p n : ℕ) → Rising (count t) lo ns → length ks ≡ count t → type-nodes t b ns ks ≡ ill-typed p n →
       Stopped lo ns ks p n
   unfolding type-nodes-in
   stopped lo [] ks p n r l e = absurd (let z : _≡_ {A = ℕ} 0 1 = cc in omega arith)
@@ -197,8 +197,8 @@ module _ (t : Table) (b : List ℕ) (f : Formed t) where
       by (finding t b (kind-at ks) d (shape t b d)) refl e (λ k i. stopped (suc d) ns (set ks d k) p n r (rw length-set l) i)
     where
       by :
-          (x : Finding) → finding t b (kind-at ks) d (shape t b d) ≡ x → then x d (λ k. type-nodes t b ns (set ks d k)) ≡ refused p n →
-          ((k : Kind) → type-nodes t b ns (set ks d k) ≡ refused p n → Stopped (suc d) ns (set ks d k) p n) → Stopped lo (d ∷ ns) ks p n
+          (x : Finding) → finding t b (kind-at ks) d (shape t b d) ≡ x → if-found x d (λ k. type-nodes t b ns (set ks d k)) ≡ ill-typed p n →
+          ((k : Kind) → type-nodes t b ns (set ks d k) ≡ ill-typed p n → Stopped (suc d) ns (set ks d k) p n) → Stopped lo (d ∷ ns) ks p n
       by (fault q) i g more =
           let u : q ≡ p = cc in
           let v : d ≡ n = cc in
@@ -209,7 +209,7 @@ module _ (t : Table) (b : List ℕ) (f : Formed t) where
             is = rw (← u, ← v) i;
             fits = λ m h g. absurd (let z = rising-from (count t) d (d ∷ ns) (cons (omega arith) c r) m g in omega arith);
           }
-      by (found.kind k) i g more =
+      by (of-kind k) i g more =
           let w = more k g in
           record {
             kinds = w .kinds;
@@ -226,26 +226,27 @@ module _ (t : Table) (b : List ℕ) (f : Formed t) where
   pub typing-fits : (ks : List Kind) → typing t b ≡ typed ks → (n : ℕ) → Constant t n → Fits t b (kind-at ks) n
   unfolding typing
   typing-fits ks e n c =
-      fitted 0 (all t f) (replicate (count t) untyped) ks (all-rising t f) (length-replicate _ _) e .fits n (constant-all t f n c)
+      fitted 0 (all t f) (replicate (count t) untyped) ks (all-rising t f) (length-replicate _ _) (sym (type-constants-is t b (constants t) _) ∙ e) .fits n
+      (constant-all t f n (of-constant t n c))
 
-  pub typing-fault : (p n : ℕ) → typing t b ≡ refused p n → FirstFault t b p n
+  pub typing-fault : (p n : ℕ) → typing t b ≡ ill-typed p n → FirstFault t b p n
   unfolding typing
   typing-fault p n e =
-      let s = stopped 0 (all t f) (replicate (count t) untyped) p n (all-rising t f) (length-replicate _ _) e in
+      let s = stopped 0 (all t f) (replicate (count t) untyped) p n (all-rising t f) (length-replicate _ _) (sym (type-constants-is t b (constants t) _) ∙ e) in
       record {
         kinds = kind-at (s .kinds);
-        there = all-constant t f n (s .there);
+        there = constant-of t f n (all-constant t f n (s .there));
         is = s .is;
-        fits = λ m h c. s .fits m h (constant-all t f m c);
+        fits = λ m h c. s .fits m h (constant-all t f m (of-constant t m c));
       }
 
   -- kinds that fit at all nodes of constants below n are the same there
   agree :
-      (j k : ℕ → Kind) (n : ℕ) → ((m : ℕ) → m < n → Constant t m → Fits t b j m) → ((m : ℕ) → m < n → Constant t m → Fits t b k m) →
-      (z m : ℕ) → m < z → m < n → Constant t m → j m ≡ k m
+      (j k : ℕ → Kind) (n : ℕ) → ((m : ℕ) → m < n → OfConstant t m → Fits t b j m) → ((m : ℕ) → m < n → OfConstant t m → Fits t b k m) →
+      (z m : ℕ) → m < z → m < n → OfConstant t m → j m ≡ k m
   agree j k n x y zero m s l c = absurd (omega arith)
   agree j k n x y (suc z) m s l c =
-      let e = same-finding j k m (omega (arith, c .upto, c .among)) (λ d q. agree j k n x y z d (omega (arith, q .under)) (omega (arith, q .under)) (child-in m d c q)) in
+      let e = same-finding j k m (omega (arith, c .upto, c .known)) (λ d q. agree j k n x y z d (omega (arith, q .under)) (omega (arith, q .under)) (child-in m d c q)) in
       let u = x m l c in
       let v = y m l c in
       cc
@@ -254,8 +255,11 @@ module _ (t : Table) (b : List ℕ) (f : Formed t) where
   agree-there :
       (j k : ℕ → Kind) (n : ℕ) → Constant t n → ((m : ℕ) → m < n → Constant t m → Fits t b j m) →
       ((m : ℕ) → m < n → Constant t m → Fits t b k m) → finding t b j n (shape t b n) ≡ finding t b k n (shape t b n)
-  agree-there j k n c x y =
-      same-finding j k n (omega (arith, c .upto, c .among)) (λ d q. agree j k n x y n d (q .under) (q .under) (child-in n d c q))
+  agree-there j k n h x y =
+      let c = of-constant t n h in
+      same-finding j k n (omega (arith, c .upto, c .known))
+      (λ d q.
+      agree j k n (λ m l o. x m l (constant-of t f m o)) (λ m l o. y m l (constant-of t f m o)) n d (q .under) (q .under) (child-in n d c q))
 
   -- ACCEPTED exactly when kinds fit everywhere
   pub typing-accepts : ((ks : List Kind) × (typing t b ≡ typed ks)) ↔ WellTyped t b
@@ -263,7 +267,7 @@ module _ (t : Table) (b : List ℕ) (f : Formed t) where
     where
       by : WellTyped t b → (x : Typing) → typing t b ≡ x → (ks : List Kind) × (typing t b ≡ typed ks)
       by w (typed ks) e = (ks, e)
-      by w (refused p n) e =
+      by w (ill-typed p n) e =
           let s = typing-fault p n e in
           let q = agree-there (s .kinds) (w .kinds) n (s .there) (s .fits) (λ m l c. w .fits m c) in
           let u = w .fits n (s .there) in
@@ -271,21 +275,21 @@ module _ (t : Table) (b : List ℕ) (f : Formed t) where
           absurd (let z : _≡_ {A = ℕ} 0 1 = cc in omega arith)
 
   -- REFUSED exactly by the first fault
-  pub typing-refuses : (p n : ℕ) → (typing t b ≡ refused p n) ↔ FirstFault t b p n
+  pub typing-refuses : (p n : ℕ) → (typing t b ≡ ill-typed p n) ↔ FirstFault t b p n
   typing-refuses p n = (typing-fault p n, λ s. by s (typing t b) refl)
     where
-      by : FirstFault t b p n → (x : Typing) → typing t b ≡ x → typing t b ≡ refused p n
+      by : FirstFault t b p n → (x : Typing) → typing t b ≡ x → typing t b ≡ ill-typed p n
       by s (typed ks) e =
           let q = agree-there (s .kinds) (kind-at ks) n (s .there) (s .fits) (λ m l c. typing-fits ks e m c) in
           let u = typing-fits ks e n (s .there) in
           let v = s .is in
           absurd (let z : _≡_ {A = ℕ} 0 1 = cc in omega arith)
-      by s (refused q m) e = at (decLt n m) (decLt m n)
+      by s (ill-typed q m) e = at (decLt n m) (decLt m n)
         where
           r : FirstFault t b q m
           r = typing-fault q m e
 
-          at : Dec (n < m) → Dec (m < n) → typing t b ≡ refused p n
+          at : Dec (n < m) → Dec (m < n) → typing t b ≡ ill-typed p n
           at (yes l) g =
               let d = agree-there (s .kinds) (r .kinds) n (s .there) (s .fits) (λ i h c. r .fits i (omega arith) c) in
               let u = r .fits n l (s .there) in
@@ -303,4 +307,4 @@ module _ (t : Table) (b : List ℕ) (f : Formed t) where
               let v = r .is in
               let w : finding t b (s .kinds) m (shape t b m) ≡ fault p = rw y u in
               let x : q ≡ p = cc in
-              e ∙ ap₂ refused x y
+              e ∙ ap₂ ill-typed x y

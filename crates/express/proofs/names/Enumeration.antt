@@ -5,8 +5,9 @@ use mathlib.Core.Bool.{Bool, true, false, not, _&&_, _||_, false≢true}
 use mathlib.Core.List.{List, [], _∷_, _++_}
 use Prim.Native.Nat.{ℕ, zero, suc, _+_, _-_, _≤_, _<_}
 use native.Mathlib.Omega.{arith}
-use borrow.Author.Tests.{eqb-true, eq-eqb, leb-true}
-use lib.Dec.{eqb, leb}
+use borrow.Author.Tests.{eqb-true, eq-eqb}
+use lib.Dec.{eqb}
+use Rattle.ebnf.specs.Set.{mem, disjoint}
 use Rattle.ebnf.specs.Rows.{Row}
 use Rattle.ebnf.proofs.Sorts.{of-sorts, every, every-of}
 use Rattle.ebnf.proofs.Parts.{Part, one, many}
@@ -21,7 +22,8 @@ use Rattle.express.specs.names.Fault.{is-enumeration}
 use Rattle.express.proofs.syntax.Nodes.{kinds, all-below, underlyings, items, domain-rules}
 use Rattle.express.proofs.syntax.FormedRows.{kind-is, role-is, size-is, count-is, node-at, sized, alone}
 use Rattle.express.proofs.syntax.Within.{Over, passes-below}
-use Rattle.express.proofs.names.Owned.{Declaring, a-constant, a-type, an-entity, declaring, in-owner}
+use Rattle.express.proofs.syntax.KindSets as set
+use Rattle.express.proofs.names.Owned.{undeclared, in-owner}
 use Rattle.relations.proofs.Select.{and-both, and-snd, or-cases, or-left, or-right, le-or, first-of, untrue}
 
 module _ {x : Nonterminal} {t : Table} (d : Read x t) where
@@ -70,12 +72,12 @@ module _ {x : Nonterminal} {t : Table} (d : Read x t) where
           rule-kinds : every (λ k o. eqb k node.rule) domain-rules ≡ true
           rule-kinds = refl
 
-  -- what lies in a rule is of the kinds of expressions
-  in-rule : (m : ℕ) → InRule m → (kind t m ≤ 12) ⊎ (kind t m ≡ node.rule)
-  unfolding all-below every
+  -- what lies in a rule is of the kinds of expressions, or the rule
+  in-rule : (m : ℕ) → InRule m → mem (kind t m) set.in-rule ≡ true
+  unfolding all-below every mem
   in-rule m R =
-      ⊎-elim (λ l. let q : m ≡ R .at = omega (arith, R .to) in inr (ap (kind t) q ∙ R .is-rule))
-      (λ l. inl (leb-true (kind t m) 12 (passes-below d (λ k. leb k 12) refl (R .at) (R .known) (rw (R .is-rule) refl) m (R .from) l))) (le-or (R .at) m)
+      ⊎-elim (λ l. let q : m ≡ R .at = omega (arith, R .to) in rw (ap (kind t) q ∙ R .is-rule))
+      (λ l. passes-below d (λ k. mem k set.in-rule) refl (R .at) (R .known) (rw (R .is-rule) refl) m (R .from) l) (le-or (R .at) m)
 
   -- A type begins with what it is declared as; the rules of its WHERE follow.
   record Under (y : ℕ) : Type 0 where
@@ -154,7 +156,7 @@ module _ {t : Table} (d : Read file t) where
     pub in-type : owner t enumeration ≡ y
 
   item-first : (y : ℕ) → y < count t → kind t y ≡ node.type → kind t (first t y) ≡ node.enumeration-item → HasEnumeration y
-  unfolding owner
+  unfolding owner mem disjoint
   item-first y l e h = by (form-of d (kind t u) (role t u) (U .sort))
     where
       U : Under d y
@@ -173,12 +175,9 @@ module _ {t : Table} (d : Read file t) where
       at-start = ap (kind t) (U .start) ∙ h
 
       plain : (m : ℕ) → u ≤ m → m < y → kind t u ≡ node.enumeration → is-declaration t m ≡ false
-      plain m a b q = untrue (is-declaration t m) (λ g. no (declaring t m g) (⊎-elim (λ (w : m ≤ u). let z : m ≡ u = omega arith in inl (ap (kind t) z ∙ q)) (λ w. inr (in-rule d m (U .rules m w b))) (le-or m u)))
-        where
-          no : Declaring (kind t m) → (kind t m ≡ node.enumeration) ⊎ ((kind t m ≤ 12) ⊎ (kind t m ≡ node.rule)) → ⊥
-          no (a-constant z) s = ⊎-elim (λ w. omega arith) (λ v. ⊎-elim (λ w. omega arith) (λ w. omega arith) v) s
-          no (a-type z) s = ⊎-elim (λ w. omega arith) (λ v. ⊎-elim (λ w. omega arith) (λ w. omega arith) v) s
-          no (an-entity z) s = ⊎-elim (λ w. omega arith) (λ v. ⊎-elim (λ w. omega arith) (λ w. omega arith) v) s
+      plain m a b q =
+          ⊎-elim (λ (w : m ≤ u). let z : m ≡ u = omega arith in rw (ap (kind t) z ∙ q))
+          (λ w. undeclared t m set.in-rule refl (in-rule d m (U .rules m w b))) (le-or m u)
 
       by : Form d (kind t u) → HasEnumeration y
       by (simple q) = let z = lone d u node.simple-type known q refl (first t u) (omega arith) (omega (arith, size-one)) in absurd (omega (arith, at-start))
@@ -192,6 +191,7 @@ module _ {t : Table} (d : Read file t) where
       by (a-select q) = ⊎-elim (λ z. absurd (omega (arith, at-start))) (λ z. absurd (omega (arith, at-start))) (of-select d u known q (first t u) (omega arith) (omega (arith, size-one)))
 
   first-item : (y : ℕ) → y < count t → kind t y ≡ node.type → HasEnumeration y → kind t (first t y) ≡ node.enumeration-item
+  unfolding mem
   first-item y l e H = by (form-of d (kind t u) (role t u) (U .sort))
     where
       U : Under d y
@@ -207,13 +207,13 @@ module _ {t : Table} (d : Read file t) where
       k = H .enumeration
 
       over : Over t k y
-      over = rw (H .in-type) at (in-owner d k (H .known) (omega (arith, H .is-one)) .0)
+      over = rw (H .in-type) at (in-owner d k (H .known) (rw (H .is-one)) .0)
 
       not-after : k ≤ u
       not-after =
           ⊎-elim (λ a. a)
           (λ a. ⊎-elim (λ (b : y ≤ k). let z : k ≡ y = omega (arith, over .to) in let w = ap (kind t) z in absurd (omega (arith, H .is-one)))
-          (λ b. ⊎-elim (λ z. absurd (omega (arith, H .is-one))) (λ z. absurd (omega (arith, H .is-one))) (in-rule d k (U .rules k a b))) (le-or y k))
+          (λ b. absurd (false≢true (rw (H .is-one) at (in-rule d k (U .rules k a b))))) (le-or y k))
           (le-or k u)
 
       from : first t u ≤ k

@@ -5,8 +5,9 @@ use mathlib.Core.Bool.{Bool, true, false, cond, not, _&&_, _||_, false≢true}
 use mathlib.Core.List.{List, [], _∷_}
 use Prim.Native.Nat.{ℕ, zero, suc, _+_, _-_, _≤_, _<_}
 use native.Mathlib.Omega.{arith}
-use borrow.Author.Tests.{eqb-true, eqb-false, eq-eqb, ne-eqb, leb-true, not-true}
-use lib.Dec.{eqb, leb}
+use borrow.Author.Tests.{eqb-true, eqb-false, eq-eqb, ne-eqb, not-true}
+use lib.Dec.{eqb}
+use Rattle.ebnf.specs.Set.{mem, disjoint}
 use lib.ListN.{length}
 use Rattle.ebnf.proofs.Sorts.{every}
 use Rattle.ebnf.proofs.PostOrder.{row-at, size-at}
@@ -22,7 +23,8 @@ use Rattle.express.proofs.syntax.Syntax.{express}
 use Rattle.express.proofs.syntax.Nodes.{all-below}
 use Rattle.express.proofs.syntax.FormedRows.{kind-is, size-is, token-is, count-is, sized, alone}
 use Rattle.express.proofs.syntax.Within.{passes-below}
-use Rattle.express.proofs.names.Owned.{Declaring, a-constant, a-type, an-entity, declaring}
+use Rattle.express.proofs.syntax.KindSets as set
+use Rattle.express.proofs.names.Owned.{Declaring, a-constant, a-type, an-entity, declaring, declaring-kind, member-kind}
 use Rattle.express.proofs.names.Untied.{Rising}
 use Rattle.relations.proofs.Select.{and-fst, and-snd, and-both, or-cases, le-or, mem-upto, upto-mem, any-mem, mem-any}
 
@@ -97,47 +99,37 @@ module _ {t : Table} {n : ℕ} where
   sort-two (a-supertype s q) e = absurd (omega arith)
   sort-two (nothing s) e = absurd (omega arith)
 
-  sort-four : Sorted t n → sort t n ≡ 4 → Member (kind t n)
+  sort-four : Sorted t n → sort t n ≡ 4 → is-scope-member t n ≡ true
   sort-four (a-schema s q) e = absurd (omega arith)
   sort-four (a-declaration s q) e = absurd (omega arith)
   sort-four (an-item s q) e = absurd (omega arith)
-  sort-four (a-member s q) e = member t n q
+  sort-four (a-member s q) e = q
   sort-four (a-supertype s q) e = absurd (omega arith)
   sort-four (nothing s) e = absurd (omega arith)
 
 module _ {x : Nonterminal} {t : Table} (d : Read x t) where
   -- below a node there is none of its sort
   not-below : (k n : ℕ) → n < count t → sort t n ≢ 0 → sort t k ≡ sort t n → first t n ≤ k → k < n → ⊥
-  unfolding all-below every
+  unfolding all-below every mem disjoint
   not-below k n l nz e u v = by (sorted t n)
     where
-      no-declaration : (j : ℕ) → leb j 23 && (not (eqb j node.constant) && not (eqb j node.type)) ≡ true → Declaring j → ⊥
-      no-declaration j h (a-constant q) = false≢true (rw q at h)
-      no-declaration j h (a-type q) = false≢true (rw q at h)
-      no-declaration j h (an-entity q) = false≢true (rw q at h)
+      below-declaration : Declaring (kind t n) → mem (kind t k) set.below-declaration ≡ true
+      below-declaration (a-constant q) = passes-below d (λ j. mem j set.below-declaration) refl n l (rw q refl) k u v
+      below-declaration (a-type q) = passes-below d (λ j. mem j set.below-declaration) refl n l (rw q refl) k u v
+      below-declaration (an-entity q) = passes-below d (λ j. mem j set.below-declaration) refl n l (rw q refl) k u v
 
-      no-member : (j : ℕ) → j ≤ 13 → Member j → ⊥
-      no-member j h (an-attribute q) = omega arith
-      no-member j h (a-derived q) = omega arith
-      no-member j h (a-rule q) = omega arith
-
-      within-declaration : Declaring (kind t n) → leb (kind t k) 23 && (not (eqb (kind t k) node.constant) && not (eqb (kind t k) node.type)) ≡ true
-      within-declaration (a-constant q) = passes-below d (λ j. leb j 23 && (not (eqb j node.constant) && not (eqb j node.type))) refl n l (rw q refl) k u v
-      within-declaration (a-type q) = passes-below d (λ j. leb j 23 && (not (eqb j node.constant) && not (eqb j node.type))) refl n l (rw q refl) k u v
-      within-declaration (an-entity q) = passes-below d (λ j. leb j 23 && (not (eqb j node.constant) && not (eqb j node.type))) refl n l (rw q refl) k u v
-
-      in-member : Member (kind t n) → kind t k ≤ 13
-      in-member (an-attribute q) = let s = alone d n node.attribute-name l q refl in absurd (omega arith)
-      in-member (a-derived q) = leb-true (kind t k) 13 (passes-below d (λ j. leb j 13) refl n l (rw q refl) k u v)
-      in-member (a-rule q) = leb-true (kind t k) 13 (passes-below d (λ j. leb j 13) refl n l (rw q refl) k u v)
+      below-member : Member (kind t n) → mem (kind t k) set.below-constant ≡ true
+      below-member (an-attribute q) = let s = alone d n node.attribute-name l q refl in absurd (omega arith)
+      below-member (a-derived q) = passes-below d (λ j. mem j set.below-constant) refl n l (rw q refl) k u v
+      below-member (a-rule q) = passes-below d (λ j. mem j set.below-constant) refl n l (rw q refl) k u v
 
       by : Sorted t n → ⊥
       by (a-schema s q) =
-          let a = leb-true (kind t k) 24 (passes-below d (λ j. leb j 24) refl n l (rw q refl) k u v) in
-          let b = sort-one (sorted t k) (e ∙ s) in omega arith
-      by (a-declaration s h) = no-declaration (kind t k) (within-declaration (declaring t n h)) (sort-two (sorted t k) (e ∙ s))
+          false≢true (rw (sort-one (sorted t k) (e ∙ s)) at (passes-below d (λ j. mem j set.below-schema) refl n l (rw q refl) k u v))
+      by (a-declaration s h) =
+          set.not-both (kind t k) set.below-declaration set.declaration-kinds refl (below-declaration (declaring t n h)) (declaring-kind (kind t k) (sort-two (sorted t k) (e ∙ s)))
       by (an-item s q) = let z = alone d n node.enumeration-item l q refl in omega arith
-      by (a-member s h) = no-member (kind t k) (in-member (member t n h)) (sort-four (sorted t k) (e ∙ s))
+      by (a-member s h) = set.not-both (kind t k) set.below-constant set.member-kinds refl (below-member (member t n h)) (member-kind t k (sort-four (sorted t k) (e ∙ s)))
       by (a-supertype s q) = let z = alone d n node.name l q refl in omega arith
       by (nothing s) = nz s
 

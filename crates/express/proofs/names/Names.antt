@@ -9,7 +9,7 @@ use borrow.Author.Tests.{eqb-true, eqb-false, leb-true, leb-false}
 use lib.Dec.{eqb, leb}
 use Rattle.express.specs.syntax.Tree.{Table, nodes}
 use Rattle.express.specs.names.Fault.{Fault, fault, fine, or-later}
-use Rattle.express.specs.names.Names.{Stage, stages, sooner, least, first-fault, names, Passes, WellNamed, Least, Refused, here, later}
+use Rattle.express.specs.names.Names.{Stage, stages, sooner, least, first-fault, names, Passes, WellNamed, Least, StageFault, here, later}
 
 zero-or : (n : ℕ) → (n ≡ 0) ⊎ (n ≢ 0)
 zero-or zero = inl refl
@@ -147,17 +147,17 @@ module _ (ns : List ℕ) where
       by (inl q) z = ap (λ (f : Fault). f .number) (q .1) ∙ z
       by (inr q) z = absurd (q .0 (passes-iff s ns .1 (h s (List·Memᴰ·head refl))))
 
-  fault-refused : (ss : List Stage) → first-fault ss ns .number ≢ 0 → Refused ns (first-fault ss ns) ss
+  fault-refused : (ss : List Stage) → first-fault ss ns .number ≢ 0 → StageFault ns (first-fault ss ns) ss
   unfolding first-fault
   fault-refused [] h = absurd (h refl)
   fault-refused (s ∷ ss) h = by (or-else (least s ns) (first-fault ss ns)) (λ z. fault-refused ss z)
     where
-      by : Chosen (least s ns) (first-fault ss ns) → (first-fault ss ns .number ≢ 0 → Refused ns (first-fault ss ns) ss) → Refused ns (or-later (least s ns) (first-fault ss ns)) (s ∷ ss)
+      by : Chosen (least s ns) (first-fault ss ns) → (first-fault ss ns .number ≢ 0 → StageFault ns (first-fault ss ns) ss) → StageFault ns (or-later (least s ns) (first-fault ss ns)) (s ∷ ss)
       by (inl q) more =
           rw (q .1) (later (passes-iff s ns .0 (q .0)) (more (λ (e : first-fault ss ns .number ≡ 0). h (ap (λ (f : Fault). f .number) (q .1) ∙ e))))
       by (inr q) more = rw (q .1) (here (least-is s ns (q .0)))
 
-  refused-only : (ss : List Stage) → ((s : Stage) → List·Memᴰ s ss → Untied ns s) → (f : Fault) → Refused ns f ss → f ≡ first-fault ss ns
+  refused-only : (ss : List Stage) → ((s : Stage) → List·Memᴰ s ss → Untied ns s) → (f : Fault) → StageFault ns f ss → f ≡ first-fault ss ns
   unfolding first-fault
   refused-only (s ∷ ss) tie f (here L) =
       let e = least-only s ns (tie s (List·Memᴰ·head refl)) f L in
@@ -182,10 +182,10 @@ names-passes t = (
 )
 
 -- Else `names` is the least fault of the first stage that has one, and, without ties, nothing else is.
-pub names-refused : (t : Table) → names t .number ≢ 0 → Refused (nodes t) (names t) (stages t)
+pub names-refused : (t : Table) → names t .number ≢ 0 → StageFault (nodes t) (names t) (stages t)
 unfolding names
 names-refused t h = fault-refused (nodes t) (stages t) h
 
-pub names-only : (t : Table) → ((s : Stage) → List·Memᴰ s (stages t) → Untied (nodes t) s) → (f : Fault) → Refused (nodes t) f (stages t) → f ≡ names t
+pub names-only : (t : Table) → ((s : Stage) → List·Memᴰ s (stages t) → Untied (nodes t) s) → (f : Fault) → StageFault (nodes t) f (stages t) → f ≡ names t
 unfolding names
 names-only t tie f r = refused-only (nodes t) (stages t) tie f r

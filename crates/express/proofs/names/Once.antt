@@ -10,44 +10,11 @@ use lib.Dec.{eqb, leb}
 use Rattle.express.specs.syntax.NodeKind.{name, constant, type, entity, attribute-name, derived-attribute, rule, enumeration-item, schema, qualified-item, labelled, in-expression}
 use Rattle.relations.specs.Select.{span, keep, any, nearest}
 use Rattle.express.specs.syntax.Tree.{Table, count, kind, role, symbol, place, nodes, is, is-name-in, is-declaration, is-attribute, is-scope-member, owner, schema-of}
-use Rattle.express.specs.names.Scope.{Meaning, none, one, several, meaning, spelled, declared, items, own, inherited, items-of, candidates, type-meant, item-meant, means}
+use Rattle.express.specs.names.Scope.{Meaning, none, one, several, meaning, spelled, declarations, declarations-of, is-use, items, own, inherited, items-of, candidates, type-meant, item-meant, means}
 use Rattle.express.specs.names.Fault.{Fault, fault, fine, sort, scope, alike, repeated}
 use Rattle.express.specs.names.Names.{Passes}
-use Rattle.relations.proofs.Select.{and-fst, and-snd, and-both, or-cases, span-mem, mem-upto, keep-mem, mem-any}
-
-one-several : (k : ℕ) → one k ≡ several → ⊥
-one-several k e = let z : _≡_ {A = ℕ} 0 1 = cc in omega arith
-
-none-several : none ≡ several → ⊥
-none-several e = let z : _≡_ {A = ℕ} 0 1 = cc in omega arith
-
--- two that pass a test, one after the other
-pub record Two (p : ℕ → Bool) (i d : ℕ) : Type 0 where
-  pub first : ℕ
-  pub second : ℕ
-  pub rise : first < second
-  pub within : second < i + d
-  pub first-passes : p first ≡ true
-  pub second-passes : p second ≡ true
-
-several-two : (p : ℕ → Bool) (i d : ℕ) → meaning (keep p (span i d)) ≡ several → Two p i d
-unfolding keep span
-several-two p i zero e = absurd (none-several e)
-several-two p i (suc d) e = by (p i) refl e (λ e′. several-two p (suc i) d e′)
-  where
-    next : (ks : List ℕ) → keep p (span (suc i) d) ≡ ks → p i ≡ true → meaning (i ∷ ks) ≡ several → Two p i (suc d)
-    next [] q h e = absurd (one-several i e)
-    next (k ∷ ks) q h e =
-        let m : List·Memᴰ k (keep p (span (suc i) d)) = rw q (List·Memᴰ·head refl) in
-        let r = keep-mem p (span (suc i) d) m in
-        let b = span-mem (suc i) d k (r .0) in
-        record { first = i; second = k; rise = omega arith; within = omega arith; first-passes = h; second-passes = r .1 }
-
-    by : (b : Bool) → p i ≡ b → meaning (cond b (i ∷ keep p (span (suc i) d)) (keep p (span (suc i) d))) ≡ several → (meaning (keep p (span (suc i) d)) ≡ several → Two p (suc i) d) → Two p i (suc d)
-    by true h e more = next (keep p (span (suc i) d)) refl h e
-    by false h e more =
-        let T = more e in
-        record { first = T .first; second = T .second; rise = T .rise; within = omega (arith, T .within); first-passes = T .first-passes; second-passes = T .second-passes }
+use Rattle.relations.proofs.Select.{and-fst, and-snd, and-both, or-cases, le-or, mem-upto, upto-mem, keep-mem, mem-any}
+use Rattle.express.proofs.names.Meaning.{Differing, meaning-several, spelled-ascending}
 
 -- what declares, by kind
 module _ (t : Table) (k : ℕ) where
@@ -95,30 +62,41 @@ module _ (t : Table) (stage9 : Passes (nodes t) (repeated t)) where
   -- of the nodes with a symbol that pass a test, there are not several, if the test fixes their sort and scope
   spelled-once : (s : ℕ) (p : ℕ → Bool) (c m : ℕ) → c ≢ 0 → ((k : ℕ) → p k ≡ true → (sort t k ≡ c) × (scope t k ≡ m)) → meaning (spelled t s p) ≢ several
   spelled-once s p c m nz fixed e =
-      let T = several-two (λ k. eqb (symbol t k) s && p k) 0 (count t) e in
-      let x = T .first in
-      let y = T .second in
-      let a = eqb-true (symbol t x) s (and-fst (eqb (symbol t x) s) (p x) (T .first-passes)) in
-      let b = eqb-true (symbol t y) s (and-fst (eqb (symbol t y) s) (p y) (T .second-passes)) in
-      let u = fixed x (and-snd (eqb (symbol t x) s) (p x) (T .first-passes)) in
-      let v = fixed y (and-snd (eqb (symbol t y) s) (p y) (T .second-passes)) in
-      once x y (T .rise) (omega (arith, T .within)) (λ (q : sort t y ≡ 0). nz (sym (v .0) ∙ q)) (u .0 ∙ sym (v .0)) (u .1 ∙ sym (v .1)) (a ∙ sym b)
+      let D = meaning-several (spelled t s p) (spelled-ascending t s p) .0 e in
+      ⊎-elim (λ (l : D .second ≤ D .first). pair (D .second) (D .first) (le-or (D .first) (D .second)) l (D .second-in) (D .first-in) (λ q. D .differ (sym q)))
+      (λ (l : D .first < D .second). clash (D .first) (D .second) l (D .first-in) (D .second-in)) (le-or (D .second) (D .first))
+    where
+      of-spelled : (x : ℕ) → List·Memᴰ x (spelled t s p) → (x < count t) × (symbol t x ≡ s) × (sort t x ≡ c) × (scope t x ≡ m)
+      of-spelled x i =
+          let r = keep-mem (λ k. eqb (symbol t k) s && p k) (nodes t) i in
+          let u = fixed x (and-snd (eqb (symbol t x) s) (p x) (r .1)) in
+          (upto-mem (count t) x (r .0), eqb-true (symbol t x) s (and-fst (eqb (symbol t x) s) (p x) (r .1)), u .0, u .1)
+
+      clash : (x y : ℕ) → x < y → List·Memᴰ x (spelled t s p) → List·Memᴰ y (spelled t s p) → ⊥
+      clash x y l i j =
+          let u = of-spelled x i in
+          let v = of-spelled y j in
+          once x y l (v .0) (λ (q : sort t y ≡ 0). nz (sym (v .2) ∙ q)) (u .2 ∙ sym (v .2)) (u .3 ∙ sym (v .3)) (u .1 ∙ sym (v .1))
+
+      pair : (x y : ℕ) → (y ≤ x) ⊎ (x < y) → x ≤ y → List·Memᴰ x (spelled t s p) → List·Memᴰ y (spelled t s p) → x ≢ y → ⊥
+      pair x y (inl g) l i j d = d (omega arith)
+      pair x y (inr g) l i j d = clash x y g i j
 
   -- the schema's constants, types and entities
-  pub declared-once : (n s : ℕ) → meaning (declared t n s) ≢ several
-  unfolding declared
-  declared-once n s =
-      spelled-once s (λ k. is-declaration t k && eqb (schema-of t k) (schema-of t n)) 2 (schema-of t n) (λ (e : 2 ≡ 0). omega arith)
-      (λ k h. let e = sort-declaration t k (and-fst (is-declaration t k) (eqb (schema-of t k) (schema-of t n)) h) in
-      (e, scope-declaration t k e ∙ eqb-true _ _ (and-snd (is-declaration t k) (eqb (schema-of t k) (schema-of t n)) h)))
+  pub declarations-once : (h s : ℕ) → meaning (declarations t h s) ≢ several
+  unfolding declarations
+  declarations-once h s =
+      spelled-once s (λ k. is-declaration t k && eqb (schema-of t k) h) 2 h (λ (e : 2 ≡ 0). omega arith)
+      (λ k i. let e = sort-declaration t k (and-fst (is-declaration t k) (eqb (schema-of t k) h) i) in
+      (e, scope-declaration t k e ∙ eqb-true _ _ (and-snd (is-declaration t k) (eqb (schema-of t k) h) i)))
 
   -- own attributes and labels
-  pub own-once : (n s : ℕ) → meaning (own t n s) ≢ several
+  pub own-once : (d s : ℕ) → meaning (own t d s) ≢ several
   unfolding own
-  own-once n s =
-      spelled-once s (λ k. is-scope-member t k && eqb (owner t k) (owner t n)) 4 (owner t n) (λ (e : 4 ≡ 0). omega arith)
-      (λ k h. let e = sort-member t k (and-fst (is-scope-member t k) (eqb (owner t k) (owner t n)) h) in
-      (e, scope-member t k e ∙ eqb-true _ _ (and-snd (is-scope-member t k) (eqb (owner t k) (owner t n)) h)))
+  own-once d s =
+      spelled-once s (λ k. is-scope-member t k && eqb (owner t k) d) 4 d (λ (e : 4 ≡ 0). omega arith)
+      (λ k h. let e = sort-member t k (and-fst (is-scope-member t k) (eqb (owner t k) d) h) in
+      (e, scope-member t k e ∙ eqb-true _ _ (and-snd (is-scope-member t k) (eqb (owner t k) d) h)))
 
   -- the items of one enumeration
   pub item-once : (y s : ℕ) → meaning (items-of t y s) ≢ several
@@ -128,38 +106,38 @@ module _ (t : Table) (stage9 : Passes (nodes t) (repeated t)) where
       (λ k h. let e = sort-item t k (and-fst (is t enumeration-item k) (eqb (owner t k) y) h) in
       (e, scope-item t k e ∙ eqb-true _ _ (and-snd (is t enumeration-item k) (eqb (owner t k) y) h)))
 
-  -- two meanings: of a name in an expression, with no own meaning; two inherited attributes, or none and no declaration, and two items
+  -- two meanings: of a name in an expression, with no own meaning; two inherited attributes that differ, or none and no declaration, and two items
   pub record Several (n : ℕ) : Type 0 where
-    pub in-an-expression : is-name-in t in-expression n ≡ true
-    pub no-own : own t n (symbol t n) ≡ []
+    pub in-an-expression : is-use t n ≡ true
+    pub no-own : own t (owner t n) (symbol t n) ≡ []
     pub from :
-        (meaning (inherited t n (symbol t n)) ≡ several)
-        ⊎ ((inherited t n (symbol t n) ≡ []) × (declared t n (symbol t n) ≡ []) × (meaning (items t n (symbol t n)) ≡ several))
+        Differing (inherited t (owner t n) (symbol t n))
+        ⊎ ((inherited t (owner t n) (symbol t n) ≡ []) × (declarations-of t n ≡ []) × Differing (items t (schema-of t n) (symbol t n)))
 
-  candidates-several : (n : ℕ) → is-name-in t in-expression n ≡ true → meaning (candidates t n (symbol t n)) ≡ several → Several n
-  unfolding candidates
-  candidates-several n h e = by (own t n (symbol t n)) (inherited t n (symbol t n)) (declared t n (symbol t n)) refl refl refl e
+  candidates-several : (n : ℕ) → is-use t n ≡ true → meaning (candidates t n (symbol t n)) ≡ several → Several n
+  unfolding candidates inherited items
+  candidates-several n h e = by (own t (owner t n) (symbol t n)) (inherited t (owner t n) (symbol t n)) (declarations-of t n) refl refl refl e
     where
-      by : (os hs ds : List ℕ) → own t n (symbol t n) ≡ os → inherited t n (symbol t n) ≡ hs → declared t n (symbol t n) ≡ ds
-          → meaning (nearest os (nearest hs (nearest ds (items t n (symbol t n))))) ≡ several → Several n
-      by (o ∷ os) hs ds a b c e = absurd (own-once n (symbol t n) (ap meaning a ∙ e))
-      by [] (h₁ ∷ hs) ds a b c e = record { in-an-expression = h; no-own = a; from = inl (ap meaning b ∙ e) }
-      by [] [] (d ∷ ds) a b c e = absurd (declared-once n (symbol t n) (ap meaning c ∙ e))
-      by [] [] [] a b c e = record { in-an-expression = h; no-own = a; from = inr (b, c, e) }
+      by : (os hs ds : List ℕ) → own t (owner t n) (symbol t n) ≡ os → inherited t (owner t n) (symbol t n) ≡ hs → declarations-of t n ≡ ds
+          → meaning (nearest os (nearest hs (nearest ds (items t (schema-of t n) (symbol t n))))) ≡ several → Several n
+      by (o ∷ os) hs ds a b c e = absurd (own-once (owner t n) (symbol t n) (ap meaning a ∙ e))
+      by [] (h₁ ∷ hs) ds a b c e = record { in-an-expression = h; no-own = a; from = inl (meaning-several _ (spelled-ascending t _ _) .0 (ap meaning b ∙ e)) }
+      by [] [] (d ∷ ds) a b c e = absurd (declarations-once (schema-of t n) (symbol t n) (ap meaning c ∙ e))
+      by [] [] [] a b c e = record { in-an-expression = h; no-own = a; from = inr (b, c, meaning-several _ (spelled-ascending t _ _) .0 e) }
 
   item-meant-once : (s : ℕ) (m : Meaning) → item-meant t s m ≢ several
   unfolding item-meant
-  item-meant-once s none e = none-several e
-  item-meant-once s several e = none-several e
+  item-meant-once s none e = (let z : _≡_ {A = ℕ} 0 1 = cc in absurd (omega arith))
+  item-meant-once s several e = (let z : _≡_ {A = ℕ} 0 1 = cc in absurd (omega arith))
   item-meant-once s (one y) e = item-once y s e
 
   pub several-only : (n : ℕ) → means t n ≡ several → Several n
   unfolding means
-  several-only n e = by (is-name-in t in-expression n) (is t name n) (is t qualified-item n) refl e
+  several-only n e = by (is-use t n) (is t name n) (is t qualified-item n) refl e
     where
-      by : (a b c : Bool) → is-name-in t in-expression n ≡ a
-          → cond a (meaning (candidates t n (symbol t n))) (cond b (meaning (declared t n (symbol t n))) (cond c (item-meant t (symbol t n) (type-meant t n)) none)) ≡ several → Several n
+      by : (a b c : Bool) → is-use t n ≡ a
+          → cond a (meaning (candidates t n (symbol t n))) (cond b (meaning (declarations-of t n)) (cond c (item-meant t (symbol t n) (type-meant t n)) none)) ≡ several → Several n
       by true b c h e = candidates-several n h e
-      by false true c h e = absurd (declared-once n (symbol t n) e)
+      by false true c h e = absurd (declarations-once (schema-of t n) (symbol t n) e)
       by false false true h e = absurd (item-meant-once (symbol t n) (type-meant t n) e)
-      by false false false h e = absurd (none-several e)
+      by false false false h e = let z : _≡_ {A = ℕ} 0 1 = cc in absurd (omega arith)

@@ -5,17 +5,21 @@ use mathlib.Core.Bool.{Bool, true, false, not, _&&_, _||_, false≢true}
 use mathlib.Core.List.{List, []}
 use Prim.Native.Nat.{ℕ, suc, _-_, _≤_, _<_}
 use native.Mathlib.Omega.{arith}
-use borrow.Author.Tests.{eqb-true, eq-eqb, leb-true, not-true}
-use lib.Dec.{eqb, leb}
+use borrow.Author.Tests.{eqb-true, eq-eqb, not-true}
+use lib.Dec.{eqb}
+use Rattle.ebnf.specs.Set.{mem, disjoint, subset}
+use Rattle.ebnf.proofs.Sets.{in-more}
 use Rattle.ebnf.proofs.Sorts.{every}
 use Rattle.ebnf.proofs.Below.{every-part}
 use Rattle.express.specs.syntax.NodeKind as node
+use Rattle.express.specs.syntax.NodeKind.{kind-limit}
 use Rattle.express.specs.syntax.Tree.{Table, count, kind, role, first, nodes, is, is-name-in, is-declaration, is-attribute, is-scope-member, owner, schema-of}
 use Rattle.express.specs.syntax.Grammar.{Nonterminal, file}
 use Rattle.express.specs.syntax.Syntax.{Read}
 use Rattle.relations.specs.Reach.{Reaches, direct, onward, Joins}
-use Rattle.express.specs.names.Scope.{super-edges, declared-as, own, inherited}
+use Rattle.express.specs.names.Scope.{super-edges, declarations-of, own, inherited}
 use Rattle.express.proofs.syntax.Nodes.{kinds, all-below}
+use Rattle.express.proofs.syntax.KindSets as set
 use Rattle.express.proofs.syntax.Within.{Over, all-pass-below, passes-below, file-last, schema-over, owner-over}
 use Rattle.relations.proofs.Select.{and-fst, and-snd, or-cases, or-left, untrue, le-or, first-of}
 use Rattle.express.proofs.names.Meaning.{own-iff, inherited-iff, edge-start, no-members}
@@ -32,20 +36,26 @@ declaring t m h =
     (λ a. ⊎-elim (λ b. a-constant (eqb-true (kind t m) node.constant b)) (λ b. a-type (eqb-true (kind t m) node.type b)) (or-cases (is t node.constant m) (is t node.type m) a))
     (λ a. an-entity (eqb-true (kind t m) node.entity a)) (or-cases (is t node.constant m || is t node.type m) (is t node.entity m) h)
 
+pub declaring-kind : (k : ℕ) → Declaring k → mem k set.declaration-kinds ≡ true
+unfolding mem
+declaring-kind k (a-constant q) = rw q
+declaring-kind k (a-type q) = rw q
+declaring-kind k (an-entity q) = rw q
+
+-- a node of a kind among others is no declaration
+pub undeclared : (t : Table) (n : ℕ) (ks : List ℕ) → disjoint ks set.declaration-kinds ≡ true → mem (kind t n) ks ≡ true → is-declaration t n ≡ false
+undeclared t n ks d h = untrue (is-declaration t n) (λ e. set.not-both (kind t n) ks set.declaration-kinds d h (declaring-kind (kind t n) (declaring t n e)))
+
 -- ---- the nodes of a constant
 
 module _ {x : Nonterminal} {t : Table} (d : Read x t) where
-  within-constant : (m : ℕ) → m < count t → kind t m ≡ node.constant → (n : ℕ) → first t m ≤ n → n < m → kind t n ≤ 13
-  unfolding all-below every
-  within-constant m l e n u v = leb-true (kind t n) 13 (passes-below d (λ k. leb k 13) refl m l (rw e refl) n u v)
+  within-constant : (m : ℕ) → m < count t → kind t m ≡ node.constant → (n : ℕ) → first t m ≤ n → n < m → mem (kind t n) set.below-constant ≡ true
+  unfolding all-below every mem
+  within-constant m l e n u v = passes-below d (λ k. mem k set.below-constant) refl m l (rw e refl) n u v
 
-  plain : (n : ℕ) → kind t n ≤ 13 → is-declaration t n ≡ false
-  plain n h = untrue (is-declaration t n) (λ e. by (declaring t n e))
-    where
-      by : Declaring (kind t n) → ⊥
-      by (a-constant q) = omega arith
-      by (a-type q) = omega arith
-      by (an-entity q) = omega arith
+  plain : (n : ℕ) → mem (kind t n) set.below-constant ≡ true → is-declaration t n ≡ false
+  unfolding mem disjoint
+  plain n h = undeclared t n set.below-constant refl h
 
   -- they belong to it
   pub constant-owns : (m : ℕ) → m < count t → kind t m ≡ node.constant → (n : ℕ) → first t m ≤ n → n < m → owner t n ≡ m
@@ -57,24 +67,34 @@ module _ {x : Nonterminal} {t : Table} (d : Read x t) where
 
 -- ---- where names and members stand
 
+pub member-kind : (t : Table) (n : ℕ) → is-scope-member t n ≡ true → mem (kind t n) set.member-kinds ≡ true
+unfolding mem
+member-kind t n h =
+    ⊎-elim
+    (λ a. ⊎-elim (λ b. rw (eqb-true (kind t n) node.attribute-name b)) (λ b. rw (eqb-true (kind t n) node.derived-attribute b))
+    (or-cases (is t node.attribute-name n) (is t node.derived-attribute n) a))
+    (λ a. rw (eqb-true (kind t n) node.rule (and-fst (is t node.rule n) (eqb (role t n) node.labelled) a)))
+    (or-cases (is-attribute t n) (is t node.rule n && eqb (role t n) node.labelled) h)
+
 -- of some kinds, and not of some sort
 abbrev outside : (ℕ → Bool) → (ℕ → ℕ → Bool) → ℕ → ℕ → Bool
 outside q s k o = q k && not (s k o)
 
 module _ {t : Table} (d : Read file t) where
-  -- a node of a kind below that of a schema lies in its owner
-  pub in-owner : (n : ℕ) → n < count t → kind t n ≤ 24 → Over t n (owner t n) × Declaring (kind t (owner t n))
+  -- a node of a kind that stands below a schema lies in its owner
+  pub in-owner : (n : ℕ) → n < count t → mem (kind t n) set.below-schema ≡ true → Over t n (owner t n) × Declaring (kind t (owner t n))
+  unfolding mem
   in-owner n l h =
       let f = file-last d in
-      let a : suc n < count t = ⊎-elim (λ (b : count t ≤ suc n). let q : n ≡ count t - 1 = omega arith in let z = ap (kind t) q in let y = f .1 in absurd (omega arith)) (λ b. b) (le-or (count t) (suc n)) in
+      let a : suc n < count t = ⊎-elim (λ (b : count t ≤ suc n). let q : n ≡ count t - 1 = omega arith in absurd (false≢true (rw (ap (kind t) q ∙ f .1) at h))) (λ b. b) (le-or (count t) (suc n)) in
       let s = schema-over d n a in
       let o = s .0 .to in
-      let b : n < schema-of t n = ⊎-elim (λ (c : schema-of t n ≤ n). let q : n ≡ schema-of t n = omega arith in let z = ap (kind t) q in let y = s .1 in absurd (omega arith)) (λ c. c) (le-or (schema-of t n) n) in
+      let b : n < schema-of t n = ⊎-elim (λ (c : schema-of t n ≤ n). let q : n ≡ schema-of t n = omega arith in absurd (false≢true (rw (ap (kind t) q ∙ s .1) at h))) (λ c. c) (le-or (schema-of t n) n) in
       let r = owner-over d n a b in
       (r .0, declaring t (owner t n) (r .1))
 
   -- Its owner is not of a kind below which no node is of its sort s. (q is what the nodes below pass by kind.)
-  away : (q : ℕ → Bool) (s : ℕ → ℕ → Bool) → all-below 27 (λ k. not (q k) || every-part (outside q s) (kinds .children k)) ≡ true
+  away : (q : ℕ → Bool) (s : ℕ → ℕ → Bool) → all-below kind-limit (λ k. not (q k) || every-part (outside q s) (kinds .children k)) ≡ true
       → (n : ℕ) → s (kind t n) (role t n) ≡ true → Over t n (owner t n)
       → (k : ℕ) → every-part (outside q s) (kinds .children k) ≡ true → kind t n ≢ k → kind t (owner t n) ≡ k → ⊥
   away q s c n h o k e ne p =
@@ -84,14 +104,14 @@ module _ {t : Table} (d : Read file t) where
 
   -- a supertype's name stands in an entity
   pub super-owner : (n : ℕ) → n < count t → is-name-in t node.supertype-name n ≡ true → kind t (owner t n) ≡ node.entity
-  unfolding all-below every
-  super-owner n l h = by (in-owner n l (omega (arith, six)))
+  unfolding all-below every mem
+  super-owner n l h = by (in-owner n l (rw six))
     where
       six : kind t n ≡ node.name
       six = eqb-true (kind t n) node.name (and-fst (is t node.name n) (eqb (role t n) node.supertype-name) h)
 
-      no : Over t n (owner t n) → (k : ℕ) → every-part (outside (λ k. leb k 23) (λ k o. eqb k node.name && eqb o node.supertype-name)) (kinds .children k) ≡ true → kind t n ≢ k → kind t (owner t n) ≡ k → ⊥
-      no o = away (λ k. leb k 23) (λ k o. eqb k node.name && eqb o node.supertype-name) refl n h o
+      no : Over t n (owner t n) → (k : ℕ) → every-part (outside (λ k. mem k set.below-declaration) (λ k o. eqb k node.name && eqb o node.supertype-name)) (kinds .children k) ≡ true → kind t n ≢ k → kind t (owner t n) ≡ k → ⊥
+      no o = away (λ k. mem k set.below-declaration) (λ k o. eqb k node.name && eqb o node.supertype-name) refl n h o
 
       by : Over t n (owner t n) × Declaring (kind t (owner t n)) → kind t (owner t n) ≡ node.entity
       by (o, a-constant q) = absurd (no o node.constant refl (λ (z : kind t n ≡ node.constant). omega (arith, six)) q)
@@ -100,8 +120,8 @@ module _ {t : Table} (d : Read file t) where
 
   -- the name of a renamed type, or in a select list, stands in a type
   pub renaming-owner : (n : ℕ) → n < count t → is-name-in t node.renamed-type n || is-name-in t node.select-name n ≡ true → kind t (owner t n) ≡ node.type
-  unfolding all-below every
-  renaming-owner n l h = by (in-owner n l (omega (arith, six)))
+  unfolding all-below every mem
+  renaming-owner n l h = by (in-owner n l (rw six))
     where
       six : kind t n ≡ node.name
       six =
@@ -109,10 +129,10 @@ module _ {t : Table} (d : Read file t) where
           (λ a. eqb-true (kind t n) node.name (and-fst (is t node.name n) (eqb (role t n) node.select-name) a)) (or-cases (is-name-in t node.renamed-type n) (is-name-in t node.select-name n) h)
 
       no : Over t n (owner t n) → (k : ℕ)
-          → every-part (outside (λ k. leb k 24 && not (eqb k node.type) && not (eqb k node.select)) (λ k o. eqb k node.name && eqb o node.renamed-type || eqb k node.name && eqb o node.select-name)) (kinds .children k) ≡ true
+          → every-part (outside (λ k. mem k set.below-declaration && not (eqb k node.select)) (λ k o. eqb k node.name && eqb o node.renamed-type || eqb k node.name && eqb o node.select-name)) (kinds .children k) ≡ true
           → kind t n ≢ k → kind t (owner t n) ≡ k → ⊥
       no o =
-          away (λ k. leb k 24 && not (eqb k node.type) && not (eqb k node.select))
+          away (λ k. mem k set.below-declaration && not (eqb k node.select))
           (λ k o. eqb k node.name && eqb o node.renamed-type || eqb k node.name && eqb o node.select-name) refl n h o
 
       by : Over t n (owner t n) × Declaring (kind t (owner t n)) → kind t (owner t n) ≡ node.type
@@ -122,36 +142,30 @@ module _ {t : Table} (d : Read file t) where
 
   -- no attribute or label stands in a constant
   pub member-owner : (n : ℕ) → n < count t → is-scope-member t n ≡ true → kind t (owner t n) ≢ node.constant
-  unfolding all-below every
+  unfolding all-below every mem subset
   member-owner n l h q =
-      away (λ k. leb k 13) (λ k o. (eqb k node.attribute-name || eqb k node.derived-attribute) || eqb k node.rule && eqb o node.labelled) refl n h
-      (in-owner n l (omega (arith, high .1)) .0) node.constant refl (λ (z : kind t n ≡ node.constant). omega (arith, high .0)) q
-    where
-      high : (19 ≤ kind t n) × (kind t n ≤ 23)
-      high =
-          ⊎-elim
-          (λ a. ⊎-elim (λ b. let e = eqb-true (kind t n) node.attribute-name b in (omega arith, omega arith)) (λ b. let e = eqb-true (kind t n) node.derived-attribute b in (omega arith, omega arith)) (or-cases (is t node.attribute-name n) (is t node.derived-attribute n) a))
-          (λ a. let e = eqb-true (kind t n) node.rule (and-fst (is t node.rule n) (eqb (role t n) node.labelled) a) in (omega arith, omega arith))
-          (or-cases (is-attribute t n) (is t node.rule n && eqb (role t n) node.labelled) h)
+      away (λ k. mem k set.below-constant) (λ k o. (eqb k node.attribute-name || eqb k node.derived-attribute) || eqb k node.rule && eqb o node.labelled) refl n h
+      (in-owner n l (in-more (kind t n) set.member-kinds set.below-schema refl (member-kind t n h)) .0) node.constant refl
+      (λ (z : kind t n ≡ node.constant). false≢true (rw z at (member-kind t n h))) q
 
   -- ---- what a name cannot see
 
-  -- "A type's WHERE has its labels, then the same from the schema on": nothing is inherited outside entities
-  pub nothing-inherited : (n s : ℕ) → kind t (owner t n) ≢ node.entity → inherited t n s ≡ []
+  -- nothing is inherited outside entities
+  pub nothing-inherited : (o s : ℕ) → kind t o ≢ node.entity → inherited t o s ≡ []
   unfolding super-edges
-  nothing-inherited n s h = no-members (inherited t n s) (λ k m. by (inherited-iff t n s k .0 m .suits .1))
+  nothing-inherited o s h = no-members (inherited t o s) (λ k m. by (inherited-iff t o s k .0 m .suits .1))
     where
-      start : (b : ℕ) → Joins (super-edges t) (owner t n) b → ⊥
+      start : (b : ℕ) → Joins (super-edges t) o b → ⊥
       start b e =
-          let r = edge-start t (is-name-in t node.supertype-name) (declared-as t) (owner t n) b e in
+          let r = edge-start t (is-name-in t node.supertype-name) (declarations-of t) o b e in
           h (ap (kind t) (sym (r .3)) ∙ super-owner (r .0) (r .1) (r .2))
 
-      by : {b : ℕ} → Reaches (Joins (super-edges t)) (owner t n) b → ⊥
+      by : {b : ℕ} → Reaches (Joins (super-edges t)) o b → ⊥
       by (direct {b = b} e) = start b e
       by (onward {b = b} e r) = start b e
 
   -- and a constant has nothing of its own
-  pub nothing-own : (n s : ℕ) → kind t (owner t n) ≡ node.constant → own t n s ≡ []
-  nothing-own n s h =
-      no-members (own t n s)
-      (λ k m. let c = own-iff t n s k .0 m in member-owner k (c .within) (c .suits .0) (ap (kind t) (c .suits .1) ∙ h))
+  pub nothing-own : (o s : ℕ) → kind t o ≡ node.constant → own t o s ≡ []
+  nothing-own o s h =
+      no-members (own t o s)
+      (λ k m. let c = own-iff t o s k .0 m in member-owner k (c .within) (c .suits .0) (ap (kind t) (c .suits .1) ∙ h))

@@ -12,8 +12,8 @@ use Rattle.express.specs.syntax.Tree.{Table, count, kind, role, place, n
 use Rattle.express.specs.syntax.Grammar.{file}
 use Rattle.express.specs.syntax.Syntax.{Read}
 use Rattle.relations.specs.Reach.{Reaches, direct, onward, Joins}
-use Rattle.express.specs.names.Scope.{Meaning, none, one, several, meaning, declared-as, means, super-edges, renaming-edges, type-edges}
-use Rattle.express.specs.names.Fault.{fine, fault, judged, suits, type-name-fault}
+use Rattle.express.specs.names.Scope.{Meaning, none, one, several, meaning, declarations-of, means, super-edges, renaming-edges, type-edges}
+use Rattle.express.specs.names.Fault.{fine, fault, judged, suits, right, type-name-fault}
 use Rattle.express.specs.names.Names.{Passes}
 use Rattle.relations.proofs.Select.{and-fst, and-snd, mem-upto}
 use Rattle.relations.proofs.Reach.{reaches-wider}
@@ -22,30 +22,30 @@ use Rattle.express.proofs.names.Owned.{renaming-owner}
 
 -- after the stage of types, what a name of a type or a supertype means suits its role
 module _ (t : Table) (types : Passes (nodes t) (type-name-fault t)) where
-  fine-type : (n : ℕ) → n < count t → is t node.name n ≡ true → role t n ≢ node.in-expression → judged (suits t (role t n)) (meaning (declared-as t n)) (place t n) .number ≡ 0
+  fine-type : (n : ℕ) → n < count t → is t node.name n ≡ true → role t n ≢ node.in-expression → judged (right t n) (meaning (declarations-of t n)) (place t n) .number ≡ 0
   unfolding type-name-fault means
   fine-type n l h r =
       let f = ne-eqb (role t n) node.in-expression r in
       let g = types n (mem-upto (count t) n l) in
       rw (h, f) at g
 
-  pub type-suits : (n : ℕ) → n < count t → is t node.name n ≡ true → role t n ≢ node.in-expression → (b : ℕ) → List·Memᴰ b (declared-as t n) → suits t (role t n) b ≡ true
-  type-suits n l h r b m = by (declared-as t n) m (fine-type n l h r)
+  pub type-suits : (n : ℕ) → n < count t → is t node.name n ≡ true → role t n ≢ node.in-expression → (b : ℕ) → List·Memᴰ b (declarations-of t n) → suits t (role t n) b ≡ true
+  type-suits n l h r b m = by (declarations-of t n) m (fine-type n l h r)
     where
-      right : (k : ℕ) (x : Bool) → suits t (role t n) k ≡ x → cond x fine (fault 11 (place t n)) .number ≡ 0 → suits t (role t n) k ≡ true
-      right k true e z = e
-      right k false e z = absurd (omega arith)
+      passes : (k : ℕ) (x : Bool) → right t n k ≡ x → cond x fine (fault 11 (place t n)) .number ≡ 0 → suits t (role t n) k ≡ true
+      passes k true e z = let f = ne-eqb (role t n) node.in-expression r in rw (h, f) at e
+      passes k false e z = absurd (omega arith)
 
-      by : (ds : List ℕ) → List·Memᴰ b ds → judged (suits t (role t n)) (meaning ds) (place t n) .number ≡ 0 → suits t (role t n) b ≡ true
+      by : (ds : List ℕ) → List·Memᴰ b ds → judged (right t n) (meaning ds) (place t n) .number ≡ 0 → suits t (role t n) b ≡ true
       by [] m z = absurd (List·Memᴰ·not-nil m)
-      by (k ∷ []) m z = let q = List·Memᴰ·eq-of-singleton m in rw q (right k (suits t (role t n) k) refl z)
+      by (k ∷ []) m z = let q = List·Memᴰ·eq-of-singleton m in rw q (passes k (right t n k) refl z)
       by (k ∷ j ∷ ds) m z = absurd (omega arith)
 
   -- so supertypes are entities
   super-end : (a b : ℕ) → Joins (super-edges t) a b → kind t b ≡ node.entity
   unfolding super-edges
   super-end a b e =
-      let r = edge-start t (is-name-in t node.supertype-name) (declared-as t) a b e in
+      let r = edge-start t (is-name-in t node.supertype-name) (declarations-of t) a b e in
       let n = r .0 in
       let h = and-fst (is t node.name n) (eqb (role t n) node.supertype-name) (r .2) in
       let q : role t n ≡ node.supertype-name = eqb-true (role t n) node.supertype-name (and-snd (is t node.name n) (eqb (role t n) node.supertype-name) (r .2)) in
@@ -57,7 +57,7 @@ module _ (t : Table) (types : Passes (nodes t) (type-name-fault t)) where
     renaming-start : (a b : ℕ) → Joins (renaming-edges t) a b → kind t a ≡ node.type
     unfolding renaming-edges
     renaming-start a b e =
-        let r = edge-start t (λ n. is-name-in t node.renamed-type n || is-name-in t node.select-name n) (declared-as t) a b e in
+        let r = edge-start t (λ n. is-name-in t node.renamed-type n || is-name-in t node.select-name n) (declarations-of t) a b e in
         ap (kind t) (sym (r .3)) ∙ renaming-owner d (r .0) (r .1) (r .2)
 
     which : (a b : ℕ) → Joins (type-edges t) a b → Joins (renaming-edges t) a b ⊎ Joins (super-edges t) a b

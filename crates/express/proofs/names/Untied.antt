@@ -9,13 +9,13 @@ use native.Mathlib.Omega.{arith}
 use borrow.Author.Tests.{eqb-true}
 use lib.Dec.{eqb}
 use lib.ListN.{length, List·getD-eq-default}
-use Rattle.express.specs.syntax.NodeKind.{name, qualified-item, self, attribute-name, derived-attribute, rule, labelled, in-expression}
+use Rattle.express.specs.syntax.NodeKind.{name, qualified-item, self, constant, attribute-name, derived-attribute, rule, labelled, in-expression}
 use Rattle.relations.specs.Select.{span, any}
-use Rattle.express.specs.syntax.Tree.{Table, count, kind, token, role, place, place-at, nodes, is, is-name-in, is-declaration, is-scope-member}
+use Rattle.express.specs.syntax.Tree.{Table, count, kind, token, role, place, place-at, nodes, is, is-name-in, is-declaration, is-scope-member, in-constant}
 use Rattle.relations.specs.Reach.{Edge, reaches}
-use Rattle.express.specs.names.Scope.{Meaning, none, one, several, means, type-token, type-meant, type-edges}
-use Rattle.express.specs.names.Fault.{Fault, fault, fine, or-later, sort, alike, repeated, judged, suits, type-name-fault, cyclic, is-value, is-enumeration, qualified, clashes, within-constant, expression, constant-edges}
-use Rattle.express.specs.names.Names.{Stage, stages, names, Refused}
+use Rattle.express.specs.names.Scope.{Meaning, none, one, several, means, is-use, type-token, type-meant, type-edges}
+use Rattle.express.specs.names.Fault.{Fault, fault, fine, or-later, sort, alike, repeated, judged, right, named-fault, type-name-fault, cyclic, is-enumeration, qualified, clashes, expression, constant-edges}
+use Rattle.express.specs.names.Names.{Stage, stages, names, StageFault}
 use Rattle.relations.proofs.Select.{and-fst, or-left, or-right, le-or}
 use Rattle.express.proofs.names.Names.{Untied, names-only}
 use Rattle.ebnf.proofs.Parts.{Behind}
@@ -89,10 +89,10 @@ module _ (t : Table) (n : ℕ) where
 
   type-name-fault-placed : Placed t n (type-name-fault t n)
   unfolding type-name-fault
-  type-name-fault-placed = by (is t name n && not (eqb (role t n) in-expression)) refl
+  type-name-fault-placed = by (is t name n && not (is-use t n)) refl
     where
-      by : (b : Bool) → is t name n && not (eqb (role t n) in-expression) ≡ b → Placed t n (cond b (judged (suits t (role t n)) (means t n) (place t n)) fine)
-      by true e = judged-at (suits t (role t n)) (means t n) (is-name (and-fst (is t name n) (not (eqb (role t n) in-expression)) e))
+      by : (b : Bool) → is t name n && not (is-use t n) ≡ b → Placed t n (cond b (named-fault t n) fine)
+      by true e = judged-at (right t n) (means t n) (is-name (and-fst (is t name n) (not (is-use t n)) e))
       by false e = nowhere refl
 
   qualified-placed : is t qualified-item n ≡ true → Placed t n (qualified t n)
@@ -105,13 +105,13 @@ module _ (t : Table) (n : ℕ) where
 
   expression-placed : Placed t n (expression t n)
   unfolding expression
-  expression-placed = by (is-name-in t in-expression n) (is t qualified-item n) (is t self n && within-constant t n) (clashes t n) refl refl refl refl
+  expression-placed = by (is-use t n) (is t qualified-item n) (is t self n && in-constant t n) (clashes t n) refl refl refl refl
     where
-      by : (a b c d : Bool) → is-name-in t in-expression n ≡ a → is t qualified-item n ≡ b → is t self n && within-constant t n ≡ c → clashes t n ≡ d
-          → Placed t n (cond a (judged (is-value t) (means t n) (place t n)) (cond b (qualified t n) (cond c (fault 11 (place t n)) (cond d (fault 12 (place t n)) fine))))
-      by true b c d e f g h = judged-at (is-value t) (means t n) (is-name (and-fst (is t name n) (eqb (role t n) in-expression) e))
+      by : (a b c d : Bool) → is-use t n ≡ a → is t qualified-item n ≡ b → is t self n && in-constant t n ≡ c → clashes t n ≡ d
+          → Placed t n (cond a (named-fault t n) (cond b (qualified t n) (cond c (fault 11 (place t n)) (cond d (fault 12 (place t n)) fine))))
+      by true b c d e f g h = judged-at (right t n) (means t n) (is-name (and-fst (is t name n) (eqb (role t n) in-expression) e))
       by false true c d e f g h = qualified-placed f
-      by false false true d e f g h = at-name (is-self (and-fst (is t self n) (within-constant t n) g)) refl
+      by false false true d e f g h = at-name (is-self (and-fst (is t self n) (in-constant t n) g)) refl
       by false false false true e f g h =
           at-name (or-right (is t name n || is t qualified-item n || is t self n) (is-scope-member t n) (and-fst (is-scope-member t n) _ h)) refl
       by false false false false e f g h = nowhere refl
@@ -120,22 +120,22 @@ repeated-nine : (t : Table) (n : ℕ) → repeated t n .number ≢ 0 → repeate
 unfolding repeated
 repeated-nine t n h = cond-number (not (eqb (sort t n) 0) && any (alike t n) (span 0 n)) 9 (place t n) h
 
-cyclic-thirteen : (t : Table) (es : List Edge) (n : ℕ) → cyclic t es n .number ≢ 0 → cyclic t es n .number ≡ 13
+cyclic-thirteen : (t : Table) (p : ℕ → Bool) (es : List Edge) (n : ℕ) → cyclic t p es n .number ≢ 0 → cyclic t p es n .number ≡ 13
 unfolding cyclic
-cyclic-thirteen t es n h = cond-number (is-declaration t n && reaches es n n) 13 (place t n) h
+cyclic-thirteen t p es n h = cond-number (p n && reaches es n n) 13 (place t n) h
 
 untied : (t : Table) → Apart t → (s : Stage) → List·Memᴰ s (stages t) → Untied (nodes t) s
 unfolding stages
 untied t A s m =
     ⊎-elim (λ q. rw q (one-number (repeated t) 9 (repeated-nine t) (nodes t)))
     (λ m₁. ⊎-elim (λ q. rw q (placed-untied A (type-name-fault t) (type-name-fault-placed t) (nodes t)))
-    (λ m₂. ⊎-elim (λ q. rw q (one-number (cyclic t (type-edges t)) 13 (cyclic-thirteen t (type-edges t)) (nodes t)))
+    (λ m₂. ⊎-elim (λ q. rw q (one-number (cyclic t (is-declaration t) (type-edges t)) 13 (cyclic-thirteen t (is-declaration t) (type-edges t)) (nodes t)))
     (λ m₃. ⊎-elim (λ q. rw q (placed-untied A (expression t) (expression-placed t) (nodes t)))
-    (λ m₄. ⊎-elim (λ q. rw q (one-number (cyclic t (constant-edges t)) 13 (cyclic-thirteen t (constant-edges t)) (nodes t)))
+    (λ m₄. ⊎-elim (λ q. rw q (one-number (cyclic t (is t constant) (constant-edges t)) 13 (cyclic-thirteen t (is t constant) (constant-edges t)) (nodes t)))
     (λ m₅. absurd (List·Memᴰ·not-nil m₅)) (List·Memᴰ·cases-cons m₄)) (List·Memᴰ·cases-cons m₃)) (List·Memᴰ·cases-cons m₂)) (List·Memᴰ·cases-cons m₁)) (List·Memᴰ·cases-cons m)
 
 -- THE FAULT of a file is one: whatever the least fault of its first stage with one is, it is `names`.
-pub refused-once : (t : Table) → Apart t → (f : Fault) → Refused (nodes t) f (stages t) → f ≡ names t
+pub refused-once : (t : Table) → Apart t → (f : Fault) → StageFault (nodes t) f (stages t) → f ≡ names t
 refused-once t A f r = names-only t (untied t A) f r
 
 -- ---- a file that the grammar derives
@@ -227,5 +227,5 @@ module _ {x : Nonterminal} {t : Table} (d : Read x t) (rise : Rising t) where
   }
 
   -- so in a file that the grammar derives the fault is one
-  pub fault-once : (f : Fault) → Refused (nodes t) f (stages t) → f ≡ names t
+  pub fault-once : (f : Fault) → StageFault (nodes t) f (stages t) → f ≡ names t
   fault-once f r = refused-once t read-apart f r

@@ -1,7 +1,6 @@
 -- A table that holds the rows of a derived text is well formed: each node has the children that its kind has, where they should be.
 use mathlib.Core.Bool.{true, _||_}
 use mathlib.Core.List.{List, [], _∷_}
-use mathlib.Core.Logic.{⊎-elim}
 use mathlib.Core.Path.{_≡_, refl, sym, ap, _∙_, subst}
 use Prim.Native.Nat.{ℕ, suc, _+_, _-_, _≤_, _<_}
 use native.Mathlib.Omega.{arith}
@@ -9,7 +8,7 @@ use lib.Dec.{eqb}
 use lib.ListN.{length, getD, List·getD-map, length-map}
 use borrow.Author.Tests.{eqb-true}
 use Rattle.ebnf.specs.Rows.{Row}
-use Rattle.ebnf.proofs.Sets.{or-split}
+use Rattle.ebnf.specs.Set.{mem}
 use Rattle.ebnf.proofs.Sorts.{Sort, of-sorts, every, every-of}
 use Rattle.ebnf.proofs.PostOrder.{no-row, row-at, size-at, Node, size-fits}
 use Rattle.ebnf.proofs.Children.{ones, Chain, children-chain, childless}
@@ -18,7 +17,9 @@ use Rattle.express.specs.syntax.Grammar.{Nonterminal}
 use Rattle.express.specs.syntax.Syntax.{Read}
 use Rattle.express.proofs.syntax.Nodes.{expressions, operators, bases, kinds, each-row, all-below, childless-kind}
 use Rattle.express.specs.syntax.Tree as tree
+use Rattle.express.specs.syntax.NodeKind as node
 use Rattle.express.proofs.syntax.Formed as form
+use Rattle.express.proofs.syntax.KindSets as set
 
 -- From node p on, going from a child to the one before it: nodes of these sorts, the first of which has its first node at a.
 abbrev pub Children : Table → ℕ → ℕ → List Sort → List (List Sort) → Type 0
@@ -40,13 +41,9 @@ five-sum n s s₁ s₂ s₃ s₄ s₅ p₂ p₃ p₄ p₅ u v a b c d e f g h i 
 
 -- ---- kinds without children
 
-leaf-kind : (k : ℕ) → form.childless k ≡ true → kinds .children k ≡ []
-unfolding all-below
-leaf-kind k h = childless-kind form.childless refl k h
-
-base-leaf : (k : ℕ) → (eqb k 6 || eqb k 13) ≡ true → form.childless k ≡ true
-base-leaf k h =
-    ⊎-elim (λ (e : eqb k 6 ≡ true). rw (eqb-true k 6 e) refl) (λ (e : eqb k 13 ≡ true). rw (eqb-true k 13 e) refl) (or-split (eqb k 6) _ h)
+leaf-kind : (k : ℕ) → mem k set.leaf-kinds ≡ true → kinds .children k ≡ []
+unfolding all-below mem
+leaf-kind k h = childless-kind (λ j. mem j set.leaf-kinds) refl k h
 
 module _ {x : Nonterminal} {t : Table} (d : Read x t) where
   pub kind-is : (n : ℕ) → kind t n ≡ (row-at (d .rows) n) .kind
@@ -95,29 +92,29 @@ module _ {x : Nonterminal} {t : Table} (d : Read x t) where
 
   -- ---- the form that typing and evaluation go by
 
-  is-expression : (p : ℕ) → of-sorts (kind t p) (role t p) expressions ≡ true → form.expression (kind t p) ≡ true
-  unfolding every
-  is-expression p h = every-of (λ k o. form.expression k) expressions _ _ refl h
+  is-expression : (p : ℕ) → of-sorts (kind t p) (role t p) expressions ≡ true → mem (kind t p) set.expression-kinds ≡ true
+  unfolding every mem
+  is-expression p h = every-of (λ k o. mem k set.expression-kinds) expressions _ _ refl h
 
-  is-operator : (p : ℕ) → of-sorts (kind t p) (role t p) operators ≡ true → kind t p ≡ 12
+  is-operator : (p : ℕ) → of-sorts (kind t p) (role t p) operators ≡ true → kind t p ≡ node.interval-operator
   unfolding every
-  is-operator p h = eqb-true _ _ (every-of (λ k o. eqb k 12) operators (kind t p) (role t p) refl h)
+  is-operator p h = eqb-true _ _ (every-of (λ k o. eqb k node.interval-operator) operators (kind t p) (role t p) refl h)
 
-  is-base : (p : ℕ) → of-sorts (kind t p) (role t p) bases ≡ true → (eqb (kind t p) 6 || eqb (kind t p) 13) ≡ true
-  unfolding every
-  is-base p h = every-of (λ k o. eqb k 6 || eqb k 13) bases (kind t p) (role t p) refl h
+  is-base : (p : ℕ) → of-sorts (kind t p) (role t p) bases ≡ true → mem (kind t p) set.base-kinds ≡ true
+  unfolding every mem
+  is-base p h = every-of (λ k o. mem k set.base-kinds) bases (kind t p) (role t p) refl h
 
-  leaf : (n : ℕ) → n < count t → form.childless (kind t n) ≡ true → size t n ≡ 1
+  leaf : (n : ℕ) → n < count t → mem (kind t n) set.leaf-kinds ≡ true → size t n ≡ 1
   leaf n l h = alone n (kind t n) l refl (leaf-kind (kind t n) h)
 
-  unary : (n : ℕ) → n < count t → kind t n ≡ 9 → form.One t n
+  unary : (n : ℕ) → n < count t → kind t n ≡ node.unary → form.One t n
   unary n l e =
-      let c = children n 9 expressions [] l e refl in
+      let c = children n node.unary expressions [] l e refl in
       record { operand = is-expression _ (c .1 .0); all = one-sum n (size t n) (size t (last n)) (c .0) ((sized n l) .1) (c .1 .1) }
 
-  operator : (n : ℕ) → n < count t → kind t n ≡ 10 → form.Two t n
+  operator : (n : ℕ) → n < count t → kind t n ≡ node.two-operand → form.Two t n
   operator n l e =
-      let c = children n 10 expressions (expressions ∷ []) l e refl in
+      let c = children n node.two-operand expressions (expressions ∷ []) l e refl in
       let b = c .1 .2 in
       record {
         left-operand = is-expression _ (b .0);
@@ -125,18 +122,19 @@ module _ {x : Nonterminal} {t : Table} (d : Read x t) where
         all = two-sum n (size t n) (size t (last n)) (size t (tree.left t n)) (c .0) ((sized n l) .1) (c .1 .1) (b .1);
       }
 
-  constant-pair : (n : ℕ) → n < count t → kind t n ≡ 17 → form.Pair t n
+  constant-pair : (n : ℕ) → n < count t → kind t n ≡ node.constant → form.Pair t n
   constant-pair n l e =
-      let c = children n 17 expressions (bases ∷ []) l e refl in
+      let c = children n node.constant expressions (bases ∷ []) l e refl in
       let b = c .1 .2 in
       let u : tree.left t n < count t = let v = c .0 in omega (arith, l, v) in
-      let s = leaf (tree.left t n) u (base-leaf (kind t (tree.left t n)) (is-base _ (b .0))) in
+      let s = leaf (tree.left t n) u (set.base-leaf (kind t (tree.left t n)) (is-base _ (b .0))) in
       let z = two-sum n (size t n) (size t (last n)) (size t (tree.left t n)) (c .0) ((sized n l) .1) (c .1 .1) (b .1) in
       record { base = is-base _ (b .0); value = is-expression _ (c .1 .0); all = rw s at z }
 
-  interval-five : (n : ℕ) → n < count t → kind t n ≡ 11 → form.Five t n
+  interval-five : (n : ℕ) → n < count t → kind t n ≡ node.interval → form.Five t n
+  unfolding mem
   interval-five n l e =
-      let c = children n 11 expressions (operators ∷ expressions ∷ operators ∷ expressions ∷ []) l e refl in
+      let c = children n node.interval expressions (operators ∷ expressions ∷ operators ∷ expressions ∷ []) l e refl in
       let c₂ = c .1 .2 in
       let c₃ = c₂ .2 in
       let c₄ = c₃ .2 in

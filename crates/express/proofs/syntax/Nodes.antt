@@ -22,6 +22,7 @@ use Rattle.express.specs.syntax.Lookahead.{operand-begins, tables}
 use Rattle.express.specs.syntax.Syntax.{whole, Parses}
 use Rattle.express.proofs.syntax.Syntax.{express}
 use Rattle.express.specs.syntax.NodeKind as kind
+use Rattle.express.specs.syntax.NodeKind.{kind-limit}
 
 -- a kind without a role
 abbrev plain : ℕ → List Sort
@@ -174,7 +175,7 @@ each-below (suc n) q e k l =
     ⊎-elim (λ (h : k < n). each-below n q (p .1) k h) (λ (h : n ≤ k). let z : k ≡ n = omega arith in rw z (p .0)) (lt-or-le k n)
 
 -- a kind past the table has no children
-no-kind : (k : ℕ) → 27 ≤ k → kinds .children k ≡ []
+no-kind : (k : ℕ) → kind-limit ≤ k → kinds .children k ≡ []
 no-kind k l = ap (λ (e : Entry). e .parts) (List·getD-eq-default table (entry [] []) l)
 
 abbrev pub no-parts : List Part → Bool
@@ -186,37 +187,37 @@ no-parts-is [] h = refl
 no-parts-is (p ∷ ps) h = absurd (false≢true h)
 
 -- kinds that pass a test have no children, where this holds of the kinds of the table
-pub childless-kind : (p : ℕ → Bool) → all-below 27 (λ k. not (p k) || no-parts (kinds .children k)) ≡ true → (k : ℕ) → p k ≡ true → kinds .children k ≡ []
+pub childless-kind : (p : ℕ → Bool) → all-below kind-limit (λ k. not (p k) || no-parts (kinds .children k)) ≡ true → (k : ℕ) → p k ≡ true → kinds .children k ≡ []
 childless-kind p e k h =
     ⊎-elim
-    (λ (l : k < 27).
-    let q = each-below 27 (λ j. not (p j) || no-parts (kinds .children j)) e k l in
+    (λ (l : k < kind-limit).
+    let q = each-below kind-limit (λ j. not (p j) || no-parts (kinds .children j)) e k l in
     no-parts-is (kinds .children k) (rw h at q))
-    (λ (l : 27 ≤ k). no-kind k l)
-    (lt-or-le k 27)
+    (λ (l : kind-limit ≤ k). no-kind k l)
+    (lt-or-le k kind-limit)
 
 -- the children of the kinds that pass one test pass another, where this holds of the kinds of the table
-pub children-have : (q : ℕ → Bool) (p : ℕ → ℕ → Bool) → all-below 27 (λ k. not (q k) || every-part p (kinds .children k)) ≡ true →
+pub children-have : (q : ℕ → Bool) (p : ℕ → ℕ → Bool) → all-below kind-limit (λ k. not (q k) || every-part p (kinds .children k)) ≡ true →
     (k : ℕ) → q k ≡ true → every-part p (kinds .children k) ≡ true
 children-have q p e k h =
     ⊎-elim
-    (λ (l : k < 27). let r = each-below 27 (λ j. not (q j) || every-part p (kinds .children j)) e k l in rw h at r)
-    (λ (l : 27 ≤ k). rw (no-kind k l) refl)
-    (lt-or-le k 27)
+    (λ (l : k < kind-limit). let r = each-below kind-limit (λ j. not (q j) || every-part p (kinds .children j)) e k l in rw h at r)
+    (λ (l : kind-limit ≤ k). rw (no-kind k l) refl)
+    (lt-or-le k kind-limit)
 
-pub children-pass : (q p : ℕ → Bool) → all-below 27 (λ k. not (q k) || every-part (λ j o. p j) (kinds .children k)) ≡ true →
+pub children-pass : (q p : ℕ → Bool) → all-below kind-limit (λ k. not (q k) || every-part (λ j o. p j) (kinds .children k)) ≡ true →
     (k : ℕ) → q k ≡ true → every-part (λ j o. p j) (kinds .children k) ≡ true
 children-pass q p e k h = children-have q (λ j o. p j) e k h
 
 -- no kind is named by the token 0, which stands past the end of a text
 pub named-by-some : (k o : ℕ) → mem 0 (kinds .named-by k o) ≡ false
 unfolding mem all-below
-named-by-some k o = cond-false (eqb k kind.rule && eqb o kind.labelled) identifier _ refl (⊎-elim inside past (lt-or-le k 27))
+named-by-some k o = cond-false (eqb k kind.rule && eqb o kind.labelled) identifier _ refl (⊎-elim inside past (lt-or-le k kind-limit))
   where
-    inside : k < 27 → mem 0 ((getD table k (entry [] [])) .tokens) ≡ false
-    inside l = not-true _ (each-below 27 (λ j. not (mem 0 ((getD table j (entry [] [])) .tokens))) refl k l)
+    inside : k < kind-limit → mem 0 ((getD table k (entry [] [])) .tokens) ≡ false
+    inside l = not-true _ (each-below kind-limit (λ j. not (mem 0 ((getD table j (entry [] [])) .tokens))) refl k l)
 
-    past : 27 ≤ k → mem 0 ((getD table k (entry [] [])) .tokens) ≡ false
+    past : kind-limit ≤ k → mem 0 ((getD table k (entry [] [])) .tokens) ≡ false
     past l = rw (List·getD-eq-default table (entry [] []) l) refl
 
     cond-false : (b : Bool) (cs ds : List ℕ) → mem 0 cs ≡ false → mem 0 ds ≡ false → mem 0 (cond b cs ds) ≡ false

@@ -9,7 +9,7 @@ use Rattle.express.specs.syntax.Tree.{Table, nodes}
 use Rattle.express.specs.syntax.Grammar.{file}
 use Rattle.express.specs.syntax.Syntax.{Read}
 use Rattle.express.specs.names.Fault.{Fault}
-use Rattle.express.specs.names.Names.{stages, names, Refused}
+use Rattle.express.specs.names.Names.{stages, names, StageFault}
 use Rattle.express.specs.tokens.Scanned.{Scanned}
 use Rattle.express.proofs.tokens.TokenRows.{no-row, row-at, tokens-of}
 use Rattle.express.proofs.names.Untied.{Rising, fault-once}
@@ -37,5 +37,5 @@ module _ (t : Table) (scanned : Scanned t) where
       rw (scanned .starts-are) (starts-rise (t .bytes) .rise i j l (omega arith))
 
   -- THE FAULT of a file is one: no two faults of a stage tie
-  pub file-fault : Read file t → (f : Fault) → Refused (nodes t) f (stages t) → f ≡ names t
+  pub file-fault : Read file t → (f : Fault) → StageFault (nodes t) f (stages t) → f ≡ names t
   file-fault d f r = fault-once d scanned-rising f r

@@ -6,11 +6,11 @@ use mathlib.Core.Logic.{⊎-elim}
 use mathlib.Core.Path.{_≡_, refl, sym, _∙_, subst}
 use Prim.Native.Nat.{ℕ, suc, _-_, _≤_, _<_}
 use native.Mathlib.Omega.{arith}
-use lib.Dec.{leb, eqb}
+use lib.Dec.{eqb}
 use lib.ListN.{length}
-use borrow.Author.Tests.{leb-true, eqb-true, not-true, le-leb}
-use Rattle.ebnf.specs.Set.{mem}
-use Rattle.ebnf.proofs.Sets.{and-split, lt-or-le, mem-one}
+use borrow.Author.Tests.{eqb-true, not-true}
+use Rattle.ebnf.specs.Set.{mem, subset}
+use Rattle.ebnf.proofs.Sets.{and-split, lt-or-le, mem-one, in-more}
 use Rattle.ebnf.proofs.Lookahead.{inside}
 use Rattle.ebnf.proofs.Sorts.{sort, every, every-of}
 use Rattle.ebnf.proofs.Parts.{Behind}
@@ -27,7 +27,8 @@ use Rattle.express.proofs.syntax.Nodes.{kinds, all-rows, all-below, chi
 use Rattle.express.proofs.syntax.FormedRows.{kind-is, role-is, size-is, token-is, count-is, node-at}
 use Rattle.relations.proofs.Select.{first-of}
 use Rattle.express.specs.syntax.NodeKind as node
-use Rattle.express.proofs.syntax.Formed as form
+use Rattle.express.specs.syntax.NodeKind.{kind-limit}
+use Rattle.express.proofs.syntax.KindSets as set
 
 module _ {x : Nonterminal} {t : Table} (d : Read x t) where
   -- THE NAMING TOKEN of a node is one of those that name its kind
@@ -69,29 +70,26 @@ module _ {x : Nonterminal} {t : Table} (d : Read x t) where
 
   -- BELOW A NODE: what its children pass, all nodes below it pass, by kind and role, if the children of what passes do
   pub all-pass-below : (q : ℕ → Bool) (p : ℕ → ℕ → Bool) → ((k o : ℕ) → p k o ≡ true → q k ≡ true) →
-      all-below 27 (λ k. not (q k) || every-part p (kinds .children k)) ≡ true → (n : ℕ) → n < count t →
+      all-below kind-limit (λ k. not (q k) || every-part p (kinds .children k)) ≡ true → (n : ℕ) → n < count t →
       every-part p (kinds .children (kind t n)) ≡ true → (m : ℕ) → first t n ≤ m → m < n → p (kind t m) (role t m) ≡ true
   all-pass-below q p i c n l e m u v =
       rw (kind-is d m, role-is d m)
       (below kinds (t .terminals) p (λ k o h. children-have q p c k (i k o h)) (d .rows) n (node-at d n l) (rw (kind-is d n) at e) m (rw (first-is-row n) at u) v)
 
   -- the same by kind alone
-  pub passes-below : (p : ℕ → Bool) → all-below 27 (λ k. not (p k) || every-part (λ j o. p j) (kinds .children k)) ≡ true → (n : ℕ) → n < count t →
+  pub passes-below : (p : ℕ → Bool) → all-below kind-limit (λ k. not (p k) || every-part (λ j o. p j) (kinds .children k)) ≡ true → (n : ℕ) → n < count t →
       every-part (λ j o. p j) (kinds .children (kind t n)) ≡ true → (m : ℕ) → first t n ≤ m → m < n → p (kind t m) ≡ true
   passes-below p c n l e m u v = all-pass-below p (λ k o. p k) (λ k o h. h) c n l e m u v
 
-  -- THE NODES OF AN EXPRESSION are of the kinds 1 to 12
-  pub expression-below : (n : ℕ) → n < count t → form.expression (kind t n) ≡ true → (m : ℕ) → first t n ≤ m → m ≤ n →
-      (leb 1 (kind t m) && leb (kind t m) 12) ≡ true
-  unfolding all-below every
+  -- THE NODES OF AN EXPRESSION, itself and those below it
+  pub expression-below : (n : ℕ) → n < count t → mem (kind t n) set.expression-kinds ≡ true → (m : ℕ) → first t n ≤ m → m ≤ n →
+      mem (kind t m) set.in-expression ≡ true
+  unfolding all-below every mem subset
   expression-below n l e m u v =
       ⊎-elim
-      (λ (w : m < n). passes-below (λ k. leb 1 k && leb k 12) refl n l (children-pass form.expression (λ k. leb 1 k && leb k 12) refl (kind t n) e) m u w)
-      (λ (w : n ≤ m). let z : m ≡ n = omega arith in rw z (wider (kind t n) e))
+      (λ (w : m < n). passes-below (λ k. mem k set.in-expression) refl n l (children-pass (λ k. mem k set.expression-kinds) (λ k. mem k set.in-expression) refl (kind t n) e) m u w)
+      (λ (w : n ≤ m). let z : m ≡ n = omega arith in rw z (in-more (kind t n) set.expression-kinds set.in-expression refl e))
       (lt-or-le m n)
-    where
-      wider : (k : ℕ) → form.expression k ≡ true → (leb 1 k && leb k 12) ≡ true
-      wider k h = let a = and-split (leb 1 k) _ h in let b = leb-true k 11 (a .1) in rw (a .0) (le-leb k 12 (omega arith))
 
 -- Node m is over node n, or is it: n lies in the subtree of m.
 pub record Over (t : Table) (n m : ℕ) : Type 0 where
@@ -101,13 +99,13 @@ pub record Over (t : Table) (n m : ℕ) : Type 0 where
 
 -- neither the kind that is looked for, nor a schema or the file
 abbrev inner : (ℕ → Bool) → ℕ → Bool
-inner q k = not (q k) && leb k 24
+inner q k = not (q k) && mem k set.below-schema
 
 -- the tests, computed: the children of the kinds that are looked for are inner, and those of inner ones are
 abbrev Nested : (ℕ → Bool) → Type 0
 Nested q =
-    (all-below 27 (λ k. not (q k) || every-part (λ j o. inner q j) (kinds .children k)) ≡ true)
-    × (all-below 27 (λ k. not (inner q k) || every-part (λ j o. inner q j) (kinds .children k)) ≡ true)
+    (all-below kind-limit (λ k. not (q k) || every-part (λ j o. inner q j) (kinds .children k)) ≡ true)
+    × (all-below kind-limit (λ k. not (inner q k) || every-part (λ j o. inner q j) (kinds .children k)) ≡ true)
 
 module _ {x : Nonterminal} {t : Table} (d : Read x t) where
   -- The first node at or after n of the kinds that are looked for is the child of r that n lies in, where r's children are all of these kinds.
@@ -149,7 +147,7 @@ module _ {t : Table} (d : Read file t) where
 
   -- EACH NODE BUT THE FILE lies in one schema: the first at or after it
   pub schema-over : (n : ℕ) → suc n < count t → Over t n (schema-of t n) × (kind t (schema-of t n) ≡ node.schema) × (suc (schema-of t n) < count t)
-  unfolding schema-of all-below every
+  unfolding schema-of all-below every mem
   schema-over n l =
       let f = file-last in
       let s = f .2 in
@@ -160,7 +158,7 @@ module _ {t : Table} (d : Read file t) where
 
   -- EACH NODE BUT SCHEMAS AND THE FILE lies in one constant, type or entity: the first at or after it
   pub owner-over : (n : ℕ) → suc n < count t → n < schema-of t n → Over t n (owner t n) × (is-declaration t (owner t n) ≡ true) × (owner t n < schema-of t n)
-  unfolding owner all-below every
+  unfolding owner all-below every mem
   owner-over n l m =
       let s = schema-over n l in
       let u = s .2 in

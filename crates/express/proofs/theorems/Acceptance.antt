@@ -26,7 +26,7 @@ use Rattle.express.specs.names.Names.{WellNamed, names}
 use Rattle.express.specs.kinds.Operate.{Kind}
 use Rattle.express.specs.kinds.Kind.{Typing, typed, typing, constants, WellTyped}
 use Rattle.express.specs.kinds.Kind as kinds
-use Rattle.express.specs.kinds.Order.{order}
+use Rattle.express.specs.kinds.Order.{constant-order}
 use Rattle.express.specs.kinds.Evaluate.{answers, answer-at}
 use Rattle.express.specs.kinds.Rule.{Exactly}
 use Rattle.express.specs.whole.Reply.{Accepted, Checked, accepted, refused, after-kinds, after-names, after-rows, after-syntax, after-tokens, checked}
@@ -62,7 +62,7 @@ abbrev made : List Row → Table → List Answer → Accepted
 made ls t xs = record { tokens = ls; table = t; bindings = bindings t; answers = xs }
 
 abbrev computed : Table → List Answer
-computed t = map (answer-at (answers t (bindings t) (order t))) (constants t)
+computed t = map (answer-at (answers t (bindings t) (constant-order t))) (constants t)
 
 abbrev of-parts : List Row → Table → List ℕ → List Answer → Accepted
 of-parts ls t b xs = record { tokens = ls; table = t; bindings = b; answers = xs }
@@ -80,8 +80,8 @@ module _ (t : Table) (scanned : Scanned t) (read : Read file t) (named : WellNam
   computed-exact i l =
       let h = typing-accepts t (bindings t) (formed-rows read) .1 typed-as in
       let c = constant-at t i l in
-      rw (map-at (answer-at (answers t (bindings t) (order t))) (constants t) i l)
-      (file-exact t scanned read named (h .0) (h .1) (order t) (file-order t scanned read named (h .0) (h .1)) _ (c .0) (c .1))
+      rw (map-at (answer-at (answers t (bindings t) (constant-order t))) (constants t) i l)
+      (file-exact t scanned read named (h .0) (h .1) (constant-order t) (file-order t scanned read named (h .0) (h .1)) _ (c .0) (c .1))
 
   -- and no others are
   computed-only :
@@ -89,7 +89,7 @@ module _ (t : Table) (scanned : Scanned t) (read : Read file t) (named : WellNam
       ((i : ℕ) → i < length (constants t) → Exactly t (bindings t) (getD (constants t) i 0) (getD xs i indeterminate)) → computed t ≡ xs
   computed-only xs e h =
       ext-getD indeterminate (computed t) xs (length-map (constants t) _ ∙ sym e)
-      (λ i l. let m : i < length (constants t) = omega (arith, length-map (constants t) (answer-at (answers t (bindings t) (order t)))) in
+      (λ i l. let m : i < length (constants t) = omega (arith, length-map (constants t) (answer-at (answers t (bindings t) (constant-order t)))) in
       h i m .only _ .0 (computed-exact i m .only _ .1 refl))
 
 -- ---- from acceptance: each stage has passed
@@ -107,7 +107,7 @@ record Passed (ls : List Row) (t : Table) (nr ar : ℕ) (a : Accepted) : Type 0 
 module _ (ls : List Row) (t : Table) (nr ar : ℕ) (a : Accepted) where
   passed-kinds : (x : Typing) → typing t (bindings t) ≡ x → after-kinds ls t x ≡ accepted a → ((ks : List Kind) × (typing t (bindings t) ≡ typed ks)) × (made ls t (computed t) ≡ a)
   passed-kinds (typed ks) e h = ((ks, e), cc)
-  passed-kinds (kinds.refused f n) e h = clash (cc)
+  passed-kinds (kinds.ill-typed f n) e h = clash (cc)
 
   passed-rows : after-rows ls t nr ar ≡ accepted a → Passed ls t nr ar a
   passed-rows h = nodes-fit (leb (count t) nr) refl h

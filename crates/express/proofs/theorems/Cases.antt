@@ -15,17 +15,18 @@ use Rattle.express.specs.syntax.Syntax.{parsed}
 use Rattle.relations.specs.Select.{span, first-from, keep, any}
 use Rattle.express.specs.syntax.Tree.{owner, schema-of}
 use Rattle.relations.specs.Reach.{added, closure}
-use Rattle.express.specs.names.Scope.{declared, items, own, super-edges, renaming-edges, type-edges, inherited, candidates, type-meant, items-of, item-meant, means, binding, bindings}
+use Rattle.express.specs.names.Scope.{declarations, items, own, super-edges, renaming-edges, type-edges, inherited, candidates, type-meant, items-of, item-meant, means, binding, bindings}
 use Rattle.express.specs.names.Fault.{sort, scope, repeated, type-name-fault, cyclic, qualified, expression, constant-edges}
 use Rattle.express.specs.names.Names.{stages, least, first-fault, names}
 use Rattle.express.specs.kinds.Integer.{exact, quotient, remainder, DIV, MOD, power}
 use Rattle.express.specs.kinds.Logic.{AND, OR, XOR}
-use Rattle.express.specs.kinds.Bits.{join, compare-bits}
-use Rattle.express.specs.kinds.Declared.{simple, declared-in}
+use Rattle.relations.specs.Order.{compare-lists}
+use Rattle.express.specs.kinds.Bits.{join}
+use Rattle.express.specs.kinds.Declared.{simple, denoted-in}
 use Rattle.express.specs.kinds.Shape.{operator-of, shape, shape-in}
-use Rattle.express.specs.kinds.Kind.{type-nodes, type-nodes-in, typing}
-use Rattle.express.specs.kinds.Evaluate.{run, answers}
-use Rattle.express.specs.kinds.Order.{order}
+use Rattle.express.specs.kinds.Kind.{type-nodes-in, type-constants, typing}
+use Rattle.express.specs.kinds.Evaluate.{run-in, evaluate, answers}
+use Rattle.express.specs.kinds.Order.{constant-order}
 use Rattle.express.specs.whole.Reply.{checked}
 use Rattle.express.specs.whole.Listing.{digits, listing}
 use Rattle.express.specs.whole.Case.{Case, cases, file-of, answers-of}
@@ -40,7 +41,7 @@ abbrev Listings : Type 0
 Listings = map (λ (f : File). listing (checked (f .text) (f .tokens) (f .nodes) (f .answers))) files ≡ map (λ (f : File). f .listing) files
 
 computed : Cases × Listings
-unfolding word-byte space upper lower end-of-run end-of-remark skipped-in skipped numeral end-of-integer end-of-exponent end-of-real end-of-string end-of-binary lone size-of-symbol end-of-symbol token-kind-at end-of-token lexed-in lexed terminal-of among same symbol-of symbols-of parsed first-deep parse descend mem budget span first-from keep any owner schema-of added closure declared items own super-edges renaming-edges type-edges inherited candidates type-meant items-of item-meant means binding bindings flatMap names stages least first-fault sort scope repeated type-name-fault cyclic qualified expression constant-edges integer-value binary-bits exact quotient remainder DIV MOD power pow one AND OR XOR join compare-bits simple declared-in operator-of shape-in type-nodes-in typing run answers tokens order checked digits listing
+unfolding word-byte space upper lower end-of-run end-of-remark skipped-in skipped numeral end-of-integer end-of-exponent end-of-real end-of-string end-of-binary lone size-of-symbol end-of-symbol token-kind-at end-of-token lexed-in lexed terminal-of among same symbol-of symbols-of parsed first-deep parse descend mem budget span first-from keep any owner schema-of added closure declarations items own super-edges renaming-edges type-edges inherited candidates type-meant items-of item-meant means binding bindings flatMap names stages least first-fault sort scope repeated type-name-fault cyclic qualified expression constant-edges integer-value binary-bits exact quotient remainder DIV MOD power pow one AND OR XOR join compare-lists simple denoted-in operator-of shape-in type-nodes-in type-constants typing run-in evaluate answers tokens constant-order checked digits listing
 computed = (refl, refl)
 
 pub all-cases : Cases

@@ -14,7 +14,7 @@ use Rattle.express.specs.kinds.Operate.{Kind}
 use Rattle.express.specs.kinds.Rule.{Exactly}
 use Rattle.express.specs.kinds.Kind.{typed, typing}
 use Rattle.express.specs.kinds.Evaluate.{answers, answer-at}
-use Rattle.express.specs.kinds.Order.{Order, order}
+use Rattle.express.specs.kinds.Order.{Order, constant-order}
 use Rattle.express.proofs.syntax.FormedRows.{formed-rows}
 use Rattle.express.proofs.kinds.ConstantOrder.{order-is}
 use Rattle.express.proofs.tokens.Literals.{literals}
@@ -26,5 +26,5 @@ module _ (t : Table) (scanned : Scanned t) (read : Read file t) (named : WellNam
       Exactly t (bindings t) c (answer-at (answers t (bindings t) ds) c)
   file-exact ds o = exactness t (bindings t) (formed-rows read) (literals read scanned) ks accepted ds o
 
-  pub file-order : Order t (bindings t) (order t)
-  file-order = order-is t named read
+  pub file-order : Order t (bindings t) (constant-order t)
+  file-order = order-is t named

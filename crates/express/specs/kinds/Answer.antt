@@ -1,6 +1,6 @@
 -- What an expression comes to.
 use mathlib.Core.Bool.{Bool}
-use mathlib.Core.List.{List}
+use mathlib.Core.List.{List, [], _∷_}
 use Prim.Native.Nat.{ℕ}
 use lib.IntN.{ℤ}
 
@@ -8,8 +8,23 @@ use lib.IntN.{ℤ}
 pub data Logical : Type 0 where
   FALSE UNKNOWN TRUE : Logical
 
--- `?`; an integer; a logical; a binary, leftmost bit first, `true` for 1; an enumeration item by its node; or an end by its number:
--- "16 outside 64 signed bits or over 63 joined bits; 17 zero divisor; 18 negative power; 19 UNKNOWN for a BOOLEAN".
+-- The ends, by number: outside 64 signed bits, or over 63 joined bits; a divisor of 0; a negative power; UNKNOWN for a BOOLEAN
+abbrev pub outside : ℕ
+outside = 16
+
+abbrev pub zero-divisor : ℕ
+zero-divisor = 17
+
+abbrev pub negative-power : ℕ
+negative-power = 18
+
+abbrev pub unknown-boolean : ℕ
+unknown-boolean = 19
+
+abbrev pub ends : List ℕ
+ends = outside ∷ zero-divisor ∷ negative-power ∷ unknown-boolean ∷ []
+
+-- `?`; an integer; a logical; a binary, leftmost bit first, `true` for 1; an enumeration item by its node; or an end by its number
 pub data Answer : Type 0 where
   indeterminate : Answer
   integer : ℤ → Answer

@@ -1,10 +1,11 @@
 -- Binaries: lists of bits, the leftmost bit first, `true` for 1.
 use mathlib.Core.Bool.{Bool, true, false, cond}
 use mathlib.Core.List.{List, [], _∷_, _++_}
-use Prim.Native.Nat.{ℕ, zero, suc, _+_, _*_, _/_, _%_, _^_, Ordering, Ordering·lt, Ordering·eq, Ordering·gt}
+use Prim.Native.Nat.{ℕ, zero, suc, _+_, _*_, _/_, _%_, _^_, compare, Ordering}
 use lib.Dec.{eqb, leb}
 use lib.ListN.{length}
-use Rattle.express.specs.kinds.Answer.{Answer, binary, end}
+use Rattle.relations.specs.Order.{compare-lists}
+use Rattle.express.specs.kinds.Answer.{Answer, binary, end, outside}
 
 abbrev pub bit : Bool → ℕ
 bit true = 1
@@ -22,14 +23,11 @@ bits (suc l) n = eqb (n / 2 ^ l % 2) 1 ∷ bits l n
 
 -- "Between two operands `+` also joins binaries"; "16 .. over 63 joined bits"
 unfoldable pub join : List Bool → List Bool → Answer
-join xs ys = cond (leb (length (xs ++ ys)) 63) (binary (xs ++ ys)) (end 16)
+join xs ys = cond (leb (length (xs ++ ys)) 63) (binary (xs ++ ys)) (end outside)
 
--- "Binaries compare from the left, 0 below 1, a proper prefix being less."
-unfoldable pub compare-bits : List Bool → List Bool → Ordering
-compare-bits [] [] = Ordering·eq
-compare-bits [] (y ∷ ys) = Ordering·lt
-compare-bits (x ∷ xs) [] = Ordering·gt
-compare-bits (false ∷ xs) (true ∷ ys) = Ordering·lt
-compare-bits (true ∷ xs) (false ∷ ys) = Ordering·gt
-compare-bits (false ∷ xs) (false ∷ ys) = compare-bits xs ys
-compare-bits (true ∷ xs) (true ∷ ys) = compare-bits xs ys
+-- Binaries compare from the left, 0 below 1; a proper prefix is less.
+abbrev pub compare-bit : Bool → Bool → Ordering
+compare-bit x y = compare (bit x) (bit y)
+
+abbrev pub compare-bits : List Bool → List Bool → Ordering
+compare-bits xs ys = compare-lists compare-bit xs ys

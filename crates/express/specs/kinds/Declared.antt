@@ -5,7 +5,7 @@ use Prim.Native.Nat.{ℕ, zero, suc, _+_, _-_}
 use lib.Dec.{eqb}
 use lib.ListN.{getD}
 use Rattle.express.specs.syntax.NodeKind.{simple-type, enumeration-item, type}
-use Rattle.express.specs.syntax.Tree.{Table, count, token, terminal, first, is}
+use Rattle.express.specs.syntax.Tree.{Table, count, token, terminal, first, is, type-node}
 use Rattle.express.specs.tokens.Terminal.{the}
 use Rattle.express.specs.tokens.Terminal as word
 
@@ -36,14 +36,18 @@ abbrev pub renames : Table → ℕ → Bool
 renames t d = eqb (token t (first t d)) (token t d + 2)
 
 -- The type that node n is or names. Each turn passes a type, and "cycle of renamings" is refused earlier, so as many turns as there are
--- nodes are enough: `declared-denotes` of proofs/Denotes says the same by rules, without a number of turns.
-unfoldable pub declared-in : ℕ → Table → List ℕ → ℕ → Declared
-declared-in zero t b n = other
-declared-in (suc f) t b n =
+-- nodes are enough: `denoted-is` of proofs/Denotes says the same by rules, without a number of turns.
+unfoldable pub denoted-in : ℕ → Table → List ℕ → ℕ → Declared
+denoted-in zero t b n = other
+denoted-in (suc f) t b n =
     let d = declaration b n in
-    let renamed = declared-in f t b (first t d) in
+    let renamed = denoted-in f t b (first t d) in
     let of-type = cond (is t enumeration-item (first t d)) (enumeration d) (cond (renames t d) renamed other) in
     cond (is t simple-type n) (simple (terminal t n)) (cond (bound t b type n) of-type other)
 
-abbrev pub declared : Table → List ℕ → ℕ → Declared
-declared t b n = declared-in (count t) t b n
+abbrev pub denoted : Table → List ℕ → ℕ → Declared
+denoted t b n = denoted-in (count t) t b n
+
+-- the type that a constant is declared with
+abbrev pub declared-type : Table → List ℕ → ℕ → Declared
+declared-type t b c = denoted t b (type-node t c)

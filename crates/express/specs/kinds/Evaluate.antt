@@ -1,25 +1,25 @@
--- Evaluation as a function: the constants in a given order, the nodes of each from the first to the last, an answer for each node.
+-- Evaluation as a function: one expression, from the answers of the constants that are known; and the constants in a given order.
 use mathlib.Core.List.{List, [], _∷_}
-use Prim.Native.Nat.{ℕ}
+use Prim.Native.Nat.{ℕ, suc}
 use lib.ListN.{getD, set, replicate}
 use lib.IntN.{pos}
-use Rattle.express.specs.kinds.Answer.{Logical, FALSE, UNKNOWN, TRUE, Answer, indeterminate, integer, logical, binary, item, end}
-use Rattle.express.specs.syntax.Tree.{Table, count, last, left, middle, low}
+use Rattle.express.specs.kinds.Answer.{Logical, FALSE, UNKNOWN, TRUE, Answer, indeterminate, integer, logical, binary, item, end, unknown-boolean}
+use Rattle.express.specs.syntax.Tree.{Table, count, last, left, middle, low, within}
 use Rattle.express.specs.kinds.Declared.{Declared, INTEGER, BOOLEAN, LOGICAL, BINARY, enumeration, other}
-use Rattle.express.specs.kinds.Shape.{Shape, integer-literal, logical-literal, binary-literal, question, name, unary, operator, interval, interval-operator, type, constant, unevaluated, shape-in, shape}
+use Rattle.express.specs.kinds.Shape.{Shape, integer-literal, logical-literal, binary-literal, question, name, unary, operator, interval, interval-operator, type, constant, unevaluated, shape-in}
 use Rattle.express.specs.kinds.Shape as shapes
 use Rattle.express.specs.kinds.Operate.{logical-in, given, combined, signed, between}
-use Rattle.express.specs.kinds.Kind.{all-within}
 
--- "19 UNKNOWN for a BOOLEAN"
-abbrev pub known : Logical → Answer
-known FALSE = logical FALSE
-known UNKNOWN = end 19
-known TRUE = logical TRUE
+-- UNKNOWN for a BOOLEAN is an end
+abbrev pub boolean-answer : Logical → Answer
+boolean-answer FALSE = logical FALSE
+boolean-answer UNKNOWN = end unknown-boolean
+boolean-answer TRUE = logical TRUE
 
+-- what a constant of a declared type holds, from the answer of its expression
 abbrev pub held : Declared → Answer → Answer
 held INTEGER a = a
-held BOOLEAN a = given (logical-in a) known a
+held BOOLEAN a = given (logical-in a) boolean-answer a
 held LOGICAL a = a
 held BINARY a = a
 held (enumeration y) a = a
@@ -41,22 +41,28 @@ answer-in e f g n interval-operator = indeterminate
 answer-in e f g n (type d) = indeterminate
 answer-in e f g n unevaluated = indeterminate
 
--- of a node of the file: one numbering serves both
-abbrev pub answer-of : Table → (ℕ → Answer) → ℕ → Shape → Answer
-answer-of t f n s = answer-in t f f n s
-
 abbrev pub answer-at : List Answer → ℕ → Answer
 answer-at xs n = getD xs n indeterminate
 
-unfoldable pub run : Table → List ℕ → List ℕ → List Answer → List Answer
-run t b [] xs = xs
-run t b (n ∷ ns) xs = run t b ns (set xs n (answer-of t (answer-at xs) n (shape t b n)))
-
--- the nodes ns of a table e, whose names are bound by c to nodes of the file's table t; g gives the answers of its constants
+-- the nodes ns of a table e, whose names are bound by c to nodes of the file's table t; g gives the answers of its constants. The answer of each
+-- node is kept for its parent.
 unfoldable pub run-in : Table → Table → List ℕ → (ℕ → Answer) → List ℕ → List Answer → List Answer
 run-in t e c g [] xs = xs
 run-in t e c g (n ∷ ns) xs = run-in t e c g ns (set xs n (answer-in e (answer-at xs) g n (shape-in t e c n)))
 
--- the answers of all nodes, after the constants of an order
+-- ONE EXPRESSION, or one constant, with the last node n
+abbrev pub value-in : Table → Table → List ℕ → (ℕ → Answer) → ℕ → Answer
+value-in t e c known n = answer-at (run-in t e c known (within e n) (replicate (suc n) indeterminate)) n
+
+-- of the file itself
+abbrev pub value : Table → List ℕ → (ℕ → Answer) → ℕ → Answer
+value t b known n = value-in t t b known n
+
+-- the constants ds one after the other: the answer of each is known to those after it
+unfoldable pub evaluate : Table → List ℕ → List ℕ → List Answer → List Answer
+evaluate t b [] known = known
+evaluate t b (d ∷ ds) known = evaluate t b ds (set known d (value t b (answer-at known) d))
+
+-- the answers of the constants, by node, after those of an order
 unfoldable pub answers : Table → List ℕ → List ℕ → List Answer
-answers t b ds = run t b (all-within t ds) (replicate (count t) indeterminate)
+answers t b ds = evaluate t b ds (replicate (count t) indeterminate)

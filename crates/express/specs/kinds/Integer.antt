@@ -6,11 +6,11 @@ use Prim.Native.Nat.{ℕ, suc, _-_, _%_, _^_, _<_, compare, Ordering, Ordering·
 use lib.Dec.{eqb, ltb}
 use lib.IntN.{ℤ, pos, negsuc, negℤ, natAbs, pow, _+ℤ_, _-ℤ_, _*ℤ_}
 use lib.Signed.{mag, shrZ}
-use Rattle.express.specs.kinds.Answer.{Answer, integer, end}
+use Rattle.express.specs.kinds.Answer.{Answer, integer, end, outside, zero-divisor, negative-power}
 
 -- "16 outside 64 signed bits". `mag` is n both of n and of -(n + 1): it is below 2 ^ 63 from -(2 ^ 63) to 2 ^ 63 - 1.
 unfoldable pub exact : ℤ → Answer
-exact z = cond (ltb (mag z) (2 ^ 63)) (integer z) (end 16)
+exact z = cond (ltb (mag z) (2 ^ 63)) (integer z) (end outside)
 
 -- "`+ - * DIV MOD **` and both signs take integers and give one."
 abbrev pub sum : ℤ → ℤ → Answer
@@ -49,10 +49,10 @@ remainder a b = signed (negative b) (pos (rest a (natAbs b)))
 
 -- "17 zero divisor"
 unfoldable pub DIV : ℤ → ℤ → Answer
-DIV a b = cond (eqb (natAbs b) 0) (end 17) (exact (quotient a b))
+DIV a b = cond (eqb (natAbs b) 0) (end zero-divisor) (exact (quotient a b))
 
 unfoldable pub MOD : ℤ → ℤ → Answer
-MOD a b = cond (eqb (natAbs b) 0) (end 17) (exact (remainder a b))
+MOD a b = cond (eqb (natAbs b) 0) (end zero-divisor) (exact (remainder a b))
 
 -- The law of clause 12.1: "a MOD b has the sign of b and a smaller magnitude than b (or is 0), and (a DIV b) times b, plus a MOD b for b
 -- above 0 or minus it for b below 0, is a." Of a divisor other than 0, `quotient` and `remainder` meet it and nothing else does (proofs/Divide.antt).
@@ -64,7 +64,7 @@ pub record Divided (a b q r : ℤ) : Type 0 where
 -- ---- the power: "18 negative power". `pow a 0` is 1, of 0 too, and `pow a (suc n)` is `pow a n *ℤ a`.
 unfoldable pub power : ℤ → ℤ → Answer
 power a (pos n) = exact (pow a n)
-power a (negsuc n) = end 18
+power a (negsuc n) = end negative-power
 
 -- ---- the order of two integers
 abbrev pub compareℤ : ℤ → ℤ → Ordering

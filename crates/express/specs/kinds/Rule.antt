@@ -2,16 +2,16 @@
 use mathlib.Core.Path.{_≡_}
 use mathlib.Core.Logic.{_↔_}
 use mathlib.Core.Bool.{Bool, true}
-use mathlib.Core.List.{List}
+use mathlib.Core.List.{List, List·Memᴰ}
 use Prim.Native.Nat.{ℕ, _^_, _≤_, _<_}
 use lib.ListN.{length}
 use lib.IntN.{ℤ, pos}
 use lib.Signed.{mag}
-use Rattle.express.specs.kinds.Answer.{Logical, FALSE, UNKNOWN, TRUE, Answer, indeterminate, integer, logical, binary, item, end}
+use Rattle.express.specs.kinds.Answer.{Logical, FALSE, UNKNOWN, TRUE, Answer, indeterminate, integer, logical, binary, item, end, unknown-boolean, ends}
 use Rattle.express.specs.kinds.Relation.{Relation}
 use Rattle.express.specs.syntax.NodeKind.{enumeration-item}
 use Rattle.express.specs.syntax.Tree.{Table, kind, owner, last, left, middle, low}
-use Rattle.express.specs.kinds.Declared.{Declared, INTEGER, BOOLEAN, LOGICAL, BINARY, enumeration, declared}
+use Rattle.express.specs.kinds.Declared.{Declared, INTEGER, BOOLEAN, LOGICAL, BINARY, enumeration, declared-type}
 use Rattle.express.specs.kinds.Shape.{Operator, relation, Sign, integer-literal, logical-literal, binary-literal, question, name, unary, operator, interval, constant, shape}
 use Rattle.express.specs.kinds.Shape as shapes
 use Rattle.express.specs.kinds.Operate.{Kind, Of, takes, takes-one, combined, signed, between}
@@ -26,10 +26,10 @@ pub data Member (t : Table) : Declared → Answer → Type 0 where
   a-binary : {s : List Bool} → 1 ≤ length s → length s ≤ 63 → Member t BINARY (binary s)
   an-item : {m y : ℕ} → kind t m ≡ enumeration-item → owner t m ≡ y → Member t (enumeration y) (item m)
 
--- "`?`, an end or a member of the declared type"; the ends are 16, 17, 18 and 19
+-- `?`, one of the ends, or a member of the declared type
 pub data Holds (t : Table) (d : Declared) : Answer → Type 0 where
   no-value : Holds t d indeterminate
-  an-end : {e : ℕ} → 16 ≤ e → e ≤ 19 → Holds t d (end e)
+  an-end : {e : ℕ} → List·Memᴰ e ends → Holds t d (end e)
   a-member : {a : Answer} → Member t d a → Holds t d a
 
 -- "An operator has the rule above only where each operand's answer is `?`, an end, or of a kind it takes; two sides of a `+` or of a relation
@@ -62,9 +62,9 @@ pub data Gives (t : Table) (b : List ℕ) : ℕ → Answer → Type 0 where
   -- "A constant's answer is its expression's if that is `?`, an end or a member of the declared type; it is 19 for UNKNOWN where that type is
   -- BOOLEAN or a renaming of it; else no rule."
   a-constant : {n : ℕ} {d : Declared} {a : Answer} → shape t b n ≡ constant d → Gives t b (last n) a → Holds t d a → Gives t b n a
-  an-unknown-boolean : {n : ℕ} → shape t b n ≡ constant BOOLEAN → Gives t b (last n) (logical UNKNOWN) → Gives t b n (end 19)
+  an-unknown-boolean : {n : ℕ} → shape t b n ≡ constant BOOLEAN → Gives t b (last n) (logical UNKNOWN) → Gives t b n (end unknown-boolean)
 
 -- THE PROMISE: the rules give constant c the answer a and no other, and a is `?`, an end or a member of the type that c is declared with.
 pub record Exactly (t : Table) (b : List ℕ) (c : ℕ) (a : Answer) : Type 0 where
   pub only : (x : Answer) → Gives t b c x ↔ (x ≡ a)
-  pub holds : Holds t (declared t b (left t c)) a
+  pub holds : Holds t (declared-type t b c) a

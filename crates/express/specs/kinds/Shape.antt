@@ -13,7 +13,7 @@ use Rattle.express.specs.tokens.Terminal.{the}
 use Rattle.express.specs.tokens.Terminal as word
 use Rattle.express.specs.syntax.NodeKind as node
 use Rattle.express.specs.syntax.Tree.{Table, kind, token, terminal, is, left, lower, upper}
-use Rattle.express.specs.kinds.Declared.{Declared, declaration, bound, declared}
+use Rattle.express.specs.kinds.Declared.{Declared, declaration, bound, denoted, declared-type}
 
 -- the operators that take integers alone
 pub data Arithmetic : Type 0 where
@@ -92,10 +92,10 @@ evaluated (some o) = operator o
 -- A node n of a table e, whose names are bound by b to nodes of the file's table t: e is that table itself for the expressions of the file, and
 -- another for a text that is read by itself.
 -- a name, or `type.item`: an item, a constant, or else a type
-abbrev pub named-in : Table → Table → List ℕ → ℕ → Shape
-named-in t e b n =
+abbrev pub name-shape-in : Table → Table → List ℕ → ℕ → Shape
+name-shape-in t e b n =
     cond (bound t b node.enumeration-item n) (item (declaration b n))
-    (cond (bound t b node.constant n) (name (declaration b n)) (type (declared e b n)))
+    (cond (bound t b node.constant n) (name (declaration b n)) (type (denoted e b n)))
 
 unfoldable pub shape-in : Table → Table → List ℕ → ℕ → Shape
 shape-in t e b n =
@@ -103,18 +103,15 @@ shape-in t e b n =
     (cond (is e node.binary-literal n) (binary-literal (binary-bits (text e n)))
     (cond (is e node.logical-literal n) (logical-literal (logical-of (terminal e n)))
     (cond (is e node.question n) question
-    (cond (is e node.name n || is e node.qualified-item n) (named-in t e b n)
+    (cond (is e node.name n || is e node.qualified-item n) (name-shape-in t e b n)
     (cond (is e node.unary n) (unary (sign-of (terminal e n)))
     (cond (is e node.two-operand n) (evaluated (operator-of (terminal e n)))
     (cond (is e node.interval n) (interval (bound-of (terminal e (lower e n))) (bound-of (terminal e (upper e n))))
     (cond (is e node.interval-operator n) interval-operator
-    (cond (is e node.simple-type n) (type (declared e b n))
-    (cond (is e node.constant n) (constant (declared e b (left e n))) unevaluated))))))))))
+    (cond (is e node.simple-type n) (type (denoted e b n))
+    (cond (is e node.constant n) (constant (declared-type e b n)) unevaluated))))))))))
 
 -- a node of the file
-abbrev pub named : Table → List ℕ → ℕ → Shape
-named t b n = named-in t t b n
-
 abbrev pub shape : Table → List ℕ → ℕ → Shape
 shape t b n = shape-in t t b n
 

@@ -5,7 +5,8 @@ use mathlib.Core.Bool.{cond}
 use mathlib.Core.List.{List, [], _∷_, List·Memᴰ}
 use Prim.Native.Nat.{ℕ, _≤_}
 use lib.Dec.{eqb, leb}
-use Rattle.express.specs.syntax.Tree.{Table, nodes}
+use Rattle.express.specs.syntax.Tree.{Table, nodes, is, is-declaration}
+use Rattle.express.specs.syntax.NodeKind.{constant}
 use Rattle.express.specs.names.Scope.{type-edges}
 use Rattle.express.specs.names.Fault.{Fault, fine, or-later, repeated, type-name-fault, cyclic, expression, constant-edges}
 
@@ -13,11 +14,11 @@ use Rattle.express.specs.names.Fault.{Fault, fine, or-later, repeated, t
 abbrev pub Stage : Type 0
 Stage = ℕ → Fault
 
--- "Order: .. 9; 10 and 11 for types and supertypes; 13 for these; 10 to 12 for expressions and clashes; 13 for constants"
+-- in this order: 9; 10 and 11 of types and supertypes; 13 of these; 10 to 12 of expressions, and clashes; 13 of constants
 unfoldable pub stages : Table → List Stage
-stages t = repeated t ∷ type-name-fault t ∷ cyclic t (type-edges t) ∷ expression t ∷ cyclic t (constant-edges t) ∷ []
+stages t = repeated t ∷ type-name-fault t ∷ cyclic t (is-declaration t) (type-edges t) ∷ expression t ∷ cyclic t (is t constant) (constant-edges t) ∷ []
 
--- "Within every other stage the fault with the smallest place is given."
+-- of two faults of a stage the one with the smaller place
 abbrev pub sooner : Fault → Fault → Fault
 sooner f g = cond (eqb (f .number) 0) g (cond (eqb (g .number) 0) f (cond (leb (f .place) (g .place)) f g))
 
@@ -25,7 +26,7 @@ unfoldable pub least : Stage → List ℕ → Fault
 least s [] = fine
 least s (n ∷ ns) = sooner (s n) (least s ns)
 
--- "A later stage starts only when the earlier finds nothing."
+-- the fault of the first stage that has one
 unfoldable pub first-fault : List Stage → List ℕ → Fault
 first-fault [] ns = fine
 first-fault (s ∷ ss) ns = or-later (least s ns) (first-fault ss ns)
@@ -33,7 +34,7 @@ first-fault (s ∷ ss) ns = or-later (least s ns) (first-fault ss ns)
 unfoldable pub names : Table → Fault
 names t = first-fault (stages t) (nodes t)
 
--- The same for the reader: `names-passes`, `names-refused` and `names-only` of proofs/Names.
+-- The same for the reader: `names-passes`, `names-refused` and `names-only` of proofs/names/Names.
 -- A stage passes when each node is fine.
 abbrev pub Passes : List ℕ → Stage → Type 0
 Passes ns s = (n : ℕ) → List·Memᴰ n ns → s n .number ≡ 0
@@ -41,9 +42,9 @@ Passes ns s = (n : ℕ) → List·Memᴰ n ns → s n .number ≡ 0
 pub record WellNamed (t : Table) : Type 0 where
   pub once : Passes (nodes t) (repeated t)
   pub types : Passes (nodes t) (type-name-fault t)
-  pub type-cycles : Passes (nodes t) (cyclic t (type-edges t))
+  pub type-cycles : Passes (nodes t) (cyclic t (is-declaration t) (type-edges t))
   pub expressions : Passes (nodes t) (expression t)
-  pub constant-cycles : Passes (nodes t) (cyclic t (constant-edges t))
+  pub constant-cycles : Passes (nodes t) (cyclic t (is t constant) (constant-edges t))
 
 -- f is a fault of the stage, and no fault of it has a smaller place
 pub record Least (ns : List ℕ) (s : Stage) (f : Fault) : Type 0 where
@@ -54,6 +55,6 @@ pub record Least (ns : List ℕ) (s : Stage) (f : Fault) : Type 0 where
   pub least : (n : ℕ) → List·Memᴰ n ns → s n .number ≢ 0 → f .place ≤ s n .place
 
 -- the stages before it pass, and f is the least fault of the next
-pub data Refused (ns : List ℕ) (f : Fault) : List Stage → Type 0 where
-  here : {s : Stage} {ss : List Stage} → Least ns s f → Refused ns f (s ∷ ss)
-  later : {s : Stage} {ss : List Stage} → Passes ns s → Refused ns f ss → Refused ns f (s ∷ ss)
+pub data StageFault (ns : List ℕ) (f : Fault) : List Stage → Type 0 where
+  here : {s : Stage} {ss : List Stage} → Least ns s f → StageFault ns f (s ∷ ss)
+  later : {s : Stage} {ss : List Stage} → Passes ns s → StageFault ns f ss → StageFault ns f (s ∷ ss)

@@ -12,48 +12,64 @@ use Rattle.relations.specs.Reach.{Edge, edge, reaches}
 abbrev pub spelled : Table → ℕ → (ℕ → Bool) → List ℕ
 spelled t s p = keep (λ k. eqb (symbol t k) s && p k) (nodes t)
 
--- "the schema's constant, type or entity", "nothing in another schema is visible": those of n's schema
-unfoldable pub declared : Table → ℕ → ℕ → List ℕ
-declared t n s = spelled t s (λ k. is-declaration t k && eqb (schema-of t k) (schema-of t n))
+-- ---- in a schema
 
--- "an enumeration item": those of all enumerations of n's schema
+-- a schema h sees what is declared in it, and nothing of another
+abbrev pub visible : Table → ℕ → ℕ → Bool
+visible t h k = eqb (schema-of t k) h
+
+-- THE LOOK-UP of a symbol in a schema: its constants, types and entities
+unfoldable pub declarations : Table → ℕ → ℕ → List ℕ
+declarations t h s = spelled t s (λ k. is-declaration t k && visible t h k)
+
+-- the items of all its enumerations
 unfoldable pub items : Table → ℕ → ℕ → List ℕ
-items t n s = spelled t s (λ k. is t enumeration-item k && eqb (schema-of t k) (schema-of t n))
+items t h s = spelled t s (λ k. is t enumeration-item k && visible t h k)
 
--- "its own attribute or label", of the entity; "a type's WHERE has its labels"
+-- what the name at a node is among the declarations of its schema: names of types and supertypes are looked up there alone
+abbrev pub declarations-of : Table → ℕ → List ℕ
+declarations-of t n = declarations t (schema-of t n) (symbol t n)
+
+-- ---- in a declaration
+
+-- the attributes and labels of a declaration d itself
 unfoldable pub own : Table → ℕ → ℕ → List ℕ
-own t n s = spelled t s (λ k. is-scope-member t k && eqb (owner t k) (owner t n))
+own t d s = spelled t s (λ k. is-scope-member t k && eqb (owner t k) d)
 
 -- edges from the declarations in which some names stand to what these mean
 abbrev pub edges : Table → (ℕ → Bool) → (ℕ → List ℕ) → List Edge
 edges t p meant = flatMap (λ n. map (edge (owner t n)) (meant n)) (keep p (nodes t))
 
--- "Names of types and supertypes .. are looked up only among the schema's constants, types and entities"
-abbrev pub declared-as : Table → ℕ → List ℕ
-declared-as t n = declared t n (symbol t n)
-
 -- from entities to their supertypes: inheritance goes by these alone, so that a select of an entity inherits nothing
 unfoldable pub super-edges : Table → List Edge
-super-edges t = edges t (is-name-in t supertype-name) (declared-as t)
+super-edges t = edges t (is-name-in t supertype-name) (declarations-of t)
 
 -- from types to the types and entities that they rename or select
 unfoldable pub renaming-edges : Table → List Edge
-renaming-edges t = edges t (λ n. is-name-in t renamed-type n || is-name-in t select-name n) (declared-as t)
+renaming-edges t = edges t (λ n. is-name-in t renamed-type n || is-name-in t select-name n) (declarations-of t)
 
--- "cycle of renamings and select lists, of supertypes": none runs over both (`type-cycle` of proofs/TypeCycle)
+-- of both sorts: no cycle runs over both (`type-cycle` of proofs/names/TypeCycle)
 unfoldable pub type-edges : Table → List Edge
 type-edges t = renaming-edges t ++ super-edges t
 
--- "an inherited attribute", "reached by several supertype paths is one declaration": the attributes of all that n's entity reaches
+-- the attributes of all that d reaches over supertypes; one that is reached on several ways stands here once
 unfoldable pub inherited : Table → ℕ → ℕ → List ℕ
-inherited t n s = spelled t s (λ k. is-attribute t k && reaches (super-edges t) (owner t n) (owner t k))
+inherited t d s = spelled t s (λ k. is-attribute t k && reaches (super-edges t) d (owner t k))
 
--- "A name in an entity means its own attribute or label; failing these, an inherited attribute; failing these, the schema's constant, type or
--- entity; failing these, an enumeration item." In a type's WHERE nothing is inherited, in a constant nothing is own either (`nothing-inherited`,
--- `nothing-own` of proofs/Owned).
+-- ---- of a name in an expression
+
+-- a name that stands for a value
+abbrev pub is-use : Table → ℕ → Bool
+is-use t n = is-name-in t in-expression n
+
+-- What is nearest: an own attribute or label, then an inherited attribute, then a declaration of the schema, then an item. In a type's WHERE nothing
+-- is inherited, and in a constant nothing is own either (`nothing-inherited`, `nothing-own` of proofs/names/Owned).
 unfoldable pub candidates : Table → ℕ → ℕ → List ℕ
-candidates t n s = nearest (own t n s) (nearest (inherited t n s) (nearest (declared t n s) (items t n s)))
+candidates t n s =
+    nearest (own t (owner t n) s)
+    (nearest (inherited t (owner t n) s) (nearest (declarations t (schema-of t n) s) (items t (schema-of t n) s)))
 
+-- of some candidates, each of which stands in the list once: there is none, one, or there are several (proofs/names/Meaning)
 pub data Meaning : Type 0 where
   none several : Meaning
   one : ℕ → Meaning
@@ -68,7 +84,7 @@ abbrev pub type-token : Table → ℕ → ℕ
 type-token t n = token t n - 2
 
 unfoldable pub type-meant : Table → ℕ → Meaning
-type-meant t n = meaning (declared t n (symbol-at t (type-token t n)))
+type-meant t n = meaning (declarations t (schema-of t n) (symbol-at t (type-token t n)))
 
 unfoldable pub items-of : Table → ℕ → ℕ → List ℕ
 items-of t y s = spelled t s (λ k. is t enumeration-item k && eqb (owner t k) y)
@@ -81,11 +97,11 @@ item-meant t s (one y) = meaning (items-of t y s)
 -- the meaning of any name; other nodes mean nothing
 unfoldable pub means : Table → ℕ → Meaning
 means t n =
-    cond (is-name-in t in-expression n) (meaning (candidates t n (symbol t n)))
-    (cond (is t name n) (meaning (declared-as t n))
+    cond (is-use t n) (meaning (candidates t n (symbol t n)))
+    (cond (is t name n) (meaning (declarations-of t n))
     (cond (is t qualified-item n) (item-meant t (symbol t n) (type-meant t n)) none))
 
--- "its binding (node number of the declaration plus one, else 0)", "SELF has binding 0"
+-- a binding is the node number of the declaration and one more, or 0: SELF and what is no name have 0
 abbrev pub binding-of : Meaning → ℕ
 binding-of none = 0
 binding-of several = 0

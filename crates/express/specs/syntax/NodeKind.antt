@@ -82,6 +82,10 @@ schema = 25
 abbrev pub file : ℕ
 file = 26
 
+-- one more than the greatest kind
+abbrev pub kind-limit : ℕ
+kind-limit = 27
+
 -- the roles of a name, by the rule of the grammar that left it: in an expression; the type of a constant or an attribute; the type that a
 -- type renames; in a select list; in a SUBTYPE OF list
 abbrev pub in-expression : ℕ

@@ -2,7 +2,7 @@
 use mathlib.Core.Bool.{Bool, _&&_, _||_}
 use mathlib.Core.List.{List}
 use Prim.Native.Nat.{ℕ, _+_, _-_}
-use lib.Dec.{eqb}
+use lib.Dec.{eqb, leb}
 use lib.ListN.{length, getD}
 use Rattle.express.specs.syntax.NodeKind.{name, constant, type, attribute-name, derived-attribute, rule, entity, schema, labelled}
 use Rattle.relations.specs.Select.{span, first-from}
@@ -65,9 +65,17 @@ before t n = n - size t n
 abbrev pub first : Table → ℕ → ℕ
 first t n = n + 1 - size t n
 
+-- all nodes of a subtree
+abbrev pub within : Table → ℕ → List ℕ
+within t n = span (first t n) (size t n)
+
 -- The children of a node, from the right: an operator's right (or only) operand is `last`, and an interval's high side.
 abbrev pub left : Table → ℕ → ℕ
 left t n = before t (last n)
+
+-- the type of a declaration that has an expression: it stands before that
+abbrev pub type-node : Table → ℕ → ℕ
+type-node t d = left t d
 
 -- "interval (low, operator, item, operator, high)": its operators are `lower` and `upper`
 abbrev pub upper : Table → ℕ → ℕ
@@ -110,3 +118,8 @@ owner t n = first-from (is-declaration t) n (count t - n)
 
 unfoldable pub schema-of : Table → ℕ → ℕ
 schema-of t n = first-from (is t schema) n (count t - n)
+
+-- node n is a constant or lies in one: the declaration that is first at or after n is a constant, and n is one of its nodes (the node of a
+-- schema is not, though a constant may be the next declaration)
+abbrev pub in-constant : Table → ℕ → Bool
+in-constant t n = is t constant (owner t n) && leb (first t (owner t n)) n

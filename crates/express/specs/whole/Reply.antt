@@ -20,7 +20,7 @@ use Rattle.express.specs.names.Fault.{Fault}
 use Rattle.express.specs.names.Names.{names}
 use Rattle.express.specs.kinds.Kind.{Typing, typed, typing, constants}
 use Rattle.express.specs.kinds.Kind as kinds
-use Rattle.express.specs.kinds.Order.{order}
+use Rattle.express.specs.kinds.Order.{constant-order}
 use Rattle.express.specs.kinds.Evaluate.{answers, answer-at}
 use Rattle.express.specs.kinds.AnswerRow.{AnswerRow, row-of}
 
@@ -47,9 +47,9 @@ module _ (ls : List Row) (t : Table) where
         tokens = ls;
         table = t;
         bindings = bindings t;
-        answers = map (answer-at (answers t (bindings t) (order t))) (constants t);
+        answers = map (answer-at (answers t (bindings t) (constant-order t))) (constants t);
       })
-  after-kinds (kinds.refused f n) = refused f (place t n)
+  after-kinds (kinds.ill-typed f n) = refused f (place t n)
 
   abbrev pub after-names : Fault → Checked
   after-names f = let on = after-kinds (typing t (bindings t)) in cond (eqb (f .number) 0) on (refused (f .number) (f .place))
