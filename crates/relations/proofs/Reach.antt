@@ -1,12 +1,12 @@
 -- `reaches` computes `Reaches`: what is in the closure of a list of edges is what is reached over one or more of them.
-use mathlib.Core.Path.{_≡_, refl, sym, ap, ap₂, subst, _∙_}
+use mathlib.Core.Path.{_≡_, refl, sym, ap, ap₂, subst}
 use mathlib.Core.Logic.{_↔_, _⊎_, inl, inr, ⊎-elim}
 use mathlib.Core.Bool.{Bool, true, false, cond, _&&_}
 use mathlib.Core.List.{List, [], _∷_, map, flatMap, List·Memᴰ, List·Memᴰ·head, List·Memᴰ·tail, List·Memᴰ·cases-cons, List·Memᴰ·not-nil, Memᴰ·map, Memᴰ·of-map, Memᴰ·cast}
 use Prim.Native.Nat.{ℕ}
 use borrow.Author.Tests.{eqb-true, eq-eqb}
 use lib.Dec.{eqb}
-use Rattle.relations.specs.Select.{keep, any}
+use Rattle.relations.specs.Select.{keep}
 use Rattle.relations.specs.Reach.{Reaches, direct, onward, Edge, edge, Joins, has, added, sources, targets, closure, reaches}
 use Rattle.relations.proofs.Select.{and-fst, and-snd, and-both, keep-mem, mem-keep, any-mem, mem-any, flat-mem, mem-flat}
 

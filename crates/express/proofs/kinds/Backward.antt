@@ -1,16 +1,14 @@
 -- The definitions as a loop over the nodes from the last to the first has them: node i from what is known of the nodes after it.
-use mathlib.Core.Path.{_≡_, refl, sym, ap, _∙_}
-use mathlib.Core.Bool.{Bool, true, false, cond}
-use mathlib.Core.List.{List, [], _∷_, map}
-use Prim.Native.Nat.{ℕ, zero, suc, _+_, _-_, _≤_, _<_}
-use native.Mathlib.Numerals.{add-one}
+use mathlib.Core.Path.{_≡_}
+use mathlib.Core.Bool.{Bool, cond}
+use mathlib.Core.List.{[], _∷_, map}
+use Prim.Native.Nat.{ℕ, zero, suc, _+_, _-_, _<_}
 use native.Mathlib.Omega.{arith}
 use lib.ListN.{drop}
 use Rattle.express.specs.syntax.NodeKind.{schema}
 use Rattle.relations.specs.Select.{span, keep}
-use Rattle.express.specs.syntax.Tree.{Table, count, nodes, is, is-declaration, owner, schema-of}
-use Rattle.express.specs.names.Scope.{binding, bindings}
-use Rattle.express.specs.names.Fault.{Fault, fine}
+use Rattle.express.specs.syntax.Tree.{Table, count, is, is-declaration, owner, schema-of}
+use Rattle.express.specs.names.Fault.{fine}
 use Rattle.express.specs.names.Names.{Stage, sooner, least}
 use Rattle.relations.proofs.Select.{span-step, span-end, first-step, first-end}
 

@@ -1,6 +1,6 @@
 -- In a well-named file the declared type of a constant is found in as many turns as there are nodes: renamings run in no cycle.
 use mathlib.Core.Path.{_≡_, refl, sym, ap, subst, _∙_}
-use mathlib.Core.Logic.{_↔_, _≢_, _⊎_, inl, inr, ⊎-elim}
+use mathlib.Core.Logic.{_↔_, _≢_, ⊎-elim}
 use mathlib.Core.Bool.{Bool, true, false, cond, not, _&&_, _||_, false≢true}
 use mathlib.Core.List.{List, [], _∷_, map, List·Memᴰ, List·Memᴰ·head, Memᴰ·map, Memᴰ·append-left}
 use Prim.Native.Nat.{ℕ, zero, suc, _+_, _≤_, _<_}
@@ -23,7 +23,7 @@ use Rattle.express.specs.names.Names.{WellNamed}
 use Rattle.express.specs.syntax.Grammar.{file}
 use Rattle.express.specs.syntax.Syntax.{Read}
 use Rattle.express.specs.kinds.Declared.{Declared, enumeration, other, declaration, bound, simple, renames, denoted-in, denoted}
-use Rattle.relations.proofs.Select.{and-fst, and-snd, or-cases, untrue, le-or, mem-upto, keep-mem, mem-keep, keep-lt, mem-flat, column-at, first-of}
+use Rattle.relations.proofs.Select.{and-fst, and-snd, untrue, le-or, mem-upto, keep-mem, mem-keep, keep-lt, mem-flat, column-at, first-of}
 use Rattle.relations.proofs.Reach.{reaches-iff}
 use Rattle.express.proofs.syntax.FormedRows.{formed-rows}
 use Rattle.express.proofs.syntax.Nodes.{all-below}
@@ -153,7 +153,7 @@ module _ {t : Table} (R : Read file t) (W : WellNamed t) where
     role-is : is-use t n ≡ false
     among : List·Memᴰ (declaration b n) (declarations-of t n)
 
-  -- "A name in an expression must be an attribute, constant or item."
+  -- a name in an expression means no type
   no-value : (n k : ℕ) → n < count t → is-use t n ≡ true → means t n ≡ one k → is t node.type k ≡ true → ⊥
   unfolding stage.expression
   no-value n k l e m y =

@@ -20,7 +20,7 @@ use Rattle.express.specs.kinds.Bits.{join}
 use Rattle.express.specs.kinds.Relation.{Relation}
 use Rattle.express.specs.kinds.Declared.{Declared, INTEGER, BOOLEAN, LOGICAL, BINARY, enumeration, other}
 use Rattle.express.specs.kinds.Shape.{Arithmetic, minus, times, divide, modulo, power, and, Operator, plus, arithmetic, relation, connective, Sign, positive, negative, not}
-use Rattle.express.specs.kinds.Operate.{Kind, integers, logicals, binaries, items, undetermined, untyped, Of, of-?, of-end, of-integer, of-logical, of-binary, of-item, integral, truthful, summable, comparable, takes, takes-one, end-in, given, computed, operated, combined, signed, between}
+use Rattle.express.specs.kinds.Operate.{Kind, integers, logicals, binaries, items, undetermined, untyped, Of, of-?, of-end, of-integer, of-logical, of-binary, of-item, integral, truthful, summable, comparable, takes, takes-one, end-in, given, computed, operated, combined, applied, between}
 use Rattle.express.specs.kinds.Rule.{Member, an-integer, is-false, is-true, a-logical, a-binary, an-item, Holds, no-value, an-end, a-member}
 use Rattle.express.specs.kinds.Kind.{kind-number, same, common, kind-of-type, result, result-of-one}
 use Rattle.express.specs.kinds.Evaluate.{boolean-answer, held}
@@ -277,20 +277,20 @@ module _ {t : Table} where
       Good t logicals (between o p x y z)
   between-good o p g h i j = combined-good (connective and) (combined-good (relation o) g h) (combined-good (relation p) i j)
 
-  pub signed-good : (o : Sign) {k : Kind} {x : Answer} → takes-one o k ≡ true → Good t k x → Good t (result-of-one o) (signed o x)
-  signed-good positive e good-? = good-?
-  signed-good positive e (good-end h) = good-end h
-  signed-good positive e (good-integer l) = good-integer l
-  signed-good positive e good-logical = absurd (false≢true e)
-  signed-good positive e (good-binary l m) = absurd (false≢true e)
-  signed-good positive e (good-item i o) = absurd (false≢true e)
-  signed-good negative e good-? = good-?
-  signed-good negative e (good-end h) = good-end h
-  signed-good negative e (good-integer l) = exact-good _
-  signed-good negative e good-logical = good-?
-  signed-good negative e (good-binary l m) = good-?
-  signed-good negative e (good-item i o) = good-?
-  signed-good not e g = unless-end g good-logical
+  pub applied-good : (o : Sign) {k : Kind} {x : Answer} → takes-one o k ≡ true → Good t k x → Good t (result-of-one o) (applied o x)
+  applied-good positive e good-? = good-?
+  applied-good positive e (good-end h) = good-end h
+  applied-good positive e (good-integer l) = good-integer l
+  applied-good positive e good-logical = absurd (false≢true e)
+  applied-good positive e (good-binary l m) = absurd (false≢true e)
+  applied-good positive e (good-item i o) = absurd (false≢true e)
+  applied-good negative e good-? = good-?
+  applied-good negative e (good-end h) = good-end h
+  applied-good negative e (good-integer l) = exact-good _
+  applied-good negative e good-logical = good-?
+  applied-good negative e (good-binary l m) = good-?
+  applied-good negative e (good-item i o) = good-?
+  applied-good not e g = unless-end g good-logical
 
   -- ---- constants
   kept : {d : Declared} {a : Answer} → Good t (kind-of-type d) a → Holds t d a → Result t d a a

@@ -1,27 +1,25 @@
--- 9 is placed at "the later name": of two names of one sort in one scope, the one of the later node stands later in the text.
+-- 9 is placed at the later of two names: of two names of one sort in one scope, the one of the later node stands later in the text.
 use mathlib.Core.Path.{_≡_, refl, sym, ap, _∙_}
-use mathlib.Core.Logic.{_↔_, _≢_, _⊎_, inl, inr, ⊎-elim}
-use mathlib.Core.Bool.{Bool, true, false, cond, not, _&&_, _||_, false≢true}
-use mathlib.Core.List.{List, [], _∷_}
-use Prim.Native.Nat.{ℕ, zero, suc, _+_, _-_, _≤_, _<_}
+use mathlib.Core.Logic.{_↔_, _≢_, ⊎-elim}
+use mathlib.Core.Bool.{Bool, true, false, cond, not, _&&_, false≢true}
+use Prim.Native.Nat.{ℕ, _≤_, _<_}
 use native.Mathlib.Omega.{arith}
 use borrow.Author.Tests.{eqb-true, eqb-false, eq-eqb, ne-eqb, not-true}
 use lib.Dec.{eqb}
 use Rattle.ebnf.specs.Set.{mem, disjoint}
 use lib.ListN.{length}
 use Rattle.ebnf.proofs.Sorts.{every}
-use Rattle.ebnf.proofs.PostOrder.{row-at, size-at}
 use Rattle.ebnf.proofs.TextOrder.{in-order, Ordered, text-ordered}
 use Rattle.express.specs.syntax.NodeKind as node
 use Rattle.relations.specs.Select.{span, any}
-use Rattle.express.specs.syntax.Tree.{Table, count, kind, role, token, size, symbol, place, place-at, first, nodes, is, is-name-in, is-declaration, is-attribute, is-scope-member}
+use Rattle.express.specs.syntax.Tree.{Table, count, kind, role, token, symbol, place, first, is, is-name-in, is-declaration, is-attribute, is-scope-member}
 use Rattle.express.specs.syntax.Grammar.{Nonterminal, rules}
 use Rattle.express.specs.syntax.Grammar as grammar
 use Rattle.express.specs.syntax.Syntax.{whole, Read}
 use Rattle.express.specs.names.Fault.{Fault, fault, fine, sort, scope, alike, repeated}
 use Rattle.express.proofs.syntax.Syntax.{express}
 use Rattle.express.proofs.syntax.Nodes.{all-below}
-use Rattle.express.proofs.syntax.FormedRows.{kind-is, size-is, token-is, count-is, sized, alone}
+use Rattle.express.proofs.syntax.FormedRows.{size-is, token-is, count-is, sized, alone}
 use Rattle.express.proofs.syntax.Within.{passes-below}
 use Rattle.express.proofs.syntax.KindSets as set
 use Rattle.express.proofs.names.Owned.{Declaring, a-constant, a-type, an-entity, declaring, declaring-kind, member-kind}

@@ -1,14 +1,14 @@
 -- The stages, for the reader: a stage passes exactly when each node is fine; a refusal is the least fault of the first stage that does not pass.
 use mathlib.Core.Path.{_≡_, refl, sym, ap, ap₂, _∙_}
 use mathlib.Core.Logic.{_↔_, _≢_, _⊎_, inl, inr, ⊎-elim}
-use mathlib.Core.Bool.{Bool, true, false, cond}
+use mathlib.Core.Bool.{Bool, true, false}
 use mathlib.Core.List.{List, [], _∷_, List·Memᴰ, List·Memᴰ·head, List·Memᴰ·tail, List·Memᴰ·cases-cons, List·Memᴰ·not-nil}
 use Prim.Native.Nat.{ℕ, zero, suc, _≤_, _<_}
 use native.Mathlib.Omega.{arith}
 use borrow.Author.Tests.{eqb-true, eqb-false, leb-true, leb-false}
 use lib.Dec.{eqb, leb}
 use Rattle.express.specs.syntax.Tree.{Table, nodes}
-use Rattle.express.specs.names.Fault.{Fault, fault, fine, or-later}
+use Rattle.express.specs.names.Fault.{Fault, fault, or-later}
 use Rattle.express.specs.names.Names.{Stage, stages, sooner, least, first-fault, names, Passes, WellNamed, Least, StageFault, here, later}
 
 zero-or : (n : ℕ) → (n ≡ 0) ⊎ (n ≢ 0)
@@ -56,7 +56,7 @@ module _ (s : Stage) where
       by (the-first g l q) z = absurd (g (h k (List·Memᴰ·head refl)))
       by (the-second g q) z = ap (λ (x : Fault). x .number) q ∙ z
 
-  -- "a stage passes exactly when every node is fine"
+  -- a stage passes exactly when each node is fine
   pub passes-iff : (ns : List ℕ) → (least s ns .number ≡ 0) ↔ Passes ns s
   passes-iff ns = (least-passes ns, passes-least ns)
 

@@ -1,17 +1,17 @@
 -- Where stage 9 passes, a scope holds a name once: two meanings arise from inherited attributes and from items of several enumerations alone.
 use mathlib.Core.Path.{_≡_, refl, sym, ap, _∙_}
 use mathlib.Core.Logic.{_≢_, _⊎_, inl, inr, ⊎-elim}
-use mathlib.Core.Bool.{Bool, true, false, cond, not, _&&_, _||_, false≢true}
-use mathlib.Core.List.{List, [], _∷_, List·Memᴰ, List·Memᴰ·head}
-use Prim.Native.Nat.{ℕ, zero, suc, _+_, _≤_, _<_}
+use mathlib.Core.Bool.{Bool, true, false, cond, _&&_, _||_}
+use mathlib.Core.List.{List, [], _∷_, List·Memᴰ}
+use Prim.Native.Nat.{ℕ, _≤_, _<_}
 use native.Mathlib.Omega.{arith}
-use borrow.Author.Tests.{eqb-true, eqb-false, eq-eqb, ne-eqb}
-use lib.Dec.{eqb, leb}
-use Rattle.express.specs.syntax.NodeKind.{name, constant, type, entity, attribute-name, derived-attribute, rule, enumeration-item, schema, qualified-item, labelled, in-expression}
-use Rattle.relations.specs.Select.{span, keep, any, nearest}
-use Rattle.express.specs.syntax.Tree.{Table, count, kind, role, symbol, place, nodes, is, is-name-in, is-declaration, is-attribute, is-scope-member, owner, schema-of}
+use borrow.Author.Tests.{eqb-true, eq-eqb, ne-eqb}
+use lib.Dec.{eqb}
+use Rattle.express.specs.syntax.NodeKind.{name, constant, type, entity, attribute-name, derived-attribute, rule, enumeration-item, qualified-item, labelled}
+use Rattle.relations.specs.Select.{span, any, nearest}
+use Rattle.express.specs.syntax.Tree.{Table, count, kind, role, symbol, nodes, is, is-declaration, is-attribute, is-scope-member, owner, schema-of}
 use Rattle.express.specs.names.Scope.{Meaning, none, one, several, meaning, spelled, declarations, declarations-of, is-use, items, own, inherited, items-of, candidates, type-meant, item-meant, means}
-use Rattle.express.specs.names.Fault.{Fault, fault, fine, sort, scope, alike, repeated}
+use Rattle.express.specs.names.Fault.{sort, scope, alike, repeated}
 use Rattle.express.specs.names.Names.{Passes}
 use Rattle.relations.proofs.Select.{and-fst, and-snd, and-both, or-cases, le-or, mem-upto, upto-mem, keep-mem, mem-any}
 use Rattle.express.proofs.names.Meaning.{Differing, meaning-several, spelled-ascending}

@@ -13,7 +13,7 @@ use Rattle.ebnf.proofs.Sorts.{every}
 use Rattle.ebnf.proofs.Below.{every-part}
 use Rattle.express.specs.syntax.NodeKind as node
 use Rattle.express.specs.syntax.NodeKind.{kind-limit}
-use Rattle.express.specs.syntax.Tree.{Table, count, kind, role, first, nodes, is, is-name-in, is-declaration, is-attribute, is-scope-member, owner, schema-of}
+use Rattle.express.specs.syntax.Tree.{Table, count, kind, role, first, is, is-name-in, is-declaration, is-attribute, is-scope-member, owner, schema-of}
 use Rattle.express.specs.syntax.Grammar.{Nonterminal, file}
 use Rattle.express.specs.syntax.Syntax.{Read}
 use Rattle.relations.specs.Reach.{Reaches, direct, onward, Joins}

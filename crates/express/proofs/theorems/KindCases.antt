@@ -28,7 +28,7 @@ use Rattle.express.specs.kinds.Logic.{AND, OR, XOR}
 use Rattle.relations.specs.Order.{compare-lists}
 use Rattle.express.specs.kinds.Bits.{join}
 use Rattle.express.specs.kinds.Declared.{simple, denoted-in}
-use Rattle.express.specs.kinds.Shape.{operator-of, shape, shape-in}
+use Rattle.express.specs.kinds.Shape.{operator-of, shape-in}
 use Rattle.express.specs.names.Fault.{sort, scope, repeated, type-name-fault, cyclic, qualified, expression, constant-edges}
 use Rattle.express.specs.names.Names.{stages, least, first-fault, names}
 use Rattle.express.specs.tokens.Scanned.{Scanned}

@@ -7,7 +7,7 @@ use Rattle.relations.specs.Select.{span, first-from, keep, any}
 use Rattle.express.specs.syntax.Tree.{Table, owner, schema-of}
 use Rattle.relations.specs.Reach.{added, closure}
 use Rattle.express.specs.names.Scope.{declarations, items, own, super-edges, renaming-edges, type-edges, inherited, candidates, type-meant, items-of, item-meant, means, binding}
-use Rattle.express.specs.names.Fault.{Fault, fault, fine, sort, scope, repeated, type-name-fault, cyclic, qualified, expression, constant-edges}
+use Rattle.express.specs.names.Fault.{fault, fine, sort, scope, repeated, type-name-fault, cyclic, qualified, expression, constant-edges}
 use Rattle.express.specs.names.Names.{stages, least, first-fault, names}
 
 -- a row: kind, token, size, role

@@ -145,8 +145,8 @@ combined-logicals or l m = OR l m
 combined-logicals xor l m = XOR l m
 
 -- the order of two values of one kind (K22); that of items is the order of their nodes
-abbrev pub order : Answer → Answer → Option Ordering
-order x y =
+abbrev pub compared : Answer → Answer → Option Ordering
+compared x y =
     both (integer-in x) (integer-in y) (λ a b. some (compareℤ a b))
     (both (logical-in x) (logical-in y) (λ a b. some (compare-logical a b))
     (both (binary-in x) (binary-in y) (λ a b. some (compare-bits a b))
@@ -160,17 +160,17 @@ counted x = given (logical-in x) (λ l. l) UNKNOWN
 abbrev pub operated : Operator → Answer → Answer → Answer
 operated plus x y = both (integer-in x) (integer-in y) sum (both (binary-in x) (binary-in y) join indeterminate)
 operated (arithmetic o) x y = both (integer-in x) (integer-in y) (computed o) indeterminate
-operated (relation o) x y = logical (given (order x y) (related o) UNKNOWN)
+operated (relation o) x y = logical (given (compared x y) (related o) UNKNOWN)
 operated (connective o) x y = logical (combined-logicals o (counted x) (counted y))
 
 -- THE COMBINATION OF TWO ANSWERS (K14): the first end, from left to right; else what is computed
 abbrev pub combined : Operator → Answer → Answer → Answer
 combined o x y = given (end-in x) end (given (end-in y) end (operated o x y))
 
-abbrev pub signed : Sign → Answer → Answer
-signed positive x = x
-signed negative x = given (end-in x) end (given (integer-in x) negation indeterminate)
-signed not x = given (end-in x) end (logical (NOT (counted x)))
+abbrev pub applied : Sign → Answer → Answer
+applied positive x = x
+applied negative x = given (end-in x) end (given (integer-in x) negation indeterminate)
+applied not x = given (end-in x) end (logical (NOT (counted x)))
 
 -- K25
 abbrev pub between : Relation → Relation → Answer → Answer → Answer → Answer

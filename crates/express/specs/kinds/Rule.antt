@@ -14,7 +14,7 @@ use Rattle.express.specs.syntax.Tree.{Table, kind, owner, last, left, mi
 use Rattle.express.specs.kinds.Declared.{Declared, INTEGER, BOOLEAN, LOGICAL, BINARY, enumeration, declared-type}
 use Rattle.express.specs.kinds.Shape.{Operator, relation, Sign, integer-literal, logical-literal, binary-literal, question, name, unary, operator, interval, constant, shape}
 use Rattle.express.specs.kinds.Shape as shapes
-use Rattle.express.specs.kinds.Operate.{Kind, Of, takes, takes-one, combined, signed, between}
+use Rattle.express.specs.kinds.Operate.{Kind, Of, takes, takes-one, combined, applied, between}
 
 -- K27: the members of a type. `mag z` is below 2 ^ 63 from -(2 ^ 63) to 2 ^ 63 - 1.
 pub data Member (t : Table) : Declared → Answer → Type 0 where
@@ -33,10 +33,10 @@ pub data Holds (t : Table) (d : Declared) : Answer → Type 0 where
 
 -- K30, K31: one kind that is taken does for both answers
 pub record Fit (t : Table) (takes : Kind → Bool) (x y : Answer) : Type 0 where
-  pub kind : Kind
-  pub taken : takes kind ≡ true
-  pub first : Of t kind x
-  pub second : Of t kind y
+  pub one-kind : Kind
+  pub taken : takes one-kind ≡ true
+  pub first : Of t one-kind x
+  pub second : Of t one-kind y
 
 -- Node n of the table t, whose names are bound by b, has the answer a.
 pub data Gives (t : Table) (b : List ℕ) : ℕ → Answer → Type 0 where
@@ -49,7 +49,7 @@ pub data Gives (t : Table) (b : List ℕ) : ℕ → Answer → Type 0 where
   a-name : {n c : ℕ} {a : Answer} → shape t b n ≡ name c → Gives t b c a → Gives t b n a
   -- K30, K31: operators
   a-sign :
-      {n : ℕ} {o : Sign} {x : Answer} → shape t b n ≡ unary o → Gives t b (last n) x → Fit t (takes-one o) x x → Gives t b n (signed o x)
+      {n : ℕ} {o : Sign} {x : Answer} → shape t b n ≡ unary o → Gives t b (last n) x → Fit t (takes-one o) x x → Gives t b n (applied o x)
   an-operator :
       {n : ℕ} {o : Operator} {x y : Answer} → shape t b n ≡ operator o → Gives t b (left t n) x → Gives t b (last n) y →
       Fit t (takes o) x y → Gives t b n (combined o x y)

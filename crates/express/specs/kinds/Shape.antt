@@ -12,7 +12,7 @@ use Rattle.express.specs.tokens.Lexis.{integer-value, binary-bits}
 use Rattle.express.specs.tokens.Terminal.{the}
 use Rattle.express.specs.tokens.Terminal as word
 use Rattle.express.specs.syntax.NodeKind as node
-use Rattle.express.specs.syntax.Tree.{Table, kind, token, terminal, is, left, lower, upper}
+use Rattle.express.specs.syntax.Tree.{Table, kind, token, terminal, is, lower, upper}
 use Rattle.express.specs.kinds.Declared.{Declared, declaration, bound, denoted, declared-type}
 
 -- the operators that take integers alone
