@@ -9,7 +9,8 @@ use lib.Dec.{eqb}
 use lib.ListN.{length, List·getD-append, length-append}
 use lib.Seq.{getD-append-seam, getD-append-add}
 use borrow.Author.Tests.{not-true, eqb-false}
-use Rattle.ebnf.specs.Grammar.{Mark, silent, here, node, leaf, Ebnf, none, mark, step, seq, alt, star, fork, nt, Derives, nothing, marked, token, both, left, right, stop, more, label, other, rule, Text}
+use Rattle.ebnf.specs.Grammar.{Mark, silent, here, node, leaf, Ebnf, none, mark, step, seq, alt, star, fork, nt}
+use Rattle.ebnf.specs.Grammar.{Derives, nothing, marked, token, both, left, right, stop, more, label, other, rule, Text}
 use Rattle.ebnf.specs.Rows.{Row, stamp-rows, Rows, in-rows}
 use Rattle.ebnf.specs.Depth.{good}
 use Rattle.ebnf.proofs.Sets.{and-split, or-split, lt-or-le}

@@ -2,7 +2,8 @@
 use mathlib.Core.Path.{_≡_, refl, sym, ap, _∙_}
 use mathlib.Core.Logic.{_↔_, _⊎_, inl, inr, ⊎-elim}
 use mathlib.Core.Bool.{Bool, true, false, cond, _&&_, _||_, false≢true, and-eq-true-iff}
-use mathlib.Core.List.{List, [], _∷_, _++_, map, flatMap, List·Memᴰ, List·Memᴰ·head, List·Memᴰ·tail, List·Memᴰ·cases-cons, List·Memᴰ·not-nil, List·Memᴰ·append-cases, Memᴰ·append-left, Memᴰ·append-right}
+use mathlib.Core.List.{List, [], _∷_, _++_, map, flatMap, List·Memᴰ, List·Memᴰ·head, List·Memᴰ·tail}
+use mathlib.Core.List.{List·Memᴰ·cases-cons, List·Memᴰ·not-nil, List·Memᴰ·append-cases, Memᴰ·append-left, Memᴰ·append-right}
 use Prim.Native.Nat.{ℕ, zero, suc, _+_, _-_, _≤_, _<_}
 use native.Mathlib.Numerals.{add-one}
 use native.Mathlib.Omega.{arith}
@@ -273,7 +274,7 @@ keep-first-in p i (suc d) = by (p i) refl (keep-first-in p (suc i) d)
         ≡ cond (ltb (first-from p (suc i) d) (suc i + d)) (first-from p (suc i) d ∷ keep p (span (suc (first-from p (suc i) d)) (suc i + d - suc (first-from p (suc i) d)))) []
         → cond b (i ∷ keep p (span (suc i) d)) (keep p (span (suc i) d))
         ≡ cond (ltb (cond b i (first-from p (suc i) d)) (i + suc d))
-          (cond b i (first-from p (suc i) d) ∷ keep p (span (suc (cond b i (first-from p (suc i) d))) (i + suc d - suc (cond b i (first-from p (suc i) d))))) []
+        (cond b i (first-from p (suc i) d) ∷ keep p (span (suc (cond b i (first-from p (suc i) d))) (i + suc d - suc (cond b i (first-from p (suc i) d))))) []
     by true e more = let q : i + suc d - suc i ≡ d = omega arith in rw (lt-ltb i (i + suc d) (omega arith), q)
     by false e more = let q : suc i + d ≡ i + suc d = omega arith in rw (← q) more
 

@@ -15,7 +15,8 @@ use Rattle.relations.specs.Select.{span, keep}
 use Rattle.express.specs.syntax.Tree.{Table, count, kind, role, size, symbol, first, nodes, is, is-name-in, is-declaration, owner}
 use Rattle.express.specs.syntax.Tree as tree
 use Rattle.relations.specs.Reach.{Reaches, direct, onward, edge, Joins, reaches}
-use Rattle.express.specs.names.Scope.{Meaning, several, one, meaning, items-of, item-meant, declarations-of, is-use, type-meant, means, binding-of, binding, bindings, super-edges, renaming-edges, type-edges}
+use Rattle.express.specs.names.Scope.{Meaning, several, one, meaning, items-of, item-meant, declarations-of, is-use}
+use Rattle.express.specs.names.Scope.{type-meant, means, binding-of, binding, bindings, super-edges, renaming-edges, type-edges}
 use Rattle.express.specs.names.Scope as scope
 use Rattle.express.specs.names.Fault.{is-value, cyclic}
 use Rattle.express.specs.names.Fault as stage

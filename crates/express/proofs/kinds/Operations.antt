@@ -20,7 +20,8 @@ use Rattle.express.specs.kinds.Bits.{join}
 use Rattle.express.specs.kinds.Relation.{Relation}
 use Rattle.express.specs.kinds.Declared.{Declared, INTEGER, BOOLEAN, LOGICAL, BINARY, enumeration, other}
 use Rattle.express.specs.kinds.Shape.{Arithmetic, minus, times, divide, modulo, power, and, Operator, plus, arithmetic, relation, connective, Sign, positive, negative, not}
-use Rattle.express.specs.kinds.Operate.{Kind, integers, logicals, binaries, items, undetermined, untyped, Of, of-?, of-end, of-integer, of-logical, of-binary, of-item, integral, truthful, summable, comparable, takes, takes-one, end-in, given, computed, operated, combined, applied, between}
+use Rattle.express.specs.kinds.Operate.{Kind, integers, logicals, binaries, items, undetermined, untyped, Of, of-?, of-end, of-integer, of-logical, of-binary}
+use Rattle.express.specs.kinds.Operate.{of-item, integral, truthful, summable, comparable, takes, takes-one, end-in, given, computed, operated, combined, applied, between}
 use Rattle.express.specs.kinds.Rule.{Member, an-integer, is-false, is-true, a-logical, a-binary, an-item, Holds, no-value, an-end, a-member}
 use Rattle.express.specs.kinds.Kind.{kind-number, same, common, kind-of-type, result, result-of-one}
 use Rattle.express.specs.kinds.Evaluate.{boolean-answer, held}

@@ -13,9 +13,11 @@ use Rattle.express.specs.syntax.NodeKind as node
 use Rattle.relations.specs.Select.{span, keep}
 use Rattle.express.specs.syntax.Tree.{Table, count, kind, size, first, last, nodes, is, left, middle, low, within}
 use Rattle.express.proofs.syntax.Formed.{Formed}
-use Rattle.express.specs.kinds.Shape.{Shape, integer-literal, logical-literal, binary-literal, question, item, name, unary, operator, interval, interval-operator, type, constant, unevaluated, shape}
+use Rattle.express.specs.kinds.Shape.{Shape, integer-literal, logical-literal, binary-literal, question, item, name}
+use Rattle.express.specs.kinds.Shape.{unary, operator, interval, interval-operator, type, constant, unevaluated, shape}
 use Rattle.express.specs.kinds.Operate.{Kind, untyped}
-use Rattle.express.specs.kinds.Kind.{Finding, of-kind, fault, finding, kind-at, Typing, typed, ill-typed, if-found, type-nodes, type-nodes-in, constants, typing, Constant, Fits, WellTyped, FirstFault}
+use Rattle.express.specs.kinds.Kind.{Finding, of-kind, fault, finding, kind-at, Typing, typed, ill-typed, if-found}
+use Rattle.express.specs.kinds.Kind.{type-nodes, type-nodes-in, constants, typing, Constant, Fits, WellTyped, FirstFault}
 use Rattle.relations.proofs.Select.{mem-span, span-mem, mem-keep, keep-mem, mem-flat, flat-mem}
 use Rattle.express.proofs.kinds.Shapes.{Decoded, decoded}
 use Rattle.express.proofs.kinds.Spans.{last-below, left-below, five-below, value-below, in-constant, apart, Below, OfConstant, of-constant, constant-of}

@@ -11,7 +11,8 @@ use Rattle.express.specs.syntax.NodeKind.{name, qualified-item, enumerat
 use Rattle.relations.specs.Select.{span, first-from, keep, nearest, Ascending, nil, cons}
 use Rattle.express.specs.syntax.Tree.{Table, count, symbol, place, nodes, is, is-declaration, is-attribute, is-scope-member, owner, schema-of}
 use Rattle.relations.specs.Reach.{Reaches, Edge, edge, Joins, reaches}
-use Rattle.express.specs.names.Scope.{Meaning, none, one, several, meaning, spelled, declarations, declarations-of, items, items-of, item-meant, own, inherited, candidates, is-use, type-meant, means, edges, super-edges}
+use Rattle.express.specs.names.Scope.{Meaning, none, one, several, meaning, spelled, declarations, declarations-of, items}
+use Rattle.express.specs.names.Scope.{items-of, item-meant, own, inherited, candidates, is-use, type-meant, means, edges, super-edges}
 use Rattle.express.specs.names.Fault.{Fault, fault, fine, cyclic}
 use Rattle.relations.proofs.Select.{and-fst, and-snd, and-both, mem-upto, upto-mem, keep-mem, mem-keep, flat-mem, keep-first, ascending-from, ascending-span, ascending-keep, ascending-nearest}
 use Rattle.relations.proofs.Reach.{reaches-iff}
@@ -59,9 +60,10 @@ module _ (t : Table) where
   inherited-iff d s k =
       candidate-iff s _ _
       (λ k. (
-        λ e.
-            (and-fst (is-attribute t k) (reaches (super-edges t) d (owner t k)) e,
-            reaches-iff (super-edges t) d (owner t k) .0 (and-snd (is-attribute t k) (reaches (super-edges t) d (owner t k)) e)),
+        λ e. (
+          and-fst (is-attribute t k) (reaches (super-edges t) d (owner t k)) e,
+          reaches-iff (super-edges t) d (owner t k) .0 (and-snd (is-attribute t k) (reaches (super-edges t) d (owner t k)) e),
+        ),
         λ r. and-both (is-attribute t k) (reaches (super-edges t) d (owner t k)) (r .0) (reaches-iff (super-edges t) d (owner t k) .1 (r .1)),
       )) k
 

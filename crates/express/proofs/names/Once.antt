@@ -10,7 +10,8 @@ use lib.Dec.{eqb}
 use Rattle.express.specs.syntax.NodeKind.{name, constant, type, entity, attribute-name, derived-attribute, rule, enumeration-item, qualified-item, labelled}
 use Rattle.relations.specs.Select.{span, any, nearest}
 use Rattle.express.specs.syntax.Tree.{Table, count, kind, role, symbol, nodes, is, is-declaration, is-attribute, is-scope-member, owner, schema-of}
-use Rattle.express.specs.names.Scope.{Meaning, none, one, several, meaning, spelled, declarations, declarations-of, is-use, items, own, inherited, items-of, candidates, type-meant, item-meant, means}
+use Rattle.express.specs.names.Scope.{Meaning, none, one, several, meaning, spelled, declarations, declarations-of}
+use Rattle.express.specs.names.Scope.{is-use, items, own, inherited, items-of, candidates, type-meant, item-meant, means}
 use Rattle.express.specs.names.Fault.{sort, scope, alike, repeated}
 use Rattle.express.specs.names.Names.{Passes}
 use Rattle.relations.proofs.Select.{and-fst, and-snd, and-both, or-cases, le-or, mem-upto, upto-mem, keep-mem, mem-any}

@@ -14,7 +14,8 @@ use Rattle.relations.specs.Select.{span, any}
 use Rattle.express.specs.syntax.Tree.{Table, count, kind, token, role, place, place-at, nodes, is, is-declaration, is-scope-member, in-constant}
 use Rattle.relations.specs.Reach.{Edge, reaches}
 use Rattle.express.specs.names.Scope.{Meaning, none, one, several, means, is-use, type-token, type-meant, type-edges}
-use Rattle.express.specs.names.Fault.{Fault, fault, fine, sort, alike, repeated, judged, right, named-fault, type-name-fault, cyclic, is-enumeration, qualified, clashes, expression, constant-edges}
+use Rattle.express.specs.names.Fault.{Fault, fault, fine, sort, alike, repeated, judged, right, named-fault}
+use Rattle.express.specs.names.Fault.{type-name-fault, cyclic, is-enumeration, qualified, clashes, expression, constant-edges}
 use Rattle.express.specs.names.Names.{Stage, stages, names, StageFault}
 use Rattle.relations.proofs.Select.{and-fst, or-left, or-right, le-or}
 use Rattle.express.proofs.names.Names.{Untied, names-only}

@@ -13,7 +13,8 @@ use Rattle.ebnf.specs.Rows.{Row, Rows, in-rows}
 use Rattle.ebnf.proofs.PostOrder.{no-row, row-at}
 use Rattle.ebnf.proofs.Origin.{ends-with, settles, origin, rows-grow}
 use Rattle.express.specs.syntax.Tree.{Table, count, kind, role, first, is, is-name-in, token as naming}
-use Rattle.express.specs.syntax.Grammar.{Nonterminal, file, schema, constants, constant, base, type-declaration, underlying, where-clause, domain-rule, entity, attributes, derived, expression, sum, term, factor, operand, atom, interval, rules}
+use Rattle.express.specs.syntax.Grammar.{Nonterminal, file, schema, constants, constant, base, type-declaration, underlying, where-clause}
+use Rattle.express.specs.syntax.Grammar.{domain-rule, entity, attributes, derived, expression, sum, term, factor, operand, atom, interval, rules}
 use Rattle.express.specs.syntax.Syntax.{whole, Read}
 use Rattle.express.specs.kinds.Declared.{renames}
 use Rattle.express.proofs.syntax.FormedRows.{kind-is, role-is, size-is, token-is, count-is, sized}

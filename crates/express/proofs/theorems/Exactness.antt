@@ -15,10 +15,12 @@ use Rattle.relations.specs.Select.{span}
 use Rattle.express.specs.syntax.Tree.{Table, count, kind, size, first, last, left, middle, low}
 use Rattle.express.proofs.syntax.Formed.{Formed}
 use Rattle.express.specs.kinds.Declared.{Declared, BOOLEAN, declared-type}
-use Rattle.express.specs.kinds.Shape.{relation, Shape, integer-literal, logical-literal, binary-literal, question, name, unary, operator, interval, interval-operator, type, constant, unevaluated, shape, Literals}
+use Rattle.express.specs.kinds.Shape.{relation, Shape, integer-literal, logical-literal, binary-literal, question, name}
+use Rattle.express.specs.kinds.Shape.{unary, operator, interval, interval-operator, type, constant, unevaluated, shape, Literals}
 use Rattle.express.specs.kinds.Shape as shapes
 use Rattle.express.specs.kinds.Operate.{Kind, integers, logicals, binaries, undetermined, untyped, comparable, takes, takes-one, combined, applied}
-use Rattle.express.specs.kinds.Rule.{Holds, an-end, Gives, an-integer-literal, a-logical-literal, a-binary-literal, a-question, a-name, a-sign, an-operator, an-interval, a-constant, an-unknown-boolean, Exactly}
+use Rattle.express.specs.kinds.Rule.{Holds, an-end, Gives, an-integer-literal, a-logical-literal, a-binary-literal}
+use Rattle.express.specs.kinds.Rule.{a-question, a-name, a-sign, an-operator, an-interval, a-constant, an-unknown-boolean, Exactly}
 use Rattle.express.specs.kinds.Rule as rule
 use Rattle.express.specs.kinds.Kind.{common, kind-of-type, of-kind, fault, if-fits, if-evaluated, finding, kind-at, typed, typing, Constant, Fits}
 use Rattle.express.specs.kinds.Evaluate.{held, answer-in, answer-at, run-in, value, evaluate, answers}
@@ -26,7 +28,8 @@ use Rattle.relations.specs.Reach.{direct}
 use Rattle.relations.specs.Sorted.{Sorted, done, next}
 use Rattle.express.specs.kinds.Order.{Needs, Order}
 use Rattle.relations.proofs.Select.{and-fst, and-snd}
-use Rattle.express.proofs.kinds.Operations.{unknown-boolean-end, Good, good-?, good-integer, good-logical, good-binary, good-item, good-of, recast, common-good, declared-good, common-typed, takes-comparable, takes-one-comparable, combined-good, between-good, applied-good, Kept, itself, unknown, held-good, holds-held}
+use Rattle.express.proofs.kinds.Operations.{unknown-boolean-end, Good, good-?, good-integer, good-logical, good-binary, good-item, good-of, recast, common-good, declared-good}
+use Rattle.express.proofs.kinds.Operations.{common-typed, takes-comparable, takes-one-comparable, combined-good, between-good, applied-good, Kept, itself, unknown, held-good, holds-held}
 use Rattle.express.proofs.kinds.Shapes.{Decoded, decoded, constant-shape}
 use Rattle.express.proofs.kinds.Spans.{Below, last-below, left-below, five-below, value-below, in-constant, constant-owner, constant-of}
 use Rattle.express.proofs.kinds.Typed.{typing-fits}

@@ -20,7 +20,8 @@ use Rattle.express.specs.names.Scope.{bindings}
 use Rattle.express.specs.names.Fault.{fault}
 use Rattle.express.specs.names.Names.{stages, names, StageFault}
 use Rattle.express.specs.kinds.Operate.{Kind}
-use Rattle.express.specs.kinds.Shape.{Shape, integer-literal, logical-literal, binary-literal, question, item, name, unary, operator, interval, interval-operator, type, constant, unevaluated, shape}
+use Rattle.express.specs.kinds.Shape.{Shape, integer-literal, logical-literal, binary-literal, question, item, name}
+use Rattle.express.specs.kinds.Shape.{unary, operator, interval, interval-operator, type, constant, unevaluated, shape}
 use Rattle.express.specs.kinds.Kind.{Finding, of-kind, finding, Typing, typed, ill-typed, constants, typing}
 use Rattle.express.specs.kinds.Kind as kinds
 use Rattle.express.specs.whole.Reply.{refused, after-kinds, after-names, checked}

@@ -6,7 +6,8 @@ use lib.IntN.{pos}
 use Rattle.express.specs.kinds.Answer.{Logical, FALSE, UNKNOWN, TRUE, Answer, indeterminate, integer, logical, binary, item, end, unknown-boolean}
 use Rattle.express.specs.syntax.Tree.{Table, count, last, left, middle, low, within}
 use Rattle.express.specs.kinds.Declared.{Declared, INTEGER, BOOLEAN, LOGICAL, BINARY, enumeration, other}
-use Rattle.express.specs.kinds.Shape.{Shape, integer-literal, logical-literal, binary-literal, question, name, unary, operator, interval, interval-operator, type, constant, unevaluated, shape-in}
+use Rattle.express.specs.kinds.Shape.{Shape, integer-literal, logical-literal, binary-literal, question, name, unary}
+use Rattle.express.specs.kinds.Shape.{operator, interval, interval-operator, type, constant, unevaluated, shape-in}
 use Rattle.express.specs.kinds.Shape as shapes
 use Rattle.express.specs.kinds.Operate.{logical-in, given, combined, applied, between}
 

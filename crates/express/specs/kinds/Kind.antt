@@ -9,7 +9,8 @@ use Rattle.express.specs.syntax.NodeKind as node
 use Rattle.relations.specs.Select.{keep}
 use Rattle.express.specs.syntax.Tree.{Table, count, last, nodes, is, owner, left, middle, low, within, in-constant}
 use Rattle.express.specs.kinds.Declared.{Declared, INTEGER, BOOLEAN, LOGICAL, BINARY, enumeration, other, declared-type}
-use Rattle.express.specs.kinds.Shape.{Operator, plus, arithmetic, relation, connective, Sign, positive, negative, not, Shape, integer-literal, logical-literal, binary-literal, question, item, name, unary, operator, interval, interval-operator, type, constant, unevaluated, shape-in, shape}
+use Rattle.express.specs.kinds.Shape.{Operator, plus, arithmetic, relation, connective, Sign, positive, negative, not, Shape, integer-literal, logical-literal}
+use Rattle.express.specs.kinds.Shape.{binary-literal, question, item, name, unary, operator, interval, interval-operator, type, constant, unevaluated, shape-in, shape}
 use Rattle.express.specs.kinds.Operate.{Kind, integers, logicals, binaries, items, undetermined, untyped, takes, takes-one, comparable}
 
 -- Kinds by number
