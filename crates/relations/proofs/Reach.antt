@@ -60,7 +60,9 @@ mem-added es (f ∷ new) e h = by (has (added es new) f) refl h (λ h′. mem-ad
     head-it true t q = Memᴰ·cast q (has-mem (added es new) f t)
     head-it false t q = List·Memᴰ·head q
 
-    by : (b : Bool) → has (added es new) f ≡ b → List·Memᴰ e es ⊎ List·Memᴰ e (f ∷ new) → (List·Memᴰ e es ⊎ List·Memᴰ e new → List·Memᴰ e (added es new)) → List·Memᴰ e (cond b (added es new) (f ∷ added es new))
+    by :
+        (b : Bool) → has (added es new) f ≡ b → List·Memᴰ e es ⊎ List·Memᴰ e (f ∷ new) → (List·Memᴰ e es ⊎ List·Memᴰ e new → List·Memᴰ e (added es new)) →
+        List·Memᴰ e (cond b (added es new) (f ∷ added es new))
     by b t (inl m) more = keep-it b (more (inl m))
     by b t (inr m) more = ⊎-elim (λ q. head-it b t q) (λ m′. keep-it b (more (inr m′))) (List·Memᴰ·cases-cons m)
 
@@ -148,7 +150,9 @@ closure-trans [] a b c m l = absurd (List·Memᴰ·not-nil m)
 closure-trans (e ∷ es) a b c m l =
     closure-add e es a c (by (λ x y z p q. closure-trans es x y z p q) (closure-cases e es a b m) (closure-cases e es b c l))
   where
-    by : ((x y z : ℕ) → Joins (closure es) x y → Joins (closure es) y z → Joins (closure es) x z) → Joins (closure es) a b ⊎ Added (closure es) e a b → Joins (closure es) b c ⊎ Added (closure es) e b c → Joins (closure es) a c ⊎ Added (closure es) e a c
+    by :
+        ((x y z : ℕ) → Joins (closure es) x y → Joins (closure es) y z → Joins (closure es) x z) → Joins (closure es) a b ⊎ Added (closure es) e a b →
+        Joins (closure es) b c ⊎ Added (closure es) e b c → Joins (closure es) a c ⊎ Added (closure es) e a c
     by old (inl p) (inl q) = inl (old a b c p q)
     by old (inl p) (inr q) =
         inr (⊎-elim (λ z. inr (subst (λ (x : ℕ). Joins (closure es) a x) z p)) (λ s. inr (old a b (e .from) p s)) (q .0), q .1)

@@ -165,7 +165,9 @@ module _ (t : Table) where
         by : (x y z : Bool) → is-use t n ≡ x → is t node.name n ≡ y → is t node.qualified-item n ≡ z → is t node.name n || is t node.qualified-item n ≡ true
             → means t n ≡ one c → is t node.constant c ≡ true → is-use t n ≡ true
         by true y z p q r h m k = p
-        by false true z p q r h m k = absurd (type-no n c l q (untrue (eqb (role t n) node.in-expression) (λ x. false≢true (sym p ∙ and-both (is t node.name n) (eqb (role t n) node.in-expression) q x))) m k)
+        by false true z p q r h m k =
+            let no-use = untrue (eqb (role t n) node.in-expression) (λ x. false≢true (sym p ∙ and-both (is t node.name n) (eqb (role t n) node.in-expression) q x)) in
+            absurd (type-no n c l q no-use m k)
         by false false true p q r h m k = absurd (item-no (symbol t n) c (type-meant t n) (sym (item-means n q r) ∙ m) k)
         by false false false p q r h m k = absurd (false≢true (rw (q, r) at h))
 
@@ -175,7 +177,8 @@ module _ (t : Table) where
     edge-constants a c m =
         let r = edge-start t (λ k. is-use t k && in-constant t k) (λ k. constants-meant t (means t k)) a c m in
         let n = r .0 in
-        (subst (λ (x : ℕ). is t node.constant x ≡ true) (r .3) (and-fst (is t node.constant (owner t n)) (leb (first t (owner t n)) n) (and-snd (is-use t n) (in-constant t n) (r .2))), by (means t n) (r .4))
+        let k = and-fst (is t node.constant (owner t n)) (leb (first t (owner t n)) n) (and-snd (is-use t n) (in-constant t n) (r .2)) in
+        (subst (λ (x : ℕ). is t node.constant x ≡ true) (r .3) k, by (means t n) (r .4))
       where
         if : (k x : ℕ) (b : Bool) → is t node.constant k ≡ b → List·Memᴰ x (cond b (k ∷ []) []) → is t node.constant x ≡ true
         if k x true e m = let q = List·Memᴰ·eq-of-singleton m in subst (λ (y : ℕ). is t node.constant y ≡ true) (sym q) e

@@ -77,7 +77,9 @@ denotes-once (no-type x z) (no-type x′ z′) = refl
 -- ---- enough turns, where each renaming lowers a number
 
 module _ (t : Table) (b : List ℕ) (rank : ℕ → ℕ)
-    (falls : (n : ℕ) → is t node.simple-type n ≡ false → bound t b node.type n ≡ true → is t node.enumeration-item (first t (declaration b n)) ≡ false → rank (first t (declaration b n)) < rank n) where
+    (falls :
+    (n : ℕ) → is t node.simple-type n ≡ false → bound t b node.type n ≡ true → is t node.enumeration-item (first t (declaration b n)) ≡ false →
+    rank (first t (declaration b n)) < rank n) where
   enough : (f n : ℕ) → rank n < f → Denotes t b n (denoted-in f t b n)
   unfolding denoted-in
   enough zero n l = absurd (omega arith)

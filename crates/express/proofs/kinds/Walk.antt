@@ -84,6 +84,8 @@ unfolding type-constants type-nodes-in flatMap
 type-constants-is t b [] ks = refl
 type-constants-is t b (d ∷ ds) ks = by (type-nodes t b (within t d) ks) (λ js. type-constants-is t b ds js) ∙ sym (type-append t b t b (within t d) (all-within t ds) ks)
   where
-    by : (x : Typing) → ((js : List Kind) → type-constants t b ds js ≡ type-nodes t b (all-within t ds) js) → if-typed x (λ js. type-constants t b ds js) ≡ if-typed x (λ js. type-nodes t b (all-within t ds) js)
+    by :
+        (x : Typing) → ((js : List Kind) → type-constants t b ds js ≡ type-nodes t b (all-within t ds) js) →
+        if-typed x (λ js. type-constants t b ds js) ≡ if-typed x (λ js. type-nodes t b (all-within t ds) js)
     by (typed js) more = more js
     by (ill-typed f n) more = refl

@@ -184,7 +184,7 @@ module _ {t : Table} (d : Read file t) where
         enumeration = u;
         known = known;
         is-one = q;
-        in-type = first-of (is-declaration t) (count t) u y (omega (arith, U .below)) l (or-left (is t node.constant y || is t node.type y) (is t node.entity y) (or-right (is t node.constant y) (is t node.type y) (eq-eqb (kind t y) node.type e))) (λ m a b. plain m a b q);
+        in-type = first-of (is-declaration t) (count t) u y (omega (arith, U .below)) l (rw e) (λ m a b. plain m a b q);
       }
       by (a-select q) = ⊎-elim (λ z. absurd (omega (arith, at-start))) (λ z. absurd (omega (arith, at-start))) (of-select d u known q (first t u) (omega arith) (omega (arith, size-one)))
 

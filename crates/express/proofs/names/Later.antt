@@ -24,6 +24,7 @@ use Rattle.express.proofs.syntax.Within.{passes-below}
 use Rattle.express.proofs.syntax.KindSets as set
 use Rattle.express.proofs.names.Owned.{Declaring, a-constant, a-type, an-entity, declaring, declaring-kind, member-kind}
 use Rattle.express.proofs.names.Untied.{Rising}
+use Rattle.express.proofs.names.Once.{is-alike}
 use Rattle.relations.proofs.Select.{and-fst, and-snd, and-both, or-cases, le-or, mem-upto, upto-mem, any-mem, mem-any}
 
 -- the grammar leaves its nodes in the order of the text
@@ -76,7 +77,9 @@ data Member (k : ℕ) : Type 0 where
 
 member : (t : Table) (n : ℕ) → is-scope-member t n ≡ true → Member (kind t n)
 member t n h =
-    ⊎-elim (λ a. ⊎-elim (λ b. an-attribute (eqb-true (kind t n) node.attribute-name b)) (λ b. a-derived (eqb-true (kind t n) node.derived-attribute b)) (or-cases (is t node.attribute-name n) (is t node.derived-attribute n) a))
+    ⊎-elim
+    (λ a. ⊎-elim (λ b. an-attribute (eqb-true (kind t n) node.attribute-name b)) (λ b. a-derived (eqb-true (kind t n) node.derived-attribute b))
+    (or-cases (is t node.attribute-name n) (is t node.derived-attribute n) a))
     (λ a. a-rule (eqb-true (kind t n) node.rule (and-fst (is t node.rule n) (eqb (role t n) node.labelled) a))) (or-cases (is-attribute t n) (is t node.rule n && eqb (role t n) node.labelled) h)
 
 -- and back
@@ -171,7 +174,9 @@ module _ {x : Nonterminal} {t : Table} (d : Read x t) where
     unfolding repeated
     repeated-iff n l = (λ e. found (test (not (eqb (sort t n) 0) && any (alike t n) (span 0 n)) refl e), λ r. given (r .0) (r .1))
       where
-        test : (b : Bool) → not (eqb (sort t n) 0) && any (alike t n) (span 0 n) ≡ b → cond b (fault 9 (place t n)) fine ≡ fault 9 (place t n) → not (eqb (sort t n) 0) && any (alike t n) (span 0 n) ≡ true
+        test :
+            (b : Bool) → not (eqb (sort t n) 0) && any (alike t n) (span 0 n) ≡ b → cond b (fault 9 (place t n)) fine ≡ fault 9 (place t n) →
+            not (eqb (sort t n) 0) && any (alike t n) (span 0 n) ≡ true
         test true q e = q
         test false q e = let z : _≡_ {A = ℕ} 0 9 = ap (λ (f : Fault). f .number) e in absurd (omega arith)
 
@@ -192,5 +197,5 @@ module _ {x : Nonterminal} {t : Table} (d : Read x t) where
             (λ (u : n ≤ k). ⊎-elim (λ (v : k ≤ n). let q : k ≡ n = omega arith in let z = ap (place t) q in absurd (omega arith))
             (λ (v : n < k). let z = later n k v (E .known) (λ (y : sort t k ≡ 0). E .declares (sym (E .same-sort) ∙ y)) (sym (E .same-sort)) in absurd (omega arith)) (le-or k n))
             (λ u. u) (le-or n k) in
-            let a : alike t n k ≡ true = and-both (eqb (symbol t k) (symbol t n) && eqb (sort t k) (sort t n)) (eqb (scope t k) (scope t n)) (and-both (eqb (symbol t k) (symbol t n)) (eqb (sort t k) (sort t n)) (eq-eqb _ _ (E .same-name)) (eq-eqb _ _ (E .same-sort))) (eq-eqb _ _ (E .same-scope)) in
+            let a = is-alike t n k (E .same-name) (E .same-sort) (E .same-scope) in
             rw (ne-eqb (sort t n) 0 (E .declares), mem-any (alike t n) (span 0 n) (mem-upto n k b) a)

@@ -178,7 +178,10 @@ names-passes t = (
         expressions = h _ (List·Memᴰ·tail (List·Memᴰ·tail (List·Memᴰ·tail (List·Memᴰ·head refl))));
         constant-cycles = h _ (List·Memᴰ·tail (List·Memᴰ·tail (List·Memᴰ·tail (List·Memᴰ·tail (List·Memᴰ·head refl)))));
       },
-  λ W. all-fine (nodes t) (stages t) (all-cons (W .once) (all-cons (W .types) (all-cons (W .type-cycles) (all-cons (W .expressions) (all-cons (W .constant-cycles) (λ s m. absurd (List·Memᴰ·not-nil m))))))),
+  λ W.
+      all-fine (nodes t) (stages t)
+      (all-cons (W .once)
+      (all-cons (W .types) (all-cons (W .type-cycles) (all-cons (W .expressions) (all-cons (W .constant-cycles) (λ s m. absurd (List·Memᴰ·not-nil m))))))),
 )
 
 -- Else `names` is the least fault of the first stage that has one, and, without ties, nothing else is.

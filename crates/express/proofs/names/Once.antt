@@ -49,12 +49,17 @@ module _ (t : Table) (k : ℕ) where
   unfolding scope
   scope-member e = rw e
 
+pub is-alike : (t : Table) (n k : ℕ) → symbol t k ≡ symbol t n → sort t k ≡ sort t n → scope t k ≡ scope t n → alike t n k ≡ true
+is-alike t n k a b c =
+    and-both (eqb (symbol t k) (symbol t n) && eqb (sort t k) (sort t n)) (eqb (scope t k) (scope t n))
+    (and-both (eqb (symbol t k) (symbol t n)) (eqb (sort t k) (sort t n)) (eq-eqb _ _ a) (eq-eqb _ _ b)) (eq-eqb _ _ c)
+
 -- no two of one sort and one symbol in one scope
 module _ (t : Table) (stage9 : Passes (nodes t) (repeated t)) where
   pub once : (x y : ℕ) → x < y → y < count t → sort t y ≢ 0 → sort t x ≡ sort t y → scope t x ≡ scope t y → symbol t x ≡ symbol t y → ⊥
   unfolding repeated
   once x y h b d e f g =
-      let a : alike t y x ≡ true = and-both (eqb (symbol t x) (symbol t y) && eqb (sort t x) (sort t y)) (eqb (scope t x) (scope t y)) (and-both (eqb (symbol t x) (symbol t y)) (eqb (sort t x) (sort t y)) (eq-eqb _ _ g) (eq-eqb _ _ e)) (eq-eqb _ _ f) in
+      let a = is-alike t y x g e f in
       let c : any (alike t y) (span 0 y) ≡ true = mem-any (alike t y) (span 0 y) (mem-upto y x h) a in
       let z : repeated t y .number ≡ 9 = rw (ne-eqb (sort t y) 0 d, c) in
       let w = stage9 y (mem-upto (count t) y b) in

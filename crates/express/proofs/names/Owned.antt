@@ -89,7 +89,9 @@ module _ {t : Table} (d : Read file t) where
       let a : suc n < count t = ⊎-elim (λ (b : count t ≤ suc n). let q : n ≡ count t - 1 = omega arith in absurd (false≢true (rw (ap (kind t) q ∙ f .1) at h))) (λ b. b) (le-or (count t) (suc n)) in
       let s = schema-over d n a in
       let o = s .0 .to in
-      let b : n < schema-of t n = ⊎-elim (λ (c : schema-of t n ≤ n). let q : n ≡ schema-of t n = omega arith in absurd (false≢true (rw (ap (kind t) q ∙ s .1) at h))) (λ c. c) (le-or (schema-of t n) n) in
+      let b : n < schema-of t n =
+      ⊎-elim (λ (c : schema-of t n ≤ n). let q : n ≡ schema-of t n = omega arith in absurd (false≢true (rw (ap (kind t) q ∙ s .1) at h))) (λ c. c)
+      (le-or (schema-of t n) n) in
       let r = owner-over d n a b in
       (r .0, declaring t (owner t n) (r .1))
 
@@ -110,8 +112,13 @@ module _ {t : Table} (d : Read file t) where
       six : kind t n ≡ node.name
       six = eqb-true (kind t n) node.name (and-fst (is t node.name n) (eqb (role t n) node.supertype-name) h)
 
-      no : Over t n (owner t n) → (k : ℕ) → every-part (outside (λ k. mem k set.below-declaration) (λ k o. eqb k node.name && eqb o node.supertype-name)) (kinds .children k) ≡ true → kind t n ≢ k → kind t (owner t n) ≡ k → ⊥
-      no o = away (λ k. mem k set.below-declaration) (λ k o. eqb k node.name && eqb o node.supertype-name) refl n h o
+      super : ℕ → ℕ → Bool
+      super k o = eqb k node.name && eqb o node.supertype-name
+
+      no :
+          Over t n (owner t n) → (k : ℕ) → every-part (outside (λ k. mem k set.below-declaration) super) (kinds .children k) ≡ true → kind t n ≢ k →
+          kind t (owner t n) ≡ k → ⊥
+      no o = away (λ k. mem k set.below-declaration) super refl n h o
 
       by : Over t n (owner t n) × Declaring (kind t (owner t n)) → kind t (owner t n) ≡ node.entity
       by (o, a-constant q) = absurd (no o node.constant refl (λ (z : kind t n ≡ node.constant). omega (arith, six)) q)
@@ -128,12 +135,14 @@ module _ {t : Table} (d : Read file t) where
           ⊎-elim (λ a. eqb-true (kind t n) node.name (and-fst (is t node.name n) (eqb (role t n) node.renamed-type) a))
           (λ a. eqb-true (kind t n) node.name (and-fst (is t node.name n) (eqb (role t n) node.select-name) a)) (or-cases (is-name-in t node.renamed-type n) (is-name-in t node.select-name n) h)
 
-      no : Over t n (owner t n) → (k : ℕ)
-          → every-part (outside (λ k. mem k set.below-declaration && not (eqb k node.select)) (λ k o. eqb k node.name && eqb o node.renamed-type || eqb k node.name && eqb o node.select-name)) (kinds .children k) ≡ true
-          → kind t n ≢ k → kind t (owner t n) ≡ k → ⊥
-      no o =
-          away (λ k. mem k set.below-declaration && not (eqb k node.select))
-          (λ k o. eqb k node.name && eqb o node.renamed-type || eqb k node.name && eqb o node.select-name) refl n h o
+      kept : ℕ → Bool
+      kept k = mem k set.below-declaration && not (eqb k node.select)
+
+      renaming : ℕ → ℕ → Bool
+      renaming k o = eqb k node.name && eqb o node.renamed-type || eqb k node.name && eqb o node.select-name
+
+      no : Over t n (owner t n) → (k : ℕ) → every-part (outside kept renaming) (kinds .children k) ≡ true → kind t n ≢ k → kind t (owner t n) ≡ k → ⊥
+      no o = away kept renaming refl n h o
 
       by : Over t n (owner t n) × Declaring (kind t (owner t n)) → kind t (owner t n) ≡ node.type
       by (o, a-constant q) = absurd (no o node.constant refl (λ (z : kind t n ≡ node.constant). omega (arith, six)) q)

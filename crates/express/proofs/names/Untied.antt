@@ -80,10 +80,10 @@ module _ (t : Table) (n : ℕ) where
   judged-at right m h = ⊎-elim (λ z. nowhere z) (λ p. at-name h p) (judged-place right m (place t n))
 
   is-name : is t name n ≡ true → speaks t n ≡ true
-  is-name h = or-left (is t name n || is t qualified-item n || is t self n) (is-scope-member t n) (or-left (is t name n || is t qualified-item n) (is t self n) (or-left (is t name n) (is t qualified-item n) h))
+  is-name h = rw h
 
   is-item : is t qualified-item n ≡ true → speaks t n ≡ true
-  is-item h = or-left (is t name n || is t qualified-item n || is t self n) (is-scope-member t n) (or-left (is t name n || is t qualified-item n) (is t self n) (or-right (is t name n) (is t qualified-item n) h))
+  is-item h = rw (eqb-true (kind t n) qualified-item h)
 
   is-self : is t self n ≡ true → speaks t n ≡ true
   is-self h = or-left (is t name n || is t qualified-item n || is t self n) (is-scope-member t n) (or-right (is t name n || is t qualified-item n) (is t self n) h)

@@ -86,12 +86,14 @@ module _ (ts : List ℕ) where
     name : (row-at s (length s - 1)) .token ≡ suc i
 
   type-rows : {i j : ℕ} {s : Rows} → Derives in-rows rules ts (rules type-declaration) i (in-rows .start i) j s → Typed i (s .rows)
-  type-rows (both (token a nothing) (both (token b nothing) (both (token c nothing) (both (rule {s = u} d) (both (token e nothing) (both (left (rule {s = w} f)) (both (token g nothing) (both (token h nothing) marked)))))))) =
+  type-rows (both (token a nothing) (both (token b nothing) (both (token c nothing) (both (rule {s = u} d) (both (token e nothing)
+      (both (left (rule {s = w} f)) (both (token g nothing) (both (token h nothing) marked)))))))) =
       record {
         under = first-kept _ (u .rows ++ w .rows) _ (first-kept _ (u .rows) (w .rows) (underlying-first d));
         name = ap (λ (r : Row). r .token) (last-row (u .rows ++ w .rows) _);
       }
-  type-rows (both (token a nothing) (both (token b nothing) (both (token c nothing) (both (rule {s = u} d) (both (token e nothing) (both (right nothing) (both (token g nothing) (both (token h nothing) marked)))))))) =
+  type-rows (both (token a nothing) (both (token b nothing) (both (token c nothing) (both (rule {s = u} d) (both (token e nothing)
+      (both (right nothing) (both (token g nothing) (both (token h nothing) marked)))))))) =
       record { under = first-kept _ (u .rows) _ (underlying-first d); name = ap (λ (r : Row). r .token) (last-row (u .rows) _) }
 
 -- only a type's declaration leaves a type

@@ -2,7 +2,7 @@
 -- `exactness` asks, and so the rules give their constants these answers and no others.
 use mathlib.Core.Path.{_≡_, refl, subst}
 use mathlib.Core.Bool.{true, false, not, _||_}
-use mathlib.Core.List.{List, [], _∷_, flatMap}
+use mathlib.Core.List.{List, [], _∷_, _++_, flatMap}
 use Prim.Native.Nat.{ℕ, _<_}
 use Prim.Native.String.{String}
 use native.Mathlib.Omega.{arith}
@@ -138,8 +138,11 @@ unfolding span keep flatMap numeral integer-value binary-bits exact quotient rem
 press-exact = (press-file 4 (omega arith) refl, press-file 10 (omega arith) refl, press-file 20 (omega arith) refl, press-file 25 (omega arith) refl)
 
 -- an enumeration, a renaming of it, UNKNOWN for a BOOLEAN, and the first of two ends
-abbrev shade-text : String
-shade-text = "SCHEMA s; CONSTANT warm : BOOLEAN := NOT (hue >= colour.green); hue : shade := red; doubt : BOOLEAN := hue = ?; late : LOGICAL := doubt AND (1 DIV 0 = 2); END_CONSTANT; TYPE colour = ENUMERATION OF (red, green); END_TYPE; TYPE shade = colour; END_TYPE; END_SCHEMA;"
+abbrev shade-text : List ℕ
+shade-text =
+    bytes "SCHEMA s; CONSTANT warm : BOOLEAN := NOT (hue >= colour.green); hue : shade := red; doubt : BOOLEAN := hue = ?; "
+    ++ bytes "late : LOGICAL := doubt AND (1 DIV 0 = 2); END_CONSTANT; "
+    ++ bytes "TYPE colour = ENUMERATION OF (red, green); END_TYPE; TYPE shade = colour; END_TYPE; END_SCHEMA;"
 
 abbrev shade-rows : List Row
 shade-rows =
@@ -152,7 +155,7 @@ abbrev pub shade : Table
 shade =
     with-rows
     (record {
-      bytes = bytes shade-text;
+      bytes = shade-text;
       starts =
           0 ∷ 7 ∷ 8 ∷ 10 ∷ 19 ∷ 24 ∷ 26 ∷ 34 ∷ 37 ∷ 41 ∷ 42 ∷ 46 ∷ 49 ∷ 55 ∷ 56 ∷ 61 ∷ 62 ∷ 64 ∷ 68 ∷ 70 ∷ 76 ∷ 79 ∷ 82 ∷ 84 ∷ 90 ∷ 92 ∷
           100 ∷ 103 ∷ 107 ∷ 109 ∷ 110 ∷ 112 ∷ 117 ∷ 119 ∷ 127 ∷ 130 ∷ 136 ∷ 140 ∷ 141 ∷ 143 ∷ 147 ∷ 149 ∷ 151 ∷ 152 ∷ 153 ∷ 155 ∷ 167 ∷
