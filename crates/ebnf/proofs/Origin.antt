@@ -53,8 +53,8 @@ module _ {N : Type 0} (rules : N → Ebnf N) (k : ℕ) where
   ends-with (nt x) = false
 
   -- each rule does the one or the other
-  abbrev pub settles : N → Bool
-  settles x = without (rules x) || ends-with (rules x)
+  abbrev pub without-or-ends : N → Bool
+  without-or-ends x = without (rules x) || ends-with (rules x)
 
   module _ (ts : List ℕ) where
     -- Row n is the last of the rows of a derivation, which stand right before it.
@@ -173,7 +173,7 @@ module _ {N : Type 0} (rules : N → Ebnf N) (k : ℕ) where
         })
         (lt-or-le n (length (e .before)))
 
-    module _ (test : (x : N) → settles x ≡ true) where
+    module _ (test : (x : N) → without-or-ends x ≡ true) where
       good-rule : (x : N) (i j : ℕ) (s : Rows) → Derives in-rows rules ts (rules x) i (in-rows .start i) j s →
           (without (rules x) ≡ true → Good [] → Good (s .rows)) × (ends-with (rules x) ≡ true → Good [] → Ended (s .rows)) → Good (s .rows)
       good-rule x i j s d f =

@@ -1,3 +1,4 @@
+pub mod Edges
 pub mod Enumeration
 pub mod Later
 pub mod Meaning

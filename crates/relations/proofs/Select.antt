@@ -7,7 +7,7 @@ use mathlib.Core.List.{List·Memᴰ·cases-cons, List·Memᴰ·not-nil, List·Me
 use Prim.Native.Nat.{ℕ, zero, suc, _+_, _-_, _≤_, _<_}
 use native.Mathlib.Numerals.{add-one}
 use native.Mathlib.Omega.{arith}
-use borrow.Author.Tests.{lt-ltb, le-ltb}
+use borrow.Author.Tests.{ltb-true, ltb-false, lt-ltb, le-ltb}
 use lib.Dec.{ltb}
 use lib.ListN.{length, getD}
 use Rattle.relations.specs.Select.{span, first-from, keep, any, nearest, Ascending, nil, cons}
@@ -283,3 +283,76 @@ pub keep-first :
     keep p (span i (n - i)) ≡
     cond (ltb (first-from p i (n - i)) n) (first-from p i (n - i) ∷ keep p (span (first-from p i (n - i) + 1) (n - (first-from p i (n - i) + 1)))) []
 keep-first p n i l = let q : i + (n - i) ≡ n = omega arith in rw add-one (rw q at (keep-first-in p i (n - i)))
+
+-- ---- tests that agree on what is there
+module _ {A : Type 0} where
+  pub keep-same : (p q : A → Bool) (xs : List A) → ((x : A) → List·Memᴰ x xs → p x ≡ q x) → keep p xs ≡ keep q xs
+  unfolding keep
+  keep-same p q [] h = refl
+  keep-same p q (x ∷ xs) h = rw (h x (List·Memᴰ·head refl), keep-same p q xs (λ y m. h y (List·Memᴰ·tail m)))
+
+  pub any-same : (p q : A → Bool) (xs : List A) → ((x : A) → List·Memᴰ x xs → p x ≡ q x) → any p xs ≡ any q xs
+  unfolding any
+  any-same p q [] h = refl
+  any-same p q (x ∷ xs) h = rw (h x (List·Memᴰ·head refl), any-same p q xs (λ y m. h y (List·Memᴰ·tail m)))
+
+  pub keep-append : (p : A → Bool) (xs ys : List A) → keep p (xs ++ ys) ≡ keep p xs ++ keep p ys
+  unfolding keep
+  keep-append p [] ys = refl
+  keep-append p (x ∷ xs) ys = by (p x) (keep-append p xs ys)
+    where
+      by : (b : Bool) → keep p (xs ++ ys) ≡ keep p xs ++ keep p ys → cond b (x ∷ keep p (xs ++ ys)) (keep p (xs ++ ys)) ≡ cond b (x ∷ keep p xs) (keep p xs) ++ keep p ys
+      by true e = ap (λ (l : List A). x ∷ l) e
+      by false e = e
+
+  pub keep-nothing : (p : A → Bool) (xs : List A) → ((x : A) → List·Memᴰ x xs → p x ≡ false) → keep p xs ≡ []
+  unfolding keep
+  keep-nothing p [] h = refl
+  keep-nothing p (x ∷ xs) h = rw (h x (List·Memᴰ·head refl)) (keep-nothing p xs (λ y m. h y (List·Memᴰ·tail m)))
+
+-- whether one of some numbers in a row passes, by the first that does
+pub any-first : (p : ℕ → Bool) (n i : ℕ) → i ≤ n → any p (span i (n - i)) ≡ ltb (first-from p i (n - i)) n
+any-first p n i l = by (ltb (first-from p i (n - i)) n) refl
+  where
+    k : ℕ
+    k = first-from p i (n - i)
+
+    by : (b : Bool) → ltb k n ≡ b → any p (span i (n - i)) ≡ b
+    by true e =
+        let F = first-is p i (n - i) in
+        let h = ltb-true k n e in
+        mem-any p (span i (n - i)) (mem-span i (n - i) k (F .from) (omega arith)) (F .passes (omega arith))
+    by false e =
+        untrue (any p (span i (n - i)))
+        (λ t.
+        let F = first-is p i (n - i) in
+        let r = any-mem p (span i (n - i)) t in
+        let b = span-mem i (n - i) (r .0) (r .1) in
+        let h = ltb-false k n e in
+        false≢true (sym (F .none (r .0) (b .0) (omega arith)) ∙ r .2))
+
+-- what is first from a later number on is no earlier
+pub first-rises : (p : ℕ → Bool) (n i j : ℕ) → i ≤ j → j ≤ n → first-from p i (n - i) ≤ first-from p j (n - j)
+first-rises p n i j l h = ⊎-elim (λ a. a) (λ a. absurd (no a)) (le-or (first-from p i (n - i)) (first-from p j (n - j)))
+  where
+    F : First p i (n - i) (first-from p i (n - i))
+    F = first-is p i (n - i)
+
+    G : First p j (n - j) (first-from p j (n - j))
+    G = first-is p j (n - j)
+
+    no : first-from p j (n - j) < first-from p i (n - i) → ⊥
+    no a =
+        let u = F .upto in
+        let e = G .passes (omega arith) in
+        let b = G .from in
+        false≢true (sym (F .none (first-from p j (n - j)) (omega arith) a) ∙ e)
+
+-- numbers in a row, in two parts
+pub span-append : (i d e : ℕ) → span i (d + e) ≡ span i d ++ span (i + d) e
+unfolding span
+span-append i zero e = let a : 0 + e ≡ e = omega arith in let b : i + 0 ≡ i = omega arith in rw (a, b)
+span-append i (suc d) e =
+    let a : suc d + e ≡ suc (d + e) = omega arith in
+    let b : i + suc d ≡ suc i + d = omega arith in
+    rw (a, b) (ap (λ (l : List ℕ). i ∷ l) (span-append (suc i) d e))

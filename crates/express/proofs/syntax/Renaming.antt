@@ -11,7 +11,7 @@ use borrow.Author.Tests.{eq-eqb, ne-eqb}
 use Rattle.ebnf.specs.Grammar.{Derives, nothing, marked, both, right, rule, left, token}
 use Rattle.ebnf.specs.Rows.{Row, Rows, in-rows}
 use Rattle.ebnf.proofs.PostOrder.{no-row, row-at}
-use Rattle.ebnf.proofs.Origin.{ends-with, settles, origin, rows-grow}
+use Rattle.ebnf.proofs.Origin.{ends-with, without-or-ends, origin, rows-grow}
 use Rattle.express.specs.syntax.Tree.{Table, count, kind, role, first, is, is-name-in, token as naming}
 use Rattle.express.specs.syntax.Grammar.{Nonterminal, file, schema, constants, constant, base, type-declaration, underlying, where-clause}
 use Rattle.express.specs.syntax.Grammar.{domain-rule, entity, attributes, derived, expression, sum, term, factor, operand, atom, interval, rules}
@@ -50,7 +50,7 @@ first-kept : (i : ℕ) (s r : List Row) → First i (row-at s 0) → First i (ro
 first-kept i [] r f = absurd (no-first i f)
 first-kept i (a ∷ s) r f = f
 
-settled-types : (x : Nonterminal) → settles rules node.type x ≡ true
+settled-types : (x : Nonterminal) → without-or-ends rules node.type x ≡ true
 settled-types file = refl
 settled-types schema = refl
 settled-types constants = refl
