@@ -7,6 +7,7 @@ pub mod Logic
 pub mod Operations
 pub mod Order
 pub mod OrderTest
+pub mod Scratch
 pub mod Shapes
 pub mod Spans
 pub mod Typed

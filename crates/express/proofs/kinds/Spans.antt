@@ -242,6 +242,10 @@ module _ (t : Table) (f : Formed t) where
           let i = down (r .root) (r .high) (r .part) (r .lies) in
           record { whole = omega (arith, r .low, i .whole); part = i .part }
 
+  -- the nodes of an expression
+  pub in-expression : (r m : ℕ) → r < count t → Part (kind t r) → Lies t m r → Inside r m
+  in-expression r m l p h = inside-below (suc r) r m (omega arith) l p h
+
   -- the nodes of a constant, other than itself
   pub in-constant : (d m : ℕ) → d < count t → kind t d ≡ node.constant → first t d ≤ m → m < d → Inside d m
   in-constant d m l e a b =
