@@ -1,7 +1,7 @@
 -- Typing and evaluation of one expression go by its own nodes: whatever a lent list held before, what they come to is the same.
-use mathlib.Core.Path.{_≡_, refl, sym, ap, _∙_}
+use mathlib.Core.Path.{_≡_, refl}
 use mathlib.Core.Logic.{_⊎_, inl, inr}
-use mathlib.Core.List.{List, [], _∷_}
+use mathlib.Core.List.{List}
 use Prim.Native.Nat.{ℕ, zero, suc, _+_, _≤_, _<_}
 use native.Mathlib.Decide.{ℕ-discrete}
 use native.Mathlib.Omega.{arith}
@@ -18,7 +18,7 @@ use Rattle.express.specs.kinds.Kind.{Finding, of-kind, fault, finding-in
 use Rattle.express.specs.kinds.Evaluate.{answer-in, answer-at, run-in, value-in}
 use Rattle.express.proofs.syntax.Formed.{Formed}
 use Rattle.express.proofs.kinds.Shapes.{Decoded, decoded-in}
-use Rattle.express.proofs.kinds.Spans.{Part, Below, last-below, left-below, five-below, value-below, in-constant, Lies, in-expression}
+use Rattle.express.proofs.kinds.Spans.{Part, Below, last-below, left-below, five-below, value-below, in-constant, in-expression}
 
 -- a constant, or the node of an expression
 pub record Root (t : Table) (r : ℕ) : Type 0 where

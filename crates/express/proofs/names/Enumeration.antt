@@ -22,7 +22,7 @@ use Rattle.express.proofs.syntax.FormedRows.{kind-is, role-is, size-is,
 use Rattle.express.proofs.syntax.Within.{Over, passes-below}
 use Rattle.express.proofs.syntax.KindSets as set
 use Rattle.express.proofs.names.Owned.{undeclared, in-owner}
-use Rattle.relations.proofs.Select.{and-both, and-snd, or-cases, or-left, or-right, le-or, first-of}
+use Rattle.relations.proofs.Select.{and-both, and-snd, or-cases, le-or, first-of}
 
 module _ {x : Nonterminal} {t : Table} (d : Read x t) where
   -- node m lies in a rule

@@ -4,7 +4,7 @@ use mathlib.Core.Logic.{_↔_, _≢_, ⊎-elim}
 use mathlib.Core.Bool.{Bool, true, false, cond, not, _&&_, false≢true}
 use Prim.Native.Nat.{ℕ, _≤_, _<_}
 use native.Mathlib.Omega.{arith}
-use borrow.Author.Tests.{eqb-true, eqb-false, eq-eqb, ne-eqb, not-true}
+use borrow.Author.Tests.{eqb-true, eqb-false, ne-eqb, not-true}
 use lib.Dec.{eqb}
 use Rattle.ebnf.specs.Set.{mem, disjoint}
 use lib.ListN.{length}
@@ -25,7 +25,7 @@ use Rattle.express.proofs.syntax.KindSets as set
 use Rattle.express.proofs.names.Owned.{Declaring, a-constant, a-type, an-entity, declaring, declaring-kind, member-kind}
 use Rattle.express.proofs.names.Untied.{Rising}
 use Rattle.express.proofs.names.Once.{is-alike}
-use Rattle.relations.proofs.Select.{and-fst, and-snd, and-both, or-cases, le-or, mem-upto, upto-mem, any-mem, mem-any}
+use Rattle.relations.proofs.Select.{and-fst, and-snd, or-cases, le-or, mem-upto, upto-mem, any-mem, mem-any}
 
 -- the grammar leaves its nodes in the order of the text
 ordered-each : (x : Nonterminal) → in-order (rules x) false ≡ true
