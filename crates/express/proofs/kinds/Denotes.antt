@@ -318,3 +318,42 @@ module _ {t : Table} (R : Read file t) (W : WellNamed t) where
   -- and no other is
   pub denoted-iff : (n : ℕ) → n < count t → is t node.type n ≡ false → (d : Declared) → Denotes t (bindings t) n d ↔ (d ≡ denoted t (bindings t) n)
   denoted-iff n l h d = (λ x. denotes-once x (denoted-is n l h), λ q. rw q (denoted-is n l h))
+
+  -- so it goes by what the type at hand denotes, without a number of turns
+  abbrev turned : ℕ → Declared
+  turned n =
+      cond (is t node.simple-type n) (simple (tree.terminal t n))
+      (cond (bound t b node.type n)
+      (cond (is t node.enumeration-item (first t (declaration b n))) (enumeration (declaration b n))
+      (cond (renames t (declaration b n)) (denoted t b (first t (declaration b n))) other)) other)
+
+  -- what a type that renames begins with is no type
+  base-known : (d : ℕ) → is t node.type d ≡ true → renames t d ≡ true → (first t d < count t) × (is t node.type (first t d) ≡ false)
+  unfolding mem
+  base-known d h r =
+      let l = type-below d h in
+      let s = formed-rows R .some d l in
+      let z = eqb-true (tree.token t (first t d)) (tree.token t d + 2) r in
+      let u : first t d < d =
+      ⊎-elim (λ (g : d ≤ first t d). let q : first t d ≡ d = omega arith in let w = ap (tree.token t) q in absurd (omega arith)) (λ g. g) (le-or d (first t d)) in
+      let k = and-fst (in-type (kind t (first t d))) _ (inside-type d h (first t d) (omega arith) u) in
+      (omega arith, untrue (is t node.type (first t d)) (λ e. false≢true (rw (eqb-true (kind t (first t d)) node.type e) at k)))
+
+  pub denoted-step : (n : ℕ) → n < count t → is t node.type n ≡ false → denoted t (bindings t) n ≡ turned n
+  denoted-step n l h =
+      denotes-once (denoted-is n l h)
+      (by (is t node.simple-type n) (bound t b node.type n) (is t node.enumeration-item u) (renames t (declaration b n)) refl refl refl refl)
+    where
+      u : ℕ
+      u = first t (declaration b n)
+
+      by :
+          (p q r s : Bool) → is t node.simple-type n ≡ p → bound t b node.type n ≡ q → is t node.enumeration-item u ≡ r → renames t (declaration b n) ≡ s →
+          Denotes t b n (cond p (simple (tree.terminal t n)) (cond q (cond r (enumeration (declaration b n)) (cond s (denoted t b u) other)) other))
+      by true q r s e i j k = a-simple-type e
+      by false false r s e i j k = no-type e i
+      by false true true s e i j k = an-enumeration e i j
+      by false true false false e i j k = a-select e i k j
+      by false true false true e i j k =
+          let w = base-known (declaration b n) (bound-is n node.type i) k in
+          a-renaming e i k j (denoted-is u (w .0) (w .1))

@@ -1,21 +1,27 @@
 -- The edges between declarations by the bindings of the names in them: once the names of types are in order, those of types and supertypes; and
 -- those of constants in any case.
 use mathlib.Core.Path.{_≡_, refl, sym, ap, _∙_}
-use mathlib.Core.Logic.{_↔_, _≢_, ⊎-elim}
-use mathlib.Core.Bool.{Bool, true, false, cond, _&&_, _||_}
+use mathlib.Core.Logic.{_↔_, _≢_, _⊎_, inl, inr, ⊎-elim}
+use mathlib.Core.Bool.{Bool, true, false, cond, _&&_, _||_, false≢true}
 use mathlib.Core.List.{List, [], _∷_, List·Memᴰ, List·Memᴰ·head, List·Memᴰ·not-nil, List·Memᴰ·eq-of-singleton}
 use Prim.Native.Nat.{ℕ, _+_, _<_}
 use native.Mathlib.Omega.{arith}
 use borrow.Author.Tests.{eqb-true, ne-eqb}
 use lib.Dec.{eqb}
 use Rattle.express.specs.syntax.NodeKind as node
-use Rattle.express.specs.syntax.Tree.{Table, count, role, place, nodes, is, is-name-in, owner, in-constant}
+use Rattle.express.specs.syntax.Tree.{Table, count, kind, role, symbol, place, nodes, is, is-name-in, owner, schema-of, in-constant}
 use Rattle.relations.specs.Reach.{Joins}
-use Rattle.express.specs.names.Scope.{Meaning, none, one, several, meaning, declarations-of, is-use, means, binding-of, binding, edges, super-edges, renaming-edges}
+use Rattle.relations.specs.Select.{nearest}
+use Rattle.ebnf.specs.Set.{mem}
+use Rattle.express.specs.syntax.Grammar.{file}
+use Rattle.express.specs.syntax.Syntax.{Read}
+use Rattle.express.specs.names.Scope.{Meaning, none, one, several, meaning, declarations, declarations-of, items, own, inherited, candidates, is-use, means}
+use Rattle.express.specs.names.Scope.{binding-of, binding, edges, super-edges, renaming-edges}
 use Rattle.express.specs.names.Fault.{judged, right, type-name-fault, constants-meant, constant-edges}
 use Rattle.express.specs.names.Names.{Passes}
-use Rattle.relations.proofs.Select.{and-fst, and-snd, mem-upto, or-cases}
-use Rattle.express.proofs.names.Meaning.{edge-start, edge-made}
+use Rattle.relations.proofs.Select.{and-fst, and-snd, mem-upto, or-cases, nearest-mem}
+use Rattle.express.proofs.names.Meaning.{edge-start, edge-made, candidates-of, means-one, own-iff, inherited-iff, declarations-iff, items-iff}
+use Rattle.express.proofs.names.Owned.{owner-schema}
 
 -- a name that passes a test, in the declaration x, is bound to y
 pub record Bound (t : Table) (p : ℕ → Bool) (x y : ℕ) : Type 0 where
@@ -114,3 +120,41 @@ module _ (t : Table) where
         (λ n l h. ⊎-elim (λ a. name-bound node.renamed-type (λ (e : _≡_ {A = ℕ} 3 1). omega arith) n l a)
         (λ a. name-bound node.select-name (λ (e : _≡_ {A = ℕ} 4 1). omega arith) n l a) (or-cases (is-name-in t node.renamed-type n) (is-name-in t node.select-name n) h))
         x y
+
+-- an edge of constants stays in its schema
+module _ {t : Table} (d : Read file t) where
+  use-schema : (n y : ℕ) → is-use t n ≡ true → means t n ≡ one y → is t node.constant y ≡ true → schema-of t y ≡ schema-of t n
+  unfolding candidates-of candidates
+  use-schema n y u m k = by (nearest-mem (own t (owner t n) s) _ y .0 in-candidates)
+    where
+      s : ℕ
+      s = symbol t n
+
+      is-constant : kind t y ≡ node.constant
+      is-constant = eqb-true (kind t y) node.constant k
+
+      in-candidates : List·Memᴰ y (candidates t n s)
+      in-candidates = rw u at (means-one t n y .0 m .member)
+
+      by : List·Memᴰ y (own t (owner t n) s)
+          ⊎ ((own t (owner t n) s ≡ []) × List·Memᴰ y (nearest (inherited t (owner t n) s) (nearest (declarations t (schema-of t n) s) (items t (schema-of t n) s))))
+          → schema-of t y ≡ schema-of t n
+      by (inl i) = absurd (false≢true (rw is-constant at (own-iff t (owner t n) s y .0 i .suits .0)))
+      by (inr r) =
+          ⊎-elim (λ i. absurd (false≢true (rw is-constant at (inherited-iff t (owner t n) s y .0 i .suits .0))))
+          (λ q.
+          ⊎-elim (λ i. declarations-iff t (schema-of t n) s y .0 i .suits .1)
+          (λ w. absurd (false≢true (rw is-constant at (items-iff t (schema-of t n) s y .0 (w .1) .suits .0))))
+          (nearest-mem (declarations t (schema-of t n) s) (items t (schema-of t n) s) y .0 (q .1)))
+          (nearest-mem (inherited t (owner t n) s) _ y .0 (r .1))
+
+  pub constant-edge-schema : (x y : ℕ) → Joins (constant-edges t) x y → schema-of t x ≡ schema-of t y
+  unfolding mem
+  constant-edge-schema x y e =
+      let r = constant-edge-iff t x y .0 e in
+      let B = r .0 in
+      let n = B .name in
+      let u = and-fst (is-use t n) (in-constant t n) (B .passes) in
+      let k = eqb-true (kind t n) node.name (and-fst (is t node.name n) (eqb (role t n) node.in-expression) u) in
+      let o = owner-schema d n (B .known) (rw k) in
+      sym (use-schema n y u (binding-one t n y .0 (B .bound)) (r .1) ∙ sym o ∙ ap (schema-of t) (B .owned))

@@ -357,3 +357,11 @@ unfolding answers
 exactness t b f v ks e ds o =
     evaluate-exact t b f v ks e ds o (replicate (count t) indeterminate)
     (let r = length-replicate {A = Answer} (count t) indeterminate in omega arith)
+
+-- two orders give the same answers
+pub any-order :
+    (t : Table) (b : List ℕ) → Formed t → Literals t → (ks : List Kind) → typing t b ≡ typed ks → (ds es : List ℕ) → Order t b ds → Order t b es →
+    (known other : List Answer) → count t ≤ length known → count t ≤ length other → (c : ℕ) → c < count t → kind t c ≡ node.constant →
+    answer-at (evaluate t b ds known) c ≡ answer-at (evaluate t b es other) c
+any-order t b f v ks e ds es o p known other x y c l g =
+    evaluate-exact t b f v ks e es p other y c l g .only _ .0 (evaluate-exact t b f v ks e ds o known x c l g .only _ .1 refl)
