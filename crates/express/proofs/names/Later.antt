@@ -50,7 +50,7 @@ ordered-each grammar.atom = refl
 ordered-each grammar.interval = refl
 
 -- what a node of each sort is
-data Sorted (t : Table) (n : ℕ) : Type 0 where
+pub data Sorted (t : Table) (n : ℕ) : Type 0 where
   a-schema : sort t n ≡ 1 → kind t n ≡ node.schema → Sorted t n
   a-declaration : sort t n ≡ 2 → is-declaration t n ≡ true → Sorted t n
   an-item : sort t n ≡ 3 → kind t n ≡ node.enumeration-item → Sorted t n
@@ -58,7 +58,7 @@ data Sorted (t : Table) (n : ℕ) : Type 0 where
   a-supertype : sort t n ≡ 5 → kind t n ≡ node.name → Sorted t n
   nothing : sort t n ≡ 0 → Sorted t n
 
-sorted : (t : Table) (n : ℕ) → Sorted t n
+pub sorted : (t : Table) (n : ℕ) → Sorted t n
 unfolding sort
 sorted t n = by (is t node.schema n) (is-declaration t n) (is t node.enumeration-item n) (is-scope-member t n) (is-name-in t node.supertype-name n) refl refl refl refl refl
   where
@@ -84,7 +84,7 @@ member t n h =
 
 -- and back
 module _ {t : Table} {n : ℕ} where
-  sort-one : Sorted t n → sort t n ≡ 1 → kind t n ≡ node.schema
+  pub sort-one : Sorted t n → sort t n ≡ 1 → kind t n ≡ node.schema
   sort-one (a-schema s q) e = q
   sort-one (a-declaration s q) e = absurd (omega arith)
   sort-one (an-item s q) e = absurd (omega arith)
@@ -92,15 +92,23 @@ module _ {t : Table} {n : ℕ} where
   sort-one (a-supertype s q) e = absurd (omega arith)
   sort-one (nothing s) e = absurd (omega arith)
 
-  sort-two : Sorted t n → sort t n ≡ 2 → Declaring (kind t n)
+  pub sort-two : Sorted t n → sort t n ≡ 2 → is-declaration t n ≡ true
   sort-two (a-schema s q) e = absurd (omega arith)
-  sort-two (a-declaration s q) e = declaring t n q
+  sort-two (a-declaration s q) e = q
   sort-two (an-item s q) e = absurd (omega arith)
   sort-two (a-member s q) e = absurd (omega arith)
   sort-two (a-supertype s q) e = absurd (omega arith)
   sort-two (nothing s) e = absurd (omega arith)
 
-  sort-four : Sorted t n → sort t n ≡ 4 → is-scope-member t n ≡ true
+  pub sort-three : Sorted t n → sort t n ≡ 3 → kind t n ≡ node.enumeration-item
+  sort-three (a-schema s q) e = absurd (omega arith)
+  sort-three (a-declaration s q) e = absurd (omega arith)
+  sort-three (an-item s q) e = q
+  sort-three (a-member s q) e = absurd (omega arith)
+  sort-three (a-supertype s q) e = absurd (omega arith)
+  sort-three (nothing s) e = absurd (omega arith)
+
+  pub sort-four : Sorted t n → sort t n ≡ 4 → is-scope-member t n ≡ true
   sort-four (a-schema s q) e = absurd (omega arith)
   sort-four (a-declaration s q) e = absurd (omega arith)
   sort-four (an-item s q) e = absurd (omega arith)
@@ -128,7 +136,7 @@ module _ {x : Nonterminal} {t : Table} (d : Read x t) where
       by (a-schema s q) =
           false≢true (rw (sort-one (sorted t k) (e ∙ s)) at (passes-below d (λ j. mem j set.below-schema) refl n l (rw q refl) k u v))
       by (a-declaration s h) =
-          set.not-both (kind t k) set.below-declaration set.declaration-kinds refl (below-declaration (declaring t n h)) (declaring-kind (kind t k) (sort-two (sorted t k) (e ∙ s)))
+          set.not-both (kind t k) set.below-declaration set.declaration-kinds refl (below-declaration (declaring t n h)) (declaring-kind (kind t k) (declaring t k (sort-two (sorted t k) (e ∙ s))))
       by (an-item s q) = let z = alone d n node.enumeration-item l q refl in omega arith
       by (a-member s h) = set.not-both (kind t k) set.below-constant set.member-kinds refl (below-member (member t n h)) (member-kind t k (sort-four (sorted t k) (e ∙ s)))
       by (a-supertype s q) = let z = alone d n node.name l q refl in omega arith
