@@ -1,6 +1,7 @@
 pub mod Backward
 pub mod Bits
 pub mod ConstantOrder
+pub mod ConstantRows
 pub mod Denotes
 pub mod Integer
 pub mod Logic

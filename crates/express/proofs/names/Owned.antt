@@ -82,7 +82,7 @@ outside q s k o = q k && not (s k o)
 
 module _ {t : Table} (d : Read file t) where
   -- a node of a kind that stands below a schema lies in one
-  in-schema : (n : ℕ) → n < count t → mem (kind t n) set.below-schema ≡ true → (suc n < count t) × (n < schema-of t n)
+  pub in-schema : (n : ℕ) → n < count t → mem (kind t n) set.below-schema ≡ true → (suc n < count t) × (n < schema-of t n)
   unfolding mem
   in-schema n l h =
       let f = file-last d in
