@@ -1,5 +1,6 @@
 pub mod Backward
 pub mod Bits
+pub mod Bounds
 pub mod ConstantOrder
 pub mod ConstantRows
 pub mod Denotes

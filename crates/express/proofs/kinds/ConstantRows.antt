@@ -1,11 +1,10 @@
 -- The rows of the constants: those of a schema stand together, behind those of earlier schemas, and a constant's row is its place among them all.
-use mathlib.Core.Path.{_≡_, refl}
+use mathlib.Core.Path.{_≡_}
 use mathlib.Core.Bool.{true, _&&_}
-use mathlib.Core.List.{List, flatMap, List·Memᴰ}
+use mathlib.Core.List.{List, flatMap}
 use Prim.Native.Nat.{ℕ, zero, suc, _+_, _≤_, _<_}
 use native.Mathlib.Omega.{arith}
 use borrow.Author.Tests.{eqb-true, eq-eqb}
-use lib.Dec.{eqb}
 use lib.ListN.{length, getD}
 use Rattle.ebnf.specs.Set.{mem}
 use Rattle.relations.specs.Select.{span, keep}
@@ -15,7 +14,7 @@ use Rattle.express.specs.syntax.Grammar.{file}
 use Rattle.express.specs.syntax.Syntax.{Read}
 use Rattle.express.specs.names.Scope.{visible}
 use Rattle.express.specs.kinds.Kind.{constants}
-use Rattle.relations.proofs.Select.{mem-upto, upto-mem, mem-keep, ascending-span, ascending-keep, Climbs, flat, climb, keep-parts, Placed, placed}
+use Rattle.relations.proofs.Select.{mem-upto, upto-mem, mem-keep, ascending-span, ascending-keep, Climbs, flat, climb, keep-parts, placed}
 use Rattle.express.proofs.syntax.Within.{schema-over}
 use Rattle.express.proofs.names.Owned.{in-schema}
 use Rattle.express.proofs.kinds.Backward.{schema-rises}

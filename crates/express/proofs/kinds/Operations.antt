@@ -209,7 +209,7 @@ module _ {t : Table} where
       by false false false _ _ _ c = absurd (false≢true c)
 
   -- ---- integers
-  exact-good : (z : ℤ) → Good t integers (exact z)
+  pub exact-good : (z : ℤ) → Good t integers (exact z)
   unfolding exact
   exact-good z = by (ltb (mag z) (2 ^ 63)) refl
     where
@@ -221,7 +221,7 @@ module _ {t : Table} where
   divided-good true z = good-end zero-divisor-end
   divided-good false z = exact-good z
 
-  computed-good : (o : Arithmetic) (x y : ℤ) → Good t integers (computed o x y)
+  pub computed-good : (o : Arithmetic) (x y : ℤ) → Good t integers (computed o x y)
   unfolding DIV MOD int.power
   computed-good minus x y = exact-good _
   computed-good times x y = exact-good _
@@ -231,7 +231,7 @@ module _ {t : Table} where
   computed-good power x (negsuc n) = good-end negative-power-end
 
   -- ---- binaries
-  join-good : (x y : List Bool) → 1 ≤ length x → Good t binaries (join x y)
+  pub join-good : (x y : List Bool) → 1 ≤ length x → Good t binaries (join x y)
   unfolding join
   join-good x y l = by (leb (length (x ++ y)) 63) refl
     where

@@ -14,7 +14,8 @@ use Rattle.relations.specs.Reach.{Reaches, Edge, edge, Joins, reaches}
 use Rattle.express.specs.names.Scope.{Meaning, none, one, several, meaning, spelled, declarations, declarations-of, items}
 use Rattle.express.specs.names.Scope.{items-of, item-meant, own, inherited, candidates, is-use, type-meant, means, edges, super-edges}
 use Rattle.express.specs.names.Fault.{Fault, fault, fine, cyclic}
-use Rattle.relations.proofs.Select.{and-fst, and-snd, and-both, mem-upto, upto-mem, keep-mem, mem-keep, flat-mem, mem-flat, keep-first, ascending-from, ascending-span, ascending-keep, ascending-nearest}
+use Rattle.relations.proofs.Select.{and-fst, and-snd, and-both, mem-upto, upto-mem, keep-mem, mem-keep}
+use Rattle.relations.proofs.Select.{flat-mem, mem-flat, keep-first, ascending-from, ascending-span, ascending-keep, ascending-nearest}
 use Rattle.relations.proofs.Reach.{reaches-iff}
 
 module _ (t : Table) where
