@@ -5,6 +5,7 @@ pub mod ConstantOrder
 pub mod ConstantRows
 pub mod Denotes
 pub mod Integer
+pub mod KindNumbers
 pub mod Logic
 pub mod Operations
 pub mod Order

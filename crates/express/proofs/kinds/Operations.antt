@@ -3,9 +3,9 @@ use mathlib.Core.Path.{_≡_, refl, sym, ap, subst, _∙_}
 use mathlib.Core.Bool.{Bool, true, false, cond, false≢true}
 use mathlib.Core.Logic.{⊎-elim}
 use mathlib.Core.List.{List, _++_, List·Memᴰ, List·Memᴰ·head, List·Memᴰ·tail, List·Memᴰ·cases-cons, List·Memᴰ·eq-of-singleton}
-use Prim.Native.Nat.{ℕ, _+_, _-_, _^_, _≤_, _<_}
+use Prim.Native.Nat.{ℕ, _+_, _^_, _≤_, _<_}
 use native.Mathlib.Omega.{arith}
-use borrow.Author.Tests.{ltb-true, leb-true, eqb-true, ne-eqb}
+use borrow.Author.Tests.{ltb-true, leb-true, ne-eqb}
 use lib.Dec.{eqb, leb, ltb}
 use lib.ListN.{length, length-append}
 use lib.IntN.{ℤ, pos, negsuc, natAbs}
@@ -23,7 +23,8 @@ use Rattle.express.specs.kinds.Shape.{Arithmetic, minus, times, divide, 
 use Rattle.express.specs.kinds.Operate.{Kind, integers, logicals, binaries, items, undetermined, untyped, Of, of-?, of-end, of-integer, of-logical, of-binary}
 use Rattle.express.specs.kinds.Operate.{of-item, integral, truthful, summable, comparable, takes, takes-one, end-in, given, computed, operated, combined, applied, between}
 use Rattle.express.specs.kinds.Rule.{Member, an-integer, is-false, is-true, a-logical, a-binary, an-item, Holds, no-value, an-end, a-member}
-use Rattle.express.specs.kinds.Kind.{kind-number, same, common, kind-of-type, result, result-of-one}
+use Rattle.express.specs.kinds.Kind.{same, common, kind-of-type, result, result-of-one}
+use Rattle.express.proofs.kinds.KindNumbers.{same-kinds}
 use Rattle.express.specs.kinds.Evaluate.{boolean-answer, held}
 
 -- an end's number
@@ -60,25 +61,6 @@ ends-range m =
     (λ m₃. let q = List·Memᴰ·eq-of-singleton m₃ in (omega arith, omega arith)) (List·Memᴰ·cases-cons m₂)) (List·Memᴰ·cases-cons m₁)) (List·Memᴰ·cases-cons m)
 
 -- ---- kinds
-
--- from the number of a kind to the kind
-abbrev of-number : ℕ → Kind
-of-number n =
-    cond (eqb n 0) untyped
-    (cond (eqb n 1) undetermined (cond (eqb n 2) integers (cond (eqb n 3) logicals (cond (eqb n 4) binaries (items (n - 5))))))
-
-number-back : (k : Kind) → of-number (kind-number k) ≡ k
-number-back integers = refl
-number-back logicals = refl
-number-back binaries = refl
-number-back (items y) =
-    rw (ne-eqb (y + 5) 0 (λ e. omega arith), ne-eqb (y + 5) 1 (λ e. omega arith), ne-eqb (y + 5) 2 (λ e. omega arith), ne-eqb (y + 5) 3 (λ e. omega arith), ne-eqb (y + 5) 4 (λ e. omega arith))
-    (ap items (omega arith))
-number-back undetermined = refl
-number-back untyped = refl
-
-same-kinds : (j k : Kind) → same j k ≡ true → j ≡ k
-same-kinds j k e = sym (number-back j) ∙ ap of-number (eqb-true (kind-number j) (kind-number k) e) ∙ number-back k
 
 -- what an operator takes, and what fits a type, has a kind
 integral-comparable : (k : Kind) → integral k ≡ true → comparable k ≡ true

@@ -95,6 +95,8 @@ pub record Operands (t : Table) (n : ℕ) : Type 0 where
   pub low-below : Below t n (low t n)
   pub middle-below : Below t n (middle t n)
   pub high-below : Below t n (last n)
+  pub lower-below : Below t n (lower t n)
+  pub upper-below : Below t n (upper t n)
 
 -- the places of five children, h the last and l the first, from their sizes
 record Places (n h u m o l sh su sm so sl : ℕ) : Type 0 where
@@ -178,6 +180,8 @@ module _ (t : Table) (f : Formed t) where
         low-below = record { from = omega arith; under = omega arith };
         middle-below = record { from = omega arith; under = omega arith };
         high-below = record { from = omega arith; under = omega arith };
+        lower-below = record { from = omega arith; under = omega arith };
+        upper-below = record { from = omega arith; under = omega arith };
       }
 
   five-trees : (n : ℕ) → n < count t → kind t n ≡ node.interval → Trees n

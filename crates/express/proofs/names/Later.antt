@@ -143,7 +143,7 @@ module _ {x : Nonterminal} {t : Table} (d : Read x t) where
       by (nothing s) = nz s
 
   module _ (rise : Rising t) where
-    ordered : Ordered 0 (length (t .terminals)) (d .rows)
+    pub ordered : Ordered 0 (length (t .terminals)) (d .rows)
     ordered = text-ordered express ordered-each (t .terminals) x (whole (d .rows)) (d .parses)
 
     -- a node before the tree of another stands earlier in the text

@@ -199,7 +199,7 @@ module _ {x : Nonterminal} {t : Table} (d : Read x t) (rise : Rising t) where
   by-name : (n : ℕ) → speaks t n ≡ true → Claims speaking prefixed (row-at (d .rows) n) (token t n)
   by-name n h = named (rw (kind-is d n, role-is d n) at h) (sym (token-is d n))
 
-  two-back : (n : ℕ) → is t qualified-item n ≡ true → 2 ≤ token t n
+  pub two-back : (n : ℕ) → is t qualified-item n ≡ true → 2 ≤ token t n
   two-back n h = behind-two (t .terminals) dot identifier (token t n) (item-behind d n (item-within n h) (eqb-true (kind t n) qualified-item h))
 
   by-type : (n : ℕ) → is t qualified-item n ≡ true → Claims speaking prefixed (row-at (d .rows) n) (type-token t n)
