@@ -8,7 +8,8 @@ use native.Mathlib.Omega.{arith}
 use lib.ListN.{length, length-append}
 use lib.Dec.{leb}
 use borrow.Author.Tests.{leb-true}
-use Rattle.ebnf.specs.Grammar.{Mark, silent, here, node, leaf, Ebnf, none, mark, step, seq, alt, star, fork, nt, Derives, nothing, marked, token, both, left, right, stop, more, label, other, rule}
+use Rattle.ebnf.specs.Grammar.{Mark, silent, here, node, leaf, Ebnf, none, mark, step, seq, alt, star, fork, nt}
+use Rattle.ebnf.specs.Grammar.{Derives, nothing, marked, token, both, left, right, stop, more, label, other, rule}
 use Rattle.ebnf.specs.Rows.{Row, Rows, in-rows, stamp-rows}
 use Rattle.ebnf.specs.Parse.{Tables, Result, at, refused, starved}
 use Rattle.ebnf.proofs.Predictive.{Predictive}

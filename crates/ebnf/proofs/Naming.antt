@@ -11,7 +11,8 @@ use borrow.Author.Tests.{leb-true, not-true}
 use lib.Dec.{leb}
 use lib.ListN.{length, getD, List·getD-append, length-append}
 use lib.Seq.{getD-append-add}
-use Rattle.ebnf.specs.Grammar.{Mark, silent, here, node, leaf, Ebnf, none, mark, step, seq, alt, star, fork, nt, Derives, nothing, marked, token, both, left, right, stop, more, label, other, rule, Text}
+use Rattle.ebnf.specs.Grammar.{Mark, silent, here, node, leaf, Ebnf, none, mark, step, seq, alt, star, fork, nt}
+use Rattle.ebnf.specs.Grammar.{Derives, nothing, marked, token, both, left, right, stop, more, label, other, rule, Text}
 use Rattle.ebnf.specs.Rows.{Row, Rows, stamp-rows, stamp-name, in-rows}
 use Rattle.ebnf.proofs.Sets.{and-split, or-split, lt-or-le}
 use Rattle.ebnf.proofs.Derivations.{mono}

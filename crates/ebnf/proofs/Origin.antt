@@ -9,7 +9,8 @@ use lib.Dec.{eqb}
 use lib.ListN.{length, List·getD-append, length-append}
 use lib.Seq.{getD-append-seam, getD-append-add}
 use borrow.Author.Tests.{not-true, eqb-false}
-use Rattle.ebnf.specs.Grammar.{Mark, silent, here, node, leaf, Ebnf, none, mark, step, seq, alt, star, fork, nt, Derives, nothing, marked, token, both, left, right, stop, more, label, other, rule, Text}
+use Rattle.ebnf.specs.Grammar.{Mark, silent, here, node, leaf, Ebnf, none, mark, step, seq, alt, star, fork, nt}
+use Rattle.ebnf.specs.Grammar.{Derives, nothing, marked, token, both, left, right, stop, more, label, other, rule, Text}
 use Rattle.ebnf.specs.Rows.{Row, stamp-rows, Rows, in-rows}
 use Rattle.ebnf.specs.Depth.{good}
 use Rattle.ebnf.proofs.Sets.{and-split, or-split, lt-or-le}
@@ -52,8 +53,8 @@ module _ {N : Type 0} (rules : N → Ebnf N) (k : ℕ) where
   ends-with (nt x) = false
 
   -- each rule does the one or the other
-  abbrev pub settles : N → Bool
-  settles x = without (rules x) || ends-with (rules x)
+  abbrev pub without-or-ends : N → Bool
+  without-or-ends x = without (rules x) || ends-with (rules x)
 
   module _ (ts : List ℕ) where
     -- Row n is the last of the rows of a derivation, which stand right before it.
@@ -172,7 +173,7 @@ module _ {N : Type 0} (rules : N → Ebnf N) (k : ℕ) where
         })
         (lt-or-le n (length (e .before)))
 
-    module _ (test : (x : N) → settles x ≡ true) where
+    module _ (test : (x : N) → without-or-ends x ≡ true) where
       good-rule : (x : N) (i j : ℕ) (s : Rows) → Derives in-rows rules ts (rules x) i (in-rows .start i) j s →
           (without (rules x) ≡ true → Good [] → Good (s .rows)) × (ends-with (rules x) ≡ true → Good [] → Ended (s .rows)) → Good (s .rows)
       good-rule x i j s d f =

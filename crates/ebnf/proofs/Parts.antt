@@ -8,7 +8,8 @@ use Prim.Native.Nat.{ℕ, zero, suc, _+_}
 use native.Mathlib.Omega.{arith}
 use lib.ListN.{length, getD}
 use Rattle.ebnf.specs.Set.{mem, subset}
-use Rattle.ebnf.specs.Grammar.{Mark, silent, here, node, leaf, Ebnf, none, mark, step, seq, alt, star, fork, nt, Derives, nothing, marked, token, both, left, right, stop, more, label, other, rule}
+use Rattle.ebnf.specs.Grammar.{Mark, silent, here, node, leaf, Ebnf, none, mark, step, seq, alt, star, fork, nt}
+use Rattle.ebnf.specs.Grammar.{Derives, nothing, marked, token, both, left, right, stop, more, label, other, rule}
 use Rattle.ebnf.specs.Trees.{Forest, empty, add, beside, Grove, in-trees}
 use Rattle.ebnf.specs.Parse.{Tables}
 use Rattle.ebnf.proofs.Sets.{and-split, or-split, in-more, mem-itself}

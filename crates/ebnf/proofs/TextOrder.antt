@@ -7,7 +7,8 @@ use Prim.Native.Nat.{ℕ, zero, suc, _+_, _-_, _≤_, _<_}
 use native.Mathlib.Nat.{le-refl}
 use native.Mathlib.Omega.{arith}
 use lib.ListN.{length, length-append}
-use Rattle.ebnf.specs.Grammar.{Mark, silent, here, node, leaf, Ebnf, none, mark, step, seq, alt, star, fork, nt, Derives, nothing, marked, token, both, left, right, stop, more, label, other, rule, Text}
+use Rattle.ebnf.specs.Grammar.{Mark, silent, here, node, leaf, Ebnf, none, mark, step, seq, alt, star, fork, nt}
+use Rattle.ebnf.specs.Grammar.{Derives, nothing, marked, token, both, left, right, stop, more, label, other, rule, Text}
 use Rattle.ebnf.specs.Rows.{Row, Rows, in-rows}
 use Rattle.ebnf.specs.Parse.{Tables}
 use Rattle.ebnf.proofs.Sets.{and-split}
@@ -62,7 +63,9 @@ joined {b} {i} {c} {j} r s R S bc ic ij = record { inside = λ n l. in-one n (st
     in-one n (inl p) = let z = R .inside n (p .0) in let e = ap (λ (q : Row). q .token) (p .1) in (omega arith, omega arith)
     in-one n (inr p) = let z = S .inside (p .0) (p .1) in let e = ap (λ (q : Row). q .token) (p .3) in (omega arith, omega arith)
 
-    behind : (a n : ℕ) (p : (k : ℕ) × (k < length s) × (n ≡ length r + k) × (row-at (r ++ s) n ≡ row-at s k)) → a + size-at (r ++ s) n < suc n → Stands r s a → token-at (r ++ s) a < token-at (r ++ s) n
+    behind :
+        (a n : ℕ) (p : (k : ℕ) × (k < length s) × (n ≡ length r + k) × (row-at (r ++ s) n ≡ row-at s k)) → a + size-at (r ++ s) n < suc n →
+        Stands r s a → token-at (r ++ s) a < token-at (r ++ s) n
     behind a n p h (inl q) =
         let y = R .inside a (q .0) in
         let z = S .inside (p .0) (p .1) in
@@ -151,15 +154,43 @@ weaker : {b i : ℕ} {f : Bool} {r : Rows} (g : Bool) → (g ≡ true → f ≡ 
 weaker g h K = record { low = K .low; rows = K .rows; name-low = K .name-low; name-high = K .name-high; passed = λ e. K .passed (h e) }
 
 stamped : {b i : ℕ} {g : Bool} (m : Mark) (r : Rows) → Going b g i r → Going b true (suc i) (in-rows .stamp m i r)
-stamped silent r K = record { low = omega (arith, K .low); rows = further (omega arith) (K .rows); name-low = K .name-low; name-high = omega (arith, K .name-high); passed = λ e. omega (arith, K .name-high) }
+stamped silent r K =
+    record {
+      low = omega (arith, K .low);
+      rows = further (omega arith) (K .rows);
+      name-low = K .name-low;
+      name-high = omega (arith, K .name-high);
+      passed = λ e. omega (arith, K .name-high);
+    }
 stamped here r K = record { low = omega (arith, K .low); rows = further (omega arith) (K .rows); name-low = K .low; name-high = omega arith; passed = λ e. omega arith }
-stamped {i = i} (node k o) r K = record { low = omega (arith, K .low); rows = node-put k o i (r .rows) (K .low) (omega arith) (omega arith) (K .rows); name-low = K .name-low; name-high = omega (arith, K .name-high); passed = λ e. omega (arith, K .name-high) }
-stamped (leaf k o) r K = record { low = omega (arith, K .low); rows = leaf-put k o (r .rows) (K .low) (K .rows); name-low = K .name-low; name-high = omega (arith, K .name-high); passed = λ e. omega (arith, K .name-high) }
+stamped {i = i} (node k o) r K =
+    record {
+      low = omega (arith, K .low);
+      rows = node-put k o i (r .rows) (K .low) (omega arith) (omega arith) (K .rows);
+      name-low = K .name-low;
+      name-high = omega (arith, K .name-high);
+      passed = λ e. omega (arith, K .name-high);
+    }
+stamped (leaf k o) r K =
+    record {
+      low = omega (arith, K .low);
+      rows = leaf-put k o (r .rows) (K .low) (K .rows);
+      name-low = K .name-low;
+      name-high = omega (arith, K .name-high);
+      passed = λ e. omega (arith, K .name-high);
+    }
 
 closed : {b i : ℕ} {g : Bool} (m : Mark) (r : Rows) → closes m g ≡ true → Going b g i r → Going b g i (in-rows .close m r)
 closed silent r e K = K
 closed here r e K = K
-closed (node k o) r e K = record { low = K .low; rows = node-put k o (r .name) (r .rows) (K .name-low) (K .passed e) (le-refl _) (K .rows); name-low = K .name-low; name-high = K .name-high; passed = K .passed }
+closed (node k o) r e K =
+    record {
+      low = K .low;
+      rows = node-put k o (r .name) (r .rows) (K .name-low) (K .passed e) (le-refl _) (K .rows);
+      name-low = K .name-low;
+      name-high = K .name-high;
+      passed = K .passed;
+    }
 closed (leaf k o) r e K = absurd (false≢true e)
 
 -- after two tokens

@@ -1,12 +1,16 @@
 pub mod Backward
 pub mod Bits
+pub mod Bounds
 pub mod ConstantOrder
+pub mod ConstantRows
 pub mod Denotes
 pub mod Integer
+pub mod KindNumbers
 pub mod Logic
 pub mod Operations
 pub mod Order
 pub mod OrderTest
+pub mod Scratch
 pub mod Shapes
 pub mod Spans
 pub mod Typed

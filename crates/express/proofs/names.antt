@@ -1,4 +1,6 @@
+pub mod Edges
 pub mod Enumeration
+pub mod Keys
 pub mod Later
 pub mod Meaning
 pub mod Names

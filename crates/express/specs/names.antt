@@ -1,3 +1,4 @@
 pub mod Fault
+pub mod Key
 pub mod Names
 pub mod Scope

@@ -1,12 +1,12 @@
 -- `reaches` computes `Reaches`: what is in the closure of a list of edges is what is reached over one or more of them.
-use mathlib.Core.Path.{_≡_, refl, sym, ap, ap₂, subst, _∙_}
+use mathlib.Core.Path.{_≡_, refl, sym, ap, ap₂, subst}
 use mathlib.Core.Logic.{_↔_, _⊎_, inl, inr, ⊎-elim}
 use mathlib.Core.Bool.{Bool, true, false, cond, _&&_}
 use mathlib.Core.List.{List, [], _∷_, map, flatMap, List·Memᴰ, List·Memᴰ·head, List·Memᴰ·tail, List·Memᴰ·cases-cons, List·Memᴰ·not-nil, Memᴰ·map, Memᴰ·of-map, Memᴰ·cast}
 use Prim.Native.Nat.{ℕ}
 use borrow.Author.Tests.{eqb-true, eq-eqb}
 use lib.Dec.{eqb}
-use Rattle.relations.specs.Select.{keep, any}
+use Rattle.relations.specs.Select.{keep}
 use Rattle.relations.specs.Reach.{Reaches, direct, onward, Edge, edge, Joins, has, added, sources, targets, closure, reaches}
 use Rattle.relations.proofs.Select.{and-fst, and-snd, and-both, keep-mem, mem-keep, any-mem, mem-any, flat-mem, mem-flat}
 
@@ -60,7 +60,9 @@ mem-added es (f ∷ new) e h = by (has (added es new) f) refl h (λ h′. mem-ad
     head-it true t q = Memᴰ·cast q (has-mem (added es new) f t)
     head-it false t q = List·Memᴰ·head q
 
-    by : (b : Bool) → has (added es new) f ≡ b → List·Memᴰ e es ⊎ List·Memᴰ e (f ∷ new) → (List·Memᴰ e es ⊎ List·Memᴰ e new → List·Memᴰ e (added es new)) → List·Memᴰ e (cond b (added es new) (f ∷ added es new))
+    by :
+        (b : Bool) → has (added es new) f ≡ b → List·Memᴰ e es ⊎ List·Memᴰ e (f ∷ new) → (List·Memᴰ e es ⊎ List·Memᴰ e new → List·Memᴰ e (added es new)) →
+        List·Memᴰ e (cond b (added es new) (f ∷ added es new))
     by b t (inl m) more = keep-it b (more (inl m))
     by b t (inr m) more = ⊎-elim (λ q. head-it b t q) (λ m′. keep-it b (more (inr m′))) (List·Memᴰ·cases-cons m)
 
@@ -148,7 +150,9 @@ closure-trans [] a b c m l = absurd (List·Memᴰ·not-nil m)
 closure-trans (e ∷ es) a b c m l =
     closure-add e es a c (by (λ x y z p q. closure-trans es x y z p q) (closure-cases e es a b m) (closure-cases e es b c l))
   where
-    by : ((x y z : ℕ) → Joins (closure es) x y → Joins (closure es) y z → Joins (closure es) x z) → Joins (closure es) a b ⊎ Added (closure es) e a b → Joins (closure es) b c ⊎ Added (closure es) e b c → Joins (closure es) a c ⊎ Added (closure es) e a c
+    by :
+        ((x y z : ℕ) → Joins (closure es) x y → Joins (closure es) y z → Joins (closure es) x z) → Joins (closure es) a b ⊎ Added (closure es) e a b →
+        Joins (closure es) b c ⊎ Added (closure es) e b c → Joins (closure es) a c ⊎ Added (closure es) e a c
     by old (inl p) (inl q) = inl (old a b c p q)
     by old (inl p) (inr q) =
         inr (⊎-elim (λ z. inr (subst (λ (x : ℕ). Joins (closure es) a x) z p)) (λ s. inr (old a b (e .from) p s)) (q .0), q .1)

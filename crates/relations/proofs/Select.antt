@@ -2,13 +2,15 @@
 use mathlib.Core.Path.{_≡_, refl, sym, ap, _∙_}
 use mathlib.Core.Logic.{_↔_, _⊎_, inl, inr, ⊎-elim}
 use mathlib.Core.Bool.{Bool, true, false, cond, _&&_, _||_, false≢true, and-eq-true-iff}
-use mathlib.Core.List.{List, [], _∷_, _++_, map, flatMap, List·Memᴰ, List·Memᴰ·head, List·Memᴰ·tail, List·Memᴰ·cases-cons, List·Memᴰ·not-nil, List·Memᴰ·append-cases, Memᴰ·append-left, Memᴰ·append-right, Memᴰ·cast}
+use mathlib.Core.List.{List, [], _∷_, _++_, map, flatMap, List·Memᴰ, List·Memᴰ·head, List·Memᴰ·tail}
+use mathlib.Core.List.{List·Memᴰ·cases-cons, List·Memᴰ·not-nil, List·Memᴰ·append-cases, Memᴰ·append-left, Memᴰ·append-right}
 use Prim.Native.Nat.{ℕ, zero, suc, _+_, _-_, _≤_, _<_}
 use native.Mathlib.Numerals.{add-one}
 use native.Mathlib.Omega.{arith}
-use borrow.Author.Tests.{lt-ltb, le-ltb}
-use lib.Dec.{ltb}
-use lib.ListN.{length, getD}
+use borrow.Author.Tests.{ltb-true, ltb-false, lt-ltb, le-ltb, leb-true, le-leb, lt-leb, eqb-true, eq-eqb, ne-eqb}
+use lib.Dec.{ltb, leb, eqb}
+use lib.ListN.{length, getD, length-append}
+use lib.Seq.{getD-append-seam}
 use Rattle.relations.specs.Select.{span, first-from, keep, any, nearest, Ascending, nil, cons}
 
 -- tests
@@ -273,7 +275,7 @@ keep-first-in p i (suc d) = by (p i) refl (keep-first-in p (suc i) d)
         ≡ cond (ltb (first-from p (suc i) d) (suc i + d)) (first-from p (suc i) d ∷ keep p (span (suc (first-from p (suc i) d)) (suc i + d - suc (first-from p (suc i) d)))) []
         → cond b (i ∷ keep p (span (suc i) d)) (keep p (span (suc i) d))
         ≡ cond (ltb (cond b i (first-from p (suc i) d)) (i + suc d))
-          (cond b i (first-from p (suc i) d) ∷ keep p (span (suc (cond b i (first-from p (suc i) d))) (i + suc d - suc (cond b i (first-from p (suc i) d))))) []
+        (cond b i (first-from p (suc i) d) ∷ keep p (span (suc (cond b i (first-from p (suc i) d))) (i + suc d - suc (cond b i (first-from p (suc i) d))))) []
     by true e more = let q : i + suc d - suc i ≡ d = omega arith in rw (lt-ltb i (i + suc d) (omega arith), q)
     by false e more = let q : suc i + d ≡ i + suc d = omega arith in rw (← q) more
 
@@ -282,3 +284,180 @@ pub keep-first :
     keep p (span i (n - i)) ≡
     cond (ltb (first-from p i (n - i)) n) (first-from p i (n - i) ∷ keep p (span (first-from p i (n - i) + 1) (n - (first-from p i (n - i) + 1)))) []
 keep-first p n i l = let q : i + (n - i) ≡ n = omega arith in rw add-one (rw q at (keep-first-in p i (n - i)))
+
+-- ---- tests that agree on what is there
+module _ {A : Type 0} where
+  pub keep-same : (p q : A → Bool) (xs : List A) → ((x : A) → List·Memᴰ x xs → p x ≡ q x) → keep p xs ≡ keep q xs
+  unfolding keep
+  keep-same p q [] h = refl
+  keep-same p q (x ∷ xs) h = rw (h x (List·Memᴰ·head refl), keep-same p q xs (λ y m. h y (List·Memᴰ·tail m)))
+
+  pub any-same : (p q : A → Bool) (xs : List A) → ((x : A) → List·Memᴰ x xs → p x ≡ q x) → any p xs ≡ any q xs
+  unfolding any
+  any-same p q [] h = refl
+  any-same p q (x ∷ xs) h = rw (h x (List·Memᴰ·head refl), any-same p q xs (λ y m. h y (List·Memᴰ·tail m)))
+
+  pub keep-append : (p : A → Bool) (xs ys : List A) → keep p (xs ++ ys) ≡ keep p xs ++ keep p ys
+  unfolding keep
+  keep-append p [] ys = refl
+  keep-append p (x ∷ xs) ys = by (p x) (keep-append p xs ys)
+    where
+      by : (b : Bool) → keep p (xs ++ ys) ≡ keep p xs ++ keep p ys → cond b (x ∷ keep p (xs ++ ys)) (keep p (xs ++ ys)) ≡ cond b (x ∷ keep p xs) (keep p xs) ++ keep p ys
+      by true e = ap (λ (l : List A). x ∷ l) e
+      by false e = e
+
+  pub keep-nothing : (p : A → Bool) (xs : List A) → ((x : A) → List·Memᴰ x xs → p x ≡ false) → keep p xs ≡ []
+  unfolding keep
+  keep-nothing p [] h = refl
+  keep-nothing p (x ∷ xs) h = rw (h x (List·Memᴰ·head refl)) (keep-nothing p xs (λ y m. h y (List·Memᴰ·tail m)))
+
+-- whether one of some numbers in a row passes, by the first that does
+pub any-first : (p : ℕ → Bool) (n i : ℕ) → i ≤ n → any p (span i (n - i)) ≡ ltb (first-from p i (n - i)) n
+any-first p n i l = by (ltb (first-from p i (n - i)) n) refl
+  where
+    k : ℕ
+    k = first-from p i (n - i)
+
+    by : (b : Bool) → ltb k n ≡ b → any p (span i (n - i)) ≡ b
+    by true e =
+        let F = first-is p i (n - i) in
+        let h = ltb-true k n e in
+        mem-any p (span i (n - i)) (mem-span i (n - i) k (F .from) (omega arith)) (F .passes (omega arith))
+    by false e =
+        untrue (any p (span i (n - i)))
+        (λ t.
+        let F = first-is p i (n - i) in
+        let r = any-mem p (span i (n - i)) t in
+        let b = span-mem i (n - i) (r .0) (r .1) in
+        let h = ltb-false k n e in
+        false≢true (sym (F .none (r .0) (b .0) (omega arith)) ∙ r .2))
+
+-- what is first from a later number on is no earlier
+pub first-rises : (p : ℕ → Bool) (n i j : ℕ) → i ≤ j → j ≤ n → first-from p i (n - i) ≤ first-from p j (n - j)
+first-rises p n i j l h = ⊎-elim (λ a. a) (λ a. absurd (no a)) (le-or (first-from p i (n - i)) (first-from p j (n - j)))
+  where
+    F : First p i (n - i) (first-from p i (n - i))
+    F = first-is p i (n - i)
+
+    G : First p j (n - j) (first-from p j (n - j))
+    G = first-is p j (n - j)
+
+    no : first-from p j (n - j) < first-from p i (n - i) → ⊥
+    no a =
+        let u = F .upto in
+        let e = G .passes (omega arith) in
+        let b = G .from in
+        false≢true (sym (F .none (first-from p j (n - j)) (omega arith) a) ∙ e)
+
+-- numbers in a row, in two parts
+pub span-append : (i d e : ℕ) → span i (d + e) ≡ span i d ++ span (i + d) e
+unfolding span
+span-append i zero e = let a : 0 + e ≡ e = omega arith in let b : i + 0 ≡ i = omega arith in rw (a, b)
+span-append i (suc d) e =
+    let a : suc d + e ≡ suc (d + e) = omega arith in
+    let b : i + suc d ≡ suc i + d = omega arith in
+    rw (a, b) (ap (λ (l : List ℕ). i ∷ l) (span-append (suc i) d e))
+
+-- ---- what is kept, part by part: where a number of each rises along the list, the parts by that number stand one after the other
+module _ (p : ℕ → Bool) (f : ℕ → ℕ) where
+  -- f rises along a list, from lo on
+  pub data Climbs : ℕ → List ℕ → Type 0 where
+    flat : {lo : ℕ} → Climbs lo []
+    climb : {lo x : ℕ} {xs : List ℕ} → lo ≤ f x → Climbs (f x) xs → Climbs lo (x ∷ xs)
+
+  climbs-from : {lo : ℕ} {xs : List ℕ} → Climbs lo xs → (y : ℕ) → List·Memᴰ y xs → lo ≤ f y
+  climbs-from flat y m = absurd (List·Memᴰ·not-nil m)
+  climbs-from (climb {lo} {x} a c) y m =
+      ⊎-elim (λ q. let e = ap f q in omega arith) (λ m′. let z = climbs-from c y m′ in omega arith) (List·Memᴰ·cases-cons m)
+
+  abbrev part : ℕ → List ℕ → List ℕ
+  part h xs = keep (λ x. p x && eqb (f x) h) xs
+
+  abbrev rest : ℕ → List ℕ → List ℕ
+  rest h xs = keep (λ x. p x && leb h (f x)) xs
+
+  -- what has the number h, and then what has more
+  split-part : (h : ℕ) {lo : ℕ} {xs : List ℕ} → Climbs lo xs → rest h xs ≡ part h xs ++ rest (suc h) xs
+  unfolding keep
+  split-part h flat = refl
+  split-part h (climb {lo} {x} {xs} a c) = by (p x) (le-or (f x) h) (le-or h (f x)) (split-part h c)
+    where
+      none-more : h < f x → part h xs ≡ []
+      none-more l =
+          keep-nothing (λ y. p y && eqb (f y) h) xs
+          (λ y m. untrue (p y && eqb (f y) h) (λ t. let e = eqb-true (f y) h (and-snd (p y) (eqb (f y) h) t) in let z = climbs-from c y m in omega arith))
+
+      by : (b : Bool) → (f x ≤ h) ⊎ (h < f x) → (h ≤ f x) ⊎ (f x < h) → rest h xs ≡ part h xs ++ rest (suc h) xs
+          → cond (b && leb h (f x)) (x ∷ rest h xs) (rest h xs)
+          ≡ cond (b && eqb (f x) h) (x ∷ part h xs) (part h xs) ++ cond (b && leb (suc h) (f x)) (x ∷ rest (suc h) xs) (rest (suc h) xs)
+      by false s t more = more
+      by true (inl s) (inl t) more =
+          let q : f x ≡ h = omega arith in
+          rw (le-leb h (f x) t, eq-eqb (f x) h q, lt-leb (suc h) (f x) (omega arith)) (ap (λ (l : List ℕ). x ∷ l) more)
+      by true (inl s) (inr t) more =
+          rw (lt-leb h (f x) t, ne-eqb (f x) h (λ q. omega arith), lt-leb (suc h) (f x) (omega arith)) more
+      by true (inr s) t more =
+          let e = none-more s in
+          rw (le-leb h (f x) (omega arith), ne-eqb (f x) h (λ q. omega arith), le-leb (suc h) (f x) s, e) (ap (λ (l : List ℕ). x ∷ l) (rw e at more))
+
+  parts-from :
+      {lo i : ℕ} {xs hs : List ℕ} → Climbs i xs → Ascending lo hs → ((x : ℕ) → List·Memᴰ x xs → p x ≡ true → lo ≤ f x → List·Memᴰ (f x) hs) →
+      rest lo xs ≡ flatMap (λ h. part h xs) hs
+  unfolding flatMap
+  parts-from {lo} {i} {xs} c nil among =
+      keep-nothing (λ x. p x && leb lo (f x)) xs
+      (λ x m. untrue (p x && leb lo (f x)) (λ t. List·Memᴰ·not-nil (among x m (and-fst (p x) _ t) (leb-true lo (f x) (and-snd (p x) (leb lo (f x)) t)))))
+  parts-from {lo} {i} {xs} c (cons {n = h} {ns = hs} a r) among =
+      skip
+      ∙ split-part h c
+      ∙ ap (λ (l : List ℕ). part h xs ++ l)
+      (parts-from c r (λ x m e l. ⊎-elim (λ q. absurd (omega arith)) (λ m′. m′) (List·Memᴰ·cases-cons (among x m e (omega arith)))))
+    where
+      -- none lies between
+      skip : rest lo xs ≡ rest h xs
+      skip =
+          keep-same (λ x. p x && leb lo (f x)) (λ x. p x && leb h (f x)) xs
+          (λ x m. by x m (p x) refl (le-or h (f x)))
+        where
+          by : (x : ℕ) → List·Memᴰ x xs → (b : Bool) → p x ≡ b → (h ≤ f x) ⊎ (f x < h) → b && leb lo (f x) ≡ b && leb h (f x)
+          by x m false e s = refl
+          by x m true e (inl s) = rw (le-leb h (f x) s, le-leb lo (f x) (omega arith))
+          by x m true e (inr s) = at (le-or lo (f x))
+            where
+              at : (lo ≤ f x) ⊎ (f x < lo) → leb lo (f x) ≡ leb h (f x)
+              at (inl g) =
+                  let z = ⊎-elim (λ (q : f x ≡ h). omega arith) (λ m′. ascending-from r (f x) m′) (List·Memᴰ·cases-cons (among x m e g)) in
+                  absurd (omega arith)
+              at (inr g) = rw (lt-leb lo (f x) g, lt-leb h (f x) s)
+
+  pub keep-parts :
+      {xs hs : List ℕ} → Climbs 0 xs → Ascending 0 hs → ((x : ℕ) → List·Memᴰ x xs → p x ≡ true → List·Memᴰ (f x) hs) →
+      keep p xs ≡ flatMap (λ h. keep (λ x. p x && eqb (f x) h) xs) hs
+  keep-parts {xs} {hs} c a among =
+      keep-same p (λ x. p x && leb 0 (f x)) xs (λ x m. rw (le-leb 0 (f x) (omega arith)) (sym (and-one (p x))))
+      ∙ parts-from c a (λ x m e l. among x m e)
+    where
+      and-one : (b : Bool) → b && true ≡ b
+      and-one true = refl
+      and-one false = refl
+
+-- ---- the place of a number among those that are kept
+pub record Placed (p : ℕ → Bool) (n k : ℕ) : Type 0 where
+  pub within : length (keep p (span 0 k)) < length (keep p (span 0 n))
+  pub there : getD (keep p (span 0 n)) (length (keep p (span 0 k))) 0 ≡ k
+
+pub placed : (p : ℕ → Bool) (n k : ℕ) → k < n → p k ≡ true → Placed p n k
+unfolding keep span
+placed p n k l h = record {
+  within = rw (all, length-append (keep p (span 0 k)) (k ∷ keep p (span (suc k) (n - suc k)))) (omega arith);
+  there = rw all (getD-append-seam (keep p (span 0 k)) k (keep p (span (suc k) (n - suc k))) 0);
+}
+  where
+    from-here : keep p (span k (n - k)) ≡ k ∷ keep p (span (suc k) (n - suc k))
+    from-here = let q : n - k ≡ suc (n - suc k) = omega arith in rw (q, h)
+
+    all : keep p (span 0 n) ≡ keep p (span 0 k) ++ (k ∷ keep p (span (suc k) (n - suc k)))
+    all =
+        let q : n ≡ k + (n - k) = omega arith in
+        let z : 0 + k ≡ k = omega arith in
+        ap (λ (d : ℕ). keep p (span 0 d)) q ∙ ap (keep p) (span-append 0 k (n - k)) ∙ keep-append p (span 0 k) (span (0 + k) (n - k)) ∙ rw (z, from-here)

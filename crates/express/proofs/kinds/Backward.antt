@@ -1,18 +1,16 @@
 -- The definitions as a loop over the nodes from the last to the first has them: node i from what is known of the nodes after it.
-use mathlib.Core.Path.{_≡_, refl, sym, ap, _∙_}
-use mathlib.Core.Bool.{Bool, true, false, cond}
-use mathlib.Core.List.{List, [], _∷_, map}
+use mathlib.Core.Path.{_≡_}
+use mathlib.Core.Bool.{Bool, cond}
+use mathlib.Core.List.{[], _∷_, map}
 use Prim.Native.Nat.{ℕ, zero, suc, _+_, _-_, _≤_, _<_}
-use native.Mathlib.Numerals.{add-one}
 use native.Mathlib.Omega.{arith}
 use lib.ListN.{drop}
 use Rattle.express.specs.syntax.NodeKind.{schema}
 use Rattle.relations.specs.Select.{span, keep}
-use Rattle.express.specs.syntax.Tree.{Table, count, nodes, is, is-declaration, owner, schema-of}
-use Rattle.express.specs.names.Scope.{binding, bindings}
-use Rattle.express.specs.names.Fault.{Fault, fine}
+use Rattle.express.specs.syntax.Tree.{Table, count, is, is-declaration, owner, schema-of}
+use Rattle.express.specs.names.Fault.{fine}
 use Rattle.express.specs.names.Names.{Stage, sooner, least}
-use Rattle.relations.proofs.Select.{span-step, span-end, first-step, first-end}
+use Rattle.relations.proofs.Select.{span-step, span-end, first-step, first-end, first-rises}
 
 module _ (t : Table) (i : ℕ) where
   pub owner-step : i < count t → owner t i ≡ cond (is-declaration t i) i (owner t (i + 1))
@@ -31,6 +29,15 @@ owner-end t = first-end (is-declaration t) (count t) (count t) (omega arith)
 pub schema-end : (t : Table) → schema-of t (count t) ≡ count t
 unfolding schema-of
 schema-end t = first-end (is t schema) (count t) (count t) (omega arith)
+
+-- they rise: so the names of a declaration stand together, and the declarations of a schema
+pub owner-rises : (t : Table) (i j : ℕ) → i ≤ j → j ≤ count t → owner t i ≤ owner t j
+unfolding owner
+owner-rises t i j = first-rises (is-declaration t) (count t) i j
+
+pub schema-rises : (t : Table) (i j : ℕ) → i ≤ j → j ≤ count t → schema-of t i ≤ schema-of t j
+unfolding schema-of
+schema-rises t i j = first-rises (is t schema) (count t) i j
 
 module _ (n : ℕ) where
   pub least-step : (s : Stage) (i : ℕ) → i < n → least s (span i (n - i)) ≡ sooner (s i) (least s (span (i + 1) (n - (i + 1))))

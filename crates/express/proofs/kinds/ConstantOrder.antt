@@ -3,24 +3,24 @@ use mathlib.Core.Path.{_≡_, refl, sym, ap, subst, _∙_}
 use mathlib.Core.Logic.{_≢_, _⊎_, inl, inr, ⊎-elim}
 use mathlib.Core.Bool.{Bool, true, false, cond, not, _&&_, _||_, false≢true}
 use mathlib.Core.Option.{Option, none, some}
-use mathlib.Core.List.{List, [], _∷_, map, flatMap, List·Memᴰ, List·Memᴰ·head, List·Memᴰ·tail, List·Memᴰ·eq-of-singleton, List·Memᴰ·not-nil, Memᴰ·map, Memᴰ·of-map}
-use Prim.Native.Nat.{ℕ, zero, suc, _+_, _-_, _≤_, _<_}
+use mathlib.Core.List.{List, [], _∷_, map, List·Memᴰ, List·Memᴰ·head, List·Memᴰ·eq-of-singleton, List·Memᴰ·not-nil, Memᴰ·map}
+use Prim.Native.Nat.{ℕ, _+_, _<_}
 use native.Mathlib.Omega.{arith}
 use borrow.Author.Tests.{eqb-true, eqb-false, eq-eqb, not-true, le-leb}
 use lib.Dec.{eqb, leb}
-use lib.ListN.{length, getD, List·getD-eq-default}
+use lib.ListN.{getD, List·getD-eq-default}
 use Rattle.express.specs.syntax.NodeKind as node
 use Rattle.relations.specs.Select.{keep}
-use Rattle.express.specs.syntax.Tree.{Table, count, kind, role, symbol, first, nodes, is, is-name-in, is-declaration, owner, in-constant}
-use Rattle.relations.specs.Reach.{Reaches, direct, onward, Edge, edge, Joins, reaches}
-use Rattle.express.specs.names.Scope.{Meaning, several, one, meaning, spelled, items-of, item-meant, candidates, declarations-of, is-use, type-meant, means, binding-of, binding, bindings}
+use Rattle.express.specs.syntax.Tree.{Table, count, kind, role, symbol, first, nodes, is, owner, in-constant}
+use Rattle.relations.specs.Reach.{Reaches, direct, onward, edge, Joins}
+use Rattle.express.specs.names.Scope.{Meaning, several, one, meaning, items-of, item-meant, is-use, type-meant, means, binding-of, binding, bindings}
 use Rattle.express.specs.names.Scope as scope
-use Rattle.express.specs.names.Fault.{Fault, judged, suits, right, type-name-fault, cyclic, constants-meant, constant-edges}
+use Rattle.express.specs.names.Fault.{suits, right, type-name-fault, cyclic, constants-meant, constant-edges}
 use Rattle.express.specs.names.Names.{WellNamed}
 use Rattle.express.specs.kinds.Declared.{declaration, bound, denoted}
 use Rattle.express.specs.kinds.Shape.{Shape, Operator, name, shape, shape-in, operator-of, evaluated, name-shape-in}
-use Rattle.express.specs.kinds.Order.{Uses, Needs, Order, constant-order}
-use Rattle.relations.proofs.Select.{and-fst, and-snd, and-both, or-cases, or-left, untrue, le-or, mem-upto, upto-mem, keep-mem, mem-keep, flat-mem, mem-flat, column-at}
+use Rattle.express.specs.kinds.Order.{Uses, Order, constant-order}
+use Rattle.relations.proofs.Select.{and-fst, and-snd, and-both, untrue, le-or, mem-upto, upto-mem, keep-mem, mem-keep, mem-flat, column-at}
 use Rattle.relations.proofs.Reach.{reaches-iff}
 use Rattle.express.proofs.names.Meaning.{edge-start}
 use Rattle.relations.proofs.Topological as topological
@@ -165,7 +165,9 @@ module _ (t : Table) where
         by : (x y z : Bool) → is-use t n ≡ x → is t node.name n ≡ y → is t node.qualified-item n ≡ z → is t node.name n || is t node.qualified-item n ≡ true
             → means t n ≡ one c → is t node.constant c ≡ true → is-use t n ≡ true
         by true y z p q r h m k = p
-        by false true z p q r h m k = absurd (type-no n c l q (untrue (eqb (role t n) node.in-expression) (λ x. false≢true (sym p ∙ and-both (is t node.name n) (eqb (role t n) node.in-expression) q x))) m k)
+        by false true z p q r h m k =
+            let no-use = untrue (eqb (role t n) node.in-expression) (λ x. false≢true (sym p ∙ and-both (is t node.name n) (eqb (role t n) node.in-expression) q x)) in
+            absurd (type-no n c l q no-use m k)
         by false false true p q r h m k = absurd (item-no (symbol t n) c (type-meant t n) (sym (item-means n q r) ∙ m) k)
         by false false false p q r h m k = absurd (false≢true (rw (q, r) at h))
 
@@ -175,7 +177,8 @@ module _ (t : Table) where
     edge-constants a c m =
         let r = edge-start t (λ k. is-use t k && in-constant t k) (λ k. constants-meant t (means t k)) a c m in
         let n = r .0 in
-        (subst (λ (x : ℕ). is t node.constant x ≡ true) (r .3) (and-fst (is t node.constant (owner t n)) (leb (first t (owner t n)) n) (and-snd (is-use t n) (in-constant t n) (r .2))), by (means t n) (r .4))
+        let k = and-fst (is t node.constant (owner t n)) (leb (first t (owner t n)) n) (and-snd (is-use t n) (in-constant t n) (r .2)) in
+        (subst (λ (x : ℕ). is t node.constant x ≡ true) (r .3) k, by (means t n) (r .4))
       where
         if : (k x : ℕ) (b : Bool) → is t node.constant k ≡ b → List·Memᴰ x (cond b (k ∷ []) []) → is t node.constant x ≡ true
         if k x true e m = let q = List·Memᴰ·eq-of-singleton m in subst (λ (y : ℕ). is t node.constant y ≡ true) (sym q) e
@@ -192,7 +195,7 @@ module _ (t : Table) where
     constant-mem : (c : ℕ) → is t node.constant c ≡ true → List·Memᴰ c constants
     constant-mem c h = mem-keep (is t node.constant) (nodes t) (mem-upto (count t) c (constant-below c h)) h
 
-    -- "13: cycle .. of constants" is refused: no constant reaches itself
+    -- cycles of constants are refused: no constant reaches itself
     pub no-cycle : (c : ℕ) → is t node.constant c ≡ true → Reaches (Joins (constant-edges t)) c c → ⊥
     unfolding cyclic
     no-cycle c h r =

@@ -1,6 +1,6 @@
 -- In a well-named file the declared type of a constant is found in as many turns as there are nodes: renamings run in no cycle.
 use mathlib.Core.Path.{_≡_, refl, sym, ap, subst, _∙_}
-use mathlib.Core.Logic.{_↔_, _≢_, _⊎_, inl, inr, ⊎-elim}
+use mathlib.Core.Logic.{_↔_, _≢_, ⊎-elim}
 use mathlib.Core.Bool.{Bool, true, false, cond, not, _&&_, _||_, false≢true}
 use mathlib.Core.List.{List, [], _∷_, map, List·Memᴰ, List·Memᴰ·head, Memᴰ·map, Memᴰ·append-left}
 use Prim.Native.Nat.{ℕ, zero, suc, _+_, _≤_, _<_}
@@ -15,7 +15,8 @@ use Rattle.relations.specs.Select.{span, keep}
 use Rattle.express.specs.syntax.Tree.{Table, count, kind, role, size, symbol, first, nodes, is, is-name-in, is-declaration, owner}
 use Rattle.express.specs.syntax.Tree as tree
 use Rattle.relations.specs.Reach.{Reaches, direct, onward, edge, Joins, reaches}
-use Rattle.express.specs.names.Scope.{Meaning, several, one, meaning, items-of, item-meant, declarations-of, is-use, type-meant, means, binding-of, binding, bindings, super-edges, renaming-edges, type-edges}
+use Rattle.express.specs.names.Scope.{Meaning, several, one, meaning, items-of, item-meant, declarations-of, is-use}
+use Rattle.express.specs.names.Scope.{type-meant, means, binding-of, binding, bindings, super-edges, renaming-edges, type-edges}
 use Rattle.express.specs.names.Scope as scope
 use Rattle.express.specs.names.Fault.{is-value, cyclic}
 use Rattle.express.specs.names.Fault as stage
@@ -23,7 +24,7 @@ use Rattle.express.specs.names.Names.{WellNamed}
 use Rattle.express.specs.syntax.Grammar.{file}
 use Rattle.express.specs.syntax.Syntax.{Read}
 use Rattle.express.specs.kinds.Declared.{Declared, enumeration, other, declaration, bound, simple, renames, denoted-in, denoted}
-use Rattle.relations.proofs.Select.{and-fst, and-snd, or-cases, untrue, le-or, mem-upto, keep-mem, mem-keep, keep-lt, mem-flat, column-at, first-of}
+use Rattle.relations.proofs.Select.{and-fst, and-snd, untrue, le-or, mem-upto, keep-mem, mem-keep, keep-lt, mem-flat, column-at, first-of}
 use Rattle.relations.proofs.Reach.{reaches-iff}
 use Rattle.express.proofs.syntax.FormedRows.{formed-rows}
 use Rattle.express.proofs.syntax.Nodes.{all-below}
@@ -76,7 +77,9 @@ denotes-once (no-type x z) (no-type x′ z′) = refl
 -- ---- enough turns, where each renaming lowers a number
 
 module _ (t : Table) (b : List ℕ) (rank : ℕ → ℕ)
-    (falls : (n : ℕ) → is t node.simple-type n ≡ false → bound t b node.type n ≡ true → is t node.enumeration-item (first t (declaration b n)) ≡ false → rank (first t (declaration b n)) < rank n) where
+    (falls :
+    (n : ℕ) → is t node.simple-type n ≡ false → bound t b node.type n ≡ true → is t node.enumeration-item (first t (declaration b n)) ≡ false →
+    rank (first t (declaration b n)) < rank n) where
   enough : (f n : ℕ) → rank n < f → Denotes t b n (denoted-in f t b n)
   unfolding denoted-in
   enough zero n l = absurd (omega arith)
@@ -153,7 +156,7 @@ module _ {t : Table} (R : Read file t) (W : WellNamed t) where
     role-is : is-use t n ≡ false
     among : List·Memᴰ (declaration b n) (declarations-of t n)
 
-  -- "A name in an expression must be an attribute, constant or item."
+  -- a name in an expression means no type
   no-value : (n k : ℕ) → n < count t → is-use t n ≡ true → means t n ≡ one k → is t node.type k ≡ true → ⊥
   unfolding stage.expression
   no-value n k l e m y =
@@ -315,3 +318,42 @@ module _ {t : Table} (R : Read file t) (W : WellNamed t) where
   -- and no other is
   pub denoted-iff : (n : ℕ) → n < count t → is t node.type n ≡ false → (d : Declared) → Denotes t (bindings t) n d ↔ (d ≡ denoted t (bindings t) n)
   denoted-iff n l h d = (λ x. denotes-once x (denoted-is n l h), λ q. rw q (denoted-is n l h))
+
+  -- so it goes by what the type at hand denotes, without a number of turns
+  abbrev turned : ℕ → Declared
+  turned n =
+      cond (is t node.simple-type n) (simple (tree.terminal t n))
+      (cond (bound t b node.type n)
+      (cond (is t node.enumeration-item (first t (declaration b n))) (enumeration (declaration b n))
+      (cond (renames t (declaration b n)) (denoted t b (first t (declaration b n))) other)) other)
+
+  -- what a type that renames begins with is no type
+  base-known : (d : ℕ) → is t node.type d ≡ true → renames t d ≡ true → (first t d < count t) × (is t node.type (first t d) ≡ false)
+  unfolding mem
+  base-known d h r =
+      let l = type-below d h in
+      let s = formed-rows R .some d l in
+      let z = eqb-true (tree.token t (first t d)) (tree.token t d + 2) r in
+      let u : first t d < d =
+      ⊎-elim (λ (g : d ≤ first t d). let q : first t d ≡ d = omega arith in let w = ap (tree.token t) q in absurd (omega arith)) (λ g. g) (le-or d (first t d)) in
+      let k = and-fst (in-type (kind t (first t d))) _ (inside-type d h (first t d) (omega arith) u) in
+      (omega arith, untrue (is t node.type (first t d)) (λ e. false≢true (rw (eqb-true (kind t (first t d)) node.type e) at k)))
+
+  pub denoted-step : (n : ℕ) → n < count t → is t node.type n ≡ false → denoted t (bindings t) n ≡ turned n
+  denoted-step n l h =
+      denotes-once (denoted-is n l h)
+      (by (is t node.simple-type n) (bound t b node.type n) (is t node.enumeration-item u) (renames t (declaration b n)) refl refl refl refl)
+    where
+      u : ℕ
+      u = first t (declaration b n)
+
+      by :
+          (p q r s : Bool) → is t node.simple-type n ≡ p → bound t b node.type n ≡ q → is t node.enumeration-item u ≡ r → renames t (declaration b n) ≡ s →
+          Denotes t b n (cond p (simple (tree.terminal t n)) (cond q (cond r (enumeration (declaration b n)) (cond s (denoted t b u) other)) other))
+      by true q r s e i j k = a-simple-type e
+      by false false r s e i j k = no-type e i
+      by false true true s e i j k = an-enumeration e i j
+      by false true false false e i j k = a-select e i k j
+      by false true false true e i j k =
+          let w = base-known (declaration b n) (bound-is n node.type i) k in
+          a-renaming e i k j (denoted-is u (w .0) (w .1))

@@ -3,9 +3,9 @@ use mathlib.Core.Path.{_≡_, refl, sym, ap, subst, _∙_}
 use mathlib.Core.Bool.{Bool, true, false, cond, false≢true}
 use mathlib.Core.Logic.{⊎-elim}
 use mathlib.Core.List.{List, _++_, List·Memᴰ, List·Memᴰ·head, List·Memᴰ·tail, List·Memᴰ·cases-cons, List·Memᴰ·eq-of-singleton}
-use Prim.Native.Nat.{ℕ, _+_, _-_, _^_, _≤_, _<_}
+use Prim.Native.Nat.{ℕ, _+_, _^_, _≤_, _<_}
 use native.Mathlib.Omega.{arith}
-use borrow.Author.Tests.{ltb-true, leb-true, eqb-true, ne-eqb}
+use borrow.Author.Tests.{ltb-true, leb-true, ne-eqb}
 use lib.Dec.{eqb, leb, ltb}
 use lib.ListN.{length, length-append}
 use lib.IntN.{ℤ, pos, negsuc, natAbs}
@@ -20,9 +20,11 @@ use Rattle.express.specs.kinds.Bits.{join}
 use Rattle.express.specs.kinds.Relation.{Relation}
 use Rattle.express.specs.kinds.Declared.{Declared, INTEGER, BOOLEAN, LOGICAL, BINARY, enumeration, other}
 use Rattle.express.specs.kinds.Shape.{Arithmetic, minus, times, divide, modulo, power, and, Operator, plus, arithmetic, relation, connective, Sign, positive, negative, not}
-use Rattle.express.specs.kinds.Operate.{Kind, integers, logicals, binaries, items, undetermined, untyped, Of, of-?, of-end, of-integer, of-logical, of-binary, of-item, integral, truthful, summable, comparable, takes, takes-one, end-in, given, computed, operated, combined, signed, between}
+use Rattle.express.specs.kinds.Operate.{Kind, integers, logicals, binaries, items, undetermined, untyped, Of, of-?, of-end, of-integer, of-logical, of-binary}
+use Rattle.express.specs.kinds.Operate.{of-item, integral, truthful, summable, comparable, takes, takes-one, end-in, given, computed, operated, combined, applied, between}
 use Rattle.express.specs.kinds.Rule.{Member, an-integer, is-false, is-true, a-logical, a-binary, an-item, Holds, no-value, an-end, a-member}
-use Rattle.express.specs.kinds.Kind.{kind-number, same, common, kind-of-type, result, result-of-one}
+use Rattle.express.specs.kinds.Kind.{same, common, kind-of-type, result, result-of-one}
+use Rattle.express.proofs.kinds.KindNumbers.{same-kinds}
 use Rattle.express.specs.kinds.Evaluate.{boolean-answer, held}
 
 -- an end's number
@@ -59,25 +61,6 @@ ends-range m =
     (λ m₃. let q = List·Memᴰ·eq-of-singleton m₃ in (omega arith, omega arith)) (List·Memᴰ·cases-cons m₂)) (List·Memᴰ·cases-cons m₁)) (List·Memᴰ·cases-cons m)
 
 -- ---- kinds
-
--- from the number of a kind to the kind
-abbrev of-number : ℕ → Kind
-of-number n =
-    cond (eqb n 0) untyped
-    (cond (eqb n 1) undetermined (cond (eqb n 2) integers (cond (eqb n 3) logicals (cond (eqb n 4) binaries (items (n - 5))))))
-
-number-back : (k : Kind) → of-number (kind-number k) ≡ k
-number-back integers = refl
-number-back logicals = refl
-number-back binaries = refl
-number-back (items y) =
-    rw (ne-eqb (y + 5) 0 (λ e. omega arith), ne-eqb (y + 5) 1 (λ e. omega arith), ne-eqb (y + 5) 2 (λ e. omega arith), ne-eqb (y + 5) 3 (λ e. omega arith), ne-eqb (y + 5) 4 (λ e. omega arith))
-    (ap items (omega arith))
-number-back undetermined = refl
-number-back untyped = refl
-
-same-kinds : (j k : Kind) → same j k ≡ true → j ≡ k
-same-kinds j k e = sym (number-back j) ∙ ap of-number (eqb-true (kind-number j) (kind-number k) e) ∙ number-back k
 
 -- what an operator takes, and what fits a type, has a kind
 integral-comparable : (k : Kind) → integral k ≡ true → comparable k ≡ true
@@ -208,7 +191,7 @@ module _ {t : Table} where
       by false false false _ _ _ c = absurd (false≢true c)
 
   -- ---- integers
-  exact-good : (z : ℤ) → Good t integers (exact z)
+  pub exact-good : (z : ℤ) → Good t integers (exact z)
   unfolding exact
   exact-good z = by (ltb (mag z) (2 ^ 63)) refl
     where
@@ -220,7 +203,7 @@ module _ {t : Table} where
   divided-good true z = good-end zero-divisor-end
   divided-good false z = exact-good z
 
-  computed-good : (o : Arithmetic) (x y : ℤ) → Good t integers (computed o x y)
+  pub computed-good : (o : Arithmetic) (x y : ℤ) → Good t integers (computed o x y)
   unfolding DIV MOD int.power
   computed-good minus x y = exact-good _
   computed-good times x y = exact-good _
@@ -230,7 +213,7 @@ module _ {t : Table} where
   computed-good power x (negsuc n) = good-end negative-power-end
 
   -- ---- binaries
-  join-good : (x y : List Bool) → 1 ≤ length x → Good t binaries (join x y)
+  pub join-good : (x y : List Bool) → 1 ≤ length x → Good t binaries (join x y)
   unfolding join
   join-good x y l = by (leb (length (x ++ y)) 63) refl
     where
@@ -277,20 +260,20 @@ module _ {t : Table} where
       Good t logicals (between o p x y z)
   between-good o p g h i j = combined-good (connective and) (combined-good (relation o) g h) (combined-good (relation p) i j)
 
-  pub signed-good : (o : Sign) {k : Kind} {x : Answer} → takes-one o k ≡ true → Good t k x → Good t (result-of-one o) (signed o x)
-  signed-good positive e good-? = good-?
-  signed-good positive e (good-end h) = good-end h
-  signed-good positive e (good-integer l) = good-integer l
-  signed-good positive e good-logical = absurd (false≢true e)
-  signed-good positive e (good-binary l m) = absurd (false≢true e)
-  signed-good positive e (good-item i o) = absurd (false≢true e)
-  signed-good negative e good-? = good-?
-  signed-good negative e (good-end h) = good-end h
-  signed-good negative e (good-integer l) = exact-good _
-  signed-good negative e good-logical = good-?
-  signed-good negative e (good-binary l m) = good-?
-  signed-good negative e (good-item i o) = good-?
-  signed-good not e g = unless-end g good-logical
+  pub applied-good : (o : Sign) {k : Kind} {x : Answer} → takes-one o k ≡ true → Good t k x → Good t (result-of-one o) (applied o x)
+  applied-good positive e good-? = good-?
+  applied-good positive e (good-end h) = good-end h
+  applied-good positive e (good-integer l) = good-integer l
+  applied-good positive e good-logical = absurd (false≢true e)
+  applied-good positive e (good-binary l m) = absurd (false≢true e)
+  applied-good positive e (good-item i o) = absurd (false≢true e)
+  applied-good negative e good-? = good-?
+  applied-good negative e (good-end h) = good-end h
+  applied-good negative e (good-integer l) = exact-good _
+  applied-good negative e good-logical = good-?
+  applied-good negative e (good-binary l m) = good-?
+  applied-good negative e (good-item i o) = good-?
+  applied-good not e g = unless-end g good-logical
 
   -- ---- constants
   kept : {d : Declared} {a : Answer} → Good t (kind-of-type d) a → Holds t d a → Result t d a a

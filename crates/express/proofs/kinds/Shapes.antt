@@ -11,7 +11,8 @@ use Rattle.express.specs.tokens.Lexis.{integer-value, binary-bits}
 use Rattle.express.specs.syntax.NodeKind as node
 use Rattle.express.specs.syntax.Tree.{Table, kind, terminal, is}
 use Rattle.express.specs.kinds.Declared.{declaration, bound, declared-type}
-use Rattle.express.specs.kinds.Shape.{Operator, Shape, integer-literal, logical-literal, binary-literal, question, item, name, unary, operator, interval, interval-operator, type, constant, unevaluated, text, operator-of, evaluated, name-shape-in, shape, shape-in}
+use Rattle.express.specs.kinds.Shape.{Operator, Shape, integer-literal, logical-literal, binary-literal, question, item, name, unary, operator}
+use Rattle.express.specs.kinds.Shape.{interval, interval-operator, type, constant, unevaluated, text, operator-of, evaluated, name-shape-in, shape, shape-in}
 use Rattle.relations.proofs.Select.{and-snd}
 
 -- of a node n of the table e, whose names are bound by b to nodes of the table t

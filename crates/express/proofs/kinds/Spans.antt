@@ -2,7 +2,6 @@
 use mathlib.Core.Path.{_≡_, refl}
 use mathlib.Core.Logic.{⊎-elim}
 use mathlib.Core.Bool.{true, false≢true}
-use mathlib.Core.List.{_++_}
 use Prim.Native.Nat.{ℕ, zero, suc, _+_, _-_, _≤_, _<_}
 use native.Mathlib.Decide.{ℕ-discrete, decLt}
 use native.Mathlib.Omega.{arith}
@@ -96,6 +95,8 @@ pub record Operands (t : Table) (n : ℕ) : Type 0 where
   pub low-below : Below t n (low t n)
   pub middle-below : Below t n (middle t n)
   pub high-below : Below t n (last n)
+  pub lower-below : Below t n (lower t n)
+  pub upper-below : Below t n (upper t n)
 
 -- the places of five children, h the last and l the first, from their sizes
 record Places (n h u m o l sh su sm so sl : ℕ) : Type 0 where
@@ -179,6 +180,8 @@ module _ (t : Table) (f : Formed t) where
         low-below = record { from = omega arith; under = omega arith };
         middle-below = record { from = omega arith; under = omega arith };
         high-below = record { from = omega arith; under = omega arith };
+        lower-below = record { from = omega arith; under = omega arith };
+        upper-below = record { from = omega arith; under = omega arith };
       }
 
   five-trees : (n : ℕ) → n < count t → kind t n ≡ node.interval → Trees n
@@ -242,6 +245,10 @@ module _ (t : Table) (f : Formed t) where
           let r = find t (first t d) d m (trees d l p) (h .from) (omega (arith, h .upto)) in
           let i = down (r .root) (r .high) (r .part) (r .lies) in
           record { whole = omega (arith, r .low, i .whole); part = i .part }
+
+  -- the nodes of an expression
+  pub in-expression : (r m : ℕ) → r < count t → Part (kind t r) → Lies t m r → Inside r m
+  in-expression r m l p h = inside-below (suc r) r m (omega arith) l p h
 
   -- the nodes of a constant, other than itself
   pub in-constant : (d m : ℕ) → d < count t → kind t d ≡ node.constant → first t d ≤ m → m < d → Inside d m

@@ -2,7 +2,7 @@
 use mathlib.Core.Path.{_≡_, refl, sym, ap, ap₂, _∙_}
 use mathlib.Core.Logic.{⊎-elim, _↔_}
 use mathlib.Core.Bool.{Bool, true, false, cond}
-use mathlib.Core.List.{List, [], _∷_, _++_, flatMap, List·Memᴰ, List·Memᴰ·head, List·Memᴰ·tail, List·Memᴰ·not-nil, List·Memᴰ·cases-cons}
+use mathlib.Core.List.{List, [], _∷_, flatMap, List·Memᴰ, List·Memᴰ·head, List·Memᴰ·tail, List·Memᴰ·not-nil, List·Memᴰ·cases-cons}
 use Prim.Native.Nat.{ℕ, zero, suc, _+_, _≤_, _<_}
 use native.Mathlib.Decide.{ℕ-discrete, decLt}
 use native.Mathlib.Omega.{arith}
@@ -10,35 +10,22 @@ use borrow.Author.Tests.{eqb-true, eq-eqb}
 use lib.ListN.{length, set, replicate, length-set, length-replicate}
 use lib.Seq.{getD-set-same, getD-set-other}
 use Rattle.express.specs.syntax.NodeKind as node
-use Rattle.relations.specs.Select.{span, keep}
-use Rattle.express.specs.syntax.Tree.{Table, count, kind, size, first, last, nodes, is, left, middle, low, within}
+use Rattle.relations.specs.Select.{span, keep, Ascending, nil, cons}
+use Rattle.express.specs.syntax.Tree.{Table, count, kind, size, first, nodes, is, low, within}
 use Rattle.express.proofs.syntax.Formed.{Formed}
-use Rattle.express.specs.kinds.Shape.{Shape, integer-literal, logical-literal, binary-literal, question, item, name, unary, operator, interval, interval-operator, type, constant, unevaluated, shape}
+use Rattle.express.specs.kinds.Shape.{shape}
 use Rattle.express.specs.kinds.Operate.{Kind, untyped}
-use Rattle.express.specs.kinds.Kind.{Finding, of-kind, fault, finding, kind-at, Typing, typed, ill-typed, if-found, type-nodes, type-nodes-in, constants, typing, Constant, Fits, WellTyped, FirstFault}
-use Rattle.relations.proofs.Select.{mem-span, span-mem, mem-keep, keep-mem, mem-flat, flat-mem}
-use Rattle.express.proofs.kinds.Shapes.{Decoded, decoded}
-use Rattle.express.proofs.kinds.Spans.{last-below, left-below, five-below, value-below, in-constant, apart, Below, OfConstant, of-constant, constant-of}
+use Rattle.express.specs.kinds.Kind.{Finding, of-kind, fault, finding, kind-at, Typing, typed, ill-typed, if-found}
+use Rattle.express.specs.kinds.Kind.{type-nodes, type-nodes-in, constants, typing, Constant, Fits, WellTyped, FirstFault}
+use Rattle.relations.proofs.Select.{mem-span, span-mem, mem-keep, keep-mem, mem-flat, flat-mem, ascending-from, ascending-lower, ascending-span, ascending-append}
+use Rattle.express.proofs.kinds.Spans.{in-constant, apart, Below, OfConstant, of-constant, constant-of}
+use Rattle.express.proofs.kinds.Scratch.{same-finding-in}
 use Rattle.express.proofs.kinds.Walk.{all-within, type-constants-is}
-
--- ---- lists that rise, below a bound
-data Rising (hi : ℕ) : ℕ → List ℕ → Type 0 where
-  nil : {lo : ℕ} → Rising hi lo []
-  cons : {lo n : ℕ} {ns : List ℕ} → lo ≤ n → n < hi → Rising hi (suc n) ns → Rising hi lo (n ∷ ns)
-
-lower : {hi j lo : ℕ} {ns : List ℕ} → lo ≤ j → Rising hi j ns → Rising hi lo ns
-lower l nil = nil
-lower {lo = lo} l (cons {n = n} a b r) = let c : lo ≤ n = omega arith in cons c b r
-
-span-rising : (hi lo i d : ℕ) (ns : List ℕ) → lo ≤ i → i + d ≤ hi → Rising hi (i + d) ns → Rising hi lo (span i d ++ ns)
-unfolding span
-span-rising hi lo i zero ns l h r = lower (omega arith) r
-span-rising hi lo i (suc d) ns l h r = cons l (omega arith) (span-rising hi (suc i) (suc i) d ns (omega arith) (omega arith) (lower (omega arith) r))
 
 module _ (t : Table) (f : Formed t) where
   constants-rising :
       (n k lo : ℕ) → n + k ≡ count t → ((c : ℕ) → n ≤ c → c < count t → kind t c ≡ node.constant → lo ≤ first t c) →
-      Rising (count t) lo (all-within t (keep (is t node.constant) (span n k)))
+      Ascending lo (all-within t (keep (is t node.constant) (span n k)))
   unfolding flatMap keep span
   constants-rising n zero lo e h = nil
   constants-rising n (suc k) lo e h = by (is t node.constant n) refl (λ low. constants-rising (suc n) k low (omega arith))
@@ -46,12 +33,13 @@ module _ (t : Table) (f : Formed t) where
       by :
           (p : Bool) → is t node.constant n ≡ p →
           ((low : ℕ) → ((c : ℕ) → suc n ≤ c → c < count t → kind t c ≡ node.constant → low ≤ first t c) →
-          Rising (count t) low (all-within t (keep (is t node.constant) (span (suc n) k)))) →
-          Rising (count t) lo (all-within t (cond p (n ∷ keep (is t node.constant) (span (suc n) k)) (keep (is t node.constant) (span (suc n) k))))
+          Ascending low (all-within t (keep (is t node.constant) (span (suc n) k)))) →
+          Ascending lo (all-within t (cond p (n ∷ keep (is t node.constant) (span (suc n) k)) (keep (is t node.constant) (span (suc n) k))))
       by true i more =
           let q : kind t n ≡ node.constant = eqb-true (kind t n) node.constant i in
           let z = f .inside n (omega arith) in
-          span-rising (count t) lo (first t n) (size t n) _ (h n (omega arith) (omega arith) q) (omega arith)
+          let y = h n (omega arith) (omega arith) q in
+          ascending-append (ascending-lower y (ascending-span (first t n) (size t n))) (λ m i. span-mem (first t n) (size t n) m i .1) (omega arith)
           (more (first t n + size t n) (λ c a l g. let r = apart t f n c l q g (omega arith) in omega arith))
       by false i more = more lo (λ c a. h c (omega arith))
 
@@ -59,7 +47,7 @@ module _ (t : Table) (f : Formed t) where
   abbrev all : List ℕ
   all = all-within t (constants t)
 
-  all-rising : Rising (count t) 0 all
+  all-rising : Ascending 0 all
   all-rising = constants-rising 0 (count t) 0 (omega arith) (λ d a h i. omega arith)
 
   constant-all : (n : ℕ) → OfConstant t n → List·Memᴰ n all
@@ -85,29 +73,15 @@ module _ (t : Table) (f : Formed t) where
         upto = omega arith;
       }
 
+  all-below : (n : ℕ) → List·Memᴰ n all → n < count t
+  all-below n m = let c = all-constant n m in omega (arith, c .upto, c .known)
+
 module _ (t : Table) (b : List ℕ) (f : Formed t) where
   -- what is found at a node goes by the kinds of its children
   same-finding :
       (j k : ℕ → Kind) (n : ℕ) → n < count t → ((c : ℕ) → Below t n c → j c ≡ k c) →
       finding t b j n (shape t b n) ≡ finding t b k n (shape t b n)
-  same-finding j k n l h = by (shape t b n) (decoded t b n)
-    where
-      by : (s : Shape) → Decoded t t b n s → finding t b j n s ≡ finding t b k n s
-      by (integer-literal v) e = refl
-      by (logical-literal v) e = refl
-      by (binary-literal v) e = refl
-      by question e = refl
-      by (item m) e = refl
-      by (name c) e = refl
-      by (unary o) e = rw (h (last n) (last-below t f n l e))
-      by (operator o) e = let c = left-below t f n l e in rw (h (left t n) (c .0), h (last n) (c .1))
-      by (interval o p) e =
-          let c = five-below t f n l e in
-          rw (h (low t n) (c .low-below), h (middle t n) (c .middle-below), h (last n) (c .high-below))
-      by interval-operator e = refl
-      by (type d) e = refl
-      by (constant d) e = rw (h (last n) (value-below t f n l (e .0)))
-      by unevaluated e = refl
+  same-finding = same-finding-in t t b f b
 
   -- a child of a node of a constant is a node of it too
   child-in : (n c : ℕ) → OfConstant t n → Below t n c → OfConstant t c
@@ -151,18 +125,22 @@ module _ (t : Table) (b : List ℕ) (f : Formed t) where
     fits : (m : ℕ) → List·Memᴰ m ns → Fits t b (kind-at js) m
 
   fitted :
-      (lo : ℕ) (ns : List ℕ) (ks js : List Kind) → Rising (count t) lo ns → length ks ≡ count t → type-nodes t b ns ks ≡ typed js →
+      (lo : ℕ) (ns : List ℕ) (ks js : List Kind) → Ascending lo ns → ((m : ℕ) → List·Memᴰ m ns → m < count t) → length ks ≡ count t → type-nodes t b ns ks ≡ typed js →
       Fitted lo ns ks js
   unfolding type-nodes-in
-  fitted lo [] ks js r l e =
+  fitted lo [] ks js r below l e =
       let q : ks ≡ js = cc in
       record {
         kept = record { stays = λ m h. ap (λ (xs : List Kind). kind-at xs m) (sym q) };
         fits = λ m h. absurd (List·Memᴰ·not-nil h);
       }
-  fitted lo (n ∷ ns) ks js (cons a c r) l e =
-      by (finding t b (kind-at ks) n (shape t b n)) refl e (λ k i. fitted (suc n) ns (set ks n k) js r (rw length-set l) i)
+  fitted lo (n ∷ ns) ks js (cons a r) below l e =
+      by (finding t b (kind-at ks) n (shape t b n)) refl e
+      (λ k i. fitted (suc n) ns (set ks n k) js r (λ m h. below m (List·Memᴰ·tail h)) (rw length-set l) i)
     where
+      c : n < count t
+      c = below n (List·Memᴰ·head refl)
+
       by :
           (x : Finding) → finding t b (kind-at ks) n (shape t b n) ≡ x → if-found x n (λ k. type-nodes t b ns (set ks n k)) ≡ typed js →
           ((k : Kind) → type-nodes t b ns (set ks n k) ≡ typed js → Fitted (suc n) ns (set ks n k) js) → Fitted lo (n ∷ ns) ks js
@@ -183,19 +161,18 @@ module _ (t : Table) (b : List ℕ) (f : Formed t) where
     is : finding t b (kind-at kinds) n (shape t b n) ≡ fault p
     fits : (m : ℕ) → m < n → List·Memᴰ m ns → Fits t b (kind-at kinds) m
 
-  rising-from : (hi lo : ℕ) (ns : List ℕ) → Rising hi lo ns → (m : ℕ) → List·Memᴰ m ns → lo ≤ m
-  rising-from hi lo [] r m h = absurd (List·Memᴰ·not-nil h)
-  rising-from hi lo (n ∷ ns) (cons a c r) m h =
-      ⊎-elim (λ (q : m ≡ n). omega arith) (λ h′. let z = rising-from hi (suc n) ns r m h′ in omega arith) (List·Memᴰ·cases-cons h)
-
   stopped :
-      (lo : ℕ) (ns : List ℕ) (ks : List Kind) (p n : ℕ) → Rising (count t) lo ns → length ks ≡ count t → type-nodes t b ns ks ≡ ill-typed p n →
+      (lo : ℕ) (ns : List ℕ) (ks : List Kind) (p n : ℕ) → Ascending lo ns → ((m : ℕ) → List·Memᴰ m ns → m < count t) → length ks ≡ count t → type-nodes t b ns ks ≡ ill-typed p n →
       Stopped lo ns ks p n
   unfolding type-nodes-in
-  stopped lo [] ks p n r l e = absurd (let z : _≡_ {A = ℕ} 0 1 = cc in omega arith)
-  stopped lo (d ∷ ns) ks p n (cons a c r) l e =
-      by (finding t b (kind-at ks) d (shape t b d)) refl e (λ k i. stopped (suc d) ns (set ks d k) p n r (rw length-set l) i)
+  stopped lo [] ks p n r below l e = absurd (let z : _≡_ {A = ℕ} 0 1 = cc in omega arith)
+  stopped lo (d ∷ ns) ks p n (cons a r) below l e =
+      by (finding t b (kind-at ks) d (shape t b d)) refl e
+      (λ k i. stopped (suc d) ns (set ks d k) p n r (λ m h. below m (List·Memᴰ·tail h)) (rw length-set l) i)
     where
+      c : d < count t
+      c = below d (List·Memᴰ·head refl)
+
       by :
           (x : Finding) → finding t b (kind-at ks) d (shape t b d) ≡ x → if-found x d (λ k. type-nodes t b ns (set ks d k)) ≡ ill-typed p n →
           ((k : Kind) → type-nodes t b ns (set ks d k) ≡ ill-typed p n → Stopped (suc d) ns (set ks d k) p n) → Stopped lo (d ∷ ns) ks p n
@@ -207,7 +184,7 @@ module _ (t : Table) (b : List ℕ) (f : Formed t) where
             kept = record { stays = λ m h. refl };
             there = List·Memᴰ·head (sym v);
             is = rw (← u, ← v) i;
-            fits = λ m h g. absurd (let z = rising-from (count t) d (d ∷ ns) (cons (omega arith) c r) m g in omega arith);
+            fits = λ m h g. absurd (let z = ascending-from (cons {lo = d} {n = d} (omega arith) r) m g in omega arith);
           }
       by (of-kind k) i g more =
           let w = more k g in
@@ -226,13 +203,13 @@ module _ (t : Table) (b : List ℕ) (f : Formed t) where
   pub typing-fits : (ks : List Kind) → typing t b ≡ typed ks → (n : ℕ) → Constant t n → Fits t b (kind-at ks) n
   unfolding typing
   typing-fits ks e n c =
-      fitted 0 (all t f) (replicate (count t) untyped) ks (all-rising t f) (length-replicate _ _) (sym (type-constants-is t b (constants t) _) ∙ e) .fits n
+      fitted 0 (all t f) (replicate (count t) untyped) ks (all-rising t f) (all-below t f) (length-replicate _ _) (sym (type-constants-is t b (constants t) _) ∙ e) .fits n
       (constant-all t f n (of-constant t n c))
 
   pub typing-fault : (p n : ℕ) → typing t b ≡ ill-typed p n → FirstFault t b p n
   unfolding typing
   typing-fault p n e =
-      let s = stopped 0 (all t f) (replicate (count t) untyped) p n (all-rising t f) (length-replicate _ _) (sym (type-constants-is t b (constants t) _) ∙ e) in
+      let s = stopped 0 (all t f) (replicate (count t) untyped) p n (all-rising t f) (all-below t f) (length-replicate _ _) (sym (type-constants-is t b (constants t) _) ∙ e) in
       record {
         kinds = kind-at (s .kinds);
         there = constant-of t f n (all-constant t f n (s .there));

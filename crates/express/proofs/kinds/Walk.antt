@@ -1,9 +1,10 @@
 -- Typing and evaluation in steps, as loops take them: the nodes of an expression from the first to the last, the constants one after the other.
 use mathlib.Core.Path.{_≡_, refl, sym, ap, _∙_}
-use mathlib.Core.List.{List, [], _∷_, _++_, append-assoc, flatMap}
+use mathlib.Core.List.{List, [], _∷_, _++_, append-assoc, flatMap, List·Memᴰ, List·Memᴰ·head, List·Memᴰ·tail}
 use Prim.Native.Nat.{ℕ, _+_, _-_, _<_}
 use lib.ListN.{length, set, length-set}
-use Rattle.express.specs.kinds.Answer.{Answer}
+use lib.Seq.{getD-set-other}
+use Rattle.express.specs.kinds.Answer.{Answer, indeterminate}
 use Rattle.relations.specs.Select.{span}
 use Rattle.express.specs.syntax.Tree.{Table, within}
 use Rattle.express.specs.kinds.Shape.{shape-in}
@@ -28,6 +29,13 @@ module _ (t e : Table) (c : List ℕ) (g : ℕ → Answer) where
   unfolding run-in
   run-step d n ns xs l = rw (span-step d n l)
 
+  -- other nodes keep what they had
+  pub run-other : (ns : List ℕ) (xs : List Answer) (m : ℕ) → (List·Memᴰ m ns → ⊥) → answer-at (run-in t e c g ns xs) m ≡ answer-at xs m
+  unfolding run-in
+  run-other [] xs m h = refl
+  run-other (n ∷ ns) xs m h =
+      run-other ns _ m (λ i. h (List·Memᴰ·tail i)) ∙ getD-set-other xs n m _ indeterminate (λ q. h (List·Memᴰ·head q))
+
 module _ (t : Table) (b : List ℕ) where
   pub length-evaluate : (ds : List ℕ) (known : List Answer) → length (evaluate t b ds known) ≡ length known
   unfolding evaluate
@@ -43,6 +51,13 @@ module _ (t : Table) (b : List ℕ) where
   unfolding evaluate
   evaluate-append [] ds known = refl
   evaluate-append (c ∷ cs) ds known = evaluate-append cs ds _
+
+  -- and other constants
+  pub evaluate-other : (ds : List ℕ) (known : List Answer) (m : ℕ) → (List·Memᴰ m ds → ⊥) → answer-at (evaluate t b ds known) m ≡ answer-at known m
+  unfolding evaluate
+  evaluate-other [] known m h = refl
+  evaluate-other (d ∷ ds) known m h =
+      evaluate-other ds _ m (λ i. h (List·Memᴰ·tail i)) ∙ getD-set-other known d m _ indeterminate (λ q. h (List·Memᴰ·head q))
 
 -- ---- typing
 
@@ -84,6 +99,8 @@ unfolding type-constants type-nodes-in flatMap
 type-constants-is t b [] ks = refl
 type-constants-is t b (d ∷ ds) ks = by (type-nodes t b (within t d) ks) (λ js. type-constants-is t b ds js) ∙ sym (type-append t b t b (within t d) (all-within t ds) ks)
   where
-    by : (x : Typing) → ((js : List Kind) → type-constants t b ds js ≡ type-nodes t b (all-within t ds) js) → if-typed x (λ js. type-constants t b ds js) ≡ if-typed x (λ js. type-nodes t b (all-within t ds) js)
+    by :
+        (x : Typing) → ((js : List Kind) → type-constants t b ds js ≡ type-nodes t b (all-within t ds) js) →
+        if-typed x (λ js. type-constants t b ds js) ≡ if-typed x (λ js. type-nodes t b (all-within t ds) js)
     by (typed js) more = more js
     by (ill-typed f n) more = refl

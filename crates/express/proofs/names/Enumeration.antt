@@ -1,30 +1,28 @@
 -- What a type is declared as, its first node tells: the first node of an enumeration is an item, and of nothing else.
-use mathlib.Core.Path.{_≡_, refl, sym, ap, subst, _∙_}
-use mathlib.Core.Logic.{_↔_, _≢_, _⊎_, inl, inr, ⊎-elim}
-use mathlib.Core.Bool.{Bool, true, false, not, _&&_, _||_, false≢true}
-use mathlib.Core.List.{List, [], _∷_, _++_}
+use mathlib.Core.Path.{_≡_, refl, sym, ap, _∙_}
+use mathlib.Core.Logic.{_↔_, _⊎_, inl, inr, ⊎-elim}
+use mathlib.Core.Bool.{true, false, _||_, false≢true}
+use mathlib.Core.List.{[], _∷_}
 use Prim.Native.Nat.{ℕ, zero, suc, _+_, _-_, _≤_, _<_}
 use native.Mathlib.Omega.{arith}
 use borrow.Author.Tests.{eqb-true, eq-eqb}
 use lib.Dec.{eqb}
 use Rattle.ebnf.specs.Set.{mem, disjoint}
-use Rattle.ebnf.specs.Rows.{Row}
 use Rattle.ebnf.proofs.Sorts.{of-sorts, every, every-of}
-use Rattle.ebnf.proofs.Parts.{Part, one, many}
+use Rattle.ebnf.proofs.Parts.{one, many}
 use Rattle.ebnf.proofs.PostOrder.{row-at, size-at, Ends}
 use Rattle.ebnf.proofs.Children.{last-one, last-many, no-more, children-of}
-use Rattle.ebnf.proofs.Below.{every-part}
 use Rattle.express.specs.syntax.NodeKind as node
 use Rattle.express.specs.syntax.Tree.{Table, count, kind, role, size, first, is, is-declaration, owner}
 use Rattle.express.specs.syntax.Grammar.{Nonterminal, file}
 use Rattle.express.specs.syntax.Syntax.{Read}
 use Rattle.express.specs.names.Fault.{is-enumeration}
 use Rattle.express.proofs.syntax.Nodes.{kinds, all-below, underlyings, items, domain-rules}
-use Rattle.express.proofs.syntax.FormedRows.{kind-is, role-is, size-is, count-is, node-at, sized, alone}
+use Rattle.express.proofs.syntax.FormedRows.{kind-is, role-is, size-is, node-at, sized, alone}
 use Rattle.express.proofs.syntax.Within.{Over, passes-below}
 use Rattle.express.proofs.syntax.KindSets as set
 use Rattle.express.proofs.names.Owned.{undeclared, in-owner}
-use Rattle.relations.proofs.Select.{and-both, and-snd, or-cases, or-left, or-right, le-or, first-of, untrue}
+use Rattle.relations.proofs.Select.{and-both, and-snd, or-cases, le-or, first-of}
 
 module _ {x : Nonterminal} {t : Table} (d : Read x t) where
   -- node m lies in a rule
@@ -147,7 +145,7 @@ module _ {x : Nonterminal} {t : Table} (d : Read x t) where
           (λ y. let r = last-one (d .rows) (suc n - size-at (d .rows) n) n [] items y in let a = r .1 in let b = r .2 in let z = size-is d n in omega arith)
           (last-many (d .rows) (suc n - size-at (d .rows) n) n (one items ∷ []) items parts)
 
--- THE SENTENCE: "a type declared as an enumeration". Its first node is an item exactly when a node that is an enumeration stands in it.
+-- A TYPE IS DECLARED AS AN ENUMERATION: its first node is an item exactly when a node that is an enumeration stands in it.
 module _ {t : Table} (d : Read file t) where
   pub record HasEnumeration (y : ℕ) : Type 0 where
     pub enumeration : ℕ
@@ -186,7 +184,7 @@ module _ {t : Table} (d : Read file t) where
         enumeration = u;
         known = known;
         is-one = q;
-        in-type = first-of (is-declaration t) (count t) u y (omega (arith, U .below)) l (or-left (is t node.constant y || is t node.type y) (is t node.entity y) (or-right (is t node.constant y) (is t node.type y) (eq-eqb (kind t y) node.type e))) (λ m a b. plain m a b q);
+        in-type = first-of (is-declaration t) (count t) u y (omega (arith, U .below)) l (rw e) (λ m a b. plain m a b q);
       }
       by (a-select q) = ⊎-elim (λ z. absurd (omega (arith, at-start))) (λ z. absurd (omega (arith, at-start))) (of-select d u known q (first t u) (omega arith) (omega (arith, size-one)))
 

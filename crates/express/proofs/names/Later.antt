@@ -1,32 +1,31 @@
--- 9 is placed at "the later name": of two names of one sort in one scope, the one of the later node stands later in the text.
+-- 9 is placed at the later of two names: of two names of one sort in one scope, the one of the later node stands later in the text.
 use mathlib.Core.Path.{_≡_, refl, sym, ap, _∙_}
-use mathlib.Core.Logic.{_↔_, _≢_, _⊎_, inl, inr, ⊎-elim}
-use mathlib.Core.Bool.{Bool, true, false, cond, not, _&&_, _||_, false≢true}
-use mathlib.Core.List.{List, [], _∷_}
-use Prim.Native.Nat.{ℕ, zero, suc, _+_, _-_, _≤_, _<_}
+use mathlib.Core.Logic.{_↔_, _≢_, ⊎-elim}
+use mathlib.Core.Bool.{Bool, true, false, cond, not, _&&_, false≢true}
+use Prim.Native.Nat.{ℕ, _≤_, _<_}
 use native.Mathlib.Omega.{arith}
-use borrow.Author.Tests.{eqb-true, eqb-false, eq-eqb, ne-eqb, not-true}
+use borrow.Author.Tests.{eqb-true, eqb-false, ne-eqb, not-true}
 use lib.Dec.{eqb}
 use Rattle.ebnf.specs.Set.{mem, disjoint}
 use lib.ListN.{length}
 use Rattle.ebnf.proofs.Sorts.{every}
-use Rattle.ebnf.proofs.PostOrder.{row-at, size-at}
 use Rattle.ebnf.proofs.TextOrder.{in-order, Ordered, text-ordered}
 use Rattle.express.specs.syntax.NodeKind as node
 use Rattle.relations.specs.Select.{span, any}
-use Rattle.express.specs.syntax.Tree.{Table, count, kind, role, token, size, symbol, place, place-at, first, nodes, is, is-name-in, is-declaration, is-attribute, is-scope-member}
+use Rattle.express.specs.syntax.Tree.{Table, count, kind, role, token, symbol, place, first, is, is-name-in, is-declaration, is-attribute, is-scope-member}
 use Rattle.express.specs.syntax.Grammar.{Nonterminal, rules}
 use Rattle.express.specs.syntax.Grammar as grammar
 use Rattle.express.specs.syntax.Syntax.{whole, Read}
 use Rattle.express.specs.names.Fault.{Fault, fault, fine, sort, scope, alike, repeated}
 use Rattle.express.proofs.syntax.Syntax.{express}
 use Rattle.express.proofs.syntax.Nodes.{all-below}
-use Rattle.express.proofs.syntax.FormedRows.{kind-is, size-is, token-is, count-is, sized, alone}
+use Rattle.express.proofs.syntax.FormedRows.{size-is, token-is, count-is, sized, alone}
 use Rattle.express.proofs.syntax.Within.{passes-below}
 use Rattle.express.proofs.syntax.KindSets as set
 use Rattle.express.proofs.names.Owned.{Declaring, a-constant, a-type, an-entity, declaring, declaring-kind, member-kind}
 use Rattle.express.proofs.names.Untied.{Rising}
-use Rattle.relations.proofs.Select.{and-fst, and-snd, and-both, or-cases, le-or, mem-upto, upto-mem, any-mem, mem-any}
+use Rattle.express.proofs.names.Once.{is-alike}
+use Rattle.relations.proofs.Select.{and-fst, and-snd, or-cases, le-or, mem-upto, upto-mem, any-mem, mem-any}
 
 -- the grammar leaves its nodes in the order of the text
 ordered-each : (x : Nonterminal) → in-order (rules x) false ≡ true
@@ -51,7 +50,7 @@ ordered-each grammar.atom = refl
 ordered-each grammar.interval = refl
 
 -- what a node of each sort is
-data Sorted (t : Table) (n : ℕ) : Type 0 where
+pub data Sorted (t : Table) (n : ℕ) : Type 0 where
   a-schema : sort t n ≡ 1 → kind t n ≡ node.schema → Sorted t n
   a-declaration : sort t n ≡ 2 → is-declaration t n ≡ true → Sorted t n
   an-item : sort t n ≡ 3 → kind t n ≡ node.enumeration-item → Sorted t n
@@ -59,7 +58,7 @@ data Sorted (t : Table) (n : ℕ) : Type 0 where
   a-supertype : sort t n ≡ 5 → kind t n ≡ node.name → Sorted t n
   nothing : sort t n ≡ 0 → Sorted t n
 
-sorted : (t : Table) (n : ℕ) → Sorted t n
+pub sorted : (t : Table) (n : ℕ) → Sorted t n
 unfolding sort
 sorted t n = by (is t node.schema n) (is-declaration t n) (is t node.enumeration-item n) (is-scope-member t n) (is-name-in t node.supertype-name n) refl refl refl refl refl
   where
@@ -78,12 +77,14 @@ data Member (k : ℕ) : Type 0 where
 
 member : (t : Table) (n : ℕ) → is-scope-member t n ≡ true → Member (kind t n)
 member t n h =
-    ⊎-elim (λ a. ⊎-elim (λ b. an-attribute (eqb-true (kind t n) node.attribute-name b)) (λ b. a-derived (eqb-true (kind t n) node.derived-attribute b)) (or-cases (is t node.attribute-name n) (is t node.derived-attribute n) a))
+    ⊎-elim
+    (λ a. ⊎-elim (λ b. an-attribute (eqb-true (kind t n) node.attribute-name b)) (λ b. a-derived (eqb-true (kind t n) node.derived-attribute b))
+    (or-cases (is t node.attribute-name n) (is t node.derived-attribute n) a))
     (λ a. a-rule (eqb-true (kind t n) node.rule (and-fst (is t node.rule n) (eqb (role t n) node.labelled) a))) (or-cases (is-attribute t n) (is t node.rule n && eqb (role t n) node.labelled) h)
 
 -- and back
 module _ {t : Table} {n : ℕ} where
-  sort-one : Sorted t n → sort t n ≡ 1 → kind t n ≡ node.schema
+  pub sort-one : Sorted t n → sort t n ≡ 1 → kind t n ≡ node.schema
   sort-one (a-schema s q) e = q
   sort-one (a-declaration s q) e = absurd (omega arith)
   sort-one (an-item s q) e = absurd (omega arith)
@@ -91,15 +92,23 @@ module _ {t : Table} {n : ℕ} where
   sort-one (a-supertype s q) e = absurd (omega arith)
   sort-one (nothing s) e = absurd (omega arith)
 
-  sort-two : Sorted t n → sort t n ≡ 2 → Declaring (kind t n)
+  pub sort-two : Sorted t n → sort t n ≡ 2 → is-declaration t n ≡ true
   sort-two (a-schema s q) e = absurd (omega arith)
-  sort-two (a-declaration s q) e = declaring t n q
+  sort-two (a-declaration s q) e = q
   sort-two (an-item s q) e = absurd (omega arith)
   sort-two (a-member s q) e = absurd (omega arith)
   sort-two (a-supertype s q) e = absurd (omega arith)
   sort-two (nothing s) e = absurd (omega arith)
 
-  sort-four : Sorted t n → sort t n ≡ 4 → is-scope-member t n ≡ true
+  pub sort-three : Sorted t n → sort t n ≡ 3 → kind t n ≡ node.enumeration-item
+  sort-three (a-schema s q) e = absurd (omega arith)
+  sort-three (a-declaration s q) e = absurd (omega arith)
+  sort-three (an-item s q) e = q
+  sort-three (a-member s q) e = absurd (omega arith)
+  sort-three (a-supertype s q) e = absurd (omega arith)
+  sort-three (nothing s) e = absurd (omega arith)
+
+  pub sort-four : Sorted t n → sort t n ≡ 4 → is-scope-member t n ≡ true
   sort-four (a-schema s q) e = absurd (omega arith)
   sort-four (a-declaration s q) e = absurd (omega arith)
   sort-four (an-item s q) e = absurd (omega arith)
@@ -127,14 +136,14 @@ module _ {x : Nonterminal} {t : Table} (d : Read x t) where
       by (a-schema s q) =
           false≢true (rw (sort-one (sorted t k) (e ∙ s)) at (passes-below d (λ j. mem j set.below-schema) refl n l (rw q refl) k u v))
       by (a-declaration s h) =
-          set.not-both (kind t k) set.below-declaration set.declaration-kinds refl (below-declaration (declaring t n h)) (declaring-kind (kind t k) (sort-two (sorted t k) (e ∙ s)))
+          set.not-both (kind t k) set.below-declaration set.declaration-kinds refl (below-declaration (declaring t n h)) (declaring-kind (kind t k) (declaring t k (sort-two (sorted t k) (e ∙ s))))
       by (an-item s q) = let z = alone d n node.enumeration-item l q refl in omega arith
       by (a-member s h) = set.not-both (kind t k) set.below-constant set.member-kinds refl (below-member (member t n h)) (member-kind t k (sort-four (sorted t k) (e ∙ s)))
       by (a-supertype s q) = let z = alone d n node.name l q refl in omega arith
       by (nothing s) = nz s
 
   module _ (rise : Rising t) where
-    ordered : Ordered 0 (length (t .terminals)) (d .rows)
+    pub ordered : Ordered 0 (length (t .terminals)) (d .rows)
     ordered = text-ordered express ordered-each (t .terminals) x (whole (d .rows)) (d .parses)
 
     -- a node before the tree of another stands earlier in the text
@@ -173,7 +182,9 @@ module _ {x : Nonterminal} {t : Table} (d : Read x t) where
     unfolding repeated
     repeated-iff n l = (λ e. found (test (not (eqb (sort t n) 0) && any (alike t n) (span 0 n)) refl e), λ r. given (r .0) (r .1))
       where
-        test : (b : Bool) → not (eqb (sort t n) 0) && any (alike t n) (span 0 n) ≡ b → cond b (fault 9 (place t n)) fine ≡ fault 9 (place t n) → not (eqb (sort t n) 0) && any (alike t n) (span 0 n) ≡ true
+        test :
+            (b : Bool) → not (eqb (sort t n) 0) && any (alike t n) (span 0 n) ≡ b → cond b (fault 9 (place t n)) fine ≡ fault 9 (place t n) →
+            not (eqb (sort t n) 0) && any (alike t n) (span 0 n) ≡ true
         test true q e = q
         test false q e = let z : _≡_ {A = ℕ} 0 9 = ap (λ (f : Fault). f .number) e in absurd (omega arith)
 
@@ -194,5 +205,5 @@ module _ {x : Nonterminal} {t : Table} (d : Read x t) where
             (λ (u : n ≤ k). ⊎-elim (λ (v : k ≤ n). let q : k ≡ n = omega arith in let z = ap (place t) q in absurd (omega arith))
             (λ (v : n < k). let z = later n k v (E .known) (λ (y : sort t k ≡ 0). E .declares (sym (E .same-sort) ∙ y)) (sym (E .same-sort)) in absurd (omega arith)) (le-or k n))
             (λ u. u) (le-or n k) in
-            let a : alike t n k ≡ true = and-both (eqb (symbol t k) (symbol t n) && eqb (sort t k) (sort t n)) (eqb (scope t k) (scope t n)) (and-both (eqb (symbol t k) (symbol t n)) (eqb (sort t k) (sort t n)) (eq-eqb _ _ (E .same-name)) (eq-eqb _ _ (E .same-sort))) (eq-eqb _ _ (E .same-scope)) in
+            let a = is-alike t n k (E .same-name) (E .same-sort) (E .same-scope) in
             rw (ne-eqb (sort t n) 0 (E .declares), mem-any (alike t n) (span 0 n) (mem-upto n k b) a)

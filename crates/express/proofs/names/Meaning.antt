@@ -1,8 +1,8 @@
 -- The candidates and the cycles, for the reader: what is in the lists that the definitions compute.
 use mathlib.Core.Path.{_≡_, refl, sym, ap, _∙_}
-use mathlib.Core.Logic.{_↔_, _≢_, _⊎_, inl, inr, ⊎-elim}
-use mathlib.Core.Bool.{Bool, true, false, cond, _&&_, _||_, false≢true}
-use mathlib.Core.List.{List, [], _∷_, map, flatMap, List·Memᴰ, List·Memᴰ·head, List·Memᴰ·tail, List·Memᴰ·not-nil, List·Memᴰ·eq-of-singleton, Memᴰ·of-map, Memᴰ·cast}
+use mathlib.Core.Logic.{_↔_, _≢_}
+use mathlib.Core.Bool.{Bool, true, false, cond, _&&_}
+use mathlib.Core.List.{List, [], _∷_, map, List·Memᴰ, List·Memᴰ·head, List·Memᴰ·tail, List·Memᴰ·not-nil, List·Memᴰ·eq-of-singleton, Memᴰ·map, Memᴰ·of-map, Memᴰ·cast}
 use Prim.Native.Nat.{ℕ, _+_, _-_, _≤_, _<_}
 use native.Mathlib.Omega.{arith}
 use borrow.Author.Tests.{eqb-true, eq-eqb, ltb-true}
@@ -11,9 +11,11 @@ use Rattle.express.specs.syntax.NodeKind.{name, qualified-item, enumerat
 use Rattle.relations.specs.Select.{span, first-from, keep, nearest, Ascending, nil, cons}
 use Rattle.express.specs.syntax.Tree.{Table, count, symbol, place, nodes, is, is-declaration, is-attribute, is-scope-member, owner, schema-of}
 use Rattle.relations.specs.Reach.{Reaches, Edge, edge, Joins, reaches}
-use Rattle.express.specs.names.Scope.{Meaning, none, one, several, meaning, spelled, declarations, declarations-of, items, items-of, item-meant, own, inherited, candidates, is-use, type-meant, means, edges, super-edges}
+use Rattle.express.specs.names.Scope.{Meaning, none, one, several, meaning, spelled, declarations, declarations-of, items}
+use Rattle.express.specs.names.Scope.{items-of, item-meant, own, inherited, candidates, is-use, type-meant, means, edges, super-edges}
 use Rattle.express.specs.names.Fault.{Fault, fault, fine, cyclic}
-use Rattle.relations.proofs.Select.{and-fst, and-snd, and-both, mem-upto, upto-mem, keep-mem, mem-keep, flat-mem, keep-first, ascending-from, ascending-span, ascending-keep, ascending-nearest}
+use Rattle.relations.proofs.Select.{and-fst, and-snd, and-both, mem-upto, upto-mem, keep-mem, mem-keep}
+use Rattle.relations.proofs.Select.{flat-mem, mem-flat, keep-first, ascending-from, ascending-span, ascending-keep, ascending-nearest}
 use Rattle.relations.proofs.Reach.{reaches-iff}
 
 module _ (t : Table) where
@@ -59,9 +61,10 @@ module _ (t : Table) where
   inherited-iff d s k =
       candidate-iff s _ _
       (λ k. (
-        λ e.
-            (and-fst (is-attribute t k) (reaches (super-edges t) d (owner t k)) e,
-            reaches-iff (super-edges t) d (owner t k) .0 (and-snd (is-attribute t k) (reaches (super-edges t) d (owner t k)) e)),
+        λ e. (
+          and-fst (is-attribute t k) (reaches (super-edges t) d (owner t k)) e,
+          reaches-iff (super-edges t) d (owner t k) .0 (and-snd (is-attribute t k) (reaches (super-edges t) d (owner t k)) e),
+        ),
         λ r. and-both (is-attribute t k) (reaches (super-edges t) d (owner t k)) (r .0) (reaches-iff (super-edges t) d (owner t k) .1 (r .1)),
       )) k
 
@@ -85,6 +88,23 @@ module _ (t : Table) where
       let k = keep-mem p (nodes t) (r .1) in
       let l = Memᴰ·of-map (edge (owner t n)) (meant n) (r .2) in
       (n, upto-mem (count t) n (k .0), k .1, ap (λ (e : Edge). e .from) (l .2), Memᴰ·cast (sym (ap (λ (e : Edge). e .to) (l .2))) (l .1))
+
+  -- and back
+  pub edge-made : (p : ℕ → Bool) (meant : ℕ → List ℕ) (n b : ℕ) → n < count t → p n ≡ true → List·Memᴰ b (meant n) → Joins (edges t p meant) (owner t n) b
+  edge-made p meant n b l h m =
+      mem-flat (λ k. map (edge (owner t k)) (meant k)) (keep p (nodes t)) (mem-keep p (nodes t) (mem-upto (count t) n l) h) (Memᴰ·map (edge (owner t n)) m)
+
+  -- no 13 where no cycle runs through a node that passes
+  pub cyclic-fine : (p : ℕ → Bool) (es : List Edge) (n : ℕ) → (cyclic t p es n .number ≡ 0) ↔ (p n ≡ true → Reaches (Joins es) n n → ⊥)
+  unfolding cyclic
+  cyclic-fine p es n = (
+    λ z h r. let e : cyclic t p es n .number ≡ 13 = rw (h, reaches-iff es n n .1 r) in omega arith,
+    λ h. by (p n && reaches es n n) refl h,
+  )
+    where
+      by : (b : Bool) → p n && reaches es n n ≡ b → (p n ≡ true → Reaches (Joins es) n n → ⊥) → cond b (fault 13 (place t n)) fine .number ≡ 0
+      by true q h = absurd (h (and-fst (p n) (reaches es n n) q) (reaches-iff es n n .0 (and-snd (p n) (reaches es n n) q)))
+      by false q h = refl
 
 -- an empty list
 pub no-members : (xs : List ℕ) → ((k : ℕ) → List·Memᴰ k xs → ⊥) → xs ≡ []

@@ -1,14 +1,16 @@
 -- The stages, for the reader: a stage passes exactly when each node is fine; a refusal is the least fault of the first stage that does not pass.
 use mathlib.Core.Path.{_≡_, refl, sym, ap, ap₂, _∙_}
 use mathlib.Core.Logic.{_↔_, _≢_, _⊎_, inl, inr, ⊎-elim}
-use mathlib.Core.Bool.{Bool, true, false, cond}
+use mathlib.Core.Bool.{Bool, true, false}
 use mathlib.Core.List.{List, [], _∷_, List·Memᴰ, List·Memᴰ·head, List·Memᴰ·tail, List·Memᴰ·cases-cons, List·Memᴰ·not-nil}
-use Prim.Native.Nat.{ℕ, zero, suc, _≤_, _<_}
+use Prim.Native.Nat.{ℕ, zero, suc, _+_, _≤_, _<_}
 use native.Mathlib.Omega.{arith}
-use borrow.Author.Tests.{eqb-true, eqb-false, leb-true, leb-false}
+use borrow.Author.Tests.{eqb-true, eqb-false, ne-eqb, leb-true, leb-false, le-leb}
 use lib.Dec.{eqb, leb}
+use Rattle.relations.specs.Select.{span}
+use Rattle.relations.proofs.Select.{span-mem}
 use Rattle.express.specs.syntax.Tree.{Table, nodes}
-use Rattle.express.specs.names.Fault.{Fault, fault, fine, or-later}
+use Rattle.express.specs.names.Fault.{Fault, fault, or-later}
 use Rattle.express.specs.names.Names.{Stage, stages, sooner, least, first-fault, names, Passes, WellNamed, Least, StageFault, here, later}
 
 zero-or : (n : ℕ) → (n ≡ 0) ⊎ (n ≢ 0)
@@ -56,7 +58,7 @@ module _ (s : Stage) where
       by (the-first g l q) z = absurd (g (h k (List·Memᴰ·head refl)))
       by (the-second g q) z = ap (λ (x : Fault). x .number) q ∙ z
 
-  -- "a stage passes exactly when every node is fine"
+  -- a stage passes exactly when each node is fine
   pub passes-iff : (ns : List ℕ) → (least s ns .number ≡ 0) ↔ Passes ns s
   passes-iff ns = (least-passes ns, passes-least ns)
 
@@ -89,6 +91,39 @@ module _ (s : Stage) where
       })
       by (the-second g q) more =
           rw q (weaker (more (λ (e : least s ns .number ≡ 0). h (ap (λ (x : Fault). x .number) q ∙ e))) (λ z. g z .1))
+
+  -- a node without a fault plays no part; the first with one is given where none after it has a smaller place
+  pub least-skip : (n : ℕ) (ns : List ℕ) → s n .number ≡ 0 → least s (n ∷ ns) ≡ least s ns
+  unfolding least
+  least-skip n ns e = rw e
+
+  pub least-first : (n : ℕ) (ns : List ℕ) → s n .number ≢ 0 → ((m : ℕ) → List·Memᴰ m ns → s m .number ≢ 0 → s n .place ≤ s m .place) → least s (n ∷ ns) ≡ s n
+  unfolding least
+  least-first n ns f h = by (sooner-is (s n) (least s ns))
+    where
+      at-least : (g : least s ns .number ≢ 0) → s n .place ≤ least s ns .place
+      at-least g =
+          let L = least-is ns g in
+          let e = L .is in
+          rw (← e) (h (L .node) (L .among) (λ z. g (ap (λ (x : Fault). x .number) (sym e) ∙ z)))
+
+      by : Sooner (s n) (least s ns) → sooner (s n) (least s ns) ≡ s n
+      by (the-first g l q) = q
+      by (the-second g q) =
+          let r = g f in
+          let l = at-least (r .0) in
+          rw (ne-eqb (s n .number) 0 f, ne-eqb (least s ns .number) 0 (r .0), le-leb (s n .place) (least s ns .place) l)
+
+  pub least-rising :
+      (i d : ℕ) → ((j : ℕ) → j < i → s j .number ≡ 0) → s i .number ≢ 0 → ((j : ℕ) → i < j → s j .number ≢ 0 → s i .place ≤ s j .place) →
+      (k e : ℕ) → k + e ≡ i → least s (span k (suc (e + d))) ≡ s i
+  unfolding span
+  least-rising i d fine f rise k zero q =
+      let z : k ≡ i = omega arith in
+      rw z (least-first i (span (suc i) (0 + d)) f (λ m l g. let r = span-mem (suc i) (0 + d) m l in rise m (omega arith) g))
+  least-rising i d fine f rise k (suc e) q =
+      let z : suc e + d ≡ suc (e + d) = omega arith in
+      rw z (least-skip k (span (suc k) (suc (e + d))) (fine k (omega arith)) ∙ least-rising i d fine f rise (suc k) e (omega arith))
 
   -- and it is the only one, where faults at one place have one number
   pub least-only : (ns : List ℕ) → Untied ns s → (f : Fault) → Least ns s f → f ≡ least s ns
@@ -178,7 +213,10 @@ names-passes t = (
         expressions = h _ (List·Memᴰ·tail (List·Memᴰ·tail (List·Memᴰ·tail (List·Memᴰ·head refl))));
         constant-cycles = h _ (List·Memᴰ·tail (List·Memᴰ·tail (List·Memᴰ·tail (List·Memᴰ·tail (List·Memᴰ·head refl)))));
       },
-  λ W. all-fine (nodes t) (stages t) (all-cons (W .once) (all-cons (W .types) (all-cons (W .type-cycles) (all-cons (W .expressions) (all-cons (W .constant-cycles) (λ s m. absurd (List·Memᴰ·not-nil m))))))),
+  λ W.
+      all-fine (nodes t) (stages t)
+      (all-cons (W .once)
+      (all-cons (W .types) (all-cons (W .type-cycles) (all-cons (W .expressions) (all-cons (W .constant-cycles) (λ s m. absurd (List·Memᴰ·not-nil m))))))),
 )
 
 -- Else `names` is the least fault of the first stage that has one, and, without ties, nothing else is.

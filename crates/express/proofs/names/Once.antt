@@ -1,17 +1,18 @@
 -- Where stage 9 passes, a scope holds a name once: two meanings arise from inherited attributes and from items of several enumerations alone.
 use mathlib.Core.Path.{_≡_, refl, sym, ap, _∙_}
 use mathlib.Core.Logic.{_≢_, _⊎_, inl, inr, ⊎-elim}
-use mathlib.Core.Bool.{Bool, true, false, cond, not, _&&_, _||_, false≢true}
-use mathlib.Core.List.{List, [], _∷_, List·Memᴰ, List·Memᴰ·head}
-use Prim.Native.Nat.{ℕ, zero, suc, _+_, _≤_, _<_}
+use mathlib.Core.Bool.{Bool, true, false, cond, _&&_, _||_}
+use mathlib.Core.List.{List, [], _∷_, List·Memᴰ}
+use Prim.Native.Nat.{ℕ, _≤_, _<_}
 use native.Mathlib.Omega.{arith}
-use borrow.Author.Tests.{eqb-true, eqb-false, eq-eqb, ne-eqb}
-use lib.Dec.{eqb, leb}
-use Rattle.express.specs.syntax.NodeKind.{name, constant, type, entity, attribute-name, derived-attribute, rule, enumeration-item, schema, qualified-item, labelled, in-expression}
-use Rattle.relations.specs.Select.{span, keep, any, nearest}
-use Rattle.express.specs.syntax.Tree.{Table, count, kind, role, symbol, place, nodes, is, is-name-in, is-declaration, is-attribute, is-scope-member, owner, schema-of}
-use Rattle.express.specs.names.Scope.{Meaning, none, one, several, meaning, spelled, declarations, declarations-of, is-use, items, own, inherited, items-of, candidates, type-meant, item-meant, means}
-use Rattle.express.specs.names.Fault.{Fault, fault, fine, sort, scope, alike, repeated}
+use borrow.Author.Tests.{eqb-true, eq-eqb, ne-eqb}
+use lib.Dec.{eqb}
+use Rattle.express.specs.syntax.NodeKind.{name, constant, type, entity, attribute-name, derived-attribute, rule, enumeration-item, qualified-item, labelled}
+use Rattle.relations.specs.Select.{span, any, nearest}
+use Rattle.express.specs.syntax.Tree.{Table, count, kind, role, symbol, nodes, is, is-declaration, is-attribute, is-scope-member, owner, schema-of}
+use Rattle.express.specs.names.Scope.{Meaning, none, one, several, meaning, spelled, declarations, declarations-of}
+use Rattle.express.specs.names.Scope.{is-use, items, own, inherited, items-of, candidates, type-meant, item-meant, means}
+use Rattle.express.specs.names.Fault.{sort, scope, alike, repeated}
 use Rattle.express.specs.names.Names.{Passes}
 use Rattle.relations.proofs.Select.{and-fst, and-snd, and-both, or-cases, le-or, mem-upto, upto-mem, keep-mem, mem-any}
 use Rattle.express.proofs.names.Meaning.{Differing, meaning-several, spelled-ascending}
@@ -48,12 +49,17 @@ module _ (t : Table) (k : ℕ) where
   unfolding scope
   scope-member e = rw e
 
+pub is-alike : (t : Table) (n k : ℕ) → symbol t k ≡ symbol t n → sort t k ≡ sort t n → scope t k ≡ scope t n → alike t n k ≡ true
+is-alike t n k a b c =
+    and-both (eqb (symbol t k) (symbol t n) && eqb (sort t k) (sort t n)) (eqb (scope t k) (scope t n))
+    (and-both (eqb (symbol t k) (symbol t n)) (eqb (sort t k) (sort t n)) (eq-eqb _ _ a) (eq-eqb _ _ b)) (eq-eqb _ _ c)
+
 -- no two of one sort and one symbol in one scope
 module _ (t : Table) (stage9 : Passes (nodes t) (repeated t)) where
   pub once : (x y : ℕ) → x < y → y < count t → sort t y ≢ 0 → sort t x ≡ sort t y → scope t x ≡ scope t y → symbol t x ≡ symbol t y → ⊥
   unfolding repeated
   once x y h b d e f g =
-      let a : alike t y x ≡ true = and-both (eqb (symbol t x) (symbol t y) && eqb (sort t x) (sort t y)) (eqb (scope t x) (scope t y)) (and-both (eqb (symbol t x) (symbol t y)) (eqb (sort t x) (sort t y)) (eq-eqb _ _ g) (eq-eqb _ _ e)) (eq-eqb _ _ f) in
+      let a = is-alike t y x g e f in
       let c : any (alike t y) (span 0 y) ≡ true = mem-any (alike t y) (span 0 y) (mem-upto y x h) a in
       let z : repeated t y .number ≡ 9 = rw (ne-eqb (sort t y) 0 d, c) in
       let w = stage9 y (mem-upto (count t) y b) in

@@ -5,7 +5,7 @@ use mathlib.Core.Bool.{Bool, true, false, not, _&&_, _||_, false≢true}
 use mathlib.Core.List.{List, []}
 use Prim.Native.Nat.{ℕ, suc, _-_, _≤_, _<_}
 use native.Mathlib.Omega.{arith}
-use borrow.Author.Tests.{eqb-true, eq-eqb, not-true}
+use borrow.Author.Tests.{eqb-true, eq-eqb, not-true, le-leb}
 use lib.Dec.{eqb}
 use Rattle.ebnf.specs.Set.{mem, disjoint, subset}
 use Rattle.ebnf.proofs.Sets.{in-more}
@@ -13,7 +13,7 @@ use Rattle.ebnf.proofs.Sorts.{every}
 use Rattle.ebnf.proofs.Below.{every-part}
 use Rattle.express.specs.syntax.NodeKind as node
 use Rattle.express.specs.syntax.NodeKind.{kind-limit}
-use Rattle.express.specs.syntax.Tree.{Table, count, kind, role, first, nodes, is, is-name-in, is-declaration, is-attribute, is-scope-member, owner, schema-of}
+use Rattle.express.specs.syntax.Tree.{Table, count, kind, role, first, is, is-name-in, is-declaration, is-attribute, is-scope-member, owner, schema-of, in-constant}
 use Rattle.express.specs.syntax.Grammar.{Nonterminal, file}
 use Rattle.express.specs.syntax.Syntax.{Read}
 use Rattle.relations.specs.Reach.{Reaches, direct, onward, Joins}
@@ -21,7 +21,7 @@ use Rattle.express.specs.names.Scope.{super-edges, declarations-of, own,
 use Rattle.express.proofs.syntax.Nodes.{kinds, all-below}
 use Rattle.express.proofs.syntax.KindSets as set
 use Rattle.express.proofs.syntax.Within.{Over, all-pass-below, passes-below, file-last, schema-over, owner-over}
-use Rattle.relations.proofs.Select.{and-fst, and-snd, or-cases, or-left, untrue, le-or, first-of}
+use Rattle.relations.proofs.Select.{and-fst, and-snd, or-cases, or-left, untrue, le-or, first-is, first-of}
 use Rattle.express.proofs.names.Meaning.{own-iff, inherited-iff, edge-start, no-members}
 
 -- the three declarations, by kind
@@ -81,17 +81,44 @@ abbrev outside : (ℕ → Bool) → (ℕ → ℕ → Bool) → ℕ → ℕ → B
 outside q s k o = q k && not (s k o)
 
 module _ {t : Table} (d : Read file t) where
-  -- a node of a kind that stands below a schema lies in its owner
-  pub in-owner : (n : ℕ) → n < count t → mem (kind t n) set.below-schema ≡ true → Over t n (owner t n) × Declaring (kind t (owner t n))
+  -- a node of a kind that stands below a schema lies in one
+  pub in-schema : (n : ℕ) → n < count t → mem (kind t n) set.below-schema ≡ true → (suc n < count t) × (n < schema-of t n)
   unfolding mem
-  in-owner n l h =
+  in-schema n l h =
       let f = file-last d in
-      let a : suc n < count t = ⊎-elim (λ (b : count t ≤ suc n). let q : n ≡ count t - 1 = omega arith in absurd (false≢true (rw (ap (kind t) q ∙ f .1) at h))) (λ b. b) (le-or (count t) (suc n)) in
+      let a : suc n < count t =
+      ⊎-elim (λ (b : count t ≤ suc n). let q : n ≡ count t - 1 = omega arith in absurd (false≢true (rw (ap (kind t) q ∙ f .1) at h))) (λ b. b) (le-or (count t) (suc n)) in
       let s = schema-over d n a in
       let o = s .0 .to in
-      let b : n < schema-of t n = ⊎-elim (λ (c : schema-of t n ≤ n). let q : n ≡ schema-of t n = omega arith in absurd (false≢true (rw (ap (kind t) q ∙ s .1) at h))) (λ c. c) (le-or (schema-of t n) n) in
-      let r = owner-over d n a b in
+      (a, ⊎-elim (λ (c : schema-of t n ≤ n). let q : n ≡ schema-of t n = omega arith in absurd (false≢true (rw (ap (kind t) q ∙ s .1) at h))) (λ c. c) (le-or (schema-of t n) n))
+
+  -- and in its owner
+  pub in-owner : (n : ℕ) → n < count t → mem (kind t n) set.below-schema ≡ true → Over t n (owner t n) × Declaring (kind t (owner t n))
+  in-owner n l h =
+      let a = in-schema n l h in
+      let r = owner-over d n (a .0) (a .1) in
       (r .0, declaring t (owner t n) (r .1))
+
+  -- so it is in a constant exactly when its owner is one
+  pub in-constant-is : (n : ℕ) → n < count t → mem (kind t n) set.below-schema ≡ true → in-constant t n ≡ is t node.constant (owner t n)
+  in-constant-is n l h = let o = in-owner n l h in rw (le-leb (first t (owner t n)) n (o .0 .from)) (and-one (is t node.constant (owner t n)))
+    where
+      and-one : (b : Bool) → b && true ≡ b
+      and-one true = refl
+      and-one false = refl
+
+  -- and its owner lies in the same schema
+  pub owner-schema : (n : ℕ) → n < count t → mem (kind t n) set.below-schema ≡ true → schema-of t (owner t n) ≡ schema-of t n
+  unfolding schema-of
+  owner-schema n l h =
+      let a = in-schema n l h in
+      let s = schema-over d n (a .0) in
+      let r = owner-over d n (a .0) (a .1) in
+      let o = r .0 .to in
+      let g = r .2 in
+      let F = first-is (is t node.schema) n (count t - n) in
+      first-of (is t node.schema) (count t) (owner t n) (schema-of t n) (omega arith) (s .0 .known) (eq-eqb (kind t (schema-of t n)) node.schema (s .1))
+      (λ j lo hi. F .none j (omega arith) hi)
 
   -- Its owner is not of a kind below which no node is of its sort s. (q is what the nodes below pass by kind.)
   away : (q : ℕ → Bool) (s : ℕ → ℕ → Bool) → all-below kind-limit (λ k. not (q k) || every-part (outside q s) (kinds .children k)) ≡ true
@@ -110,8 +137,13 @@ module _ {t : Table} (d : Read file t) where
       six : kind t n ≡ node.name
       six = eqb-true (kind t n) node.name (and-fst (is t node.name n) (eqb (role t n) node.supertype-name) h)
 
-      no : Over t n (owner t n) → (k : ℕ) → every-part (outside (λ k. mem k set.below-declaration) (λ k o. eqb k node.name && eqb o node.supertype-name)) (kinds .children k) ≡ true → kind t n ≢ k → kind t (owner t n) ≡ k → ⊥
-      no o = away (λ k. mem k set.below-declaration) (λ k o. eqb k node.name && eqb o node.supertype-name) refl n h o
+      super : ℕ → ℕ → Bool
+      super k o = eqb k node.name && eqb o node.supertype-name
+
+      no :
+          Over t n (owner t n) → (k : ℕ) → every-part (outside (λ k. mem k set.below-declaration) super) (kinds .children k) ≡ true → kind t n ≢ k →
+          kind t (owner t n) ≡ k → ⊥
+      no o = away (λ k. mem k set.below-declaration) super refl n h o
 
       by : Over t n (owner t n) × Declaring (kind t (owner t n)) → kind t (owner t n) ≡ node.entity
       by (o, a-constant q) = absurd (no o node.constant refl (λ (z : kind t n ≡ node.constant). omega (arith, six)) q)
@@ -128,12 +160,14 @@ module _ {t : Table} (d : Read file t) where
           ⊎-elim (λ a. eqb-true (kind t n) node.name (and-fst (is t node.name n) (eqb (role t n) node.renamed-type) a))
           (λ a. eqb-true (kind t n) node.name (and-fst (is t node.name n) (eqb (role t n) node.select-name) a)) (or-cases (is-name-in t node.renamed-type n) (is-name-in t node.select-name n) h)
 
-      no : Over t n (owner t n) → (k : ℕ)
-          → every-part (outside (λ k. mem k set.below-declaration && not (eqb k node.select)) (λ k o. eqb k node.name && eqb o node.renamed-type || eqb k node.name && eqb o node.select-name)) (kinds .children k) ≡ true
-          → kind t n ≢ k → kind t (owner t n) ≡ k → ⊥
-      no o =
-          away (λ k. mem k set.below-declaration && not (eqb k node.select))
-          (λ k o. eqb k node.name && eqb o node.renamed-type || eqb k node.name && eqb o node.select-name) refl n h o
+      kept : ℕ → Bool
+      kept k = mem k set.below-declaration && not (eqb k node.select)
+
+      renaming : ℕ → ℕ → Bool
+      renaming k o = eqb k node.name && eqb o node.renamed-type || eqb k node.name && eqb o node.select-name
+
+      no : Over t n (owner t n) → (k : ℕ) → every-part (outside kept renaming) (kinds .children k) ≡ true → kind t n ≢ k → kind t (owner t n) ≡ k → ⊥
+      no o = away kept renaming refl n h o
 
       by : Over t n (owner t n) × Declaring (kind t (owner t n)) → kind t (owner t n) ≡ node.type
       by (o, a-constant q) = absurd (no o node.constant refl (λ (z : kind t n ≡ node.constant). omega (arith, six)) q)

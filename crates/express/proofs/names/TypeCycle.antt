@@ -1,18 +1,18 @@
 -- A cycle of types and entities is one of renamings and select lists, or one of supertypes: none runs over both.
-use mathlib.Core.Path.{_≡_, refl, sym, ap, subst, _∙_}
+use mathlib.Core.Path.{_≡_, refl, sym, ap, _∙_}
 use mathlib.Core.Logic.{_↔_, _≢_, _⊎_, inl, inr, ⊎-elim}
-use mathlib.Core.Bool.{Bool, true, false, cond, not, _&&_, _||_}
-use mathlib.Core.List.{List, [], _∷_, _++_, List·Memᴰ, List·Memᴰ·eq-of-singleton, List·Memᴰ·not-nil, List·Memᴰ·append-cases, Memᴰ·append-left, Memᴰ·append-right}
+use mathlib.Core.Bool.{Bool, true, false, cond, _||_}
+use mathlib.Core.List.{List, [], _∷_, List·Memᴰ, List·Memᴰ·eq-of-singleton, List·Memᴰ·not-nil, List·Memᴰ·append-cases, Memᴰ·append-left, Memᴰ·append-right}
 use Prim.Native.Nat.{ℕ, _<_}
 use native.Mathlib.Omega.{arith}
 use borrow.Author.Tests.{eqb-true, eqb-false, ne-eqb}
 use lib.Dec.{eqb}
 use Rattle.express.specs.syntax.NodeKind as node
-use Rattle.express.specs.syntax.Tree.{Table, count, kind, role, place, nodes, is, is-name-in, owner}
+use Rattle.express.specs.syntax.Tree.{Table, count, kind, role, place, nodes, is, is-name-in}
 use Rattle.express.specs.syntax.Grammar.{file}
 use Rattle.express.specs.syntax.Syntax.{Read}
 use Rattle.relations.specs.Reach.{Reaches, direct, onward, Joins}
-use Rattle.express.specs.names.Scope.{Meaning, none, one, several, meaning, declarations-of, means, super-edges, renaming-edges, type-edges}
+use Rattle.express.specs.names.Scope.{meaning, declarations-of, means, super-edges, renaming-edges, type-edges}
 use Rattle.express.specs.names.Fault.{fine, fault, judged, suits, right, type-name-fault}
 use Rattle.express.specs.names.Names.{Passes}
 use Rattle.relations.proofs.Select.{and-fst, and-snd, mem-upto}

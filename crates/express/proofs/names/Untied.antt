@@ -4,17 +4,18 @@ use mathlib.Core.Path.{_≡_, refl, sym, ap, subst, _∙_}
 use mathlib.Core.Logic.{_≢_, _⊎_, inl, inr, ⊎-elim}
 use mathlib.Core.Bool.{Bool, true, false, cond, not, _&&_, _||_, false≢true}
 use mathlib.Core.List.{List, [], _∷_, List·Memᴰ, List·Memᴰ·cases-cons, List·Memᴰ·not-nil}
-use Prim.Native.Nat.{ℕ, zero, suc, _-_, _≤_, _<_}
+use Prim.Native.Nat.{ℕ, zero, suc, _≤_, _<_}
 use native.Mathlib.Omega.{arith}
 use borrow.Author.Tests.{eqb-true}
 use lib.Dec.{eqb}
 use lib.ListN.{length, List·getD-eq-default}
 use Rattle.express.specs.syntax.NodeKind.{name, qualified-item, self, constant, attribute-name, derived-attribute, rule, labelled, in-expression}
 use Rattle.relations.specs.Select.{span, any}
-use Rattle.express.specs.syntax.Tree.{Table, count, kind, token, role, place, place-at, nodes, is, is-name-in, is-declaration, is-scope-member, in-constant}
+use Rattle.express.specs.syntax.Tree.{Table, count, kind, token, role, place, place-at, nodes, is, is-declaration, is-scope-member, in-constant}
 use Rattle.relations.specs.Reach.{Edge, reaches}
 use Rattle.express.specs.names.Scope.{Meaning, none, one, several, means, is-use, type-token, type-meant, type-edges}
-use Rattle.express.specs.names.Fault.{Fault, fault, fine, or-later, sort, alike, repeated, judged, right, named-fault, type-name-fault, cyclic, is-enumeration, qualified, clashes, expression, constant-edges}
+use Rattle.express.specs.names.Fault.{Fault, fault, fine, sort, alike, repeated, judged, right, named-fault}
+use Rattle.express.specs.names.Fault.{type-name-fault, cyclic, is-enumeration, qualified, clashes, expression, constant-edges}
 use Rattle.express.specs.names.Names.{Stage, stages, names, StageFault}
 use Rattle.relations.proofs.Select.{and-fst, or-left, or-right, le-or}
 use Rattle.express.proofs.names.Names.{Untied, names-only}
@@ -79,10 +80,10 @@ module _ (t : Table) (n : ℕ) where
   judged-at right m h = ⊎-elim (λ z. nowhere z) (λ p. at-name h p) (judged-place right m (place t n))
 
   is-name : is t name n ≡ true → speaks t n ≡ true
-  is-name h = or-left (is t name n || is t qualified-item n || is t self n) (is-scope-member t n) (or-left (is t name n || is t qualified-item n) (is t self n) (or-left (is t name n) (is t qualified-item n) h))
+  is-name h = rw h
 
   is-item : is t qualified-item n ≡ true → speaks t n ≡ true
-  is-item h = or-left (is t name n || is t qualified-item n || is t self n) (is-scope-member t n) (or-left (is t name n || is t qualified-item n) (is t self n) (or-right (is t name n) (is t qualified-item n) h))
+  is-item h = rw (eqb-true (kind t n) qualified-item h)
 
   is-self : is t self n ≡ true → speaks t n ≡ true
   is-self h = or-left (is t name n || is t qualified-item n || is t self n) (is-scope-member t n) (or-right (is t name n || is t qualified-item n) (is t self n) h)
@@ -140,7 +141,7 @@ refused-once t A f r = names-only t (untied t A) f r
 
 -- ---- a file that the grammar derives
 
--- "Token table: kind, start, length, in text order"
+-- tokens start one after the other
 abbrev pub Rising : Table → Type 0
 Rising t = (i j : ℕ) → i < j → j < length (t .terminals) → place-at t i < place-at t j
 
@@ -198,7 +199,7 @@ module _ {x : Nonterminal} {t : Table} (d : Read x t) (rise : Rising t) where
   by-name : (n : ℕ) → speaks t n ≡ true → Claims speaking prefixed (row-at (d .rows) n) (token t n)
   by-name n h = named (rw (kind-is d n, role-is d n) at h) (sym (token-is d n))
 
-  two-back : (n : ℕ) → is t qualified-item n ≡ true → 2 ≤ token t n
+  pub two-back : (n : ℕ) → is t qualified-item n ≡ true → 2 ≤ token t n
   two-back n h = behind-two (t .terminals) dot identifier (token t n) (item-behind d n (item-within n h) (eqb-true (kind t n) qualified-item h))
 
   by-type : (n : ℕ) → is t qualified-item n ≡ true → Claims speaking prefixed (row-at (d .rows) n) (type-token t n)

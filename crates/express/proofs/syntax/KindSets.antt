@@ -5,7 +5,8 @@ use mathlib.Core.List.{List, [], _∷_, _++_}
 use Prim.Native.Nat.{ℕ}
 use Rattle.ebnf.specs.Set.{mem, disjoint, subset}
 use Rattle.ebnf.proofs.Sets.{apart, in-more}
-use Rattle.express.specs.syntax.NodeKind.{integer-literal, binary-literal, logical-literal, question, other-literal, name, qualified-item, self, unary, two-operand, interval, interval-operator, simple-type, enumeration-item, enumeration, select, constant, type, attribute-name, attribute-group, optional-group, derived-attribute, rule, entity}
+use Rattle.express.specs.syntax.NodeKind.{integer-literal, binary-literal, logical-literal, question, other-literal, name, qualified-item, self, unary, two-operand, interval, interval-operator}
+use Rattle.express.specs.syntax.NodeKind.{simple-type, enumeration-item, enumeration, select, constant, type, attribute-name, attribute-group, optional-group, derived-attribute, rule, entity}
 
 -- the node of an expression: an operand without operators, or an operation
 abbrev pub primary-kinds : List ℕ

@@ -17,7 +17,8 @@ use Rattle.ebnf.proofs.PostOrder.{Ends, Node, post-order, text-ends}
 use Rattle.ebnf.proofs.Below.{every-part}
 use Rattle.express.specs.tokens.Terminal.{identifier, integer, binary, question, dot, lbrace, power, ENUMERATION, SCHEMA, SELECT, SELF}
 use Rattle.express.specs.syntax.Tree.{role}
-use Rattle.express.specs.syntax.Grammar.{Nonterminal, file, schema, constants, constant, base, type-declaration, underlying, where-clause, domain-rule, entity, attributes, derived, expression, sum, term, factor, operand, atom, interval, simple-types, relations, additions, multiplications, signs, comparisons, logicals, others, rules}
+use Rattle.express.specs.syntax.Grammar.{Nonterminal, file, schema, constants, constant, base, type-declaration, underlying, where-clause, domain-rule, entity, attributes, derived}
+use Rattle.express.specs.syntax.Grammar.{expression, sum, term, factor, operand, atom, interval, simple-types, relations, additions, multiplications, signs, comparisons, logicals, others, rules}
 use Rattle.express.specs.syntax.Lookahead.{operand-begins, tables}
 use Rattle.express.specs.syntax.Syntax.{whole, Parses}
 use Rattle.express.proofs.syntax.Syntax.{express}

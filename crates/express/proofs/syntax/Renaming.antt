@@ -11,9 +11,10 @@ use borrow.Author.Tests.{eq-eqb, ne-eqb}
 use Rattle.ebnf.specs.Grammar.{Derives, nothing, marked, both, right, rule, left, token}
 use Rattle.ebnf.specs.Rows.{Row, Rows, in-rows}
 use Rattle.ebnf.proofs.PostOrder.{no-row, row-at}
-use Rattle.ebnf.proofs.Origin.{ends-with, settles, origin, rows-grow}
+use Rattle.ebnf.proofs.Origin.{ends-with, without-or-ends, origin, rows-grow}
 use Rattle.express.specs.syntax.Tree.{Table, count, kind, role, first, is, is-name-in, token as naming}
-use Rattle.express.specs.syntax.Grammar.{Nonterminal, file, schema, constants, constant, base, type-declaration, underlying, where-clause, domain-rule, entity, attributes, derived, expression, sum, term, factor, operand, atom, interval, rules}
+use Rattle.express.specs.syntax.Grammar.{Nonterminal, file, schema, constants, constant, base, type-declaration, underlying, where-clause}
+use Rattle.express.specs.syntax.Grammar.{domain-rule, entity, attributes, derived, expression, sum, term, factor, operand, atom, interval, rules}
 use Rattle.express.specs.syntax.Syntax.{whole, Read}
 use Rattle.express.specs.kinds.Declared.{renames}
 use Rattle.express.proofs.syntax.FormedRows.{kind-is, role-is, size-is, token-is, count-is, sized}
@@ -49,7 +50,7 @@ first-kept : (i : ℕ) (s r : List Row) → First i (row-at s 0) → First i (ro
 first-kept i [] r f = absurd (no-first i f)
 first-kept i (a ∷ s) r f = f
 
-settled-types : (x : Nonterminal) → settles rules node.type x ≡ true
+settled-types : (x : Nonterminal) → without-or-ends rules node.type x ≡ true
 settled-types file = refl
 settled-types schema = refl
 settled-types constants = refl
@@ -85,12 +86,14 @@ module _ (ts : List ℕ) where
     name : (row-at s (length s - 1)) .token ≡ suc i
 
   type-rows : {i j : ℕ} {s : Rows} → Derives in-rows rules ts (rules type-declaration) i (in-rows .start i) j s → Typed i (s .rows)
-  type-rows (both (token a nothing) (both (token b nothing) (both (token c nothing) (both (rule {s = u} d) (both (token e nothing) (both (left (rule {s = w} f)) (both (token g nothing) (both (token h nothing) marked)))))))) =
+  type-rows (both (token a nothing) (both (token b nothing) (both (token c nothing) (both (rule {s = u} d) (both (token e nothing)
+      (both (left (rule {s = w} f)) (both (token g nothing) (both (token h nothing) marked)))))))) =
       record {
         under = first-kept _ (u .rows ++ w .rows) _ (first-kept _ (u .rows) (w .rows) (underlying-first d));
         name = ap (λ (r : Row). r .token) (last-row (u .rows ++ w .rows) _);
       }
-  type-rows (both (token a nothing) (both (token b nothing) (both (token c nothing) (both (rule {s = u} d) (both (token e nothing) (both (right nothing) (both (token g nothing) (both (token h nothing) marked)))))))) =
+  type-rows (both (token a nothing) (both (token b nothing) (both (token c nothing) (both (rule {s = u} d) (both (token e nothing)
+      (both (right nothing) (both (token g nothing) (both (token h nothing) marked)))))))) =
       record { under = first-kept _ (u .rows) _ (underlying-first d); name = ap (λ (r : Row). r .token) (last-row (u .rows) _) }
 
 -- only a type's declaration leaves a type

@@ -1,7 +1,7 @@
--- "Token table: kind, start, length, in text order": each token of a text starts after the one before it.
+-- Each token of a text starts after the one before it.
 use mathlib.Core.Path.{_≡_, ap, _∙_}
 use mathlib.Core.List.{List, map}
-use Prim.Native.Nat.{ℕ, _-_, _≤_, _<_}
+use Prim.Native.Nat.{ℕ, _≤_, _<_}
 use native.Mathlib.Omega.{arith}
 use lib.ListN.{length, getD, length-map, List·getD-map}
 use Rattle.express.specs.tokens.Lexis.{Row, lexed}

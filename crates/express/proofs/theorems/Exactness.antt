@@ -3,22 +3,24 @@
 use mathlib.Core.Path.{_≡_, refl, sym, ap, ap₂, subst, _∙_}
 use mathlib.Core.Logic.{_⊎_, inl, inr}
 use mathlib.Core.Bool.{Bool, true, false, cond, _&&_, false≢true}
-use mathlib.Core.List.{List, _∷_, flatMap, List·Memᴰ, List·Memᴰ·head, List·Memᴰ·tail, List·Memᴰ·not-nil, List·Memᴰ·cases-cons}
+use mathlib.Core.List.{List, _∷_, List·Memᴰ, List·Memᴰ·head, List·Memᴰ·tail, List·Memᴰ·not-nil, List·Memᴰ·cases-cons}
 use Prim.Native.Nat.{ℕ, zero, suc, _+_, _≤_, _<_}
 use native.Mathlib.Decide.{ℕ-discrete}
 use native.Mathlib.Omega.{arith}
 use lib.ListN.{length, set, replicate, length-set, length-replicate}
 use lib.Seq.{getD-set-same, getD-set-other}
-use Rattle.express.specs.kinds.Answer.{Answer, indeterminate, item}
+use Rattle.express.specs.kinds.Answer.{Answer, indeterminate}
 use Rattle.express.specs.syntax.NodeKind as node
 use Rattle.relations.specs.Select.{span}
 use Rattle.express.specs.syntax.Tree.{Table, count, kind, size, first, last, left, middle, low}
 use Rattle.express.proofs.syntax.Formed.{Formed}
 use Rattle.express.specs.kinds.Declared.{Declared, BOOLEAN, declared-type}
-use Rattle.express.specs.kinds.Shape.{relation, Shape, integer-literal, logical-literal, binary-literal, question, name, unary, operator, interval, interval-operator, type, constant, unevaluated, shape, Literals}
+use Rattle.express.specs.kinds.Shape.{relation, Shape, integer-literal, logical-literal, binary-literal, question, name}
+use Rattle.express.specs.kinds.Shape.{unary, operator, interval, interval-operator, type, constant, unevaluated, shape, Literals}
 use Rattle.express.specs.kinds.Shape as shapes
-use Rattle.express.specs.kinds.Operate.{Kind, integers, logicals, binaries, undetermined, untyped, comparable, takes, takes-one, combined, signed}
-use Rattle.express.specs.kinds.Rule.{Holds, an-end, Gives, an-integer-literal, a-logical-literal, a-binary-literal, a-question, a-name, a-sign, an-operator, an-interval, a-constant, an-unknown-boolean, Exactly}
+use Rattle.express.specs.kinds.Operate.{Kind, integers, logicals, binaries, undetermined, untyped, comparable, takes, takes-one, combined, applied}
+use Rattle.express.specs.kinds.Rule.{Holds, an-end, Gives, an-integer-literal, a-logical-literal, a-binary-literal}
+use Rattle.express.specs.kinds.Rule.{a-question, a-name, a-sign, an-operator, an-interval, a-constant, an-unknown-boolean, Exactly}
 use Rattle.express.specs.kinds.Rule as rule
 use Rattle.express.specs.kinds.Kind.{common, kind-of-type, of-kind, fault, if-fits, if-evaluated, finding, kind-at, typed, typing, Constant, Fits}
 use Rattle.express.specs.kinds.Evaluate.{held, answer-in, answer-at, run-in, value, evaluate, answers}
@@ -26,7 +28,8 @@ use Rattle.relations.specs.Reach.{direct}
 use Rattle.relations.specs.Sorted.{Sorted, done, next}
 use Rattle.express.specs.kinds.Order.{Needs, Order}
 use Rattle.relations.proofs.Select.{and-fst, and-snd}
-use Rattle.express.proofs.kinds.Operations.{unknown-boolean-end, Good, good-?, good-integer, good-logical, good-binary, good-item, good-of, recast, common-good, declared-good, common-typed, takes-comparable, takes-one-comparable, combined-good, between-good, signed-good, Kept, itself, unknown, held-good, holds-held}
+use Rattle.express.proofs.kinds.Operations.{unknown-boolean-end, Good, good-?, good-integer, good-logical, good-binary, good-item, good-of, recast, common-good, declared-good}
+use Rattle.express.proofs.kinds.Operations.{common-typed, takes-comparable, takes-one-comparable, combined-good, between-good, applied-good, Kept, itself, unknown, held-good, holds-held}
 use Rattle.express.proofs.kinds.Shapes.{Decoded, decoded, constant-shape}
 use Rattle.express.proofs.kinds.Spans.{Below, last-below, left-below, five-below, value-below, in-constant, constant-owner, constant-of}
 use Rattle.express.proofs.kinds.Typed.{typing-fits}
@@ -104,7 +107,7 @@ module _ (t : Table) (b : List ℕ) (v : Literals t) (k : ℕ → Kind) (f g : �
   only-one (a-question e) h = rw e
   only-one (rule.an-item e) h = rw e
   only-one (a-name e x) h = rw e ((rw e at h) .only _ x)
-  only-one (a-sign {o} e x u) h = rw e (ap (signed o) ((rw e at h) .only _ x))
+  only-one (a-sign {o} e x u) h = rw e (ap (applied o) ((rw e at h) .only _ x))
   only-one (an-operator {o} e x y u) h = rw e (ap₂ (combined o) ((rw e at h) .0 .only _ x) ((rw e at h) .1 .only _ y))
   only-one (an-interval {o} {p} e x y z u w) h =
       let i = rw e at h in
@@ -140,14 +143,14 @@ module _ (t : Table) (b : List ℕ) (v : Literals t) (k : ℕ → Kind) (f g : �
       let w = fits-kind (takes-one s (k (last n))) i in
       let m = h .answered (takes-one-comparable s (k (last n)) (w .0)) in
       let u = good-of (m .good) in
-      given-by n (w .1) (a-sign e (m .gives) (record { kind = k (last n); taken = w .0; first = u; second = u })) (signed-good s (w .0) (m .good))
+      given-by n (w .1) (a-sign e (m .gives) (record { one-kind = k (last n); taken = w .0; first = u; second = u })) (applied-good s (w .0) (m .good))
   one n (operator s) e o i h c =
       let j = common (k (left t n)) (k (last n)) in
       let w = fits-kind (takes s j) i in
       let m = common-good (k (left t n)) (k (last n)) (takes-comparable s j (w .0)) (λ r. h .0 .answered r .good) (λ r. h .1 .answered r .good) in
       given-by n (w .1)
       (an-operator e (h .0 .answered (m .left) .gives) (h .1 .answered (m .right) .gives)
-      (record { kind = j; taken = w .0; first = good-of (m .first); second = good-of (m .second) }))
+      (record { one-kind = j; taken = w .0; first = good-of (m .first); second = good-of (m .second) }))
       (combined-good s (m .first) (m .second))
   one n (interval s p) e o i h c =
       let j = common (k (low t n)) (k (middle t n)) in
@@ -159,8 +162,8 @@ module _ (t : Table) (b : List ℕ) (v : Literals t) (k : ℕ → Kind) (f g : �
       let q = common-good (k (middle t n)) (k (last n)) y (λ r. h .1 .answered r .good) (λ r. h .2 .answered r .good) in
       given-by n (w .1)
       (an-interval e (h .0 .answered (m .left) .gives) (h .1 .answered (m .right) .gives) (h .2 .answered (q .right) .gives)
-      (record { kind = j; taken = x; first = good-of (m .first); second = good-of (m .second) })
-      (record { kind = l; taken = y; first = good-of (q .first); second = good-of (q .second) }))
+      (record { one-kind = j; taken = x; first = good-of (m .first); second = good-of (m .second) })
+      (record { one-kind = l; taken = y; first = good-of (q .first); second = good-of (q .second) }))
       (between-good s p (m .first) (m .second) (q .first) (q .second))
   one n interval-operator e o i h c =
       let q : untyped ≡ k n = cc in
@@ -354,3 +357,11 @@ unfolding answers
 exactness t b f v ks e ds o =
     evaluate-exact t b f v ks e ds o (replicate (count t) indeterminate)
     (let r = length-replicate {A = Answer} (count t) indeterminate in omega arith)
+
+-- two orders give the same answers
+pub any-order :
+    (t : Table) (b : List ℕ) → Formed t → Literals t → (ks : List Kind) → typing t b ≡ typed ks → (ds es : List ℕ) → Order t b ds → Order t b es →
+    (known other : List Answer) → count t ≤ length known → count t ≤ length other → (c : ℕ) → c < count t → kind t c ≡ node.constant →
+    answer-at (evaluate t b ds known) c ≡ answer-at (evaluate t b es other) c
+any-order t b f v ks e ds es o p known other x y c l g =
+    evaluate-exact t b f v ks e es p other y c l g .only _ .0 (evaluate-exact t b f v ks e ds o known x c l g .only _ .1 refl)

@@ -2,7 +2,7 @@
 -- `exactness` asks, and so the rules give their constants these answers and no others.
 use mathlib.Core.Path.{_≡_, refl, subst}
 use mathlib.Core.Bool.{true, false, not, _||_}
-use mathlib.Core.List.{List, [], _∷_, flatMap}
+use mathlib.Core.List.{List, [], _∷_, _++_, flatMap}
 use Prim.Native.Nat.{ℕ, _<_}
 use Prim.Native.String.{String}
 use native.Mathlib.Omega.{arith}
@@ -22,13 +22,14 @@ use Rattle.express.specs.syntax.NodeKind.{constant}
 use Rattle.express.specs.tokens.Bytes.{upper, word-byte, space}
 use Rattle.relations.specs.Reach.{added, closure}
 use Rattle.express.specs.names.Scope.{declarations, items, own, super-edges, renaming-edges, type-edges, inherited, candidates, type-meant, items-of, item-meant, means, binding, bindings}
-use Rattle.express.specs.tokens.Lexis.{end-of-run, end-of-remark, skipped-in, skipped, end-of-integer, end-of-exponent, end-of-real, end-of-string, end-of-binary, lone, size-of-symbol, end-of-symbol, token-kind-at, end-of-token, lexed-in, lexed, numeral, integer-value, binary-bits}
+use Rattle.express.specs.tokens.Lexis.{end-of-run, end-of-remark, skipped-in, skipped, end-of-integer, end-of-exponent, end-of-real, end-of-string}
+use Rattle.express.specs.tokens.Lexis.{end-of-binary, lone, size-of-symbol, end-of-symbol, token-kind-at, end-of-token, lexed-in, lexed, numeral, integer-value, binary-bits}
 use Rattle.express.specs.kinds.Integer.{exact, quotient, remainder, DIV, MOD, power}
 use Rattle.express.specs.kinds.Logic.{AND, OR, XOR}
 use Rattle.relations.specs.Order.{compare-lists}
 use Rattle.express.specs.kinds.Bits.{join}
 use Rattle.express.specs.kinds.Declared.{simple, denoted-in}
-use Rattle.express.specs.kinds.Shape.{operator-of, shape, shape-in}
+use Rattle.express.specs.kinds.Shape.{operator-of, shape-in}
 use Rattle.express.specs.names.Fault.{sort, scope, repeated, type-name-fault, cyclic, qualified, expression, constant-edges}
 use Rattle.express.specs.names.Names.{stages, least, first-fault, names}
 use Rattle.express.specs.tokens.Scanned.{Scanned}
@@ -88,7 +89,8 @@ abbrev press-bindings : List ℕ
 press-bindings = 0 ∷ 11 ∷ 0 ∷ 0 ∷ 0 ∷ 0 ∷ 0 ∷ 0 ∷ 0 ∷ 0 ∷ 0 ∷ 0 ∷ 0 ∷ 0 ∷ 11 ∷ 0 ∷ 0 ∷ 0 ∷ 0 ∷ 0 ∷ 0 ∷ 0 ∷ 0 ∷ 0 ∷ 0 ∷ 0 ∷ 0 ∷ 0 ∷ []
 
 press-bound : bindings press ≡ press-bindings
-unfolding span first-from keep any owner schema-of added closure declarations items own super-edges renaming-edges type-edges inherited candidates type-meant items-of item-meant means binding bindings flatMap
+unfolding span first-from keep any owner schema-of added closure declarations items own super-edges renaming-edges type-edges inherited candidates
+    type-meant items-of item-meant means binding bindings flatMap
 press-bound = refl
 
 -- an order of its constants
@@ -96,7 +98,8 @@ abbrev press-plan : List ℕ
 press-plan = 10 ∷ 4 ∷ 20 ∷ 25 ∷ []
 
 press-scanned : Scanned press
-unfolding word-byte space upper end-of-run end-of-remark skipped-in skipped numeral end-of-integer end-of-exponent end-of-real end-of-string end-of-binary lone size-of-symbol end-of-symbol token-kind-at end-of-token lexed-in lexed terminal-of among same
+unfolding word-byte space upper end-of-run end-of-remark skipped-in skipped numeral end-of-integer end-of-exponent end-of-real end-of-string
+    end-of-binary lone size-of-symbol end-of-symbol token-kind-at end-of-token lexed-in lexed terminal-of among same
 press-scanned = record { starts-are = refl; lengths-are = refl; terminals-are = refl }
 
 press-parsed : parsed file (press .terminals) ≡ good (whole press-rows)
@@ -104,15 +107,19 @@ unfolding parsed first-deep parse descend mem budget
 press-parsed = refl
 
 press-named : names press .number ≡ 0
-unfolding span first-from keep any owner schema-of added closure declarations items own super-edges renaming-edges type-edges inherited candidates type-meant items-of item-meant means binding bindings flatMap names stages least first-fault sort scope repeated type-name-fault cyclic qualified expression constant-edges
+unfolding span first-from keep any owner schema-of added closure declarations items own super-edges renaming-edges type-edges inherited candidates
+    type-meant items-of item-meant means binding bindings flatMap names stages least first-fault sort scope repeated type-name-fault cyclic qualified
+    expression constant-edges
 press-named = refl
 
 press-typed : typing press press-bindings ≡ typed (kinds-in (typing press press-bindings))
-unfolding typing type-constants type-nodes-in span keep flatMap numeral integer-value binary-bits exact quotient remainder DIV MOD power AND OR XOR join compare-lists simple denoted-in operator-of shape-in run-in evaluate answers owner first-from
+unfolding typing type-constants type-nodes-in span keep flatMap numeral integer-value binary-bits exact quotient remainder DIV MOD power AND OR XOR
+    join compare-lists simple denoted-in operator-of shape-in run-in evaluate answers owner first-from
 press-typed = refl
 
 press-order : (in-order press press-bindings [] press-plan ≡ true) × (every (λ c. not (is press constant c) || order.among press-plan c) (nodes press) ≡ true)
-unfolding in-order every any span keep flatMap numeral integer-value binary-bits exact quotient remainder DIV MOD power AND OR XOR join compare-lists simple denoted-in operator-of shape-in run-in evaluate answers owner first-from
+unfolding in-order every any span keep flatMap numeral integer-value binary-bits exact quotient remainder DIV MOD power AND OR XOR join compare-lists
+    simple denoted-in operator-of shape-in run-in evaluate answers owner first-from
 press-order = (refl, refl)
 
 press-file : (c : ℕ) → c < 28 → kind press c ≡ constant → Exactly press (bindings press) c (answer-at (answers press press-bindings press-plan) c)
@@ -126,12 +133,16 @@ pub press-exact :
     Exactly press (bindings press) 10 (integer (negsuc 3)) ×
     Exactly press (bindings press) 20 (logical UNKNOWN) ×
     Exactly press (bindings press) 25 (binary (true ∷ false ∷ false ∷ true ∷ true ∷ []))
-unfolding span keep flatMap numeral integer-value binary-bits exact quotient remainder DIV MOD power AND OR XOR join compare-lists simple denoted-in operator-of shape-in run-in evaluate answers owner first-from
+unfolding span keep flatMap numeral integer-value binary-bits exact quotient remainder DIV MOD power AND OR XOR join compare-lists simple denoted-in
+    operator-of shape-in run-in evaluate answers owner first-from
 press-exact = (press-file 4 (omega arith) refl, press-file 10 (omega arith) refl, press-file 20 (omega arith) refl, press-file 25 (omega arith) refl)
 
 -- an enumeration, a renaming of it, UNKNOWN for a BOOLEAN, and the first of two ends
-abbrev shade-text : String
-shade-text = "SCHEMA s; CONSTANT warm : BOOLEAN := NOT (hue >= colour.green); hue : shade := red; doubt : BOOLEAN := hue = ?; late : LOGICAL := doubt AND (1 DIV 0 = 2); END_CONSTANT; TYPE colour = ENUMERATION OF (red, green); END_TYPE; TYPE shade = colour; END_TYPE; END_SCHEMA;"
+abbrev shade-text : List ℕ
+shade-text =
+    bytes "SCHEMA s; CONSTANT warm : BOOLEAN := NOT (hue >= colour.green); hue : shade := red; doubt : BOOLEAN := hue = ?; "
+    ++ bytes "late : LOGICAL := doubt AND (1 DIV 0 = 2); END_CONSTANT; "
+    ++ bytes "TYPE colour = ENUMERATION OF (red, green); END_TYPE; TYPE shade = colour; END_TYPE; END_SCHEMA;"
 
 abbrev shade-rows : List Row
 shade-rows =
@@ -144,7 +155,7 @@ abbrev pub shade : Table
 shade =
     with-rows
     (record {
-      bytes = bytes shade-text;
+      bytes = shade-text;
       starts =
           0 ∷ 7 ∷ 8 ∷ 10 ∷ 19 ∷ 24 ∷ 26 ∷ 34 ∷ 37 ∷ 41 ∷ 42 ∷ 46 ∷ 49 ∷ 55 ∷ 56 ∷ 61 ∷ 62 ∷ 64 ∷ 68 ∷ 70 ∷ 76 ∷ 79 ∷ 82 ∷ 84 ∷ 90 ∷ 92 ∷
           100 ∷ 103 ∷ 107 ∷ 109 ∷ 110 ∷ 112 ∷ 117 ∷ 119 ∷ 127 ∷ 130 ∷ 136 ∷ 140 ∷ 141 ∷ 143 ∷ 147 ∷ 149 ∷ 151 ∷ 152 ∷ 153 ∷ 155 ∷ 167 ∷
@@ -173,7 +184,8 @@ abbrev shade-bindings : List ℕ
 shade-bindings = 0 ∷ 9 ∷ 25 ∷ 0 ∷ 0 ∷ 0 ∷ 29 ∷ 24 ∷ 0 ∷ 0 ∷ 9 ∷ 0 ∷ 0 ∷ 0 ∷ 0 ∷ 14 ∷ 0 ∷ 0 ∷ 0 ∷ 0 ∷ 0 ∷ 0 ∷ 0 ∷ 0 ∷ 0 ∷ 0 ∷ 0 ∷ 27 ∷ 0 ∷ 0 ∷ 0 ∷ []
 
 shade-bound : bindings shade ≡ shade-bindings
-unfolding span first-from keep any owner schema-of added closure declarations items own super-edges renaming-edges type-edges inherited candidates type-meant items-of item-meant means binding bindings flatMap
+unfolding span first-from keep any owner schema-of added closure declarations items own super-edges renaming-edges type-edges inherited candidates
+    type-meant items-of item-meant means binding bindings flatMap
 shade-bound = refl
 
 -- an order of its constants
@@ -181,7 +193,8 @@ abbrev shade-plan : List ℕ
 shade-plan = 8 ∷ 13 ∷ 5 ∷ 22 ∷ []
 
 shade-scanned : Scanned shade
-unfolding word-byte space upper end-of-run end-of-remark skipped-in skipped numeral end-of-integer end-of-exponent end-of-real end-of-string end-of-binary lone size-of-symbol end-of-symbol token-kind-at end-of-token lexed-in lexed terminal-of among same
+unfolding word-byte space upper end-of-run end-of-remark skipped-in skipped numeral end-of-integer end-of-exponent end-of-real end-of-string
+    end-of-binary lone size-of-symbol end-of-symbol token-kind-at end-of-token lexed-in lexed terminal-of among same
 shade-scanned = record { starts-are = refl; lengths-are = refl; terminals-are = refl }
 
 shade-parsed : parsed file (shade .terminals) ≡ good (whole shade-rows)
@@ -189,15 +202,19 @@ unfolding parsed first-deep parse descend mem budget
 shade-parsed = refl
 
 shade-named : names shade .number ≡ 0
-unfolding span first-from keep any owner schema-of added closure declarations items own super-edges renaming-edges type-edges inherited candidates type-meant items-of item-meant means binding bindings flatMap names stages least first-fault sort scope repeated type-name-fault cyclic qualified expression constant-edges
+unfolding span first-from keep any owner schema-of added closure declarations items own super-edges renaming-edges type-edges inherited candidates
+    type-meant items-of item-meant means binding bindings flatMap names stages least first-fault sort scope repeated type-name-fault cyclic qualified
+    expression constant-edges
 shade-named = refl
 
 shade-typed : typing shade shade-bindings ≡ typed (kinds-in (typing shade shade-bindings))
-unfolding typing type-constants type-nodes-in span keep flatMap numeral integer-value binary-bits exact quotient remainder DIV MOD power AND OR XOR join compare-lists simple denoted-in operator-of shape-in run-in evaluate answers owner first-from
+unfolding typing type-constants type-nodes-in span keep flatMap numeral integer-value binary-bits exact quotient remainder DIV MOD power AND OR XOR
+    join compare-lists simple denoted-in operator-of shape-in run-in evaluate answers owner first-from
 shade-typed = refl
 
 shade-order : (in-order shade shade-bindings [] shade-plan ≡ true) × (every (λ c. not (is shade constant c) || order.among shade-plan c) (nodes shade) ≡ true)
-unfolding in-order every any span keep flatMap numeral integer-value binary-bits exact quotient remainder DIV MOD power AND OR XOR join compare-lists simple denoted-in operator-of shape-in run-in evaluate answers owner first-from
+unfolding in-order every any span keep flatMap numeral integer-value binary-bits exact quotient remainder DIV MOD power AND OR XOR join compare-lists
+    simple denoted-in operator-of shape-in run-in evaluate answers owner first-from
 shade-order = (refl, refl)
 
 shade-file : (c : ℕ) → c < 31 → kind shade c ≡ constant → Exactly shade (bindings shade) c (answer-at (answers shade shade-bindings shade-plan) c)
@@ -211,5 +228,6 @@ pub shade-exact :
     Exactly shade (bindings shade) 8 (item 23) ×
     Exactly shade (bindings shade) 13 (end 19) ×
     Exactly shade (bindings shade) 22 (end 19)
-unfolding span keep flatMap numeral integer-value binary-bits exact quotient remainder DIV MOD power AND OR XOR join compare-lists simple denoted-in operator-of shape-in run-in evaluate answers owner first-from
+unfolding span keep flatMap numeral integer-value binary-bits exact quotient remainder DIV MOD power AND OR XOR join compare-lists simple denoted-in
+    operator-of shape-in run-in evaluate answers owner first-from
 shade-exact = (shade-file 5 (omega arith) refl, shade-file 8 (omega arith) refl, shade-file 13 (omega arith) refl, shade-file 22 (omega arith) refl)

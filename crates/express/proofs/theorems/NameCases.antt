@@ -7,7 +7,7 @@ use Rattle.relations.specs.Select.{span, first-from, keep, any}
 use Rattle.express.specs.syntax.Tree.{Table, owner, schema-of}
 use Rattle.relations.specs.Reach.{added, closure}
 use Rattle.express.specs.names.Scope.{declarations, items, own, super-edges, renaming-edges, type-edges, inherited, candidates, type-meant, items-of, item-meant, means, binding}
-use Rattle.express.specs.names.Fault.{Fault, fault, fine, sort, scope, repeated, type-name-fault, cyclic, qualified, expression, constant-edges}
+use Rattle.express.specs.names.Fault.{fault, fine, sort, scope, repeated, type-name-fault, cyclic, qualified, expression, constant-edges}
 use Rattle.express.specs.names.Names.{stages, least, first-fault, names}
 
 -- a row: kind, token, size, role
@@ -104,7 +104,9 @@ chosen =
 pub said :
     map names (duplicate ∷ hidden ∷ renaming ∷ diamond ∷ clash ∷ circle ∷ lost ∷ itself ∷ mutual-constants ∷ chosen ∷ [])
     ≡ fault 9 10 ∷ fine ∷ fault 11 23 ∷ fine ∷ fault 12 21 ∷ fault 13 11 ∷ fault 10 8 ∷ fault 11 8 ∷ fault 13 4 ∷ fault 10 22 ∷ []
-unfolding span first-from keep any flatMap owner schema-of added closure declarations items own super-edges renaming-edges type-edges inherited candidates type-meant items-of item-meant means sort scope repeated type-name-fault cyclic qualified expression constant-edges stages least first-fault names
+unfolding span first-from keep any flatMap owner schema-of added closure declarations items own super-edges renaming-edges type-edges inherited
+    candidates type-meant items-of item-meant means sort scope repeated type-name-fault cyclic qualified expression constant-edges stages least
+    first-fault names
 said = refl
 
 -- the item of a hidden name is found as `type.item`, the constant by its name; x of the diamond is one declaration

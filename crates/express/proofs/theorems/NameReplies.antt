@@ -1,10 +1,10 @@
 -- Replies 9 to 13 of a whole check: of a file whose tokens, nodes and tables are in order, it is refused so exactly by the least fault of the first
 -- stage of names that has one.
-use mathlib.Core.Path.{_≡_, refl, sym, ap, ap₂, _∙_}
+use mathlib.Core.Path.{_≡_, refl, sym, ap₂, _∙_}
 use mathlib.Core.Logic.{_↔_}
 use mathlib.Core.Bool.{Bool, true, false, cond}
 use mathlib.Core.List.{List}
-use Prim.Native.Nat.{ℕ, _≤_, _<_}
+use Prim.Native.Nat.{ℕ, _≤_}
 use native.Mathlib.Omega.{arith}
 use borrow.Author.Tests.{eqb-false, ne-eqb, le-leb}
 use lib.Dec.{eqb}
@@ -15,15 +15,16 @@ use Rattle.express.specs.tokens.Lexis.{at, tokens, lexed}
 use Rattle.express.specs.tokens.Scanned.{token-table}
 use Rattle.express.specs.syntax.Grammar.{file}
 use Rattle.express.specs.syntax.Syntax.{Parses, whole, parsed, opening, closing, nesting, with-rows, Read}
-use Rattle.express.specs.syntax.Tree.{Table, count, nodes, place}
+use Rattle.express.specs.syntax.Tree.{Table, count, nodes}
 use Rattle.express.specs.names.Scope.{bindings}
-use Rattle.express.specs.names.Fault.{Fault, fault}
+use Rattle.express.specs.names.Fault.{fault}
 use Rattle.express.specs.names.Names.{stages, names, StageFault}
 use Rattle.express.specs.kinds.Operate.{Kind}
-use Rattle.express.specs.kinds.Shape.{Shape, integer-literal, logical-literal, binary-literal, question, item, name, unary, operator, interval, interval-operator, type, constant, unevaluated, shape}
+use Rattle.express.specs.kinds.Shape.{Shape, integer-literal, logical-literal, binary-literal, question, item, name}
+use Rattle.express.specs.kinds.Shape.{unary, operator, interval, interval-operator, type, constant, unevaluated, shape}
 use Rattle.express.specs.kinds.Kind.{Finding, of-kind, finding, Typing, typed, ill-typed, constants, typing}
 use Rattle.express.specs.kinds.Kind as kinds
-use Rattle.express.specs.whole.Reply.{accepted, refused, after-kinds, after-names, checked}
+use Rattle.express.specs.whole.Reply.{refused, after-kinds, after-names, checked}
 use Rattle.express.proofs.syntax.Syntax.{parsed-iff, read-good}
 use Rattle.express.proofs.syntax.FormedRows.{formed-rows}
 use Rattle.express.proofs.syntax.TokenOrder.{starts-rise}

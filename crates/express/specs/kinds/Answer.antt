@@ -4,11 +4,12 @@ use mathlib.Core.List.{List, [], _∷_}
 use Prim.Native.Nat.{ℕ}
 use lib.IntN.{ℤ}
 
--- "The three logical values have a fixed order, FALSE < UNKNOWN < TRUE."
+-- the logicals, in their order (K22)
 pub data Logical : Type 0 where
   FALSE UNKNOWN TRUE : Logical
 
--- The ends, by number: outside 64 signed bits, or over 63 joined bits; a divisor of 0; a negative power; UNKNOWN for a BOOLEAN
+-- The ends, by number: outside 64 signed bits (K17), or more than 63 bits joined (K21); a divisor of 0 (K18); a negative power (K20); UNKNOWN for a
+-- BOOLEAN (K26)
 abbrev pub outside : ℕ
 outside = 16
 
@@ -24,7 +25,7 @@ unknown-boolean = 19
 abbrev pub ends : List ℕ
 ends = outside ∷ zero-divisor ∷ negative-power ∷ unknown-boolean ∷ []
 
--- `?`; an integer; a logical; a binary, leftmost bit first, `true` for 1; an enumeration item by its node; or an end by its number
+-- K12: `?`; an integer; a logical; a binary, leftmost bit first, `true` for 1; an enumeration item by its node; or an end by its number
 pub data Answer : Type 0 where
   indeterminate : Answer
   integer : ℤ → Answer

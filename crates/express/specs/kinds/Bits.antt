@@ -11,21 +11,21 @@ abbrev pub bit : Bool → ℕ
 bit true = 1
 bit false = 0
 
--- "bits as a number": the leftmost bit weighs most
+-- the number that bits stand for: the leftmost weighs most (K35)
 unfoldable pub number : List Bool → ℕ
 number [] = 0
 number (x ∷ xs) = bit x * 2 ^ length xs + number xs
 
--- the last l bits of n: for n below 2 ^ l, the only list of l bits whose number is n (proofs/Bits.antt)
+-- the last l bits of n: for n below 2 ^ l, the only list of l bits whose number is n (proofs/kinds/Bits)
 unfoldable pub bits : ℕ → ℕ → List Bool
 bits zero n = []
 bits (suc l) n = eqb (n / 2 ^ l % 2) 1 ∷ bits l n
 
--- "Between two operands `+` also joins binaries"; "16 .. over 63 joined bits"
+-- K21: `+` of two binaries joins them, up to 63 bits
 unfoldable pub join : List Bool → List Bool → Answer
 join xs ys = cond (leb (length (xs ++ ys)) 63) (binary (xs ++ ys)) (end outside)
 
--- Binaries compare from the left, 0 below 1; a proper prefix is less.
+-- K22: binaries compare from the left, 0 below 1; a proper prefix is less
 abbrev pub compare-bit : Bool → Bool → Ordering
 compare-bit x y = compare (bit x) (bit y)
 

@@ -9,13 +9,13 @@ use Rattle.express.specs.syntax.Tree.{Table, count, token, terminal, fir
 use Rattle.express.specs.tokens.Terminal.{the}
 use Rattle.express.specs.tokens.Terminal as word
 
--- "A constant must be INTEGER, BOOLEAN, LOGICAL, BINARY, an enumeration, or a renaming of one": an enumeration by the node of its type
+-- the types that are evaluated (K2), an enumeration by the node of its type; and all others
 pub data Declared : Type 0 where
   INTEGER BOOLEAN LOGICAL BINARY : Declared
   enumeration : ℕ → Declared
   other : Declared
 
--- A binding is the "node number of the declaration plus one, else 0".
+-- what a node is bound to: a binding is one more than the node of the declaration, or 0 (N18)
 abbrev pub declaration : List ℕ → ℕ → ℕ
 declaration b n = getD b n 0 - 1
 
@@ -31,12 +31,12 @@ simple w =
     (cond (eqb w (the word.BINARY)) BINARY other)))
 
 -- `TYPE id '=' base`: the base of a type stands two tokens after its name; the names of a select list stand further on (`renames-is` of
--- proofs/Renaming)
+-- proofs/syntax/Renaming)
 abbrev pub renames : Table → ℕ → Bool
 renames t d = eqb (token t (first t d)) (token t d + 2)
 
--- The type that node n is or names. Each turn passes a type, and "cycle of renamings" is refused earlier, so as many turns as there are
--- nodes are enough: `denoted-is` of proofs/Denotes says the same by rules, without a number of turns.
+-- The type that node n is or names. Each turn passes a type, and names that run in a cycle are refused earlier, so as many turns as there are
+-- nodes are enough: `denoted-is` of proofs/kinds/Denotes says the same by rules, without a number of turns.
 unfoldable pub denoted-in : ℕ → Table → List ℕ → ℕ → Declared
 denoted-in zero t b n = other
 denoted-in (suc f) t b n =

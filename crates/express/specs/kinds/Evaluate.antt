@@ -6,9 +6,10 @@ use lib.IntN.{pos}
 use Rattle.express.specs.kinds.Answer.{Logical, FALSE, UNKNOWN, TRUE, Answer, indeterminate, integer, logical, binary, item, end, unknown-boolean}
 use Rattle.express.specs.syntax.Tree.{Table, count, last, left, middle, low, within}
 use Rattle.express.specs.kinds.Declared.{Declared, INTEGER, BOOLEAN, LOGICAL, BINARY, enumeration, other}
-use Rattle.express.specs.kinds.Shape.{Shape, integer-literal, logical-literal, binary-literal, question, name, unary, operator, interval, interval-operator, type, constant, unevaluated, shape-in}
+use Rattle.express.specs.kinds.Shape.{Shape, integer-literal, logical-literal, binary-literal, question, name, unary}
+use Rattle.express.specs.kinds.Shape.{operator, interval, interval-operator, type, constant, unevaluated, shape-in}
 use Rattle.express.specs.kinds.Shape as shapes
-use Rattle.express.specs.kinds.Operate.{logical-in, given, combined, signed, between}
+use Rattle.express.specs.kinds.Operate.{logical-in, given, combined, applied, between}
 
 -- UNKNOWN for a BOOLEAN is an end
 abbrev pub boolean-answer : Logical → Answer
@@ -32,7 +33,7 @@ answer-in e f g n (logical-literal l) = logical l
 answer-in e f g n (binary-literal s) = binary s
 answer-in e f g n (shapes.item m) = item m
 answer-in e f g n (name c) = g c
-answer-in e f g n (unary o) = signed o (f (last n))
+answer-in e f g n (unary o) = applied o (f (last n))
 answer-in e f g n (operator o) = combined o (f (left e n)) (f (last n))
 answer-in e f g n (interval o p) = between o p (f (low e n)) (f (middle e n)) (f (last n))
 answer-in e f g n (constant d) = held d (f (last n))

@@ -8,11 +8,11 @@ use lib.IntN.{ℤ, pos, negsuc, negℤ, natAbs, pow, _+ℤ_, _-ℤ_, _*ℤ_}
 use lib.Signed.{mag, shrZ}
 use Rattle.express.specs.kinds.Answer.{Answer, integer, end, outside, zero-divisor, negative-power}
 
--- "16 outside 64 signed bits". `mag` is n both of n and of -(n + 1): it is below 2 ^ 63 from -(2 ^ 63) to 2 ^ 63 - 1.
+-- K17: what 64 signed bits do not hold is an end. `mag` is n both of n and of -(n + 1): it is below 2 ^ 63 from -(2 ^ 63) to 2 ^ 63 - 1.
 unfoldable pub exact : ℤ → Answer
 exact z = cond (ltb (mag z) (2 ^ 63)) (integer z) (end outside)
 
--- "`+ - * DIV MOD **` and both signs take integers and give one."
+-- the operations, over all integers
 abbrev pub sum : ℤ → ℤ → Answer
 sum a b = exact (a +ℤ b)
 
@@ -47,21 +47,20 @@ quotient a b = signed (negative b) (shrZ a (natAbs b))
 unfoldable pub remainder : ℤ → ℤ → ℤ
 remainder a b = signed (negative b) (pos (rest a (natAbs b)))
 
--- "17 zero divisor"
+-- K18
 unfoldable pub DIV : ℤ → ℤ → Answer
 DIV a b = cond (eqb (natAbs b) 0) (end zero-divisor) (exact (quotient a b))
 
 unfoldable pub MOD : ℤ → ℤ → Answer
 MOD a b = cond (eqb (natAbs b) 0) (end zero-divisor) (exact (remainder a b))
 
--- The law of clause 12.1: "a MOD b has the sign of b and a smaller magnitude than b (or is 0), and (a DIV b) times b, plus a MOD b for b
--- above 0 or minus it for b below 0, is a." Of a divisor other than 0, `quotient` and `remainder` meet it and nothing else does (proofs/Divide.antt).
+-- K19: q and r divide a by b. For a divisor other than 0 `quotient` and `remainder` do, and nothing else does (proofs/theorems/Divide).
 pub record Divided (a b q r : ℤ) : Type 0 where
   pub sign : (r ≡ pos 0) ⊎ (negative r ≡ negative b)
   pub less : natAbs r < natAbs b
   pub whole : q *ℤ b +ℤ signed (negative b) r ≡ a
 
--- ---- the power: "18 negative power". `pow a 0` is 1, of 0 too, and `pow a (suc n)` is `pow a n *ℤ a`.
+-- ---- the power (K20). `pow a 0` is 1, of 0 too, and `pow a (suc n)` is `pow a n *ℤ a`.
 unfoldable pub power : ℤ → ℤ → Answer
 power a (pos n) = exact (pow a n)
 power a (negsuc n) = end negative-power

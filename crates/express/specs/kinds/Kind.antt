@@ -9,7 +9,8 @@ use Rattle.express.specs.syntax.NodeKind as node
 use Rattle.relations.specs.Select.{keep}
 use Rattle.express.specs.syntax.Tree.{Table, count, last, nodes, is, owner, left, middle, low, within, in-constant}
 use Rattle.express.specs.kinds.Declared.{Declared, INTEGER, BOOLEAN, LOGICAL, BINARY, enumeration, other, declared-type}
-use Rattle.express.specs.kinds.Shape.{Operator, plus, arithmetic, relation, connective, Sign, positive, negative, not, Shape, integer-literal, logical-literal, binary-literal, question, item, name, unary, operator, interval, interval-operator, type, constant, unevaluated, shape-in, shape}
+use Rattle.express.specs.kinds.Shape.{Operator, plus, arithmetic, relation, connective, Sign, positive, negative, not, Shape, integer-literal, logical-literal}
+use Rattle.express.specs.kinds.Shape.{binary-literal, question, item, name, unary, operator, interval, interval-operator, type, constant, unevaluated, shape-in, shape}
 use Rattle.express.specs.kinds.Operate.{Kind, integers, logicals, binaries, items, undetermined, untyped, takes, takes-one, comparable}
 
 -- Kinds by number
@@ -24,11 +25,11 @@ kind-number (items y) = y + 5
 abbrev pub same : Kind → Kind → Bool
 same j k = eqb (kind-number j) (kind-number k)
 
--- The kind of two operands together: "two enumerations are different kinds; `?` fits every kind"
+-- the kind of two operands together (K6): they must be the same, or one undetermined
 abbrev pub common : Kind → Kind → Kind
 common j k = cond (same j undetermined) k (cond (same k undetermined) j (cond (same j k) j untyped))
 
--- "BOOLEAN and LOGICAL are one kind to the typing"
+-- the kind of a declared type (K4)
 abbrev pub kind-of-type : Declared → Kind
 kind-of-type INTEGER = integers
 kind-of-type BOOLEAN = logicals
@@ -37,7 +38,7 @@ kind-of-type BINARY = binaries
 kind-of-type (enumeration y) = items y
 kind-of-type other = untyped
 
--- The kind that an operator gives: "Two `?` under `+` have the kind of `?`."
+-- the kind that an operator gives (K7): `+` that of its operands, so two `?` stay undetermined
 abbrev pub result : Operator → Kind → Kind
 result plus k = k
 result (arithmetic o) k = integers
@@ -49,16 +50,16 @@ result-of-one positive = integers
 result-of-one negative = integers
 result-of-one not = logicals
 
--- What is found at a node: its kind, or a fault, 14 or 15
+-- what is found at a node: its kind, or a fault, 14 or 15
 pub data Finding : Type 0 where
   of-kind : Kind → Finding
   fault : ℕ → Finding
 
--- 15: an operand or the declared type does not fit
+-- K8, K9: 15 where an operand or the declared type does not fit
 abbrev pub if-fits : Bool → Kind → Finding
 if-fits p k = cond p (of-kind k) (fault 15)
 
--- 14: a declared type that is not evaluated, at its own node, and the name of a constant that is declared with one
+-- K3: 14 at a declared type that is not evaluated, and at the name of a constant that is declared with one
 abbrev pub if-evaluated : Declared → Kind → Finding
 if-evaluated d k = cond (comparable (kind-of-type d)) (of-kind k) (fault 14)
 
@@ -121,7 +122,7 @@ type-constants t b (d ∷ ds) ks = if-typed (type-expression-in t b t b d ks) (�
 abbrev pub constants : Table → List ℕ
 constants t = keep (is t node.constant) (nodes t)
 
--- Only constants are typed, in the order of the text; the first fault in the order of the nodes is given, and 14 before 15 at one node.
+-- K1, K11: only constants are typed, in the order of the text, and the first fault in the order of the nodes is given
 unfoldable pub typing : Table → List ℕ → Typing
 typing t b = type-constants t b (constants t) (replicate (count t) untyped)
 

@@ -4,7 +4,7 @@ use Prim.Native.Nat.{ℕ, compare, Ordering}
 use lib.Dec.{leb}
 use Rattle.express.specs.kinds.Answer.{Logical, FALSE, UNKNOWN, TRUE}
 
--- "The three logical values have a fixed order, FALSE < UNKNOWN < TRUE"; the numbers are those of an answer row.
+-- the place of a logical in their order (K22), which is also its number in an answer row (K35)
 abbrev pub rank : Logical → ℕ
 rank FALSE = 0
 rank UNKNOWN = 1
@@ -13,21 +13,21 @@ rank TRUE = 2
 abbrev pub compare-logical : Logical → Logical → Ordering
 compare-logical a b = compare (rank a) (rank b)
 
--- "AND is the smaller"
+-- K24: the lesser of the two
 unfoldable pub AND : Logical → Logical → Logical
 AND a b = cond (leb (rank a) (rank b)) a b
 
--- "OR the larger"
+-- the greater
 unfoldable pub OR : Logical → Logical → Logical
 OR a b = cond (leb (rank a) (rank b)) b a
 
--- "NOT exchanges TRUE and FALSE"
+-- TRUE and FALSE exchanged
 abbrev pub NOT : Logical → Logical
 NOT FALSE = TRUE
 NOT UNKNOWN = UNKNOWN
 NOT TRUE = FALSE
 
--- "XOR is UNKNOWN if either side is, else TRUE exactly when they differ"
+-- UNKNOWN where one of the two is; else TRUE where they differ
 unfoldable pub XOR : Logical → Logical → Logical
 XOR UNKNOWN b = UNKNOWN
 XOR FALSE UNKNOWN = UNKNOWN

@@ -16,13 +16,13 @@ use Rattle.express.specs.kinds.Shape.{Arithmetic, minus, times, divide, 
 
 -- ---- kinds
 
--- "integer, logical, binary, or item of the same enumeration", which goes by the node of its type; the kind of `?`; and that of what has none
+-- K4: integers, logicals, binaries, the items of an enumeration, by the node of its type; the kind of `?`; and `untyped` for what has none
 pub data Kind : Type 0 where
   integers logicals binaries : Kind
   items : ℕ → Kind
   undetermined untyped : Kind
 
--- The answers of a kind: "each operand's answer is `?`, an end, or of a kind it takes"
+-- the answers that do as operands of a kind (K30)
 pub data Of (t : Table) : Kind → Answer → Type 0 where
   of-? : {k : Kind} → Of t k indeterminate
   of-end : {k : Kind} {e : ℕ} → Of t k (end e)
@@ -47,7 +47,7 @@ truthful (items y) = false
 truthful undetermined = true
 truthful untyped = false
 
--- "Between two operands `+` also joins binaries."
+-- `+` of two operands adds and joins
 abbrev pub summable : Kind → Bool
 summable integers = true
 summable logicals = false
@@ -64,8 +64,7 @@ comparable (items y) = true
 comparable undetermined = true
 comparable untyped = false
 
--- The kinds that an operator takes: "`+ - * DIV MOD **` and both signs take integers", "Relations take two operands of one kind", "AND, OR, XOR
--- and NOT take logicals"
+-- K7: the kinds that an operator takes
 abbrev pub takes : Operator → Kind → Bool
 takes plus k = summable k
 takes (arithmetic o) k = integral k
@@ -145,35 +144,34 @@ combined-logicals and l m = AND l m
 combined-logicals or l m = OR l m
 combined-logicals xor l m = XOR l m
 
--- the order of two values of one kind; "Items order as declared", which is the order of their nodes
-abbrev pub order : Answer → Answer → Option Ordering
-order x y =
+-- the order of two values of one kind (K22); that of items is the order of their nodes
+abbrev pub compared : Answer → Answer → Option Ordering
+compared x y =
     both (integer-in x) (integer-in y) (λ a b. some (compareℤ a b))
     (both (logical-in x) (logical-in y) (λ a b. some (compare-logical a b))
     (both (binary-in x) (binary-in y) (λ a b. some (compare-bits a b))
     (both (item-in x) (item-in y) (λ a b. some (compare a b)) none)))
 
--- a `?` "to a logical operator .. counts as UNKNOWN"
+-- to a logical operator `?` is UNKNOWN (K15)
 abbrev pub counted : Answer → Logical
 counted x = given (logical-in x) (λ l. l) UNKNOWN
 
--- "`?` in arithmetic or joining gives `?`, in a relation UNKNOWN"
+-- K15, K16: what is computed where no operand is an end
 abbrev pub operated : Operator → Answer → Answer → Answer
 operated plus x y = both (integer-in x) (integer-in y) sum (both (binary-in x) (binary-in y) join indeterminate)
 operated (arithmetic o) x y = both (integer-in x) (integer-in y) (computed o) indeterminate
-operated (relation o) x y = logical (given (order x y) (related o) UNKNOWN)
+operated (relation o) x y = logical (given (compared x y) (related o) UNKNOWN)
 operated (connective o) x y = logical (combined-logicals o (counted x) (counted y))
 
--- THE COMBINATION OF TWO ANSWERS: "Operands are all evaluated, left to right. The first end met is the answer. Failing that, `?` .. Only then
--- does the operator's own end apply."
+-- THE COMBINATION OF TWO ANSWERS (K14): the first end, from left to right; else what is computed
 abbrev pub combined : Operator → Answer → Answer → Answer
 combined o x y = given (end-in x) end (given (end-in y) end (operated o x y))
 
-abbrev pub signed : Sign → Answer → Answer
-signed positive x = x
-signed negative x = given (end-in x) end (given (integer-in x) negation indeterminate)
-signed not x = given (end-in x) end (logical (NOT (counted x)))
+abbrev pub applied : Sign → Answer → Answer
+applied positive x = x
+applied negative x = given (end-in x) end (given (integer-in x) negation indeterminate)
+applied not x = given (end-in x) end (logical (NOT (counted x)))
 
--- "An interval is the AND of its two relations, its item evaluated once."
+-- K25
 abbrev pub between : Relation → Relation → Answer → Answer → Answer → Answer
 between o p low x high = combined (connective and) (combined (relation o) low x) (combined (relation p) x high)

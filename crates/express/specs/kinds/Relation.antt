@@ -12,7 +12,7 @@ by Ordering·lt l s g = l
 by Ordering·eq l s g = s
 by Ordering·gt l s g = g
 
--- "Relations take two operands of one kind and give LOGICAL. `:=:` and `:<>:` act as `=` and `<>`."
+-- K23
 abbrev pub related : Relation → Ordering → Logical
 related less-than o = by o TRUE FALSE FALSE
 related greater-than o = by o FALSE FALSE TRUE

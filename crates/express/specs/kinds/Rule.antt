@@ -14,10 +14,9 @@ use Rattle.express.specs.syntax.Tree.{Table, kind, owner, last, left, mi
 use Rattle.express.specs.kinds.Declared.{Declared, INTEGER, BOOLEAN, LOGICAL, BINARY, enumeration, declared-type}
 use Rattle.express.specs.kinds.Shape.{Operator, relation, Sign, integer-literal, logical-literal, binary-literal, question, name, unary, operator, interval, constant, shape}
 use Rattle.express.specs.kinds.Shape as shapes
-use Rattle.express.specs.kinds.Operate.{Kind, Of, takes, takes-one, combined, signed, between}
+use Rattle.express.specs.kinds.Operate.{Kind, Of, takes, takes-one, combined, applied, between}
 
--- "Members: 64-bit signed integers; TRUE and FALSE for BOOLEAN, with UNKNOWN for LOGICAL; binaries of 1 to 63 bits; an enumeration's items; for
--- a renaming, those of the renamed type." `mag z` is below 2 ^ 63 from -(2 ^ 63) to 2 ^ 63 - 1.
+-- K27: the members of a type. `mag z` is below 2 ^ 63 from -(2 ^ 63) to 2 ^ 63 - 1.
 pub data Member (t : Table) : Declared → Answer → Type 0 where
   an-integer : {z : ℤ} → mag z < 2 ^ 63 → Member t INTEGER (integer z)
   is-false : Member t BOOLEAN (logical FALSE)
@@ -32,26 +31,25 @@ pub data Holds (t : Table) (d : Declared) : Answer → Type 0 where
   an-end : {e : ℕ} → List·Memᴰ e ends → Holds t d (end e)
   a-member : {a : Answer} → Member t d a → Holds t d a
 
--- "An operator has the rule above only where each operand's answer is `?`, an end, or of a kind it takes; two sides of a `+` or of a relation
--- that are neither `?` nor an end must be of one kind."
+-- K30, K31: one kind that is taken does for both answers
 pub record Fit (t : Table) (takes : Kind → Bool) (x y : Answer) : Type 0 where
-  pub kind : Kind
-  pub taken : takes kind ≡ true
-  pub first : Of t kind x
-  pub second : Of t kind y
+  pub one-kind : Kind
+  pub taken : takes one-kind ≡ true
+  pub first : Of t one-kind x
+  pub second : Of t one-kind y
 
 -- Node n of the table t, whose names are bound by b, has the answer a.
 pub data Gives (t : Table) (b : List ℕ) : ℕ → Answer → Type 0 where
-  -- "An integer, logical or binary literal has its value, `?` is `?`, an item is itself, a constant's name gives that constant's answer."
+  -- K29: leaves
   an-integer-literal : {n v : ℕ} → shape t b n ≡ integer-literal v → Gives t b n (integer (pos v))
   a-logical-literal : {n : ℕ} {l : Logical} → shape t b n ≡ logical-literal l → Gives t b n (logical l)
   a-binary-literal : {n : ℕ} {s : List Bool} → shape t b n ≡ binary-literal s → Gives t b n (binary s)
   a-question : {n : ℕ} → shape t b n ≡ question → Gives t b n indeterminate
   an-item : {n m : ℕ} → shape t b n ≡ shapes.item m → Gives t b n (item m)
   a-name : {n c : ℕ} {a : Answer} → shape t b n ≡ name c → Gives t b c a → Gives t b n a
-  -- operators
+  -- K30, K31: operators
   a-sign :
-      {n : ℕ} {o : Sign} {x : Answer} → shape t b n ≡ unary o → Gives t b (last n) x → Fit t (takes-one o) x x → Gives t b n (signed o x)
+      {n : ℕ} {o : Sign} {x : Answer} → shape t b n ≡ unary o → Gives t b (last n) x → Fit t (takes-one o) x x → Gives t b n (applied o x)
   an-operator :
       {n : ℕ} {o : Operator} {x y : Answer} → shape t b n ≡ operator o → Gives t b (left t n) x → Gives t b (last n) y →
       Fit t (takes o) x y → Gives t b n (combined o x y)
@@ -59,8 +57,7 @@ pub data Gives (t : Table) (b : List ℕ) : ℕ → Answer → Type 0 where
       {n : ℕ} {o p : Relation} {x y z : Answer} → shape t b n ≡ interval o p →
       Gives t b (low t n) x → Gives t b (middle t n) y → Gives t b (last n) z →
       Fit t (takes (relation o)) x y → Fit t (takes (relation p)) y z → Gives t b n (between o p x y z)
-  -- "A constant's answer is its expression's if that is `?`, an end or a member of the declared type; it is 19 for UNKNOWN where that type is
-  -- BOOLEAN or a renaming of it; else no rule."
+  -- K32, K33: constants
   a-constant : {n : ℕ} {d : Declared} {a : Answer} → shape t b n ≡ constant d → Gives t b (last n) a → Holds t d a → Gives t b n a
   an-unknown-boolean : {n : ℕ} → shape t b n ≡ constant BOOLEAN → Gives t b (last n) (logical UNKNOWN) → Gives t b n (end unknown-boolean)
 

@@ -12,7 +12,7 @@ use Rattle.express.specs.tokens.Lexis.{integer-value, binary-bits}
 use Rattle.express.specs.tokens.Terminal.{the}
 use Rattle.express.specs.tokens.Terminal as word
 use Rattle.express.specs.syntax.NodeKind as node
-use Rattle.express.specs.syntax.Tree.{Table, kind, token, terminal, is, left, lower, upper}
+use Rattle.express.specs.syntax.Tree.{Table, kind, token, terminal, is, lower, upper}
 use Rattle.express.specs.kinds.Declared.{Declared, declaration, bound, denoted, declared-type}
 
 -- the operators that take integers alone
@@ -60,11 +60,11 @@ logical-of w = cond (eqb w (the word.TRUE)) TRUE (cond (eqb w (the word.FALSE)) 
 abbrev pub sign-of : ℕ → Sign
 sign-of w = cond (eqb w (the word.NOT)) not (cond (eqb w (the word.minus)) negative positive)
 
--- an interval's operators: "`<` or `<=` between"
+-- an interval's operators are `<` and `<=` (G21)
 abbrev pub bound-of : ℕ → Relation
 bound-of w = cond (eqb w (the word.less)) less-than at-most
 
--- "`/` is not evaluated."
+-- the two-operand operators by their tokens; `/` is not evaluated (K10)
 unfoldable pub operator-of : ℕ → Option Operator
 operator-of w =
     cond (eqb w (the word.plus)) (some plus)
@@ -115,7 +115,7 @@ shape-in t e b n =
 abbrev pub shape : Table → List ℕ → ℕ → Shape
 shape t b n = shape-in t t b n
 
--- What the token stage guarantees of literals: "Integer literals reach 9223372036854775807. Binary literals have 1 to 63 bits."
+-- what holds of the literals of every text that is read: integers stay below 2 ^ 63, binaries have 1 to 63 bits
 pub record Literals (t : Table) : Type 0 where
   pub small : (n : ℕ) → kind t n ≡ node.integer-literal → integer-value (text t n) < 2 ^ 63
   pub some-bits : (n : ℕ) → kind t n ≡ node.binary-literal → 1 ≤ length (binary-bits (text t n))

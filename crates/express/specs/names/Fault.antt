@@ -20,7 +20,7 @@ fault k p = record { number = k; place = p }
 abbrev pub fine : Fault
 fine = fault 0 0
 
--- 9, declared twice in one scope. What a node declares: 1 a schema, 2 a constant, type or entity, 3 an item, 4 an attribute or a label,
+-- N2, N3: 9, declared twice in one scope. What a node declares: 1 a schema, 2 a constant, type or entity, 3 an item, 4 an attribute or a label,
 -- 5 a supertype in a list; 0 nothing
 unfoldable pub sort : Table → ℕ → ℕ
 sort t n =
@@ -39,17 +39,17 @@ alike t n k = eqb (symbol t k) (symbol t n) && eqb (sort t k) (sort t n) && eqb 
 unfoldable pub repeated : Table → ℕ → Fault
 repeated t n = cond (not (eqb (sort t n) 0) && any (alike t n) (span 0 n)) (fault 9 (place t n)) fine
 
--- 10, not found; 11, found but not of the right sort; 12, two meanings: of a name at place p that must mean a node that passes a test
+-- N6, N11, N12: 10, not found; 11, found but not of the right sort; 12, two meanings: of a name at place p that must mean a node that passes a test
 abbrev pub judged : (ℕ → Bool) → Meaning → ℕ → Fault
 judged right none p = fault 10 p
 judged right several p = fault 12 p
 judged right (one k) p = cond (right k) fine (fault 11 p)
 
--- what has a value: attributes, constants and items
+-- N12: what has a value
 abbrev pub is-value : Table → ℕ → Bool
 is-value t k = is-attribute t k || is t constant k || is t enumeration-item k
 
--- a type that is renamed is a type, a supertype an entity, and any other name of a type means a type or an entity
+-- N6: by the role of a name of a type; a constant's or an attribute's type, and what a select names, is a type or an entity
 abbrev pub suits : Table → ℕ → ℕ → Bool
 suits t r k = cond (eqb r renamed-type) (is t type k) (cond (eqb r supertype-name) (is t entity k) (is t type k || is t entity k))
 
@@ -63,7 +63,7 @@ named-fault t n = judged (right t n) (means t n) (place t n)
 unfoldable pub type-name-fault : Table → ℕ → Fault
 type-name-fault t n = cond (is t name n && not (is-use t n)) (named-fault t n) fine
 
--- 13, a cycle over some edges: of each node on one that passes a test, its name
+-- N8: 13, a cycle over some edges: of each node on one that passes a test, its name
 unfoldable pub cyclic : Table → (ℕ → Bool) → List Edge → ℕ → Fault
 cyclic t p es n = cond (p n && reaches es n n) (fault 13 (place t n)) fine
 
@@ -76,23 +76,23 @@ is-enumeration t y = is t type y && is t enumeration-item (first t y)
 abbrev pub or-later : Fault → Fault → Fault
 or-later f g = cond (eqb (f .number) 0) g f
 
--- `type.item`: the type must be an enumeration, at its name; and the item is looked up in it
+-- N13, N14: the type must be an enumeration, at its name; and the item is looked up in it
 unfoldable pub qualified : Table → ℕ → Fault
 qualified t n =
     or-later (judged (is-enumeration t) (type-meant t n) (place-at t (type-token t n))) (judged (λ k. true) (means t n) (place t n))
 
--- an own attribute or label that is spelled like an inherited attribute
+-- N16: an own attribute or label that is spelled like an inherited attribute
 abbrev pub clashes : Table → ℕ → Bool
 clashes t n = is-scope-member t n && not (empty (inherited t (owner t n) (symbol t n)))
 
--- of names in expressions, of SELF in a constant, and of clashes
+-- of names in expressions, of SELF in a constant (N15), and of clashes
 unfoldable pub expression : Table → ℕ → Fault
 expression t n =
     cond (is-use t n) (named-fault t n)
     (cond (is t qualified-item n) (qualified t n)
     (cond (is t self n && in-constant t n) (fault 11 (place t n)) (cond (clashes t n) (fault 12 (place t n)) fine)))
 
--- from constants to the constants that their expressions name
+-- N17: from constants to the constants that their expressions name
 abbrev pub constants-meant : Table → Meaning → List ℕ
 constants-meant t none = []
 constants-meant t several = []

@@ -14,7 +14,7 @@ use Rattle.express.specs.names.Fault.{Fault, fine, or-later, repeated, t
 abbrev pub Stage : Type 0
 Stage = ℕ → Fault
 
--- in this order: 9; 10 and 11 of types and supertypes; 13 of these; 10 to 12 of expressions, and clashes; 13 of constants
+-- N19, in this order: 9; 10 and 11 of types and supertypes; 13 of these; 10 to 12 of expressions, and clashes; 13 of constants
 unfoldable pub stages : Table → List Stage
 stages t = repeated t ∷ type-name-fault t ∷ cyclic t (is-declaration t) (type-edges t) ∷ expression t ∷ cyclic t (is t constant) (constant-edges t) ∷ []
 

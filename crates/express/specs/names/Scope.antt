@@ -14,11 +14,11 @@ spelled t s p = keep (λ k. eqb (symbol t k) s && p k) (nodes t)
 
 -- ---- in a schema
 
--- a schema h sees what is declared in it, and nothing of another
+-- N4: a schema h sees what is declared in it, and nothing of another
 abbrev pub visible : Table → ℕ → ℕ → Bool
 visible t h k = eqb (schema-of t k) h
 
--- THE LOOK-UP of a symbol in a schema: its constants, types and entities
+-- THE LOOK-UP of a symbol in a schema (N1): its constants, types and entities
 unfoldable pub declarations : Table → ℕ → ℕ → List ℕ
 declarations t h s = spelled t s (λ k. is-declaration t k && visible t h k)
 
@@ -26,7 +26,7 @@ declarations t h s = spelled t s (λ k. is-declaration t k && visible t h k)
 unfoldable pub items : Table → ℕ → ℕ → List ℕ
 items t h s = spelled t s (λ k. is t enumeration-item k && visible t h k)
 
--- what the name at a node is among the declarations of its schema: names of types and supertypes are looked up there alone
+-- the declarations of its schema that the name at a node may mean: names of types and supertypes are looked up there alone (N5)
 abbrev pub declarations-of : Table → ℕ → List ℕ
 declarations-of t n = declarations t (schema-of t n) (symbol t n)
 
@@ -52,7 +52,7 @@ renaming-edges t = edges t (λ n. is-name-in t renamed-type n || is-name-in t se
 unfoldable pub type-edges : Table → List Edge
 type-edges t = renaming-edges t ++ super-edges t
 
--- the attributes of all that d reaches over supertypes; one that is reached on several ways stands here once
+-- N9: the attributes of all that d reaches over supertypes; one that is reached on several ways stands here once
 unfoldable pub inherited : Table → ℕ → ℕ → List ℕ
 inherited t d s = spelled t s (λ k. is-attribute t k && reaches (super-edges t) d (owner t k))
 
@@ -62,7 +62,7 @@ inherited t d s = spelled t s (λ k. is-attribute t k && reaches (super-edges t)
 abbrev pub is-use : Table → ℕ → Bool
 is-use t n = is-name-in t in-expression n
 
--- What is nearest: an own attribute or label, then an inherited attribute, then a declaration of the schema, then an item. In a type's WHERE nothing
+-- N10, what is nearest: an own attribute or label, then an inherited attribute, then a declaration of the schema, then an item. In a type's WHERE nothing
 -- is inherited, and in a constant nothing is own either (`nothing-inherited`, `nothing-own` of proofs/names/Owned).
 unfoldable pub candidates : Table → ℕ → ℕ → List ℕ
 candidates t n s =
@@ -79,7 +79,7 @@ meaning [] = none
 meaning (k ∷ []) = one k
 meaning (k ∷ l ∷ ks) = several
 
--- `type.item`: the type's name stands two tokens before the item; the item is looked up in that type
+-- N13, N14, `type.item`: the type's name stands two tokens before the item; the item is looked up in that type
 abbrev pub type-token : Table → ℕ → ℕ
 type-token t n = token t n - 2
 
@@ -101,7 +101,7 @@ means t n =
     (cond (is t name n) (meaning (declarations-of t n))
     (cond (is t qualified-item n) (item-meant t (symbol t n) (type-meant t n)) none))
 
--- a binding is the node number of the declaration and one more, or 0: SELF and what is no name have 0
+-- N18: a binding is one more than the node of the declaration, or 0: SELF and what is no name have 0
 abbrev pub binding-of : Meaning → ℕ
 binding-of none = 0
 binding-of several = 0

@@ -1,9 +1,8 @@
 -- The numbers of kinds and roles of nodes, by name.
 use Prim.Native.Nat.{ℕ}
 
--- "Kinds: 1 integer, 2 binary, 3 logical, 4 `?`, 5 real, string, PI or CONST_E, 6 name, 7 `type.item` (token: the item), 8 SELF, 9 unary,
--- 10 two-operand operator, 11 interval, 12 interval operator, 13 simple type, 14 enumeration item, 15 enumeration, 16 select, 17 constant,
--- 18 type, 19 attribute name, 20 attribute group, 21 optional group, 22 derived attribute, 23 rule, 24 entity, 25 schema, 26 file."
+-- The kinds of nodes (G32). First those of expressions: literals that are evaluated, `?`, other literals and PI and CONST_E, names, `type.item` (named by
+-- the item), SELF, operations with one, two and three operands; and the operators in an interval.
 abbrev pub integer-literal : ℕ
 integer-literal = 1
 
@@ -86,7 +85,7 @@ file = 26
 abbrev pub kind-limit : ℕ
 kind-limit = 27
 
--- the roles of a name, by the rule of the grammar that left it: in an expression; the type of a constant or an attribute; the type that a
+-- the roles of a name (G35), by the rule of the grammar that left it: in an expression; the type of a constant or an attribute; the type that a
 -- type renames; in a select list; in a SUBTYPE OF list
 abbrev pub in-expression : ℕ
 in-expression = 1

@@ -53,7 +53,7 @@ symbol t n = symbol-at t (token t n)
 abbrev pub place : Table → ℕ → ℕ
 place t n = place-at t (token t n)
 
--- "Children before parents, left to right": the last child of a node stands just before it
+-- the last child of a node stands just before it (G30)
 abbrev pub last : ℕ → ℕ
 last n = n - 1
 
@@ -77,7 +77,7 @@ left t n = before t (last n)
 abbrev pub type-node : Table → ℕ → ℕ
 type-node t d = left t d
 
--- "interval (low, operator, item, operator, high)": its operators are `lower` and `upper`
+-- an interval has five children: low side, operator, item, operator, high side; its operators are `lower` and `upper`
 abbrev pub upper : Table → ℕ → ℕ
 upper t n = left t n
 
