@@ -1,10 +1,12 @@
 -- "Answer row: kind, number, length."
+use mathlib.Core.Bool.{cond}
 use Prim.Native.Nat.{ℕ}
+use lib.Dec.{eqb}
 use lib.ListN.{length}
-use lib.IntN.{ℤ, pos}
-use Rattle.express.specs.kinds.Answer.{Answer, indeterminate, integer, logical, binary, item, end}
+use lib.IntN.{ℤ, pos, negsuc}
+use Rattle.express.specs.kinds.Answer.{Logical, FALSE, UNKNOWN, TRUE, Answer, indeterminate, integer, logical, binary, item, end}
 use Rattle.express.specs.kinds.Logic.{rank}
-use Rattle.express.specs.kinds.Bits.{number}
+use Rattle.express.specs.kinds.Bits.{number, bits}
 
 pub record AnswerRow : Type 0 where
   pub kind : ℕ
@@ -23,3 +25,24 @@ row-of (logical l) = row 2 (pos (rank l)) 0
 row-of (binary s) = row 3 (pos (number s)) (length s)
 row-of (item m) = row 4 (pos m) 0
 row-of (end e) = row e (pos 0) 0
+
+-- ---- the way back: the answer that a row stands for (`row-back` of proofs/whole/AnswerRow)
+
+-- a number of a row that counts from 0
+abbrev pub natural : ℤ → ℕ
+natural (pos n) = n
+natural (negsuc n) = 0
+
+abbrev pub ranked : ℕ → Logical
+ranked n = cond (eqb n 0) FALSE (cond (eqb n 1) UNKNOWN TRUE)
+
+-- a kind above 4 is an end by its number
+abbrev pub row-answer : AnswerRow → Answer
+row-answer r =
+    let n = natural (r .number) in
+    let k = r .kind in
+    cond (eqb k 0) indeterminate
+    (cond (eqb k 1) (integer (r .number))
+    (cond (eqb k 2) (logical (ranked n))
+    (cond (eqb k 3) (binary (bits (r .length) n))
+    (cond (eqb k 4) (item n) (end k)))))
