@@ -1,3 +1,4 @@
+pub mod Blank
 pub mod Bytes
 pub mod Lexis
 pub mod Scanned
