@@ -1,1 +1,2 @@
 pub mod AnswerRow
+pub mod Numbers
