@@ -1,7 +1,7 @@
 -- THE WHOLE: what is answered for the bytes of a file and tables of three lengths, in the order of the stages, and what every column then holds.
 use mathlib.Core.Bool.{cond}
-use mathlib.Core.List.{List, map}
-use Prim.Native.Nat.{ℕ}
+use mathlib.Core.List.{List, [], _∷_, map}
+use Prim.Native.Nat.{ℕ, min}
 use lib.Dec.{eqb, leb}
 use lib.IntN.{ℤ, pos}
 use lib.ListN.{length, getD, replicate}
@@ -129,3 +129,56 @@ answer-numbers a = map (λ (r : AnswerRow). r .number) (answer-rows a)
 
 abbrev pub answer-lengths : Accepted → List ℕ
 answer-lengths a = map (λ (r : AnswerRow). r .length) (answer-rows a)
+
+-- ---- the ten lent columns
+
+-- a table lent as columns is as long as its shortest column: of columns of these lengths
+abbrev pub shortest : List ℕ → ℕ
+shortest [] = 0
+shortest (n ∷ []) = n
+shortest (n ∷ m ∷ ns) = min n (shortest (m ∷ ns))
+
+abbrev pub token-entries : List ℕ → List ℕ → List ℕ → ℕ
+token-entries kinds starts lengths = shortest (length kinds ∷ length starts ∷ length lengths ∷ [])
+
+abbrev pub node-entries : List ℕ → List ℕ → List ℕ → List ℕ → ℕ
+node-entries kinds tokens sizes bindings = shortest (length kinds ∷ length tokens ∷ length sizes ∷ length bindings ∷ [])
+
+abbrev pub answer-entries : List ℕ → List ℤ → List ℕ → ℕ
+answer-entries kinds numbers lengths = shortest (length kinds ∷ length numbers ∷ length lengths ∷ [])
+
+-- three of tokens, four of nodes, three of answers
+pub record Tables : Type 0 where
+  pub token-kinds : List ℕ
+  pub token-starts : List ℕ
+  pub token-lengths : List ℕ
+  pub node-kinds : List ℕ
+  pub node-tokens : List ℕ
+  pub node-sizes : List ℕ
+  pub node-bindings : List ℕ
+  pub answer-kinds : List ℕ
+  pub answer-numbers : List ℤ
+  pub answer-lengths : List ℕ
+
+-- The outcome for the bytes of a file and the tables lent
+abbrev pub outcome : List ℕ → Tables → Checked
+outcome s l =
+    checked s (token-entries (l .token-kinds) (l .token-starts) (l .token-lengths))
+    (node-entries (l .node-kinds) (l .node-tokens) (l .node-sizes) (l .node-bindings))
+    (answer-entries (l .answer-kinds) (l .answer-numbers) (l .answer-lengths))
+
+-- what the tables hold after an outcome, each column as long as it was
+abbrev pub tables-after : Checked → Tables → Tables
+tables-after c l =
+    record {
+      token-kinds = column 0 token-kinds c (length (l .token-kinds));
+      token-starts = column 0 token-starts c (length (l .token-starts));
+      token-lengths = column 0 token-lengths c (length (l .token-lengths));
+      node-kinds = column 0 node-kinds c (length (l .node-kinds));
+      node-tokens = column 0 node-tokens c (length (l .node-tokens));
+      node-sizes = column 0 node-sizes c (length (l .node-sizes));
+      node-bindings = column 0 node-bindings c (length (l .node-bindings));
+      answer-kinds = column 0 answer-kinds c (length (l .answer-kinds));
+      answer-numbers = column (pos 0) answer-numbers c (length (l .answer-numbers));
+      answer-lengths = column 0 answer-lengths c (length (l .answer-lengths));
+    }
