@@ -4,3 +4,4 @@ pub mod Lexis
 pub mod Scanned
 pub mod Spelling
 pub mod Terminal
+pub mod Token

@@ -12,8 +12,8 @@ use lib.Seq.{drop-cons}
 use lib.Dec.{eqb, leb}
 use borrow.Author.Needs.{needs}
 use borrow.Author.Tests.{eq-eqb, eqb-true}
-use Rattle.express.specs.tokens.Bytes.{within, letter, digit, word-byte, space}
-use Rattle.express.specs.tokens.Lexis.{Reading, at, refused, part, end-of-run, run, pair, opens, dashes, in-line, end-of-remark, reading-then, skipped-in, skipped, numeral, end-of-integer, either, digits-of-exponent, end-of-exponent, end-of-real, end-of-string, end-of-binary, size-of-symbol, end-of-symbol, token-kind-at, end-of-token}
+use Rattle.express.specs.tokens.Bytes.{token-bytes, within, letter, digit, word-byte, space}
+use Rattle.express.specs.tokens.Lexis.{Reading, at, refused, end-of-run, run, pair, opens, dashes, in-line, end-of-remark, reading-then, skipped-in, skipped, numeral, end-of-integer, either, digits-of-exponent, end-of-exponent, end-of-real, end-of-string, end-of-binary, size-of-symbol, end-of-symbol, token-kind-at, end-of-token}
 
 -- a step that goes on gives a place from lo to hi
 abbrev pub From : ℕ → ℕ → Reading → Type 0
@@ -178,7 +178,7 @@ module _ (s : List ℕ) (p : ℕ) where
   pub integer-inside : p < length s → digit (getD s p 0) ≡ true → Inside (p + 1) (length s) (end-of-integer s p)
   unfolding end-of-integer
   integer-inside h e =
-      inside-cond (leb (numeral 10 0 (part s p points)) 9223372036854775807)
+      inside-cond (leb (numeral 10 0 (token-bytes s p (points - p))) 9223372036854775807)
       (goes (omega (arith, run-some (within 48 57) s p h e)) (run-high (within 48 57) s p (omega (arith, h))))
       stays
 

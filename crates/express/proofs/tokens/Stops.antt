@@ -10,9 +10,9 @@ use lib.ListN.{length, drop, getD, length-drop}
 use lib.Seq.{drop-cons, drop-drop}
 use lib.Dec.{eqb, leb, ltb}
 use borrow.Author.Tests.{ltb-true, ltb-false, leb-false, le-leb, ne-eqb}
-use Rattle.express.specs.tokens.Bytes.{digit, word-byte, space, printable}
+use Rattle.express.specs.tokens.Bytes.{token-bytes, digit, word-byte, space, printable}
 use Rattle.express.specs.tokens.Blank.{Line, text-ends, line-ends, line-goes, Remark, outside, opened, closed, passed, Blank, nothing, a-space, a-line, a-remark, Gaps, last-gap, gap, Stop, all-read, unfinished, too-large, too-long, stop-place}
-use Rattle.express.specs.tokens.Lexis.{Reading, at, refused, end-of-run, run, opens, closes, dashes, in-line, end-of-remark, reading-then, skipped-in, skipped, part, numeral, greatest, end-of-integer, end-of-real, end-of-string, bit, end-of-binary, size-of-symbol, end-of-symbol, token-kind-at, end-of-token, Row, Lexed, stopped, row-and-rest, token-after-blank, lexed-in, lexed-whole, most, lexed}
+use Rattle.express.specs.tokens.Lexis.{Reading, at, refused, end-of-run, run, opens, closes, dashes, in-line, end-of-remark, reading-then, skipped-in, skipped, numeral, greatest, end-of-integer, end-of-real, end-of-string, bit, end-of-binary, size-of-symbol, end-of-symbol, token-kind-at, end-of-token, Row, Lexed, stopped, row-and-rest, token-after-blank, lexed-in, lexed-whole, most, lexed}
 use Rattle.express.proofs.tokens.Places.{in-text, pair-in, run-low, run-high, inside-at, remark-inside, skip-inside, token-inside}
 
 -- ---- spaces and remarks
@@ -155,7 +155,7 @@ token-ends s p k =
     let e = run bit s (p + 1) in
     let n = size-of-symbol (getD s p 0) (getD s (p + 1) 0) (getD s (p + 2) 0) (getD s (p + 3) 0) in
     ends-cond (eqb k 1) ends-at
-    (ends-cond (eqb k 2) (ends-cond (leb (numeral 10 0 (part s p (run digit s p))) greatest) ends-at ends-large)
+    (ends-cond (eqb k 2) (ends-cond (leb (numeral 10 0 (token-bytes s p (run digit s p - p))) greatest) ends-at ends-large)
     (ends-cond (eqb k 3) ends-at
     (ends-cond (eqb k 4) (string-ends p false (p + 1) (drop (p + 1) s))
     (ends-cond (eqb k 5) (ends-cond (eqb (e - (p + 1)) 0) not-ended (ends-cond (leb (e - (p + 1)) 63) ends-at ends-large))

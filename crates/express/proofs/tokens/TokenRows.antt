@@ -12,8 +12,8 @@ use lib.Dec.{eqb, leb, ltb}
 use borrow.Author.Tests.{ltb-true, leb-true, eqb-true, eqb-false}
 use Rattle.express.specs.kinds.Bits as Bits
 use Rattle.express.specs.kinds.Bits.{number}
-use Rattle.express.specs.tokens.Bytes.{digit, within}
-use Rattle.express.specs.tokens.Lexis.{Reading, at, refused, part, end-of-run, run, bit, skipped, end-of-integer, end-of-binary, numeral, integer-value, binary-bits, binary-value, token-kind-at, end-of-token, Row, Lexed, stopped, token-after-blank, row-and-rest, lexed-in, lexed, kinds, starts, sizes}
+use Rattle.express.specs.tokens.Bytes.{token-bytes, digit, within}
+use Rattle.express.specs.tokens.Lexis.{Reading, at, refused, end-of-run, run, bit, skipped, end-of-integer, end-of-binary, numeral, integer-value, binary-bits, binary-value, token-kind-at, end-of-token, Row, Lexed, stopped, token-after-blank, row-and-rest, lexed-in, lexed, kinds, starts, sizes}
 use Rattle.express.specs.tokens.Scanned.{spelled, terminals}
 use Rattle.express.specs.tokens.Terminal as columns
 use Rattle.express.specs.tokens.Terminal.{terminal-of}
@@ -118,12 +118,12 @@ module _ (s : List ℕ) (r : Row) (t : Token s r) where
   -- "Integer literals reach 9223372036854775807."
   pub integer-small : r .kind ≡ 2 → integer-value (spelled s r) < 2 ^ 63
   unfolding end-of-token end-of-integer integer-value
-  integer-small e = go (leb (integer-value (part s (r .start) (run digit s (r .start)))) 9223372036854775807) refl (rw e at t .ends)
+  integer-small e = go (leb (integer-value (token-bytes s (r .start) (run digit s (r .start) - r .start))) 9223372036854775807) refl (rw e at t .ends)
     where
-      go : (b : Bool) → leb (integer-value (part s (r .start) (run digit s (r .start)))) 9223372036854775807 ≡ b → cond b (at (run digit s (r .start))) (refused 3 (r .start)) ≡ at (r .start + r .size) → integer-value (spelled s r) < 2 ^ 63
+      go : (b : Bool) → leb (integer-value (token-bytes s (r .start) (run digit s (r .start) - r .start))) 9223372036854775807 ≡ b → cond b (at (run digit s (r .start))) (refused 3 (r .start)) ≡ at (r .start + r .size) → integer-value (spelled s r) < 2 ^ 63
       go true l is =
           let size : run digit s (r .start) - r .start ≡ r .size = omega (arith, ap place-of is) in
-          let small : integer-value (part s (r .start) (run digit s (r .start))) ≤ 9223372036854775807 = leb-true _ _ l in
+          let small : integer-value (token-bytes s (r .start) (run digit s (r .start) - r .start)) ≤ 9223372036854775807 = leb-true _ _ l in
           let there : integer-value (spelled s r) ≤ 9223372036854775807 = rw size at small in
           omega (arith, there)
       go false l is = absurd (refused-at is)

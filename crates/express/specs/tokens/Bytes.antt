@@ -1,7 +1,13 @@
 -- Classes of bytes.
 use Prim.Native.Nat.{ℕ, _+_, _-_}
 use mathlib.Core.Bool.{Bool, cond, _&&_, _||_}
+use mathlib.Core.List.{List}
 use lib.Dec.{leb, eqb}
+use lib.ListN.{take, drop}
+
+-- the bytes of a token: so many of a text, from a start on
+abbrev pub token-bytes : List ℕ → ℕ → ℕ → List ℕ
+token-bytes s p n = take n (drop p s)
 
 abbrev pub within : ℕ → ℕ → ℕ → Bool
 within lo hi b = leb lo b && leb b hi
@@ -20,6 +26,16 @@ letter b = capital b || small b
 
 abbrev pub underscore : ℕ → Bool
 underscore b = eqb b 95
+
+-- `0` or `1`; `e` or `E`; `+` or `-`
+abbrev pub bit : ℕ → Bool
+bit b = within 48 49 b
+
+abbrev pub exponent-mark : ℕ → Bool
+exponent-mark b = eqb b 101 || eqb b 69
+
+abbrev pub sign : ℕ → Bool
+sign b = eqb b 43 || eqb b 45
 
 -- what a word goes on with
 unfoldable pub word-byte : ℕ → Bool

@@ -3,17 +3,14 @@ use Prim.Native.Nat.{ℕ, zero, suc, _+_, _-_, _*_}
 use mathlib.Core.Bool.{Bool, true, false, cond, not, _&&_, _||_}
 use mathlib.Core.List.{List, [], _∷_, map}
 use lib.Dec.{leb, ltb, eqb}
-use lib.ListN.{length, take, drop, getD}
-use Rattle.express.specs.tokens.Bytes.{within, digit, letter, word-byte, space, printable}
+use lib.ListN.{length, drop, getD}
+use Rattle.express.specs.tokens.Bytes as bytes
+use Rattle.express.specs.tokens.Bytes.{token-bytes, within, digit, letter, word-byte, space, printable}
 
 -- "Each reading step gives a new place or a located refusal": its number and its place.
 pub data Reading : Type 0 where
   at : ℕ → Reading
   refused : ℕ → ℕ → Reading
-
--- the bytes from one place up to another
-abbrev pub part : List ℕ → ℕ → ℕ → List ℕ
-part s p e = take (e - p) (drop p s)
 
 -- where the bytes of a class end that stand in a row from p on; the list is what is left from there
 unfoldable pub end-of-run : (ℕ → Bool) → ℕ → List ℕ → ℕ
@@ -84,17 +81,17 @@ greatest = 9223372036854775807
 unfoldable pub end-of-integer : List ℕ → ℕ → Reading
 end-of-integer s p =
     let e = run digit s p in
-    cond (leb (numeral 10 0 (part s p e)) greatest) (at e) (refused 3 p)
+    cond (leb (numeral 10 0 (token-bytes s p (e - p))) greatest) (at e) (refused 3 p)
 
 abbrev pub either : ℕ → ℕ → ℕ → Bool
 either x y b = eqb b x || eqb b y
 
 -- `e` or `E`; `+` or `-`
 abbrev pub exponent-mark : ℕ → Bool
-exponent-mark b = either 101 69 b
+exponent-mark b = bytes.exponent-mark b
 
 abbrev pub sign : ℕ → Bool
-sign b = either 43 45 b
+sign b = bytes.sign b
 
 -- where the digits of an exponent begin, whose `e` is at p
 abbrev pub digits-of-exponent : List ℕ → ℕ → ℕ
@@ -124,7 +121,7 @@ end-of-string o false p (b ∷ s) =
     cond (eqb b 39) quote (cond (printable b) on (refused 2 o))
 
 abbrev pub bit : ℕ → Bool
-bit b = within 48 49 b
+bit b = bytes.bit b
 
 -- "Binary literals have 1 to 63 bits": a `%` without a bit is unfinished
 unfoldable pub end-of-binary : List ℕ → ℕ → Reading

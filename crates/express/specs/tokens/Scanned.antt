@@ -2,15 +2,15 @@
 use mathlib.Core.Path.{_≡_}
 use mathlib.Core.List.{List, [], map}
 use Prim.Native.Nat.{ℕ}
-use lib.ListN.{take, drop}
+use Rattle.express.specs.tokens.Bytes.{token-bytes}
 use Rattle.express.specs.tokens.Lexis.{Row, Lexed, starts, sizes, lexed}
 use Rattle.express.specs.tokens.Terminal.{terminal-of}
 use Rattle.express.specs.tokens.Spelling.{symbols-of}
 use Rattle.express.specs.syntax.Tree.{Table}
 
--- the bytes of a token
+-- the bytes of a row
 abbrev pub spelled : List ℕ → Row → List ℕ
-spelled s r = take (r .size) (drop (r .start) s)
+spelled s r = token-bytes s (r .start) (r .size)
 
 abbrev pub terminals : List ℕ → Lexed → List ℕ
 terminals s l = map (λ r. terminal-of (r .kind) (spelled s r)) (l .rows)

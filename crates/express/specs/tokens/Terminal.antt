@@ -5,8 +5,8 @@ use Prim.Native.Char.{code}
 use Prim.Native.String.{String, [] as none, _∷_ as _then_}
 use mathlib.Core.Bool.{cond}
 use lib.Dec.{eqb}
-use lib.ListN.{getD, take, drop}
-use Rattle.express.specs.tokens.Bytes.{upper, within}
+use lib.ListN.{getD}
+use Rattle.express.specs.tokens.Bytes.{token-bytes, upper, within}
 use Rattle.express.specs.tokens.Spelling.{same}
 
 -- the bytes of a text
@@ -266,4 +266,4 @@ unfoldable pub terminals : List ℕ → List ℕ → List ℕ → List ℕ → L
 terminals text [] starts sizes = []
 terminals text (k ∷ ks) [] sizes = []
 terminals text (k ∷ ks) (p ∷ ps) [] = []
-terminals text (k ∷ ks) (p ∷ ps) (n ∷ ns) = terminal-of k (take n (drop p text)) ∷ terminals text ks ps ns
+terminals text (k ∷ ks) (p ∷ ps) (n ∷ ns) = terminal-of k (token-bytes text p n) ∷ terminals text ks ps ns
