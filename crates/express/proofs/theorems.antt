@@ -5,7 +5,6 @@ pub mod Exactness
 pub mod File
 pub mod Files
 pub mod KindCases
-pub mod Longest
 pub mod NameCases
 pub mod SyntaxExamples
 pub mod TokenExamples

@@ -18,16 +18,16 @@ use Rattle.express.proofs.tokens.Places.{in-text, pair-in, run-low, run
 -- ---- spaces and remarks
 
 -- a text from a place on, its first byte taken off
-tail : (s : List ℕ) (p b : ℕ) (t : List ℕ) → drop p s ≡ b ∷ t → drop (p + 1) s ≡ t
+pub tail : (s : List ℕ) (p b : ℕ) (t : List ℕ) → drop p s ≡ b ∷ t → drop (p + 1) s ≡ t
 tail s p b t e = sym (drop-drop 1 p s) ∙ ap (drop 1) e
 
-two-off : (s : List ℕ) (p b c : ℕ) (t : List ℕ) → drop p s ≡ b ∷ c ∷ t → drop (p + 2) s ≡ t
+pub two-off : (s : List ℕ) (p b c : ℕ) (t : List ℕ) → drop p s ≡ b ∷ c ∷ t → drop (p + 2) s ≡ t
 two-off s p b c t e = sym (drop-drop 2 p s) ∙ ap (drop 2) e
 
-one-cut : (s : List ℕ) (p : ℕ) → p < length s → drop p s ≡ getD s p 0 ∷ drop (p + 1) s
+pub one-cut : (s : List ℕ) (p : ℕ) → p < length s → drop p s ≡ getD s p 0 ∷ drop (p + 1) s
 one-cut s p h = rw (add-one, drop-cons s p 0)
 
-two-cut : (s : List ℕ) (p : ℕ) → p + 1 < length s → drop p s ≡ getD s p 0 ∷ getD s (p + 1) 0 ∷ drop (p + 2) s
+pub two-cut : (s : List ℕ) (p : ℕ) → p + 1 < length s → drop p s ≡ getD s p 0 ∷ getD s (p + 1) 0 ∷ drop (p + 2) s
 two-cut s p h =
     let e : p + 1 + 1 ≡ p + 2 = omega arith in
     one-cut s p (omega arith) ∙ ap (λ (t : List ℕ). getD s p 0 ∷ t) (one-cut s (p + 1) h ∙ ap (λ (k : ℕ). getD s (p + 1) 0 ∷ drop k s) e)

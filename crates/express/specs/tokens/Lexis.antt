@@ -3,9 +3,10 @@ use Prim.Native.Nat.{ℕ, zero, suc, _+_, _-_, _*_}
 use mathlib.Core.Bool.{Bool, true, false, cond, not, _&&_, _||_}
 use mathlib.Core.List.{List, [], _∷_, map}
 use lib.Dec.{leb, ltb, eqb}
-use lib.ListN.{length, drop, getD}
+use lib.ListN.{length, take, drop, getD}
 use Rattle.express.specs.tokens.Bytes as bytes
 use Rattle.express.specs.tokens.Bytes.{token-bytes, within, digit, letter, word-byte, space, printable}
+use Rattle.express.specs.tokens.Token.{longest-size, longest-kind}
 
 -- "Each reading step gives a new place or a located refusal": its number and its place.
 pub data Reading : Type 0 where
@@ -154,6 +155,18 @@ end-of-symbol s p =
 
 -- ---- tokens
 
+-- a literal of kind k beyond its bound: "Binary literals have 1 to 63 bits", behind the `%`
+abbrev pub too-large : ℕ → List ℕ → Bool
+too-large k w = cond (eqb k 2) (not (leb (numeral 10 0 w) greatest)) (eqb k 5 && not (leb (length w) 64))
+
+-- THE TOKEN AT A PLACE: the end of the longest that stands there. No token, or one that is unfinished, is refused by 2
+unfoldable pub longest-end : List ℕ → ℕ → Reading
+longest-end s p =
+    let t = drop p s in
+    let n = longest-size t in
+    cond (eqb n 0) (refused 2 p) (cond (too-large (longest-kind t) (take n t)) (refused 3 p) (at (p + n)))
+
+-- The same by the byte with which it begins (`token-is-longest` of proofs/tokens/Longest).
 -- "Kinds: 1 word, 2 integer, 3 real, 4 string, 5 binary, 6 symbol": what the byte at p begins, a number being real if a point ends its digits
 unfoldable pub token-kind-at : List ℕ → ℕ → ℕ
 token-kind-at s p =
