@@ -16,10 +16,10 @@ use Rattle.express.specs.tokens.Bytes as bytes
 use Rattle.express.specs.tokens.Spelling.{same}
 use Rattle.express.specs.tokens.Terminal.{Fixed, symbols, among, symbol-terminal}
 use Rattle.express.specs.tokens.Token.{all-of, some-of, is-word, is-integer, is-exponent, is-fraction, is-decimal, is-real, in-string, is-string, is-binary, is-symbol, spelled-kind, standing-kind, longest, longest-size, longest-kind}
-use Rattle.express.specs.tokens.Lexis.{Reading, at, refused, end-of-run, run, numeral, greatest, end-of-integer, digits-of-exponent, end-of-exponent, end-of-real, end-of-string, end-of-binary, size-of-symbol, end-of-symbol, token-kind-at, end-of-token}
+use Rattle.express.specs.tokens.Lexis.{Reading, at, refused, end-of-run, run, numeral, greatest, end-of-integer, digits-of-exponent, end-of-exponent, end-of-real, end-of-string, end-of-binary, size-of-symbol, end-of-symbol, too-large, longest-end, token-kind-at, end-of-token}
 use Rattle.relations.specs.Select.{any}
 use Rattle.relations.proofs.Select.{and-fst, and-snd, or-cases, untrue}
-use Rattle.express.proofs.tokens.Places.{past, in-text, run-low-of, run-low, and-false, cond-ge, exponent-low}
+use Rattle.express.proofs.tokens.Places.{past, in-text, run-low-of, run-low, run-some, and-false, size-inside, cond-ge, exponent-low}
 use Rattle.express.proofs.tokens.Spelling.{same-true}
 use Rattle.express.proofs.tokens.Stops.{tail, one-cut, two-cut}
 use Rattle.express.proofs.tokens.Symbols.{read, longest-wins, read-symbol}
@@ -405,3 +405,265 @@ strings o false p (b ∷ t) = by (eqb b 39) (printable b) refl refl (strings o t
         other : (m : ℕ) → m ≤ suc (length t) → ended false (b ∷ t) m ≡ false
         other zero l = refl
         other (suc m) l = rw (i, j)
+
+-- ---- the longest token behind a first byte
+
+-- sizes that one test decides
+module _ (b : ℕ) (u : List ℕ) (P : ℕ → Bool) (k : ℕ) (some : k ≡ 0 → ⊥) (stand : (m : ℕ) → m ≤ length u → standing-kind (b ∷ u) (suc m) ≡ cond (P m) k 0) where
+  tested : (n : ℕ) → n ≤ length u → P n ≡ true → ((m : ℕ) → n < m → m ≤ length u → P m ≡ false) → (longest-size (b ∷ u) ≡ suc n) × (standing-kind (b ∷ u) (suc n) ≡ k)
+  tested n l is over =
+      let here : standing-kind (b ∷ u) (suc n) ≡ k = stand n l ∙ rw is in
+      (longest-is (b ∷ u) (suc (length u)) (suc n) (omega arith) (omega arith) (λ (z : standing-kind (b ∷ u) (suc n) ≡ 0). some (sym here ∙ z)) beyond, here)
+    where
+      beyond : (m : ℕ) → suc n < m → m ≤ suc (length u) → standing-kind (b ∷ u) m ≡ 0
+      beyond zero i j = absurd (omega arith)
+      beyond (suc m) i j = stand m (omega arith) ∙ rw (over m (omega arith) (omega arith))
+
+  untested : ((m : ℕ) → m ≤ length u → P m ≡ false) → longest-size (b ∷ u) ≡ 0
+  untested over = longest-none (b ∷ u) (suc (length u)) beyond
+    where
+      beyond : (m : ℕ) → 0 < m → m ≤ suc (length u) → standing-kind (b ∷ u) m ≡ 0
+      beyond zero i j = absurd (omega arith)
+      beyond (suc m) i j = stand m (omega arith) ∙ rw (over m (omega arith))
+
+-- what is spelled stands there, unless it is a string
+standing : (t : List ℕ) (n k : ℕ) → (k ≡ 4 → ⊥) → spelled-kind (take n t) ≡ k → standing-kind t n ≡ k
+unfolding standing-kind
+standing t n k other e = rw (e, ne-eqb k 4 other)
+
+not-four : (x : Bool) (k : ℕ) → (k ≡ 4 → ⊥) → cond x k 0 ≡ 4 → ⊥
+not-four true k h e = h e
+not-four false k h e = absurd (omega arith)
+
+module _ (b : ℕ) (u : List ℕ) where
+  word-longest : letter b ≡ true → (longest-size (b ∷ u) ≡ suc (run-size word-byte u)) × (standing-kind (b ∷ u) (suc (run-size word-byte u)) ≡ 1)
+  word-longest e =
+      let x = all-max word-byte u in
+      tested b u (λ m. all-of word-byte (take m u)) 1 (λ (z : _≡_ {A = ℕ} 1 0). omega arith)
+      (λ m l. standing (b ∷ u) (suc m) _ (not-four (all-of word-byte (take m u)) 1 (λ (z : _≡_ {A = ℕ} 1 4). omega arith)) (word-kind b (take m u) e))
+      (run-size word-byte u) (x .upto) (x .is) (x .over)
+
+  module _ (e : digit b ≡ true) where
+    number-stands : (m : ℕ) → standing-kind (b ∷ u) (suc m) ≡ cond (all-of digit (take m u)) 2 (cond (is-decimal (take m u)) 3 0)
+    number-stands m = standing (b ∷ u) (suc m) _ (by (all-of digit (take m u)) (is-decimal (take m u))) (number-kind b (take m u) e)
+      where
+        by : (x y : Bool) → _≡_ {A = ℕ} (cond x 2 (cond y 3 0)) 4 → ⊥
+        by true y z = absurd (omega (arith, z))
+        by false true z = absurd (omega (arith, z))
+        by false false z = absurd (omega (arith, z))
+
+    integer-longest : Never is-decimal u → (longest-size (b ∷ u) ≡ suc (run-size digit u)) × (standing-kind (b ∷ u) (suc (run-size digit u)) ≡ 2)
+    integer-longest never =
+        let x = all-max digit u in
+        tested b u (λ m. all-of digit (take m u)) 2 (λ (z : _≡_ {A = ℕ} 2 0). omega arith)
+        (λ m l. number-stands m ∙ rw (never m l)) (run-size digit u) (x .upto) (x .is) (x .over)
+
+    real-longest : (n : ℕ) → Max is-decimal u n → (longest-size (b ∷ u) ≡ suc n) × (standing-kind (b ∷ u) (suc n) ≡ 3)
+    real-longest n x =
+        let whole : all-of digit (take n u) ≡ false = not-both (take n u) (x .is) in
+        let here : standing-kind (b ∷ u) (suc n) ≡ 3 = number-stands n ∙ rw (whole, x .is) in
+        (longest-is (b ∷ u) (suc (length u)) (suc n) (omega arith) (omega (arith, x .upto)) (λ (z : standing-kind (b ∷ u) (suc n) ≡ 0). omega (arith, here)) (beyond whole), here)
+      where
+        beyond : all-of digit (take n u) ≡ false → (m : ℕ) → suc n < m → m ≤ suc (length u) → standing-kind (b ∷ u) m ≡ 0
+        beyond whole zero i j = absurd (omega arith)
+        beyond whole (suc m) i j =
+            let short : run-size digit u < n = leb-false n (run-size digit u) (sym (all-take digit u n (x .upto)) ∙ whole) in
+            let all : all-of digit (take m u) ≡ false = all-take digit u m (omega arith) ∙ lt-leb m (run-size digit u) (omega arith) in
+            number-stands m ∙ rw (all, x .over m (omega arith) (omega arith))
+
+  module _ (i : letter b ≡ false) (j : digit b ≡ false) (k : eqb b 39 ≡ false) (l : eqb b 37 ≡ false) where
+    symbol-stands : (m : ℕ) → standing-kind (b ∷ u) (suc m) ≡ cond (is-symbol (b ∷ take m u)) 6 0
+    symbol-stands m =
+        standing (b ∷ u) (suc m) _ (not-four (is-symbol (b ∷ take m u)) 6 (λ (z : _≡_ {A = ℕ} 6 4). omega arith)) (symbol-kind b (take m u) i j k l)
+
+string-stands : (u : List ℕ) (m : ℕ) → standing-kind (39 ∷ u) (suc m) ≡ cond (ended false u m) 4 0
+unfolding standing-kind
+string-stands u m = rw (string-kind (take m u)) (by (in-string false (take m u)) (eqb (getD u m 0) 39))
+  where
+    by : (x y : Bool) → _≡_ {A = ℕ} (cond (eqb (cond x 4 0) 4 && y) 0 (cond x 4 0)) (cond (x && not y) 4 0)
+    by true true = refl
+    by true false = refl
+    by false y = refl
+
+binary-stands : (u : List ℕ) (m : ℕ) → standing-kind (37 ∷ u) (suc m) ≡ cond (some-of bytes.bit (take m u)) 5 0
+binary-stands u m = standing (37 ∷ u) (suc m) _ (not-four (some-of bytes.bit (take m u)) 5 (λ (z : _≡_ {A = ℕ} 5 4). omega arith)) (binary-kind (take m u))
+
+-- ---- the reading of a token of kind k at p, and the longest that stands there
+
+data Agrees (s : List ℕ) (p k : ℕ) : Type 0 where
+  nothing-there : longest-size (drop p s) ≡ 0 → end-of-token s p k ≡ refused 2 p → Agrees s p k
+  token-there : (n : ℕ) → longest-size (drop p s) ≡ suc n → standing-kind (drop p s) (suc n) ≡ k →
+      end-of-token s p k ≡ cond (too-large k (take (suc n) (drop p s))) (refused 3 p) (at (p + suc n)) → Agrees s p k
+
+cond-not : {A : Type 0} (x : Bool) (a c : A) → cond x a c ≡ cond (not x) c a
+cond-not true a c = refl
+cond-not false a c = refl
+
+run-none : (f : ℕ → Bool) (s : List ℕ) (p : ℕ) → f (getD s p 0) ≡ false → run f s p ≡ p
+unfolding end-of-run
+run-none f s p e = by (drop p s) refl
+  where
+    by : (t : List ℕ) → drop p s ≡ t → end-of-run f p t ≡ p
+    by [] i = refl
+    by (b ∷ t) i = rw (sym (first-is s p b t i), e)
+
+module _ (s : List ℕ) (p : ℕ) (h : p < length s) where
+  abbrev b : ℕ
+  b = getD s p 0
+
+  abbrev u : List ℕ
+  u = drop (p + 1) s
+
+  cut : drop p s ≡ b ∷ u
+  cut = one-cut s p h
+
+  run-first : (f : ℕ → Bool) → f b ≡ true → run f s p ≡ p + suc (run-size f u)
+  unfolding run-size
+  run-first f e =
+      let r : run-size f (b ∷ u) ≡ suc (run-size f u) = rw e in
+      ap (end-of-run f p) cut ∙ run-is f p (b ∷ u) ∙ ap (λ (k : ℕ). p + k) r
+
+  word-agrees : letter b ≡ true → Agrees s p 1
+  unfolding end-of-token word-byte
+  word-agrees e =
+      let x = word-longest b u e in
+      token-there (run-size word-byte u) (rw cut (x .0)) (rw cut (x .1)) (ap at (run-first word-byte (rw e)))
+
+  integer-agrees : digit b ≡ true → (getD s (run digit s p) 0 ≡ 46 → ⊥) → Agrees s p 2
+  unfolding end-of-token end-of-integer end-of-run
+  integer-agrees e point =
+      let point-of : run digit s p ≡ end-of-run digit (p + 1) u = rw (cut, e) in
+      let x = integer-longest b u e (decimal-never s (p + 1) u refl (λ (z : getD s (end-of-run digit (p + 1) u) 0 ≡ 46). point (ap (λ (k : ℕ). getD s k 0) point-of ∙ z))) in
+      let n = suc (run-size digit u) in
+      let size : p + n - p ≡ n = omega arith in
+      token-there (run-size digit u) (rw cut (x .0)) (rw cut (x .1))
+      (rw (run-first digit e, size) (cond-not (leb (numeral 10 0 (take n (drop p s))) greatest) (at (p + n)) (refused 3 p)))
+
+  real-agrees : digit b ≡ true → getD s (run digit s p) 0 ≡ 46 → Agrees s p 3
+  unfolding end-of-token end-of-real end-of-run
+  real-agrees e point =
+      let point-of : run digit s p ≡ end-of-run digit (p + 1) u = rw (cut, e) in
+      let d = end-of-run digit (p + 1) u in
+      let low : p + 1 ≤ d = run-low-of digit (p + 1) u in
+      let up : d + 1 ≤ end-from s d = end-from-low s d in
+      let m = decimal-max s (p + 1) u refl (sym (ap (λ (k : ℕ). getD s k 0) point-of) ∙ point) in
+      let x = real-longest b u e (end-from s d - (p + 1)) m in
+      let there : end-from s d ≡ p + suc (end-from s d - (p + 1)) = omega arith in
+      token-there (end-from s d - (p + 1)) (rw cut (x .0)) (rw cut (x .1)) (ap (λ (k : ℕ). at (end-from s k)) point-of ∙ ap at there)
+
+  string-agrees : b ≡ 39 → Agrees s p 4
+  unfolding end-of-token
+  string-agrees e = by (end-of-string p false (p + 1) u) refl (strings p false (p + 1) u)
+    where
+      quoted : drop p s ≡ 39 ∷ u
+      quoted = cut ∙ ap (λ (c : ℕ). c ∷ u) e
+
+      by : (r : Reading) → end-of-string p false (p + 1) u ≡ r → Strings p false (p + 1) u r → Agrees s p 4
+      by (at q) is (string-at n l ends only i) =
+          let x = tested 39 u (ended false u) 4 (λ (z : _≡_ {A = ℕ} 4 0). omega arith) (λ m k. string-stands u m) n l ends (λ m a c. only m (λ (z : m ≡ n). omega arith) c) in
+          let there : q ≡ p + suc n = omega arith in
+          token-there n (rw quoted (x .0)) (rw quoted (x .1)) (is ∙ ap at there)
+      by _ is (string-open never) =
+          nothing-there (rw quoted (untested 39 u (ended false u) 4 (λ (z : _≡_ {A = ℕ} 4 0). omega arith) (λ m k. string-stands u m) never)) is
+
+  binary-agrees : b ≡ 37 → Agrees s p 5
+  unfolding end-of-token end-of-binary
+  binary-agrees e = by (bytes.bit (getD s (p + 1) 0)) refl
+    where
+      marked : drop p s ≡ 37 ∷ u
+      marked = cut ∙ ap (λ (c : ℕ). c ∷ u) e
+
+      P : ℕ → Bool
+      P m = some-of bytes.bit (take m u)
+
+      five : _≡_ {A = ℕ} 5 0 → ⊥
+      five z = absurd (omega arith)
+
+      by : (x : Bool) → bytes.bit (getD s (p + 1) 0) ≡ x → Agrees s p 5
+      by true i =
+          let l = in-text bytes.bit refl s (p + 1) i in
+          let some = run-some bytes.bit s (p + 1) l i in
+          let m = some-max bytes.bit s (p + 1) refl i in
+          let n = run bytes.bit s (p + 1) - (p + 1) in
+          let x = tested 37 u P 5 five (λ m k. binary-stands u m) n (m .upto) (m .is) (m .over) in
+          let there : run bytes.bit s (p + 1) ≡ p + suc n = omega arith in
+          let size : length (take (suc n) (drop p s)) ≡ suc n = omega (arith, length-take (suc n) (drop p s), length-drop p s, m .upto, length-drop (p + 1) s) in
+          let not-zero : eqb n 0 ≡ false = ne-eqb n 0 (λ (z : n ≡ 0). omega arith) in
+          token-there n (rw marked (x .0)) (rw marked (x .1))
+          (rw (not-zero, size, leb-suc n 63) (cond-not (leb n 63) (at (run bytes.bit s (p + 1))) (refused 3 p) ∙ ap (λ (k : ℕ). cond (not (leb n 63)) (refused 3 p) (at k)) there))
+      by false i =
+          let none : run bytes.bit s (p + 1) - (p + 1) ≡ 0 = omega (arith, run-none bytes.bit s (p + 1) i) in
+          nothing-there (rw marked (untested 37 u P 5 five (λ m k. binary-stands u m) (some-never bytes.bit s (p + 1) i))) (rw none)
+
+  symbol-agrees : letter b ≡ false → digit b ≡ false → eqb b 39 ≡ false → eqb b 37 ≡ false → Agrees s p 6
+  unfolding end-of-token end-of-symbol
+  symbol-agrees i j k l = by size refl (read-symbol b u)
+    where
+      size : ℕ
+      size = size-of-symbol (getD s p 0) (getD s (p + 1) 0) (getD s (p + 2) 0) (getD s (p + 3) 0)
+
+      byte : (n m : ℕ) → p + 1 + n ≡ m → getD u n 0 ≡ getD s m 0
+      byte n m e = getD-drop (p + 1) s n 0 ∙ ap (λ (c : ℕ). getD s c 0) e
+
+      read-is : read (b ∷ u) ≡ size
+      read-is =
+          ap (λ (x : ℕ). size-of-symbol b x (getD u 1 0) (getD u 2 0)) (byte 0 (p + 1) (omega arith))
+          ∙ ap (λ (x : ℕ). size-of-symbol b (getD s (p + 1) 0) x (getD u 2 0)) (byte 1 (p + 2) (omega arith))
+          ∙ ap (λ (x : ℕ). size-of-symbol b (getD s (p + 1) 0) (getD s (p + 2) 0) x) (byte 2 (p + 3) (omega arith))
+
+      P : ℕ → Bool
+      P m = is-symbol (b ∷ take m u)
+
+      six : _≡_ {A = ℕ} 6 0 → ⊥
+      six z = absurd (omega arith)
+
+      known : (w : List ℕ) → is-symbol w ≡ true → symbol-terminal w ≡ 0 → ⊥
+      known w e z = absurd (false≢true (sym (ap (λ (x : Bool). not x) (eq-eqb (symbol-terminal w) 0 z)) ∙ e))
+
+      -- no symbol is longer than what is read
+      beyond : (m : ℕ) → size < suc m → m ≤ length u → P m ≡ false
+      beyond m a c =
+          untrue (P m)
+          (λ e. let le = longest-wins (b ∷ u) (suc m) (known (b ∷ take m u) e) in omega (arith, le, length-take (suc m) (b ∷ u), read-is))
+
+      by : (n : ℕ) → size ≡ n → (read (b ∷ u) ≡ 0) ⊎ (symbol-terminal (take (read (b ∷ u)) (b ∷ u)) ≡ 0 → ⊥) → Agrees s p 6
+      by zero e x =
+          nothing-there (rw cut (untested b u P 6 six (λ m q. symbol-stands b u i j k l m) (λ m q. beyond m (omega arith) q))) (rw (eq-eqb size 0 e))
+      by (suc n) e (inl z) = absurd (omega (arith, read-is))
+      by (suc n) e (inr is) =
+          let inside = size-inside s p h in
+          let upto : n ≤ length u = omega (arith, length-drop (p + 1) s) in
+          let whole : read (b ∷ u) ≡ suc n = read-is ∙ e in
+          let here : P n ≡ true = rw (ne-eqb (symbol-terminal (b ∷ take n u)) 0 (rw whole at is)) in
+          let x = tested b u P 6 six (λ m q. symbol-stands b u i j k l m) n upto here (λ m a c. beyond m (omega arith) c) in
+          token-there n (rw cut (x .0)) (rw cut (x .1)) (rw (ne-eqb size 0 (λ (z : size ≡ 0). omega arith)) (ap (λ (c : ℕ). at (p + c)) e))
+
+  agrees : Agrees s p (token-kind-at s p)
+  unfolding token-kind-at
+  agrees = go (letter b) (digit b) (eqb (getD s (run digit s p) 0) 46) (eqb b 39) (eqb b 37) refl refl refl refl refl
+    where
+      go : (l d q x y : Bool) → letter b ≡ l → digit b ≡ d → eqb (getD s (run digit s p) 0) 46 ≡ q → eqb b 39 ≡ x → eqb b 37 ≡ y →
+          Agrees s p (cond l 1 (cond d (cond q 3 2) (cond x 4 (cond y 5 6))))
+      go true d q x y i j k m n = word-agrees i
+      go false true true x y i j k m n = real-agrees j (eqb-true _ 46 k)
+      go false true false x y i j k m n = integer-agrees j (eqb-false _ 46 k)
+      go false false q true y i j k m n = string-agrees (eqb-true b 39 m)
+      go false false q false true i j k m n = binary-agrees (eqb-true b 37 n)
+      go false false q false false i j k m n = symbol-agrees i j m n
+
+  -- THE LONGEST TOKEN: where the reading finds a token it is the longest, of the kind that it spells; and it is refused where that is
+  pub token-is-longest : end-of-token s p (token-kind-at s p) ≡ longest-end s p
+  unfolding longest-end
+  token-is-longest = by agrees
+    where
+      by : Agrees s p (token-kind-at s p) → end-of-token s p (token-kind-at s p) ≡
+          cond (eqb (longest-size (drop p s)) 0) (refused 2 p) (cond (too-large (longest-kind (drop p s)) (take (longest-size (drop p s)) (drop p s))) (refused 3 p) (at (p + longest-size (drop p s))))
+      by (nothing-there e is) = rw e is
+      by (token-there n e k is) = rw (e, ne-eqb (suc n) 0 (λ (z : suc n ≡ 0). omega arith), k) is
+
+  pub kind-is-longest : (e : ℕ) → longest-end s p ≡ at e → token-kind-at s p ≡ longest-kind (drop p s)
+  kind-is-longest e i = by agrees
+    where
+      by : Agrees s p (token-kind-at s p) → token-kind-at s p ≡ longest-kind (drop p s)
+      by (nothing-there z is) = let never : _≡_ {A = ℕ} 0 1 = cc token-is-longest in absurd (omega arith)
+      by (token-there n z k is) = rw z (sym k)
