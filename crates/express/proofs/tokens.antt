@@ -1,3 +1,4 @@
+pub mod Fast
 pub mod Literals
 pub mod Longest
 pub mod Places

@@ -134,11 +134,11 @@ module _ (s : List ℕ) (tr nr ar : ℕ) (a : Accepted) where
   read-of r e = read-good file (token-table s) r e
 
   scanned-of : (rs : List ebnf.Row) → Scanned (with-rows (token-table s) rs)
-  scanned-of rs = record { starts-are = refl; lengths-are = refl; terminals-are = refl }
+  scanned-of rs = record { starts-are = refl; lengths-are = refl; terminals-are = refl; symbols-are = refl }
 
   passed-syntax :
       (n : ℕ) → lexed s .stop ≡ at n → length (lexed s .rows) ≤ tr → (o : Outcome ebnf.Rows) → parsed file (token-table s .terminals) ≡ o →
-      after-syntax s nr ar o ≡ accepted a → Acceptable s tr nr ar a
+      after-syntax s (lexed s) nr ar o ≡ accepted a → Acceptable s tr nr ar a
   passed-syntax n e l (good r) p h =
       let t = with-rows (token-table s) (r .rows) in
       let q = passed-rows (lexed s .rows) t nr ar a h in
@@ -166,7 +166,7 @@ module _ (s : List ℕ) (tr nr ar : ℕ) (a : Accepted) where
   passed-syntax n e l (too-deep k) p h = clash (cc)
 
   passed-tokens :
-      (x : Reading) → lexed s .stop ≡ x → (b : Bool) → leb (length (lexed s .rows)) tr ≡ b → after-tokens s nr ar (counted x (length (lexed s .rows)) tr) ≡ accepted a →
+      (x : Reading) → lexed s .stop ≡ x → (b : Bool) → leb (length (lexed s .rows)) tr ≡ b → after-tokens s (lexed s) nr ar (counted x (length (lexed s .rows)) tr) ≡ accepted a →
       Acceptable s tr nr ar a
   passed-tokens (at n) e true l h = passed-syntax n e (leb-true _ _ l) (parsed file (token-table s .terminals)) refl (rw l at h)
   passed-tokens (at n) e false l h = clash (let q = rw l at h in cc)

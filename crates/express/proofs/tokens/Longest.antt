@@ -19,9 +19,8 @@ use Rattle.express.specs.tokens.Token.{all-of, some-of, is-word, is-inte
 use Rattle.express.specs.tokens.Lexis.{Reading, at, refused, end-of-run, run, numeral, greatest, end-of-integer, digits-of-exponent, end-of-exponent, end-of-real, end-of-string, end-of-binary, size-of-symbol, end-of-symbol, too-large, longest-end, token-kind-at, end-of-token}
 use Rattle.relations.specs.Select.{any}
 use Rattle.relations.proofs.Select.{and-fst, and-snd, or-cases, untrue}
-use Rattle.express.proofs.tokens.Places.{past, in-text, run-low-of, run-low, run-some, and-false, size-inside, cond-ge, exponent-low}
+use Rattle.express.proofs.tokens.Places.{tail, one-cut, past, in-text, run-low-of, run-low, run-some, and-false, size-inside, cond-ge, exponent-low}
 use Rattle.express.proofs.tokens.Spelling.{same-true}
-use Rattle.express.proofs.tokens.Stops.{tail, one-cut, two-cut}
 use Rattle.express.proofs.tokens.Symbols.{read, longest-wins, read-symbol}
 
 -- ---- the longest of some sizes

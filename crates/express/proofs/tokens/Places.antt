@@ -8,7 +8,7 @@ use native.Mathlib.Nat.{le-refl, le-trans}
 use native.Mathlib.Numerals.{add-one}
 use native.Mathlib.Decide.{decLt}
 use lib.ListN.{length, drop, getD, length-drop, List·getD-eq-default}
-use lib.Seq.{drop-cons}
+use lib.Seq.{drop-cons, drop-drop}
 use lib.Dec.{eqb, leb}
 use borrow.Author.Needs.{needs}
 use borrow.Author.Tests.{eq-eqb, eqb-true}
@@ -67,6 +67,22 @@ in-text f z s i e = go (decLt i (length s))
     go (yes l) = l
     go (no n) = absurd (never (sym z ∙ ap f (sym (past s i (omega arith))) ∙ e))
 
+-- ---- a text from a place on
+
+pub tail : (s : List ℕ) (p b : ℕ) (t : List ℕ) → drop p s ≡ b ∷ t → drop (p + 1) s ≡ t
+tail s p b t e = sym (drop-drop 1 p s) ∙ ap (drop 1) e
+
+pub two-off : (s : List ℕ) (p b c : ℕ) (t : List ℕ) → drop p s ≡ b ∷ c ∷ t → drop (p + 2) s ≡ t
+two-off s p b c t e = sym (drop-drop 2 p s) ∙ ap (drop 2) e
+
+pub one-cut : (s : List ℕ) (p : ℕ) → p < length s → drop p s ≡ getD s p 0 ∷ drop (p + 1) s
+one-cut s p h = rw (add-one, drop-cons s p 0)
+
+pub two-cut : (s : List ℕ) (p : ℕ) → p + 1 < length s → drop p s ≡ getD s p 0 ∷ getD s (p + 1) 0 ∷ drop (p + 2) s
+two-cut s p h =
+    let e : p + 1 + 1 ≡ p + 2 = omega arith in
+    one-cut s p (omega arith) ∙ ap (λ (t : List ℕ). getD s p 0 ∷ t) (one-cut s (p + 1) h ∙ ap (λ (k : ℕ). getD s (p + 1) 0 ∷ drop k s) e)
+
 -- ---- runs
 
 pub run-low-of : (f : ℕ → Bool) (p : ℕ) (t : List ℕ) → p ≤ end-of-run f p t
@@ -90,8 +106,7 @@ module _ (f : ℕ → Bool) (s : List ℕ) (p : ℕ) where
   pub run-some : p < length s → f (getD s p 0) ≡ true → p < run f s p
   unfolding end-of-run
   run-some h e =
-      let cut : drop p s ≡ getD s p 0 ∷ drop (p + 1) s = rw (add-one, drop-cons s p 0) in
-      let step : run f s p ≡ end-of-run f (p + 1) (drop (p + 1) s) = rw (cut, e) in
+      let step : run f s p ≡ end-of-run f (p + 1) (drop (p + 1) s) = rw (one-cut s p h, e) in
       rw step (omega (arith, run-low-of f (p + 1) (drop (p + 1) s)))
 
 -- ---- spaces and remarks

@@ -5,32 +5,16 @@ use mathlib.Core.List.{List, [], _∷_}
 use Prim.Native.Nat.{ℕ, zero, suc, _+_, _-_, _≤_, _<_}
 use native.Mathlib.Omega.{arith}
 use native.Mathlib.Numerals.{add-one}
-use native.Mathlib.Nat.{le-trans}
 use lib.ListN.{length, drop, getD, length-drop}
-use lib.Seq.{drop-cons, drop-drop}
 use lib.Dec.{eqb, leb, ltb}
 use borrow.Author.Tests.{ltb-true, ltb-false, leb-false, le-leb, ne-eqb}
 use Rattle.express.specs.tokens.Bytes.{token-bytes, digit, word-byte, space, printable}
 use Rattle.express.specs.tokens.Blank.{Line, text-ends, line-ends, line-goes, Remark, outside, opened, closed, passed, Blank, nothing, a-space, a-line, a-remark, Gaps, last-gap, gap, Stop, all-read, unfinished, too-large, too-long, stop-place}
 use Rattle.express.specs.tokens.Lexis.{Reading, at, refused, end-of-run, run, opens, closes, dashes, in-line, end-of-remark, reading-then, skipped-in, skipped, numeral, greatest, end-of-integer, end-of-real, end-of-string, bit, end-of-binary, size-of-symbol, end-of-symbol, token-kind-at, end-of-token, Row, Lexed, stopped, row-and-rest, token-after-blank, lexed-in, lexed-whole, most, lexed}
-use Rattle.express.proofs.tokens.Places.{in-text, pair-in, run-low, run-high, inside-at, remark-inside, skip-inside, token-inside}
+use Rattle.express.proofs.tokens.Fast.{whole-fast}
+use Rattle.express.proofs.tokens.Places.{tail, two-off, one-cut, two-cut, in-text, pair-in, run-low, run-high, inside-at, remark-inside, skip-inside, token-inside}
 
 -- ---- spaces and remarks
-
--- a text from a place on, its first byte taken off
-pub tail : (s : List ℕ) (p b : ℕ) (t : List ℕ) → drop p s ≡ b ∷ t → drop (p + 1) s ≡ t
-tail s p b t e = sym (drop-drop 1 p s) ∙ ap (drop 1) e
-
-pub two-off : (s : List ℕ) (p b c : ℕ) (t : List ℕ) → drop p s ≡ b ∷ c ∷ t → drop (p + 2) s ≡ t
-two-off s p b c t e = sym (drop-drop 2 p s) ∙ ap (drop 2) e
-
-pub one-cut : (s : List ℕ) (p : ℕ) → p < length s → drop p s ≡ getD s p 0 ∷ drop (p + 1) s
-one-cut s p h = rw (add-one, drop-cons s p 0)
-
-pub two-cut : (s : List ℕ) (p : ℕ) → p + 1 < length s → drop p s ≡ getD s p 0 ∷ getD s (p + 1) 0 ∷ drop (p + 2) s
-two-cut s p h =
-    let e : p + 1 + 1 ≡ p + 2 = omega arith in
-    one-cut s p (omega arith) ∙ ap (λ (t : List ℕ). getD s p 0 ∷ t) (one-cut s (p + 1) h ∙ ap (λ (k : ℕ). getD s (p + 1) 0 ∷ drop k s) e)
 
 line-of : (s : List ℕ) (p : ℕ) (t : List ℕ) → drop p s ≡ t → Line t (drop (end-of-run in-line p t) s)
 unfolding end-of-run
@@ -197,7 +181,7 @@ reads-in zero s p h enough = absurd (omega arith)
 reads-in (suc f) s p h enough = after-skip s p h (λ q. lexed-in f s q) (λ e k l. reads-in f s e l (omega arith)) (skipped s p) refl (skips s p h)
 
 reads-whole : (s : List ℕ) → Reads s 0 (lexed-whole s)
-reads-whole s = reads-in (length s + 1) s 0 (omega arith) (omega arith)
+reads-whole s = rw (whole-fast s) (reads-in (length s + 1) s 0 (omega arith) (omega arith))
 
 -- THE READING STOPS at the end of the bytes, or by 1, 2 or 3: its turns never run out.
 pub lexed-stops : (s : List ℕ) → Stop s (lexed s .stop)

@@ -18,6 +18,7 @@ use Rattle.express.specs.tokens.Scanned.{spelled, terminals}
 use Rattle.express.specs.tokens.Terminal as columns
 use Rattle.express.specs.tokens.Terminal.{terminal-of}
 use Rattle.relations.proofs.Select.{and-snd}
+use Rattle.express.proofs.tokens.Fast.{fast-is}
 use Rattle.express.proofs.tokens.Places.{inside-at, skip-inside, token-inside}
 
 -- a row is the token that its kind reads at its start
@@ -85,8 +86,7 @@ tokens-in (suc f) s p h = after-skip s p h (λ q. lexed-in f s q) (λ e k. token
 
 -- the tokens of a text
 pub tokens-of : (s : List ℕ) → Tokens s 0 (lexed s .rows)
-unfolding lexed
-tokens-of s = go (leb (length s) 65536)
+tokens-of s = rw (fast-is s) (go (leb (length s) 65536))
   where
     go : (t : Bool) → Tokens s 0 (cond t (lexed-in (length s + 1) s 0) (stopped (refused 1 65536)) .rows)
     go true = tokens-in (length s + 1) s 0 (omega arith)

@@ -191,15 +191,15 @@ module _ (ls : List Row) (t : Table) where
       (is-refused (lit tt) (lit tt))
 
 module _ (s : List ℕ) (tr nr ar : ℕ) where
-  syntax-answer : (o : Outcome ebnf.Rows) → Answered (after-syntax s nr ar o)
+  syntax-answer : (o : Outcome ebnf.Rows) → Answered (after-syntax s (lexed s) nr ar o)
   syntax-answer (good r) = rows-answer (lexed s .rows) (with-rows (token-table s) (r .rows)) nr ar
   syntax-answer (unexpected j) = is-refused (lit tt) (lit tt)
   syntax-answer (too-deep k) = is-refused (lit tt) (lit tt)
 
-  counted-answer : {r : Reading} → Stop s r → (n : ℕ) → Answered (after-tokens s nr ar (counted r n tr))
+  counted-answer : {r : Reading} → Stop s r → (n : ℕ) → Answered (after-tokens s (lexed s) nr ar (counted r n tr))
   counted-answer all-read n = by (leb n tr)
     where
-      by : (x : Bool) → Answered (after-tokens s nr ar (cond x (at n) (lexis.refused 6 n)))
+      by : (x : Bool) → Answered (after-tokens s (lexed s) nr ar (cond x (at n) (lexis.refused 6 n)))
       by true = syntax-answer (parsed file (token-table s .terminals))
       by false = is-refused (lit tt) (lit tt)
   counted-answer (unfinished l) n = is-refused (lit tt) (lit tt)

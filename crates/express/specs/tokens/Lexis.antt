@@ -205,21 +205,20 @@ abbrev pub row-and-rest : ℕ → ℕ → Reading → (ℕ → Lexed) → Lexed
 row-and-rest k q (at e) more = cons (record { kind = k; start = q; size = e - q }) (more e)
 row-and-rest k q (refused n o) more = stopped (refused n o)
 
-abbrev pub token-after-blank : List ℕ → Reading → (ℕ → Lexed) → Lexed
-token-after-blank s (at q) more =
-    let k = token-kind-at s q in
-    let row = row-and-rest k q (end-of-token s q k) more in
+abbrev pub longest-after-blank : List ℕ → Reading → (ℕ → Lexed) → Lexed
+longest-after-blank s (at q) more =
+    let row = row-and-rest (longest-kind (drop q s)) q (longest-end s q) more in
     cond (ltb q (length s)) row (stopped (at q))
-token-after-blank s (refused n o) more = stopped (refused n o)
+longest-after-blank s (refused n o) more = stopped (refused n o)
 
--- the tokens from p on, in at most so many turns
-unfoldable pub lexed-in : ℕ → List ℕ → ℕ → Lexed
-lexed-in zero s p = stopped (refused 0 p)
-lexed-in (suc f) s p = token-after-blank s (skipped s p) (λ q. lexed-in f s q)
+-- THE TOKENS from p on, in at most so many turns: blanks, the longest token, and again
+unfoldable pub longest-in : ℕ → List ℕ → ℕ → Lexed
+longest-in zero s p = stopped (refused 0 p)
+longest-in (suc f) s p = longest-after-blank s (skipped s p) (λ q. longest-in f s q)
 
--- the tokens of a text of any length; each turn passes a byte
+-- the tokens of a text of any length; each turn passes a byte, so the turns never run out (`lexed-stops` of proofs/tokens/Stops)
 abbrev pub lexed-whole : List ℕ → Lexed
-lexed-whole s = lexed-in (length s + 1) s 0
+lexed-whole s = longest-in (length s + 1) s 0
 
 -- of a text with a limit on its bytes: a longer one is refused by 1
 abbrev pub lexed-to : ℕ → List ℕ → Lexed
@@ -231,6 +230,19 @@ most = 65536
 
 unfoldable pub lexed : List ℕ → Lexed
 lexed s = lexed-to most s
+
+-- ---- the fast reading of the same (`lexed-fast` of proofs/tokens/Fast)
+
+abbrev pub token-after-blank : List ℕ → Reading → (ℕ → Lexed) → Lexed
+token-after-blank s (at q) more =
+    let k = token-kind-at s q in
+    let row = row-and-rest k q (end-of-token s q k) more in
+    cond (ltb q (length s)) row (stopped (at q))
+token-after-blank s (refused n o) more = stopped (refused n o)
+
+unfoldable pub lexed-in : ℕ → List ℕ → ℕ → Lexed
+lexed-in zero s p = stopped (refused 0 p)
+lexed-in (suc f) s p = token-after-blank s (skipped s p) (λ q. lexed-in f s q)
 
 -- ---- what a table of tokens is
 

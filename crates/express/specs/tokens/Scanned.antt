@@ -38,3 +38,4 @@ pub record Scanned (t : Table) : Type 0 where
   pub starts-are : t .starts ≡ starts (lexed (t .bytes))
   pub lengths-are : t .lengths ≡ sizes (lexed (t .bytes))
   pub terminals-are : t .terminals ≡ terminals (t .bytes) (lexed (t .bytes))
+  pub symbols-are : t .symbols ≡ symbols-of (t .bytes) (t .starts) (t .lengths)

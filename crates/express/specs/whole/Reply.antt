@@ -9,9 +9,9 @@ use Rattle.columns.specs.Column.{padded}
 use Rattle.ebnf.specs.Rows.{Rows}
 use Rattle.ebnf.specs.Depth.{Outcome, good, unexpected, too-deep}
 use Rattle.express.specs.kinds.Answer.{Answer}
-use Rattle.express.specs.tokens.Lexis.{Row, Reading, at, starts, tokens, lexed}
+use Rattle.express.specs.tokens.Lexis.{Row, Lexed, Reading, at, starts, tokens, lexed}
 use Rattle.express.specs.tokens.Lexis as lexis
-use Rattle.express.specs.tokens.Scanned.{token-table}
+use Rattle.express.specs.tokens.Scanned.{with-tokens}
 use Rattle.express.specs.syntax.Grammar.{file}
 use Rattle.express.specs.syntax.Syntax.{parsed, with-rows}
 use Rattle.express.specs.syntax.Tree.{Table, count, place}
@@ -60,20 +60,24 @@ module _ (ls : List Row) (t : Table) where
       let on = after-names (names t) in
       cond (leb (count t) nodes) (cond (leb (length (constants t)) rows) on (refused 8 (length (constants t)))) (refused 7 (count t))
 
-module _ (s : List ℕ) (nodes rows : ℕ) where
+-- s is the text, and l its tokens
+module _ (s : List ℕ) (l : Lexed) (nodes rows : ℕ) where
   -- "4: its start, or input length"; "5: its start"
   abbrev pub after-syntax : Outcome Rows → Checked
-  after-syntax (good r) = after-rows (lexed s .rows) (with-rows (token-table s) (r .rows)) nodes rows
-  after-syntax (unexpected j) = refused 4 (getD (starts (lexed s)) j (length s))
-  after-syntax (too-deep k) = refused 5 (getD (starts (lexed s)) k (length s))
+  after-syntax (good r) = after-rows (l .rows) (with-rows (with-tokens s l) (r .rows)) nodes rows
+  after-syntax (unexpected j) = refused 4 (getD (starts l) j (length s))
+  after-syntax (too-deep k) = refused 5 (getD (starts l) k (length s))
 
   abbrev pub after-tokens : Reading → Checked
-  after-tokens (at n) = after-syntax (parsed file (token-table s .terminals))
+  after-tokens (at n) = after-syntax (parsed file (with-tokens s l .terminals))
   after-tokens (lexis.refused k p) = refused k p
+
+abbrev pub checked-with : List ℕ → Lexed → ℕ → ℕ → ℕ → Checked
+checked-with s l token-rows node-rows answer-rows = after-tokens s l node-rows answer-rows (tokens l token-rows)
 
 -- The outcome for the bytes of a file, and a token, a node and an answer table of so many entries
 unfoldable pub checked : List ℕ → ℕ → ℕ → ℕ → Checked
-checked s token-rows node-rows answer-rows = after-tokens s node-rows answer-rows (tokens (lexed s) token-rows)
+checked s token-rows node-rows answer-rows = checked-with s (lexed s) token-rows node-rows answer-rows
 
 -- ---- the report and the columns
 
