@@ -1,3 +1,4 @@
+pub mod Cut
 pub mod Fast
 pub mod Literals
 pub mod Longest
@@ -7,3 +8,4 @@ pub mod Stops
 pub mod Symbols
 pub mod Terminal
 pub mod TokenRows
+pub mod Turns

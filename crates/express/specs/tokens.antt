@@ -1,5 +1,6 @@
 pub mod Blank
 pub mod Bytes
+pub mod Cut
 pub mod Lexis
 pub mod Scanned
 pub mod Spelling

@@ -44,11 +44,11 @@ module _ (t : List ℕ) where
 -- ---- runs
 
 -- how many bytes of a class stand at the beginning of a text
-unfoldable run-size : (ℕ → Bool) → List ℕ → ℕ
+unfoldable pub run-size : (ℕ → Bool) → List ℕ → ℕ
 run-size f [] = 0
 run-size f (b ∷ t) = cond (f b) (suc (run-size f t)) 0
 
-run-is : (f : ℕ → Bool) (p : ℕ) (t : List ℕ) → end-of-run f p t ≡ p + run-size f t
+pub run-is : (f : ℕ → Bool) (p : ℕ) (t : List ℕ) → end-of-run f p t ≡ p + run-size f t
 unfolding end-of-run run-size
 run-is f p [] = omega arith
 run-is f p (b ∷ t) = by (f b) (run-is f (p + 1) t)
@@ -253,7 +253,7 @@ module _ (s : List ℕ) (p : ℕ) where
 
 -- ---- behind the point, which is before q
 
-first-is : (s : List ℕ) (q b : ℕ) (t : List ℕ) → drop q s ≡ b ∷ t → getD s q 0 ≡ b
+pub first-is : (s : List ℕ) (q b : ℕ) (t : List ℕ) → drop q s ≡ b ∷ t → getD s q 0 ≡ b
 first-is s q b t e = let z : q + 0 ≡ q = omega arith in sym (ap (λ (k : ℕ). getD s k 0) z) ∙ sym (getD-drop q s 0 0) ∙ ap (λ (u : List ℕ). getD u 0 0) e
 
 digits-low : (s : List ℕ) (q : ℕ) → q + 1 ≤ digits-of-exponent s q
