@@ -1,3 +1,4 @@
+pub mod Agree
 pub mod Cut
 pub mod Fast
 pub mod Literals

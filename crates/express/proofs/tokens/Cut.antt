@@ -24,7 +24,7 @@ use Rattle.express.proofs.tokens.Turns.{blank-turn, skipped-is, skipped
 -- ---- what is passed, and the rest
 
 -- a run that ends in the text ends at a byte of another class
-run-stops-of : (f : ℕ → Bool) (s : List ℕ) (p : ℕ) (t : List ℕ) → drop p s ≡ t → end-of-run f p t < length s → f (getD s (end-of-run f p t) 0) ≡ false
+pub run-stops-of : (f : ℕ → Bool) (s : List ℕ) (p : ℕ) (t : List ℕ) → drop p s ≡ t → end-of-run f p t < length s → f (getD s (end-of-run f p t) 0) ≡ false
 unfolding end-of-run
 run-stops-of f s p [] e l = absurd (omega (arith, length-drop p s, ap length e))
 run-stops-of f s p (b ∷ t) e l = by (f b) refl l (λ h. run-stops-of f s (p + 1) t (tail s p b t e) h)
@@ -42,7 +42,7 @@ module _ (s : List ℕ) where
   from-skip : (p q : ℕ) → p ≤ length s → q ≤ length s → skipped s p ≡ skipped s q → from s p ≡ from s q
   from-skip p q h k e = from-step s p h ∙ ap (λ (r : Reading). longest-after-blank s r (from s)) e ∙ sym (from-step s q k)
 
-  space-in : (p : ℕ) → space (getD s p 0) ≡ true → p < length s
+  pub space-in : (p : ℕ) → space (getD s p 0) ≡ true → p < length s
   unfolding space
   space-in p e = in-text space refl s p e
 
@@ -67,7 +67,7 @@ module _ (s : List ℕ) where
       let h : p ≤ length s = omega arith in
       from-skip p (run in-line s (p + 2)) h (omega arith) (skipped-step s p h ∙ rw (not-dashes p e, e)) ∙ pass-space (run in-line s (p + 2)) (line-feed s (p + 2) l)
 
-  remark-in : (p e : ℕ) → opens (getD s p 0) (getD s (p + 1) 0) ≡ true → end-of-remark p 1 (p + 2) (drop (p + 2) s) ≡ at e → (p + 2 ≤ e) × (e ≤ length s)
+  pub remark-in : (p e : ℕ) → opens (getD s p 0) (getD s (p + 1) 0) ≡ true → end-of-remark p 1 (p + 2) (drop (p + 2) s) ≡ at e → (p + 2 ≤ e) × (e ≤ length s)
   remark-in p e o i = inside-at i (remark-inside p 1 (p + 2) s (omega (arith, pair-in 40 42 (getD s p 0) s (p + 1) refl o)))
 
   pass-remark : (p e : ℕ) → opens (getD s p 0) (getD s (p + 1) 0) ≡ true → end-of-remark p 1 (p + 2) (drop (p + 2) s) ≡ at e → from s p ≡ from s e
@@ -78,7 +78,7 @@ module _ (s : List ℕ) where
       from-skip p e h (l .1) (skipped-step s p h ∙ rw (n .0, n .1, o, i))
 
   -- where a token is, there is text
-  token-in : (p e : ℕ) → longest-end s p ≡ at e → (p < e) × (e ≤ length s)
+  pub token-in : (p e : ℕ) → longest-end s p ≡ at e → (p < e) × (e ≤ length s)
   unfolding longest-end longest
   token-in p e i = by (decLt p (length s))
     where

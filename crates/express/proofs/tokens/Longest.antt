@@ -26,7 +26,7 @@ use Rattle.express.proofs.tokens.Symbols.{read, longest-wins, read-symb
 -- ---- the longest of some sizes
 
 module _ (t : List ℕ) where
-  longest-is :
+  pub longest-is :
       (N n : ℕ) → 0 < n → n ≤ N → (standing-kind t n ≡ 0 → ⊥) → ((m : ℕ) → n < m → m ≤ N → standing-kind t m ≡ 0) → longest t N ≡ n
   unfolding longest
   longest-is zero n some le is over = absurd (omega arith)
@@ -355,11 +355,11 @@ not-both (b ∷ w) e = by (digit b) refl e (λ h. not-both w h)
 -- ---- strings
 
 -- n bytes behind the first quote end the string
-abbrev ended : Bool → List ℕ → ℕ → Bool
+abbrev pub ended : Bool → List ℕ → ℕ → Bool
 ended q t n = in-string q (take n t) && not (eqb (getD t n 0) 39)
 
 -- a string ends at one place alone, which the reading gives, or at none
-data Strings (o : ℕ) (q : Bool) (p : ℕ) (t : List ℕ) : Reading → Type 0 where
+pub data Strings (o : ℕ) (q : Bool) (p : ℕ) (t : List ℕ) : Reading → Type 0 where
   string-at : {e : ℕ} (n : ℕ) → n ≤ length t → ended q t n ≡ true → ((m : ℕ) → (m ≡ n → ⊥) → m ≤ length t → ended q t m ≡ false) → e ≡ p + n → Strings o q p t (at e)
   string-open : ((m : ℕ) → m ≤ length t → ended q t m ≡ false) → Strings o q p t (refused 2 o)
 
@@ -376,7 +376,7 @@ module _ (o p : ℕ) (q q′ : Bool) (b : ℕ) (t : List ℕ) (none : ended q (b
       other zero k = none
       other (suc m) k = step m ∙ never m (omega arith)
 
-strings : (o : ℕ) (q : Bool) (p : ℕ) (t : List ℕ) → Strings o q p t (end-of-string o q p t)
+pub strings : (o : ℕ) (q : Bool) (p : ℕ) (t : List ℕ) → Strings o q p t (end-of-string o q p t)
 unfolding end-of-string in-string
 strings o true p [] = string-at {e = p} 0 (omega arith) refl (λ m d l. absurd (d (omega arith))) (omega arith)
 strings o false p [] = string-open other
@@ -426,7 +426,7 @@ module _ (b : ℕ) (u : List ℕ) (P : ℕ → Bool) (k : ℕ) (some : k ≡ 0 �
       beyond (suc m) i j = stand m (omega arith) ∙ rw (over m (omega arith))
 
 -- what is spelled stands there, unless it is a string
-standing : (t : List ℕ) (n k : ℕ) → (k ≡ 4 → ⊥) → spelled-kind (take n t) ≡ k → standing-kind t n ≡ k
+pub standing : (t : List ℕ) (n k : ℕ) → (k ≡ 4 → ⊥) → spelled-kind (take n t) ≡ k → standing-kind t n ≡ k
 unfolding standing-kind
 standing t n k other e = rw (e, ne-eqb k 4 other)
 
@@ -475,7 +475,7 @@ module _ (b : ℕ) (u : List ℕ) where
     symbol-stands m =
         standing (b ∷ u) (suc m) _ (not-four (is-symbol (b ∷ take m u)) 6 (λ (z : _≡_ {A = ℕ} 6 4). omega arith)) (symbol-kind b (take m u) i j k l)
 
-string-stands : (u : List ℕ) (m : ℕ) → standing-kind (39 ∷ u) (suc m) ≡ cond (ended false u m) 4 0
+pub string-stands : (u : List ℕ) (m : ℕ) → standing-kind (39 ∷ u) (suc m) ≡ cond (ended false u m) 4 0
 unfolding standing-kind
 string-stands u m = rw (string-kind (take m u)) (by (in-string false (take m u)) (eqb (getD u m 0) 39))
   where
@@ -498,7 +498,7 @@ cond-not : {A : Type 0} (x : Bool) (a c : A) → cond x a c ≡ cond (not x) c a
 cond-not true a c = refl
 cond-not false a c = refl
 
-run-none : (f : ℕ → Bool) (s : List ℕ) (p : ℕ) → f (getD s p 0) ≡ false → run f s p ≡ p
+pub run-none : (f : ℕ → Bool) (s : List ℕ) (p : ℕ) → f (getD s p 0) ≡ false → run f s p ≡ p
 unfolding end-of-run
 run-none f s p e = by (drop p s) refl
   where

@@ -162,7 +162,7 @@ module _ (f : ℕ → Bool) (p b : ℕ) (t : List ℕ) (more : (i : ℕ) → p +
   turn (suc i) true e l = more i (omega (arith, l))
 
 -- each byte of a run is of its class
-run-holds : (f : ℕ → Bool) (p : ℕ) (t : List ℕ) (i : ℕ) → p + i < end-of-run f p t → f (getD t i 0) ≡ true
+pub run-holds : (f : ℕ → Bool) (p : ℕ) (t : List ℕ) (i : ℕ) → p + i < end-of-run f p t → f (getD t i 0) ≡ true
 unfolding end-of-run
 run-holds f p [] i h = absurd (omega (arith, h))
 run-holds f p (b ∷ t) i h = turn f p b t (λ j l. run-holds f (p + 1) t j l) i (f b) refl h
