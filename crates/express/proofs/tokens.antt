@@ -1,6 +1,7 @@
 pub mod Agree
 pub mod Cut
 pub mod Fast
+pub mod Join
 pub mod Literals
 pub mod Longest
 pub mod Places
