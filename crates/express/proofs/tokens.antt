@@ -1,4 +1,5 @@
 pub mod Agree
+pub mod Boundary
 pub mod Cut
 pub mod Fast
 pub mod Join

@@ -389,15 +389,16 @@ take-all zero s = refl
 take-all (suc c) [] = refl
 take-all (suc c) (b ∷ s) = ap (λ (w : List ℕ). b ∷ w) (take-all c s)
 
+-- no byte is passed, and no token
+pub passes-none : (s s′ : List ℕ) (rs : List Row) → Passes s 0 rs 0 → Passes s′ 0 rs 0
+passes-none s s′ rs here = here
+passes-none s s′ rs (over-space e y) = absurd (omega (arith, passes-in s y (omega (arith, space-in s 0 e)) .0))
+passes-none s s′ rs (over-line e m y) = absurd (omega (arith, passes-in s y (omega arith) .0))
+passes-none s s′ rs (over-remark {e = e} o i y) = let m = remark-in s 0 e o i in absurd (omega (arith, m .0, passes-in s y (m .1) .0))
+passes-none s s′ rs (over-token {e = e} a b d i y) = let m = token-in s 0 e i in absurd (omega (arith, m .0, passes-in s y (m .1) .0))
+
 passes-part : (s : List ℕ) (c : ℕ) (rs : List Row) → Passes s 0 rs c → Passes (take c s) 0 rs c
-passes-part s zero rs x = nothing rs x
-  where
-    nothing : (rs : List Row) → Passes s 0 rs 0 → Passes [] 0 rs 0
-    nothing rs here = here
-    nothing rs (over-space e y) = absurd (omega (arith, passes-in s y (omega (arith, space-in s 0 e)) .0))
-    nothing rs (over-line e m y) = absurd (omega (arith, passes-in s y (omega arith) .0))
-    nothing rs (over-remark {e = e} o i y) = let m = remark-in s 0 e o i in absurd (omega (arith, m .0, passes-in s y (m .1) .0))
-    nothing rs (over-token {e = e} a b d i y) = let m = token-in s 0 e i in absurd (omega (arith, m .0, passes-in s y (m .1) .0))
+passes-part s zero rs x = passes-none s [] rs x
 passes-part s (suc c) rs x =
     let l = passes-in s x (omega arith) .1 in
     let size : length (take (suc c) s) ≡ suc c = omega (arith, length-take (suc c) s) in

@@ -34,7 +34,7 @@ run-stops-of f s p (b ∷ t) e l = by (f b) refl l (λ h. run-stops-of f s (p + 
     by true i h more = more h
     by false i h more = ap f (first-is s p b t e) ∙ i
 
-line-feed : (s : List ℕ) (p : ℕ) → run in-line s p < length s → space (getD s (run in-line s p) 0) ≡ true
+pub line-feed : (s : List ℕ) (p : ℕ) → run in-line s p < length s → space (getD s (run in-line s p) 0) ≡ true
 unfolding space
 line-feed s p h = rw (eqb-true (getD s (run in-line s p) 0) 10 (not-false _ (run-stops-of in-line s p (drop p s) refl h)))
 

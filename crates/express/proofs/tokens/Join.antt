@@ -7,8 +7,8 @@ use mathlib.Core.List.{List, [], _∷_, _++_}
 use Prim.Native.Nat.{ℕ, zero, suc, _+_, _-_, _≤_, _<_}
 use native.Mathlib.Omega.{arith}
 use native.Mathlib.Numerals.{add-one}
-use lib.ListN.{length, take, drop, getD, length-take, length-drop, length-append}
-use lib.Seq.{getD-drop, getD-take}
+use lib.ListN.{length, take, drop, getD, length-take, length-drop, length-append, List·getD-append}
+use lib.Seq.{getD-drop, getD-take, take-append-le, drop-append-seam}
 use lib.Dec.{eqb, leb}
 use borrow.Author.Tests.{eqb-true, eq-eqb, leb-true, le-leb, not-true}
 use Rattle.express.specs.tokens.Bytes.{digit, letter, word-byte}
@@ -22,7 +22,7 @@ use Rattle.relations.specs.Select.{any}
 use Rattle.relations.proofs.Select.{and-fst, and-snd, and-both, or-cases, or-left, or-right, untrue}
 use Rattle.express.proofs.tokens.Spelling.{same-true}
 use Rattle.express.proofs.tokens.Cut.{cut-rest}
-use Rattle.express.proofs.tokens.Agree.{Uncrossed, passes-agree}
+use Rattle.express.proofs.tokens.Agree.{Uncrossed, passes-agree, passes-none}
 
 -- ---- the bytes of words, numbers and binaries
 
@@ -232,3 +232,37 @@ module _ (s : List ℕ) (c : ℕ) (some : 0 < c) (apart : joins (getD s (c - 1) 
               let size : length (take m (drop p s)) ≡ m = omega (arith, length-take m (drop p s), length-drop p s) in
               let j = inner-joins (take m (drop p s)) (c - 1 - p) (omega arith) plain (λ (z : spelled-kind (take m (drop p s)) ≡ 0). omega arith) in
               absurd (false≢true (sym apart ∙ sym (ap₂ joins (byte (c - 1 - p) (c - 1) (omega arith) (omega arith)) (byte (suc (c - 1 - p)) c (omega arith) (omega arith))) ∙ j))
+
+-- ---- two texts
+
+append-right : (a b : List ℕ) → getD (a ++ b) (length a) 0 ≡ getD b 0 0
+append-right [] b = refl
+append-right (x ∷ a) b = append-right a b
+
+-- the bytes where two texts meet belong to no common token
+abbrev pub Apart : List ℕ → List ℕ → Type 0
+Apart a b = joins (getD a (length a - 1) 0) (getD b 0 0) ≡ false
+
+passes-joined : (a b : List ℕ) (rs : List Row) → Passes a 0 rs (length a) → Apart a b → Passes (a ++ b) 0 rs (length a)
+passes-joined [] b rs x e = passes-none [] b rs x
+passes-joined (y ∷ a) b rs x e =
+    let size = length-append (y ∷ a) b in
+    let last : getD ((y ∷ a) ++ b) (length (y ∷ a) - 1) 0 ≡ getD (y ∷ a) (length (y ∷ a) - 1) 0 = List·getD-append (y ∷ a) b 0 (length (y ∷ a) - 1) (omega arith) in
+    passes-agree (y ∷ a) ((y ∷ a) ++ b) (length (y ∷ a)) (sym (take-append-le (length (y ∷ a)) (y ∷ a) b (omega arith))) (omega arith) (omega arith)
+    (uncrossed ((y ∷ a) ++ b) (length (y ∷ a)) (omega arith) (ap₂ joins last (append-right (y ∷ a) b) ∙ e)) x (omega arith)
+
+-- TWO TEXTS SIDE BY SIDE: the tokens of the first, and behind them those of the second, moved
+pub joined : (a b : List ℕ) (rs : List Row) → Passes a 0 rs (length a) → Apart a b → lexed-whole (a ++ b) ≡ behind rs (moved (length a) (lexed-whole b))
+joined a b rs x e = cut-rest (a ++ b) (length a) rs (passes-joined a b rs x e) ∙ ap (λ (w : List ℕ). behind rs (moved (length a) (lexed-whole w))) (drop-append-seam a b)
+
+-- AN EDIT: a piece y between two texts, each read by itself. What stands before it keeps its tokens; what stands behind is moved
+pub edited :
+    (a y b : List ℕ) (before inside : List Row) → Passes a 0 before (length a) → Passes y 0 inside (length y) → Apart a (y ++ b) → Apart y b →
+    lexed-whole (a ++ (y ++ b)) ≡ behind before (moved (length a) (behind inside (moved (length y) (lexed-whole b))))
+edited a y b before inside x z e f =
+    joined a (y ++ b) before x e ∙ ap (λ (l : Lexed). behind before (moved (length a) l)) (joined y b inside z f)
+
+-- nothing joins a line feed
+pub line-feed-apart : (c : ℕ) → joins 10 c ≡ false
+unfolding joins any adjacent word-byte
+line-feed-apart c = refl
