@@ -397,7 +397,7 @@ passes-none s s′ rs (over-line e m y) = absurd (omega (arith, passes-in s y (o
 passes-none s s′ rs (over-remark {e = e} o i y) = let m = remark-in s 0 e o i in absurd (omega (arith, m .0, passes-in s y (m .1) .0))
 passes-none s s′ rs (over-token {e = e} a b d i y) = let m = token-in s 0 e i in absurd (omega (arith, m .0, passes-in s y (m .1) .0))
 
-passes-part : (s : List ℕ) (c : ℕ) (rs : List Row) → Passes s 0 rs c → Passes (take c s) 0 rs c
+pub passes-part : (s : List ℕ) (c : ℕ) (rs : List Row) → Passes s 0 rs c → Passes (take c s) 0 rs c
 passes-part s zero rs x = passes-none s [] rs x
 passes-part s (suc c) rs x =
     let l = passes-in s x (omega arith) .1 in

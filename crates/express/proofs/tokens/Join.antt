@@ -21,8 +21,9 @@ use Rattle.express.specs.tokens.Cut.{Passes, adjacent, number-byte, join
 use Rattle.relations.specs.Select.{any}
 use Rattle.relations.proofs.Select.{and-fst, and-snd, and-both, or-cases, or-left, or-right, untrue}
 use Rattle.express.proofs.tokens.Spelling.{same-true}
-use Rattle.express.proofs.tokens.Cut.{cut-rest}
-use Rattle.express.proofs.tokens.Agree.{Uncrossed, passes-agree, passes-none}
+use Rattle.express.proofs.tokens.Cut.{passes-in, cut-rest}
+use Rattle.express.proofs.tokens.Agree.{Uncrossed, passes-agree, passes-none, passes-part}
+use Rattle.express.proofs.tokens.Boundary.{text-passes}
 
 -- ---- the bytes of words, numbers and binaries
 
@@ -263,6 +264,17 @@ edited a y b before inside x z e f =
     joined a (y ++ b) before x e ∙ ap (λ (l : Lexed). behind before (moved (length a) l)) (joined y b inside z f)
 
 -- nothing joins a line feed
-pub line-feed-apart : (c : ℕ) → joins 10 c ≡ false
+line-feed-apart : (c : ℕ) → joins 10 c ≡ false
 unfolding joins any adjacent word-byte
 line-feed-apart c = refl
+
+-- A TEXT WITH ANOTHER PIECE between c and d, where c lies between two of its tokens: the piece, which ends in a line feed, and the text from d on
+-- are each read by themselves
+pub replaced :
+    (s y : List ℕ) (c d e : ℕ) (before : List Row) → Passes s 0 before c → getD y (length y - 1) 0 ≡ 10 → lexed-whole y .stop ≡ at e → Apart (take c s) (y ++ drop d s) →
+    lexed-whole (take c s ++ (y ++ drop d s)) ≡ behind before (moved c (behind (lexed-whole y .rows) (moved (length y) (lexed-whole (drop d s)))))
+replaced s y c d e before x fed stop apart =
+    let size : length (take c s) ≡ c = omega (arith, length-take c s, passes-in s x (omega arith) .1) in
+    let part : Passes (take c s) 0 before (length (take c s)) = subst (Passes (take c s) 0 before) (sym size) (passes-part s c before x) in
+    edited (take c s) y (drop d s) before (lexed-whole y .rows) part (text-passes y fed e stop) apart (ap (λ (b : ℕ). joins b (getD (drop d s) 0 0)) fed ∙ line-feed-apart (getD (drop d s) 0 0))
+    ∙ ap (λ (k : ℕ). behind before (moved k (behind (lexed-whole y .rows) (moved (length y) (lexed-whole (drop d s)))))) size
