@@ -3,6 +3,7 @@ pub mod Cases
 pub mod Divide
 pub mod Exactness
 pub mod File
+pub mod FileRows
 pub mod Files
 pub mod KindCases
 pub mod NameCases

@@ -33,7 +33,8 @@ use Rattle.express.specs.whole.Case.{Case, cases, file-of, answers-of}
 use Rattle.express.proofs.tokens.Fast.{fast, fast-is, map-same}
 use Rattle.express.proofs.theorems.Files.{File, files}
 
-checked-fast : (s : List ℕ) (tokens nodes answers : ℕ) → checked s tokens nodes answers ≡ checked-with s (fast s) tokens nodes answers
+-- the outcome by the fast reading of tokens
+pub checked-fast : (s : List ℕ) (tokens nodes answers : ℕ) → checked s tokens nodes answers ≡ checked-with s (fast s) tokens nodes answers
 unfolding checked
 checked-fast s tokens nodes answers = ap (λ (l : Lexed). checked-with s l tokens nodes answers) (fast-is s)
 
