@@ -231,10 +231,12 @@ module _ (s s′ : List ℕ) (c : ℕ) (agree : take c s ≡ take c s′) (h : c
 
         plain-agrees : (n : ℕ) → p + suc n ≤ c → longest-size (b ∷ u) ≡ suc n → (longest-size (b ∷ u′) ≡ suc n) × (standing-kind (b ∷ u′) (suc n) ≡ standing-kind (b ∷ u) (suc n))
         plain-agrees n k i =
-            let same : standing-kind (b ∷ u′) (suc n) ≡ standing-kind (b ∷ u) (suc n) = stands′ n ∙ ap (λ (w : List ℕ). spelled-kind (b ∷ w)) (rest-agrees n (omega arith)) ∙ sym (stands n) in
-            (longest-is (b ∷ u′) (length (b ∷ u′)) (suc n) (omega arith) (omega (arith, length-drop (p + 1) s′))
-            (λ (z : standing-kind (b ∷ u′) (suc n) ≡ 0). longest-stands (b ∷ u) (length (b ∷ u)) (λ (y : longest-size (b ∷ u) ≡ 0). omega arith) (ap (standing-kind (b ∷ u)) i ∙ sym same ∙ z))
-            over, same)
+            let same : standing-kind (b ∷ u′) (suc n) ≡ standing-kind (b ∷ u) (suc n) = stands′ n ∙ ap (λ (w : List ℕ). spelled-kind (b ∷ w)) (rest-agrees n (omega arith)) ∙ sym (stands n) in (
+              longest-is (b ∷ u′) (length (b ∷ u′)) (suc n) (omega arith) (omega (arith, length-drop (p + 1) s′))
+                  (λ (z : standing-kind (b ∷ u′) (suc n) ≡ 0). longest-stands (b ∷ u) (length (b ∷ u)) (λ (y : longest-size (b ∷ u) ≡ 0). omega arith) (ap (standing-kind (b ∷ u)) i ∙ sym same ∙ z))
+                  over,
+              same,
+            )
           where
             over : (m : ℕ) → suc n < m → m ≤ length (b ∷ u′) → standing-kind (b ∷ u′) m ≡ 0
             over zero a d = absurd (omega arith)
@@ -298,9 +300,10 @@ module _ (s s′ : List ℕ) (c : ℕ) (agree : take c s ≡ take c s′) (h : c
             by false e = absurd (stood (string-stands u n ∙ rw e))
             by true e =
                 let there : ended false u′ n ≡ true = ended-there n k e in
-                let four : standing-kind (39 ∷ u′) (suc n) ≡ 4 = string-stands u′ n ∙ rw there in
-                (longest-is (39 ∷ u′) (length (39 ∷ u′)) (suc n) (omega arith) (omega (arith, length-drop (p + 1) s′)) (λ (z : standing-kind (39 ∷ u′) (suc n) ≡ 0). omega arith) (over there),
-                 four ∙ sym (string-stands u n ∙ rw e))
+                let four : standing-kind (39 ∷ u′) (suc n) ≡ 4 = string-stands u′ n ∙ rw there in (
+                  longest-is (39 ∷ u′) (length (39 ∷ u′)) (suc n) (omega arith) (omega (arith, length-drop (p + 1) s′)) (λ (z : standing-kind (39 ∷ u′) (suc n) ≡ 0). omega arith) (over there),
+                  four ∙ sym (string-stands u n ∙ rw e),
+                )
               where
                 over : ended false u′ n ≡ true → (m : ℕ) → suc n < m → m ≤ length (39 ∷ u′) → standing-kind (39 ∷ u′) m ≡ 0
                 over there zero a d = absurd (omega arith)
