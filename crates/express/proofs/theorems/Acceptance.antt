@@ -6,7 +6,7 @@ use mathlib.Core.Bool.{Bool, true, false, cond}
 use mathlib.Core.List.{List, [], _∷_, map, List·Memᴰ, List·Memᴰ·head, List·Memᴰ·tail}
 use Prim.Native.Nat.{ℕ, zero, suc, _≤_, _<_}
 use native.Mathlib.Omega.{arith}
-use borrow.Author.Tests.{eqb-true, eq-eqb, leb-true, le-leb}
+use borrow.Author.Tests.{eqb-true, leb-true, le-leb}
 use lib.Dec.{eqb, leb}
 use lib.ListN.{length, getD, length-map}
 use lib.Seq.{ext-getD}
@@ -29,7 +29,7 @@ use Rattle.express.specs.kinds.Kind as kinds
 use Rattle.express.specs.kinds.Order.{order}
 use Rattle.express.specs.kinds.Evaluate.{answers, answer-at}
 use Rattle.express.specs.kinds.Rule.{Exactly}
-use Rattle.express.specs.whole.Reply.{Accepted, Checked, accepted, refused, after-kinds, after-names, after-rows, after-syntax, after-tokens, checked}
+use Rattle.express.specs.whole.Reply.{Accepted, accepted, refused, after-kinds, after-names, after-rows, after-syntax, after-tokens, checked}
 use Rattle.express.specs.whole.Acceptance.{Acceptable}
 use Rattle.relations.proofs.Select.{keep-mem, upto-mem}
 use Rattle.express.proofs.syntax.Syntax.{parsed-iff, read-good, whole-value}

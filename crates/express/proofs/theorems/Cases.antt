@@ -1,15 +1,15 @@
 -- By computation, from the bytes on: the cases of the scope that are to be proved have their answers, and files of tests/cases their listings.
 use mathlib.Core.Path.{_≡_, refl, ap, _∙_}
 use Prim.Native.Nat.{ℕ}
-use mathlib.Core.Option.{Option, some}
+use mathlib.Core.Option.{some}
 use mathlib.Core.List.{List, [], _∷_, map, flatMap}
 use lib.IntN.{pow, one}
 use Rattle.ebnf.specs.Set.{mem}
 use Rattle.ebnf.specs.Parse.{descend, budget, parse}
 use Rattle.ebnf.specs.Depth.{first-deep}
-use Rattle.express.specs.kinds.Answer.{Answer}
 use Rattle.express.specs.tokens.Bytes.{upper, lower, word-byte, space}
-use Rattle.express.specs.tokens.Lexis.{Lexed, tokens, end-of-run, end-of-remark, skipped-in, skipped, numeral, end-of-integer, end-of-exponent, end-of-real, end-of-string, end-of-binary, lone, size-of-symbol, end-of-symbol, token-kind-at, end-of-token, lexed-in, integer-value, binary-bits}
+use Rattle.express.specs.tokens.Lexis.{Lexed, tokens, end-of-run, end-of-remark, skipped-in, skipped, numeral, end-of-integer, end-of-exponent, end-of-real, end-of-string}
+use Rattle.express.specs.tokens.Lexis.{end-of-binary, lone, size-of-symbol, end-of-symbol, token-kind-at, end-of-token, lexed-in, integer-value, binary-bits}
 use Rattle.express.specs.tokens.Terminal.{among, terminal-of}
 use Rattle.express.specs.tokens.Spelling.{same, symbol-of, symbols-of}
 use Rattle.express.specs.syntax.Syntax.{parsed}
@@ -23,8 +23,8 @@ use Rattle.express.specs.kinds.Integer.{exact, quotient, remainder, DIV,
 use Rattle.express.specs.kinds.Logic.{AND, OR, XOR}
 use Rattle.express.specs.kinds.Bits.{join, compare-bits}
 use Rattle.express.specs.kinds.Declared.{simple, declared-in}
-use Rattle.express.specs.kinds.Shape.{operator-of, shape, shape-in}
-use Rattle.express.specs.kinds.Kind.{type-nodes, type-nodes-in, typing}
+use Rattle.express.specs.kinds.Shape.{operator-of, shape-in}
+use Rattle.express.specs.kinds.Kind.{type-nodes-in, typing}
 use Rattle.express.specs.kinds.Evaluate.{run, answers}
 use Rattle.express.specs.kinds.Order.{order}
 use Rattle.express.specs.whole.Reply.{Checked, checked-with, checked}
@@ -53,7 +53,12 @@ read s tokens nodes answers = checked-with s (fast s) tokens nodes answers
 computed :
     (map (λ (c : Case). answers-of (read (file-of (c .type) (c .expression)) 8192 8192 1024)) cases ≡ map (λ (c : Case). some (c .answer ∷ [])) cases) ×
     (map (λ (f : File). listing (read (f .text) (f .tokens) (f .nodes) (f .answers))) files ≡ map (λ (f : File). f .listing) files)
-unfolding word-byte space upper lower end-of-run end-of-remark skipped-in skipped numeral end-of-integer end-of-exponent end-of-real end-of-string end-of-binary lone size-of-symbol end-of-symbol token-kind-at end-of-token lexed-in terminal-of among same symbol-of symbols-of parsed first-deep parse descend mem budget span first-from keep any owner schema-of added closure declared items own super-edges renaming-edges type-edges inherited candidates type-meant items-of item-meant means binding bindings flatMap names stages least first-fault sort scope repeated type-name-fault cyclic qualified expression constant-edges integer-value binary-bits exact quotient remainder DIV MOD power pow one AND OR XOR join compare-bits simple declared-in operator-of shape-in type-nodes-in typing run answers tokens order digits listing
+unfolding word-byte space upper lower end-of-run end-of-remark skipped-in skipped numeral end-of-integer end-of-exponent end-of-real end-of-string
+    end-of-binary lone size-of-symbol end-of-symbol token-kind-at end-of-token lexed-in terminal-of among same symbol-of symbols-of parsed
+    first-deep parse descend mem budget span first-from keep any owner schema-of added closure declared items own super-edges renaming-edges
+    type-edges inherited candidates type-meant items-of item-meant means binding bindings flatMap names stages least first-fault sort scope
+    repeated type-name-fault cyclic qualified expression constant-edges integer-value binary-bits exact quotient remainder DIV MOD power pow one
+    AND OR XOR join compare-bits simple declared-in operator-of shape-in type-nodes-in typing run answers tokens order digits listing
 computed = (refl, refl)
 
 pub all-cases : Cases

@@ -10,7 +10,8 @@ use Rattle.ebnf.specs.Set.{mem}
 use Rattle.ebnf.specs.Parse.{descend, budget, parse}
 use Rattle.ebnf.specs.Depth.{first-deep}
 use Rattle.express.specs.tokens.Bytes.{upper, lower, word-byte, space}
-use Rattle.express.specs.tokens.Lexis.{Lexed, tokens, end-of-run, end-of-remark, skipped-in, skipped, numeral, end-of-integer, end-of-exponent, end-of-real, end-of-string, end-of-binary, lone, size-of-symbol, end-of-symbol, token-kind-at, end-of-token, lexed-in, integer-value, binary-bits}
+use Rattle.express.specs.tokens.Lexis.{tokens, end-of-run, end-of-remark, skipped-in, skipped, numeral, end-of-integer, end-of-exponent, end-of-real, end-of-string, end-of-binary}
+use Rattle.express.specs.tokens.Lexis.{lone, size-of-symbol, end-of-symbol, token-kind-at, end-of-token, lexed-in, integer-value, binary-bits}
 use Rattle.express.specs.tokens.Terminal.{bytes, among, terminal-of}
 use Rattle.express.specs.tokens.Spelling.{same, symbol-of, symbols-of}
 use Rattle.express.specs.syntax.Syntax.{parsed}
@@ -22,13 +23,14 @@ use Rattle.express.specs.kinds.Integer.{exact, quotient, remainder, DIV,
 use Rattle.express.specs.kinds.Logic.{AND, OR, XOR}
 use Rattle.express.specs.kinds.Bits.{join, compare-bits}
 use Rattle.express.specs.kinds.Declared.{simple, declared-in}
-use Rattle.express.specs.kinds.Shape.{operator-of, shape, shape-in}
-use Rattle.express.specs.kinds.Kind.{type-nodes, type-nodes-in, typing}
+use Rattle.express.specs.kinds.Shape.{operator-of, shape-in}
+use Rattle.express.specs.kinds.Kind.{type-nodes-in, typing}
 use Rattle.express.specs.kinds.Evaluate.{run, answers}
 use Rattle.express.specs.kinds.Order.{order}
 use Rattle.relations.specs.Select.{span, first-from, keep, any}
 use Rattle.relations.specs.Reach.{added, closure}
-use Rattle.express.specs.whole.Reply.{Accepted, Checked, accepted, refused, checked-with, checked, token-kinds, token-starts, token-lengths, node-kinds, node-tokens, node-sizes, node-bindings, answer-kinds, answer-numbers, answer-lengths}
+use Rattle.express.specs.whole.Reply.{Accepted, Checked, accepted, refused, checked-with, checked, token-kinds, token-starts, token-lengths, node-kinds, node-tokens, node-sizes}
+use Rattle.express.specs.whole.Reply.{node-bindings, answer-kinds, answer-numbers, answer-lengths}
 use Rattle.express.specs.whole.Listing.{digits, decimal, signed, line}
 use Rattle.express.proofs.tokens.Fast.{fast}
 use Rattle.express.proofs.theorems.Files.{lines}
@@ -141,7 +143,12 @@ tree-lines a = node-lines a ++ answer-lines a
 computed :
     (printed-rows all-lines (read all-kinds) ≡ lines (all-kinds-tokens ++ all-kinds-nodes ++ all-kinds-answers)) ×
     (printed-rows tree-lines (read two-schemas) ≡ lines (two-schemas-nodes ++ two-schemas-answers))
-unfolding word-byte space upper lower end-of-run end-of-remark skipped-in skipped numeral end-of-integer end-of-exponent end-of-real end-of-string end-of-binary lone size-of-symbol end-of-symbol token-kind-at end-of-token lexed-in terminal-of among same symbol-of symbols-of parsed first-deep parse descend mem budget span first-from keep any owner schema-of added closure declared items own super-edges renaming-edges type-edges inherited candidates type-meant items-of item-meant means binding bindings flatMap names stages least first-fault sort scope repeated type-name-fault cyclic qualified expression constant-edges integer-value binary-bits exact quotient remainder DIV MOD power pow one AND OR XOR join compare-bits simple declared-in operator-of shape-in type-nodes-in typing run answers tokens order digits
+unfolding word-byte space upper lower end-of-run end-of-remark skipped-in skipped numeral end-of-integer end-of-exponent end-of-real end-of-string
+    end-of-binary lone size-of-symbol end-of-symbol token-kind-at end-of-token lexed-in terminal-of among same symbol-of symbols-of parsed
+    first-deep parse descend mem budget span first-from keep any owner schema-of added closure declared items own super-edges renaming-edges
+    type-edges inherited candidates type-meant items-of item-meant means binding bindings flatMap names stages least first-fault sort scope
+    repeated type-name-fault cyclic qualified expression constant-edges integer-value binary-bits exact quotient remainder DIV MOD power pow one
+    AND OR XOR join compare-bits simple declared-in operator-of shape-in type-nodes-in typing run answers tokens order digits
 computed = (refl, refl)
 
 pub all-kinds-rows : printed-rows all-lines (checked all-kinds 8192 8192 1024) ≡ lines (all-kinds-tokens ++ all-kinds-nodes ++ all-kinds-answers)

@@ -4,7 +4,8 @@ use mathlib.Core.List.{List, [], _∷_, map}
 use Prim.Native.Nat.{ℕ}
 use Prim.Native.String.{String}
 use Rattle.express.specs.tokens.Bytes.{upper, word-byte, space}
-use Rattle.express.specs.tokens.Lexis.{Row, Reading, at, refused, end-of-run, end-of-remark, skipped-in, skipped, numeral, end-of-integer, end-of-exponent, end-of-real, end-of-string, end-of-binary, lone, size-of-symbol, end-of-symbol, token-kind-at, end-of-token, lexed-in, lexed}
+use Rattle.express.specs.tokens.Lexis.{Row, Reading, at, refused, end-of-run, end-of-remark, skipped-in, skipped, numeral, end-of-integer, end-of-exponent, end-of-real, end-of-string}
+use Rattle.express.specs.tokens.Lexis.{end-of-binary, lone, size-of-symbol, end-of-symbol, token-kind-at, end-of-token, lexed-in, lexed}
 use Rattle.express.specs.tokens.Terminal.{bytes, the, identifier, END-SCHEMA, CONST-E, instance-unequal, terminal-of, among}
 use Rattle.express.specs.tokens.Spelling.{same}
 use Rattle.express.proofs.tokens.Fast.{fast, fast-is, map-same}
@@ -59,7 +60,8 @@ examples =
     []
 
 by-fast : map (λ (e : Example). fast (bytes (e .text))) examples ≡ map (λ (e : Example). record { rows = e .rows; stop = e .stop }) examples
-unfolding word-byte space end-of-run end-of-remark skipped-in skipped numeral end-of-integer end-of-exponent end-of-real end-of-string end-of-binary lone size-of-symbol end-of-symbol token-kind-at end-of-token lexed-in
+unfolding word-byte space end-of-run end-of-remark skipped-in skipped numeral end-of-integer end-of-exponent end-of-real end-of-string end-of-binary
+    lone size-of-symbol end-of-symbol token-kind-at end-of-token lexed-in
 by-fast = refl
 
 pub edges : map (λ (e : Example). lexed (bytes (e .text))) examples ≡ map (λ (e : Example). record { rows = e .rows; stop = e .stop }) examples

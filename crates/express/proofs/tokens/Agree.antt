@@ -1,22 +1,22 @@
 -- Two texts that agree up to a place between two tokens of the one: the other has the same tokens up to there, if no token of it lies across.
 use mathlib.Core.Path.{_≡_, refl, sym, ap, _∙_, subst}
-use mathlib.Core.Bool.{Bool, true, false, cond, not, _&&_, _||_, false≢true}
-use mathlib.Core.List.{List, [], _∷_, _++_, append-nil}
+use mathlib.Core.Bool.{Bool, true, false, cond, not, _&&_, false≢true}
+use mathlib.Core.List.{List, [], _∷_, append-nil}
 use Prim.Native.Nat.{ℕ, zero, suc, _+_, _-_, _≤_, _<_}
 use native.Mathlib.Omega.{arith}
-use native.Mathlib.Numerals.{add-one}
 use native.Mathlib.Decide.{decLt}
 use lib.ListN.{length, take, drop, getD, length-take, length-drop, drop-of-length-le}
 use lib.Seq.{ext-getD, getD-drop, getD-take}
 use lib.Dec.{eqb}
-use borrow.Author.Tests.{eqb-true, eqb-false, eq-eqb, ne-eqb, not-true, not-false}
+use borrow.Author.Tests.{eqb-true, eqb-false, ne-eqb, not-true}
 use Rattle.express.specs.tokens.Bytes.{space, printable}
 use Rattle.express.specs.tokens.Token.{in-string, spelled-kind, standing-kind, longest, longest-size, longest-kind}
 use Rattle.express.specs.tokens.Token as token
-use Rattle.express.specs.tokens.Lexis.{Reading, at, refused, end-of-run, run, opens, closes, dashes, in-line, end-of-remark, skipped-in, skipped, too-large, longest-end, Row, longest-in, lexed-whole}
+use Rattle.express.specs.tokens.Lexis.{Reading, at, refused, end-of-run, run, opens, closes, dashes, in-line, end-of-remark, skipped-in, skipped, too-large, longest-end, Row}
+use Rattle.express.specs.tokens.Lexis.{longest-in, lexed-whole}
 use Rattle.express.specs.tokens.Cut.{Passes, here, over-space, over-line, over-remark, over-token}
-use Rattle.relations.proofs.Select.{and-fst, and-snd, untrue}
-use Rattle.express.proofs.tokens.Places.{tail, one-cut, past, in-text, run-low, and-false}
+use Rattle.relations.proofs.Select.{and-fst, and-snd}
+use Rattle.express.proofs.tokens.Places.{one-cut, past, run-low, and-false}
 use Rattle.express.proofs.tokens.TokenRows.{run-holds}
 use Rattle.express.proofs.tokens.Longest.{longest-is, run-none, ended, Strings, string-at, string-open, strings, string-stands, standing}
 use Rattle.express.proofs.tokens.Cut.{run-stops-of, space-in, remark-in, token-in, passes-in, cut-rest}
@@ -38,7 +38,8 @@ module _ (t : List ℕ) where
   longest-stands zero n = absurd (n refl)
   longest-stands (suc N) n = by (eqb (standing-kind t (suc N)) 0) refl n (λ k. longest-stands N k)
     where
-      by : (x : Bool) → eqb (standing-kind t (suc N)) 0 ≡ x → (cond x (longest t N) (suc N) ≡ 0 → ⊥) → ((longest t N ≡ 0 → ⊥) → standing-kind t (longest t N) ≡ 0 → ⊥) → standing-kind t (cond x (longest t N) (suc N)) ≡ 0 → ⊥
+      by : (x : Bool) → eqb (standing-kind t (suc N)) 0 ≡ x → (cond x (longest t N) (suc N) ≡ 0 → ⊥) → ((longest t N ≡ 0 → ⊥) → standing-kind t (longest t N) ≡ 0 →
+          ⊥) → standing-kind t (cond x (longest t N) (suc N)) ≡ 0 → ⊥
       by true e k more = more k
       by false e k more = eqb-false (standing-kind t (suc N)) 0 e
 

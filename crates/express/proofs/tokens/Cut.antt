@@ -1,25 +1,24 @@
 -- The tokens of a text that is cut between two tokens are those of its parts.
-use mathlib.Core.Path.{_≡_, refl, sym, ap, ap₂, _∙_, subst}
-use mathlib.Core.Logic.{_⊎_, inl, inr}
-use mathlib.Core.Bool.{Bool, true, false, cond, not, _&&_, _||_, false≢true}
-use mathlib.Core.List.{List, [], _∷_, _++_, map}
+use mathlib.Core.Path.{_≡_, refl, sym, ap, _∙_}
+use mathlib.Core.Bool.{Bool, true, false, cond}
+use mathlib.Core.List.{List, [], _∷_}
 use Prim.Native.Nat.{ℕ, zero, suc, _+_, _-_, _≤_, _<_}
 use native.Mathlib.Omega.{arith}
-use native.Mathlib.Numerals.{add-one}
 use native.Mathlib.Nat.{le-refl, add-assoc}
 use native.Mathlib.Decide.{decLt}
-use lib.ListN.{length, take, drop, getD, length-take, length-drop, length-append, drop-of-length-le}
-use lib.Seq.{drop-drop, getD-drop, getD-take}
-use lib.Dec.{eqb, leb, ltb}
-use borrow.Author.Tests.{ltb-true, ltb-false, lt-ltb, le-ltb, eqb-true, eqb-false, eq-eqb, ne-eqb, not-false}
+use lib.ListN.{length, take, drop, getD, length-drop, drop-of-length-le}
+use lib.Seq.{drop-drop, getD-drop}
+use lib.Dec.{eqb, ltb}
+use borrow.Author.Tests.{ltb-true, ltb-false, lt-ltb, le-ltb, eqb-true, not-false}
 use Rattle.express.specs.tokens.Bytes.{space}
-use Rattle.express.specs.tokens.Token.{longest, longest-size, longest-kind, standing-kind, spelled-kind}
-use Rattle.express.specs.tokens.Lexis.{Reading, at, refused, end-of-run, run, opens, closes, dashes, in-line, end-of-remark, reading-then, skipped-in, skipped, too-large, longest-end, Row, Lexed, stopped, row-and-rest, longest-after-blank, longest-in, lexed-whole}
-use Rattle.express.specs.tokens.Cut.{Passes, here, over-space, over-line, over-remark, over-token, moved-row, moved-stop, moved, behind}
-use Rattle.express.proofs.tokens.Longest.{run-size, run-is, first-is, token-is-longest}
-use Rattle.express.proofs.tokens.Places.{tail, one-cut, past, in-text, pair-in, run-low, run-high, run-low-of, inside-at, remark-inside, skip-inside, token-inside}
-use Rattle.relations.proofs.Select.{and-fst, and-snd, or-cases, untrue}
-use Rattle.express.proofs.tokens.Turns.{blank-turn, skipped-is, skipped-step, from, from-is, from-step, whole-from}
+use Rattle.express.specs.tokens.Token.{longest, longest-size, longest-kind}
+use Rattle.express.specs.tokens.Lexis.{Reading, at, refused, end-of-run, run, opens, closes, dashes, in-line, end-of-remark, reading-then, skipped-in, skipped, too-large, longest-end}
+use Rattle.express.specs.tokens.Lexis.{Row, Lexed, stopped, row-and-rest, longest-after-blank, longest-in, lexed-whole}
+use Rattle.express.specs.tokens.Cut.{Passes, here, over-space, over-line, over-remark, over-token, moved-stop, moved, behind}
+use Rattle.express.proofs.tokens.Longest.{run-is, first-is, token-is-longest}
+use Rattle.express.proofs.tokens.Places.{tail, in-text, pair-in, run-low, inside-at, remark-inside, token-inside}
+use Rattle.relations.proofs.Select.{and-fst}
+use Rattle.express.proofs.tokens.Turns.{skipped-is, skipped-step, from, from-is, from-step, whole-from}
 
 -- ---- what is passed, and the rest
 

@@ -1,5 +1,5 @@
 -- The fast reading gives the tokens of a text: blank by blank and token by token it is the definition.
-use mathlib.Core.Path.{_≡_, refl, sym, ap, ap₂, _∙_}
+use mathlib.Core.Path.{_≡_, refl, ap, ap₂}
 use mathlib.Core.Bool.{Bool, true, false, cond}
 use mathlib.Core.List.{List, [], _∷_, map}
 use Prim.Native.Nat.{ℕ, zero, suc, _+_, _≤_, _<_}
@@ -7,7 +7,8 @@ use lib.ListN.{length, drop}
 use lib.Dec.{leb, ltb}
 use borrow.Author.Tests.{ltb-true, le-leb}
 use Rattle.express.specs.tokens.Token.{longest-kind}
-use Rattle.express.specs.tokens.Lexis.{Reading, at, refused, skipped, longest-end, token-kind-at, end-of-token, Lexed, stopped, cons, row-and-rest, longest-after-blank, longest-in, lexed-whole, lexed-to, most, lexed, token-after-blank, lexed-in, starts, sizes}
+use Rattle.express.specs.tokens.Lexis.{Reading, at, refused, skipped, longest-end, token-kind-at, end-of-token, Lexed, stopped, row-and-rest, longest-after-blank, longest-in}
+use Rattle.express.specs.tokens.Lexis.{lexed-whole, lexed-to, most, lexed, token-after-blank, lexed-in, starts, sizes}
 use Rattle.express.specs.tokens.Spelling.{symbols-of}
 use Rattle.express.specs.tokens.Scanned.{terminals, Scanned}
 use Rattle.express.specs.syntax.Tree.{Table}

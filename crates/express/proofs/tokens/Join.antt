@@ -6,20 +6,19 @@ use mathlib.Core.Bool.{Bool, true, false, cond, not, _&&_, _||_, false≢true}
 use mathlib.Core.List.{List, [], _∷_, _++_}
 use Prim.Native.Nat.{ℕ, zero, suc, _+_, _-_, _≤_, _<_}
 use native.Mathlib.Omega.{arith}
-use native.Mathlib.Numerals.{add-one}
 use lib.ListN.{length, take, drop, getD, length-take, length-drop, length-append, List·getD-append}
 use lib.Seq.{getD-drop, getD-take, take-append-le, drop-append-seam}
 use lib.Dec.{eqb, leb}
-use borrow.Author.Tests.{eqb-true, eq-eqb, leb-true, le-leb, not-true}
+use borrow.Author.Tests.{eqb-true, eq-eqb, leb-true, le-leb}
 use Rattle.express.specs.tokens.Bytes.{digit, letter, word-byte}
 use Rattle.express.specs.tokens.Bytes as bytes
 use Rattle.express.specs.tokens.Spelling.{same}
-use Rattle.express.specs.tokens.Terminal.{Fixed, symbols, among, symbol-terminal}
-use Rattle.express.specs.tokens.Token.{all-of, some-of, is-word, is-integer, is-exponent, is-fraction, is-decimal, is-real, in-string, is-string, is-binary, is-symbol, spelled-kind}
+use Rattle.express.specs.tokens.Terminal.{Fixed, symbols, among}
+use Rattle.express.specs.tokens.Token.{all-of, some-of, is-word, is-integer, is-exponent, is-fraction, is-decimal, is-real, is-string, is-binary, is-symbol, spelled-kind}
 use Rattle.express.specs.tokens.Lexis.{Lexed, at, dashes, opens, pair, Row, lexed-whole}
 use Rattle.express.specs.tokens.Cut.{Passes, adjacent, number-byte, joins, moved, behind}
 use Rattle.relations.specs.Select.{any}
-use Rattle.relations.proofs.Select.{and-fst, and-snd, and-both, or-cases, or-left, or-right, untrue}
+use Rattle.relations.proofs.Select.{and-fst, and-snd, and-both, or-cases, or-left, or-right}
 use Rattle.express.proofs.tokens.Spelling.{same-true}
 use Rattle.express.proofs.tokens.Cut.{passes-in, cut-rest}
 use Rattle.express.proofs.tokens.Agree.{Uncrossed, passes-agree, passes-none, passes-part}
@@ -139,7 +138,8 @@ unfolding adjacent
 adjacent-at [] i l = absurd (omega arith)
 adjacent-at (x ∷ []) i l = absurd (omega arith)
 adjacent-at (x ∷ y ∷ w) zero l = or-left (eqb x x && eqb y y) _ (and-both (eqb x x) (eqb y y) (eq-eqb x x refl) (eq-eqb y y refl))
-adjacent-at (x ∷ y ∷ w) (suc i) l = or-right (eqb (getD (y ∷ w) i 0) x && eqb (getD (y ∷ w) (suc i) 0) y) (adjacent (getD (y ∷ w) i 0) (getD (y ∷ w) (suc i) 0) (y ∷ w)) (adjacent-at (y ∷ w) i (omega arith))
+adjacent-at (x ∷ y ∷ w) (suc i) l = or-right (eqb (getD (y ∷ w) i 0) x && eqb (getD (y ∷ w) (suc i) 0) y) (adjacent (getD (y ∷ w) i 0) (getD (y ∷ w) (suc i) 0)
+    (y ∷ w)) (adjacent-at (y ∷ w) i (omega arith))
 
 among-adjacent : (b c : ℕ) (w : List ℕ) → adjacent b c w ≡ true → (fs : List Fixed) → (among fs w 0 ≡ 0 → ⊥) → any (λ (f : Fixed). adjacent b c (f .spelling)) fs ≡ true
 unfolding among any

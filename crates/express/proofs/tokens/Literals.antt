@@ -84,8 +84,10 @@ module _ {x : Nonterminal} {t : Table} (R : Read x t) (S : Scanned t) where
 
   text-is : (n : ℕ) → text t n ≡ spelled (t .bytes) (row n)
   text-is n =
-      let a : getD (t .lengths) (token t n) 0 ≡ row n .size = ap (λ (c : List ℕ). getD c (token t n) 0) (S .lengths-are) ∙ List·getD-map (λ (r : Row). r .size) (lexed (t .bytes) .rows) (token t n) no-row in
-      let b : getD (t .starts) (token t n) 0 ≡ row n .start = ap (λ (c : List ℕ). getD c (token t n) 0) (S .starts-are) ∙ List·getD-map (λ (r : Row). r .start) (lexed (t .bytes) .rows) (token t n) no-row in
+      let a : getD (t .lengths) (token t n) 0 ≡ row n .size = ap (λ (c : List ℕ). getD c (token t n) 0) (S .lengths-are) ∙
+      List·getD-map (λ (r : Row). r .size) (lexed (t .bytes) .rows) (token t n) no-row in
+      let b : getD (t .starts) (token t n) 0 ≡ row n .start = ap (λ (c : List ℕ). getD c (token t n) 0) (S .starts-are) ∙
+      List·getD-map (λ (r : Row). r .start) (lexed (t .bytes) .rows) (token t n) no-row in
       rw (a, b)
 
   terminal-is : (n : ℕ) → terminal t n ≡ terminal-of (row n .kind) (spelled (t .bytes) (row n))

@@ -1,22 +1,22 @@
 -- The fast reading of a token gives the longest token that stands there: its kind, its end, and its refusals are those of the definition.
-use mathlib.Core.Path.{_≡_, refl, sym, ap, _∙_, subst}
+use mathlib.Core.Path.{_≡_, refl, sym, ap, _∙_}
 use mathlib.Core.Logic.{_⊎_, inl, inr}
 use mathlib.Core.Bool.{Bool, true, false, cond, not, _&&_, _||_, false≢true}
 use mathlib.Core.List.{List, [], _∷_}
 use Prim.Native.Nat.{ℕ, zero, suc, _+_, _-_, _≤_, _<_}
 use native.Mathlib.Omega.{arith}
-use native.Mathlib.Numerals.{add-one}
 use native.Mathlib.Decide.{decLt}
 use lib.Dec.{eqb, leb}
 use lib.ListN.{length, take, drop, getD, length-take, length-drop, drop-of-length-le}
-use lib.Seq.{drop-cons, drop-drop, getD-drop}
+use lib.Seq.{getD-drop}
 use borrow.Author.Tests.{leb-true, leb-false, le-leb, lt-leb, eqb-true, eqb-false, eq-eqb, ne-eqb}
-use Rattle.express.specs.tokens.Bytes.{token-bytes, within, digit, letter, word-byte, printable}
+use Rattle.express.specs.tokens.Bytes.{within, digit, letter, word-byte, printable}
 use Rattle.express.specs.tokens.Bytes as bytes
 use Rattle.express.specs.tokens.Spelling.{same}
 use Rattle.express.specs.tokens.Terminal.{Fixed, symbols, among, symbol-terminal}
-use Rattle.express.specs.tokens.Token.{all-of, some-of, is-word, is-integer, is-exponent, is-fraction, is-decimal, is-real, in-string, is-string, is-binary, is-symbol, spelled-kind, standing-kind, longest, longest-size, longest-kind}
-use Rattle.express.specs.tokens.Lexis.{Reading, at, refused, end-of-run, run, numeral, greatest, end-of-integer, digits-of-exponent, end-of-exponent, end-of-real, end-of-string, end-of-binary, size-of-symbol, end-of-symbol, too-large, longest-end, token-kind-at, end-of-token}
+use Rattle.express.specs.tokens.Token.{all-of, some-of, is-exponent, is-fraction, is-decimal, in-string, is-symbol, spelled-kind, standing-kind, longest, longest-size, longest-kind}
+use Rattle.express.specs.tokens.Lexis.{Reading, at, refused, end-of-run, run, numeral, greatest, end-of-integer, digits-of-exponent, end-of-exponent, end-of-real, end-of-string}
+use Rattle.express.specs.tokens.Lexis.{end-of-binary, size-of-symbol, end-of-symbol, too-large, longest-end, token-kind-at, end-of-token}
 use Rattle.relations.specs.Select.{any}
 use Rattle.relations.proofs.Select.{and-fst, and-snd, or-cases, untrue}
 use Rattle.express.proofs.tokens.Places.{tail, one-cut, past, in-text, run-low-of, run-low, run-some, and-false, size-inside, cond-ge, exponent-low}

@@ -13,7 +13,9 @@ use lib.Dec.{eqb, leb}
 use borrow.Author.Needs.{needs}
 use borrow.Author.Tests.{eq-eqb, eqb-true}
 use Rattle.express.specs.tokens.Bytes.{token-bytes, within, letter, digit, word-byte, space}
-use Rattle.express.specs.tokens.Lexis.{Reading, at, refused, end-of-run, run, pair, opens, dashes, in-line, end-of-remark, reading-then, skipped-in, skipped, numeral, end-of-integer, either, digits-of-exponent, end-of-exponent, end-of-real, end-of-string, end-of-binary, size-of-symbol, end-of-symbol, token-kind-at, end-of-token}
+use Rattle.express.specs.tokens.Lexis.{Reading, at, refused, end-of-run, run, pair, opens, dashes, in-line, end-of-remark, reading-then, skipped-in, skipped, numeral, end-of-integer}
+use Rattle.express.specs.tokens.Lexis.{either, digits-of-exponent, end-of-exponent, end-of-real, end-of-string, end-of-binary, size-of-symbol, end-of-symbol, token-kind-at}
+use Rattle.express.specs.tokens.Lexis.{end-of-token}
 
 -- a step that goes on gives a place from lo to hi
 abbrev pub From : ℕ → ℕ → Reading → Type 0
@@ -306,7 +308,8 @@ module _ (f : ℕ) (s : List ℕ) (p : ℕ) (more : (q : ℕ) → q ≤ length s
   on q l k = inside-weaken (skipped-in f s q) l (le-refl (length s)) (more q k)
 
   turn : (t u v : Bool) → p ≤ length s → space b₀ ≡ t → dashes b₀ b₁ ≡ u → opens b₀ b₁ ≡ v
-      → Inside p (length s) (cond t (skipped-in f s (p + 1)) (cond u (skipped-in f s (run in-line s (p + 2))) (cond v (reading-then (end-of-remark p 1 (p + 2) (drop (p + 2) s)) (λ q. skipped-in f s q)) (at p))))
+      → Inside p (length s) (cond t (skipped-in f s (p + 1)) (cond u (skipped-in f s (run in-line s (p + 2))) (cond v (reading-then (end-of-remark p 1 (p + 2)
+      (drop (p + 2) s)) (λ q. skipped-in f s q)) (at p))))
   unfolding space
   turn true u v h t-is u-is v-is = on (p + 1) (omega arith) (omega (arith, in-text space refl s p t-is))
   turn false true v h t-is u-is v-is =

@@ -1,16 +1,19 @@
 -- Where the reading of tokens stops: at the end of the bytes, or by 1, 2 or 3; and what lies between its rows is blank.
-use mathlib.Core.Path.{_≡_, refl, sym, ap, _∙_, subst}
+use mathlib.Core.Path.{_≡_, refl, sym, subst}
 use mathlib.Core.Bool.{Bool, true, false, cond}
 use mathlib.Core.List.{List, [], _∷_}
 use Prim.Native.Nat.{ℕ, zero, suc, _+_, _-_, _≤_, _<_}
 use native.Mathlib.Omega.{arith}
 use native.Mathlib.Numerals.{add-one}
-use lib.ListN.{length, drop, getD, length-drop}
+use lib.ListN.{length, drop, getD}
 use lib.Dec.{eqb, leb, ltb}
 use borrow.Author.Tests.{ltb-true, ltb-false, leb-false, le-leb, ne-eqb}
-use Rattle.express.specs.tokens.Bytes.{token-bytes, digit, word-byte, space, printable}
-use Rattle.express.specs.tokens.Blank.{Line, text-ends, line-ends, line-goes, Remark, outside, opened, closed, passed, Blank, nothing, a-space, a-line, a-remark, Gaps, last-gap, gap, Stop, all-read, unfinished, too-large, too-long, stop-place}
-use Rattle.express.specs.tokens.Lexis.{Reading, at, refused, end-of-run, run, opens, closes, dashes, in-line, end-of-remark, reading-then, skipped-in, skipped, numeral, greatest, end-of-integer, end-of-real, end-of-string, bit, end-of-binary, size-of-symbol, end-of-symbol, token-kind-at, end-of-token, Row, Lexed, stopped, row-and-rest, token-after-blank, lexed-in, lexed-whole, most, lexed}
+use Rattle.express.specs.tokens.Bytes.{token-bytes, digit, space, printable}
+use Rattle.express.specs.tokens.Blank.{Line, text-ends, line-ends, line-goes, Remark, outside, opened, closed, passed, Blank, nothing, a-space, a-line, a-remark, Gaps, last-gap, gap}
+use Rattle.express.specs.tokens.Blank.{Stop, all-read, unfinished, too-large, too-long, stop-place}
+use Rattle.express.specs.tokens.Lexis.{Reading, at, refused, end-of-run, run, opens, closes, dashes, in-line, end-of-remark, reading-then, skipped-in, skipped, numeral, greatest}
+use Rattle.express.specs.tokens.Lexis.{end-of-integer, end-of-string, bit, end-of-binary, size-of-symbol, end-of-symbol, token-kind-at, end-of-token, Lexed, stopped, row-and-rest}
+use Rattle.express.specs.tokens.Lexis.{token-after-blank, lexed-in, lexed-whole, most, lexed}
 use Rattle.express.proofs.tokens.Fast.{whole-fast}
 use Rattle.express.proofs.tokens.Places.{tail, two-off, one-cut, two-cut, in-text, pair-in, run-low, run-high, inside-at, remark-inside, skip-inside, token-inside}
 
@@ -107,7 +110,8 @@ module _ (s : List ℕ) where
   skips-in : (f p : ℕ) → p ≤ length s → length s - p < f → Skips s p (skipped-in f s p)
   unfolding skipped-in
   skips-in zero p h enough = absurd (omega arith)
-  skips-in (suc f) p h enough = skip-turn f p h (omega arith) (λ q l n. skips-in f q l n) (space (getD s p 0)) (dashes (getD s p 0) (getD s (p + 1) 0)) (opens (getD s p 0) (getD s (p + 1) 0)) refl refl refl
+  skips-in (suc f) p h enough = skip-turn f p h (omega arith) (λ q l n. skips-in f q l n) (space (getD s p 0)) (dashes (getD s p 0) (getD s (p + 1) 0)) (opens
+      (getD s p 0) (getD s (p + 1) 0)) refl refl refl
 
   -- blanks are read to their end, or refused by 2: the turns never run out
   pub skips : (p : ℕ) → p ≤ length s → Skips s p (skipped s p)

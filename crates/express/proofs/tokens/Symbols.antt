@@ -190,7 +190,8 @@ less-known (x ∷ v) true e = go (eqb x 61) (eqb x 62) (eqb x 42) refl refl refl
     go false false false i j k h = absurd (false≢true h)
 less-known u false e = coded 1 16 (60 ∷ u) refl
 
-colon-known : (u : List ℕ) (p q r : Bool) → eqb (getD u 0 0) 61 ≡ p → eqb (getD u 1 0) 58 ≡ q → (pair 60 62 (getD u 0 0) (getD u 1 0) && eqb (getD u 2 0) 58) ≡ r → Symbol (cond p (cond q 3 2) (cond r 4 1)) (58 ∷ u)
+colon-known : (u : List ℕ) (p q r : Bool) → eqb (getD u 0 0) 61 ≡ p → eqb (getD u 1 0) 58 ≡ q → (pair 60 62 (getD u 0 0) (getD u 1 0) && eqb (getD u 2 0) 58) ≡ r →
+    Symbol (cond p (cond q 3 2) (cond r 4 1)) (58 ∷ u)
 unfolding among same
 colon-known u false q false i j k = coded 1 9 (58 ∷ u) refl
 colon-known [] true q r i j k = absurd (false≢true i)
@@ -221,9 +222,11 @@ read-symbol b u = go (lone b) (eqb b 58) (eqb b 60) (eqb b 62) (eqb b 42) (eqb b
 
     go : (l m n o p q : Bool) → lone b ≡ l → eqb b 58 ≡ m → eqb b 60 ≡ n → eqb b 62 ≡ o → eqb b 42 ≡ p → eqb b 124 ≡ q → (size l m n o p q ≡ 0) ⊎ Symbol (size l m n o p q) (b ∷ u)
     go true m n o p q e f g i j k = inr (lone-known b u e)
-    go false true n o p q e f g i j k = inr (rw (eqb-true b 58 f) (colon-known u (eqb (getD u 0 0) 61) (eqb (getD u 1 0) 58) (pair 60 62 (getD u 0 0) (getD u 1 0) && eqb (getD u 2 0) 58) refl refl refl))
+    go false true n o p q e f g i j k = inr (rw (eqb-true b 58 f) (colon-known u (eqb (getD u 0 0) 61) (eqb (getD u 1 0) 58) (pair 60 62 (getD u 0 0)
+        (getD u 1 0) && eqb (getD u 2 0) 58) refl refl refl))
     go false false true o p q e f g i j k = inr (rw (eqb-true b 60 g) (less-known u (eqb (getD u 0 0) 61 || either 62 42 (getD u 0 0)) refl))
     go false false false true p q e f g i j k = inr (rw (eqb-true b 62 i) (two 62 61 u (eqb (getD u 0 0) 61) (omega arith) refl (λ v. coded 2 27 (62 ∷ 61 ∷ v) refl) (coded 1 17 (62 ∷ u) refl)))
     go false false false false true q e f g i j k = inr (rw (eqb-true b 42 j) (two 42 42 u (eqb (getD u 0 0) 42) (omega arith) refl (λ v. coded 2 31 (42 ∷ 42 ∷ v) refl) (coded 1 10 (42 ∷ u) refl)))
-    go false false false false false true e f g i j k = inr (rw (eqb-true b 124 k) (two 124 124 u (eqb (getD u 0 0) 124) (omega arith) refl (λ v. coded 2 30 (124 ∷ 124 ∷ v) refl) (coded 1 22 (124 ∷ u) refl)))
+    go false false false false false true e f g i j k =
+        inr (rw (eqb-true b 124 k) (two 124 124 u (eqb (getD u 0 0) 124) (omega arith) refl (λ v. coded 2 30 (124 ∷ 124 ∷ v) refl) (coded 1 22 (124 ∷ u) refl)))
     go false false false false false false e f g i j k = inl refl

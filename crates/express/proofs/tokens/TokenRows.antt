@@ -13,7 +13,8 @@ use borrow.Author.Tests.{ltb-true, leb-true, eqb-true, eqb-false}
 use Rattle.express.specs.kinds.Bits as Bits
 use Rattle.express.specs.kinds.Bits.{number}
 use Rattle.express.specs.tokens.Bytes.{token-bytes, digit, within}
-use Rattle.express.specs.tokens.Lexis.{Reading, at, refused, end-of-run, run, bit, skipped, end-of-integer, end-of-binary, numeral, integer-value, binary-bits, binary-value, token-kind-at, end-of-token, Row, Lexed, stopped, token-after-blank, row-and-rest, lexed-in, lexed, kinds, starts, sizes}
+use Rattle.express.specs.tokens.Lexis.{Reading, at, refused, end-of-run, run, bit, skipped, end-of-integer, end-of-binary, numeral, integer-value, binary-bits, binary-value}
+use Rattle.express.specs.tokens.Lexis.{token-kind-at, end-of-token, Row, Lexed, stopped, token-after-blank, row-and-rest, lexed-in, lexed, kinds, starts, sizes}
 use Rattle.express.specs.tokens.Scanned.{spelled, terminals}
 use Rattle.express.specs.tokens.Terminal as columns
 use Rattle.express.specs.tokens.Terminal.{terminal-of}
@@ -120,7 +121,8 @@ module _ (s : List ℕ) (r : Row) (t : Token s r) where
   unfolding end-of-token end-of-integer integer-value
   integer-small e = go (leb (integer-value (token-bytes s (r .start) (run digit s (r .start) - r .start))) 9223372036854775807) refl (rw e at t .ends)
     where
-      go : (b : Bool) → leb (integer-value (token-bytes s (r .start) (run digit s (r .start) - r .start))) 9223372036854775807 ≡ b → cond b (at (run digit s (r .start))) (refused 3 (r .start)) ≡ at (r .start + r .size) → integer-value (spelled s r) < 2 ^ 63
+      go : (b : Bool) → leb (integer-value (token-bytes s (r .start) (run digit s (r .start) - r .start))) 9223372036854775807 ≡ b →
+          cond b (at (run digit s (r .start))) (refused 3 (r .start)) ≡ at (r .start + r .size) → integer-value (spelled s r) < 2 ^ 63
       go true l is =
           let size : run digit s (r .start) - r .start ≡ r .size = omega (arith, ap place-of is) in
           let small : integer-value (token-bytes s (r .start) (run digit s (r .start) - r .start)) ≤ 9223372036854775807 = leb-true _ _ l in
@@ -137,7 +139,9 @@ module _ (s : List ℕ) (r : Row) (t : Token s r) where
   unfolding end-of-token end-of-binary
   binary-ends e = go (eqb (run bit s (r .start + 1) - (r .start + 1)) 0) (leb (run bit s (r .start + 1) - (r .start + 1)) 63) refl refl (rw e at t .ends)
     where
-      go : (b c : Bool) → eqb (run bit s (r .start + 1) - (r .start + 1)) 0 ≡ b → leb (run bit s (r .start + 1) - (r .start + 1)) 63 ≡ c → cond b (refused 2 (r .start)) (cond c (at (run bit s (r .start + 1))) (refused 3 (r .start))) ≡ at (r .start + r .size) → (r .start + r .size ≡ run bit s (r .start + 1)) × (2 ≤ r .size) × (r .size ≤ 64)
+      go : (b c : Bool) → eqb (run bit s (r .start + 1) - (r .start + 1)) 0 ≡ b → leb (run bit s (r .start + 1) - (r .start + 1)) 63 ≡ c →
+          cond b (refused 2 (r .start)) (cond c (at (run bit s (r .start + 1))) (refused 3 (r .start))) ≡ at (r .start + r .size) →
+          (r .start + r .size ≡ run bit s (r .start + 1)) × (2 ≤ r .size) × (r .size ≤ 64)
       go true c b-is c-is is = absurd (refused-at is)
       go false false b-is c-is is = absurd (refused-at is)
       go false true b-is c-is is =
@@ -185,7 +189,8 @@ horner v (b ∷ t) h =
     let size : length (map (λ c. eqb c 49) t) ≡ length t = length-map t (λ c. eqb c 49) in
     let d : b - 48 ≡ Bits.bit (eqb b 49) = bit-value b (h 0 (omega arith)) in
     let rest : numeral 2 (v * 2 + (b - 48)) t ≡ (v * 2 + (b - 48)) * 2 ^ length t + number (map (λ c. eqb c 49) t) = horner (v * 2 + (b - 48)) t (λ i l. h (suc i) (omega (arith, l))) in
-    let spread : (v * 2 + (b - 48)) * 2 ^ length t ≡ v * 2 ^ suc (length t) + (b - 48) * 2 ^ length t = add-mul (v * 2) (b - 48) (2 ^ length t) ∙ ap (λ (x : ℕ). x + (b - 48) * 2 ^ length t) (mul-assoc v 2 (2 ^ length t) ∙ ap (λ (x : ℕ). v * x) (sym (pow-succ' 2 (length t)))) in
+    let spread : (v * 2 + (b - 48)) * 2 ^ length t ≡ v * 2 ^ suc (length t) + (b - 48) * 2 ^ length t = add-mul (v * 2) (b - 48) (2 ^ length t) ∙
+    ap (λ (x : ℕ). x + (b - 48) * 2 ^ length t) (mul-assoc v 2 (2 ^ length t) ∙ ap (λ (x : ℕ). v * x) (sym (pow-succ' 2 (length t)))) in
     rw (size, ← d) (omega (arith, rest, spread))
 
 module _ (s : List ℕ) (r : Row) (t : Token s r) (e : r .kind ≡ 5) where

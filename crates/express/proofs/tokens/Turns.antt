@@ -1,18 +1,19 @@
 -- The reading of blanks and of tokens without turns: enough turns are as good as more, so each is given by what stands at its place.
-use mathlib.Core.Path.{_≡_, refl, sym, ap, _∙_, subst}
+use mathlib.Core.Path.{_≡_, refl, ap, _∙_}
 use mathlib.Core.Bool.{Bool, true, false, cond}
-use mathlib.Core.List.{List, [], _∷_}
+use mathlib.Core.List.{List}
 use Prim.Native.Nat.{ℕ, zero, suc, _+_, _-_, _≤_, _<_}
 use native.Mathlib.Omega.{arith}
 use native.Mathlib.Numerals.{add-one}
 use lib.ListN.{length, drop, getD}
-use lib.Dec.{eqb, ltb}
-use borrow.Author.Tests.{ltb-true, lt-ltb, le-ltb, not-false, eqb-true}
+use lib.Dec.{ltb}
+use borrow.Author.Tests.{ltb-true}
 use Rattle.express.specs.tokens.Bytes.{space}
 use Rattle.express.specs.tokens.Token.{longest-kind}
-use Rattle.express.specs.tokens.Lexis.{Reading, at, refused, end-of-run, run, opens, dashes, in-line, end-of-remark, reading-then, skipped-in, skipped, longest-end, token-kind-at, end-of-token, Row, Lexed, stopped, cons, row-and-rest, longest-after-blank, longest-in, lexed-whole}
+use Rattle.express.specs.tokens.Lexis.{Reading, at, refused, run, opens, dashes, in-line, end-of-remark, reading-then, skipped-in, skipped, longest-end, token-kind-at, end-of-token}
+use Rattle.express.specs.tokens.Lexis.{Lexed, stopped, row-and-rest, longest-after-blank, longest-in, lexed-whole}
 use Rattle.express.proofs.tokens.Longest.{token-is-longest}
-use Rattle.express.proofs.tokens.Places.{tail, past, in-text, pair-in, run-low, run-high, inside-at, remark-inside, skip-inside, token-inside}
+use Rattle.express.proofs.tokens.Places.{in-text, pair-in, run-low, run-high, inside-at, remark-inside, skip-inside, token-inside}
 
 -- ---- blanks
 

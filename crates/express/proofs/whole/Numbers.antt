@@ -1,13 +1,13 @@
 -- The replies of a whole check: a refusal has a number from 1 to 15, so reply 0 says that the file is accepted.
-use mathlib.Core.Path.{_≡_, refl, sym, ap, subst, _∙_}
-use mathlib.Core.Logic.{_↔_, _⊎_, inl, inr}
+use mathlib.Core.Path.{_≡_, refl, ap, subst}
+use mathlib.Core.Logic.{_↔_}
 use mathlib.Core.Bool.{Bool, true, false, cond}
 use mathlib.Core.List.{List, [], _∷_}
-use Prim.Native.Nat.{ℕ, suc, _≤_}
+use Prim.Native.Nat.{ℕ, _≤_}
 use native.Mathlib.Omega.{arith}
 use borrow.Author.Tests.{eqb-false}
 use lib.Dec.{T, eqb, leb, leb→le}
-use lib.ListN.{length, set, replicate}
+use lib.ListN.{length, set}
 use Rattle.ebnf.specs.Rows as ebnf
 use Rattle.ebnf.specs.Depth.{Outcome, good, unexpected, too-deep}
 use Rattle.express.specs.tokens.Lexis.{Row, Reading, at, counted, tokens, lexed}
@@ -16,14 +16,15 @@ use Rattle.express.specs.tokens.Blank.{Stop, all-read, unfinished, too-l
 use Rattle.express.specs.tokens.Scanned.{token-table}
 use Rattle.express.specs.syntax.Grammar.{file}
 use Rattle.express.specs.syntax.Syntax.{parsed, with-rows}
-use Rattle.express.specs.syntax.Tree.{Table, count, nodes}
+use Rattle.express.specs.syntax.Tree.{Table, count}
 use Rattle.express.specs.names.Scope.{Meaning, none, one, several, bindings}
 use Rattle.express.specs.names.Fault as names
 use Rattle.relations.specs.Reach.{Edge}
 use Rattle.express.specs.names.Fault.{Fault, judged, repeated, type-name-fault, cyclic, qualified, expression}
 use Rattle.express.specs.names.Names.{Stage, sooner, stages, least, first-fault, names}
 use Rattle.express.specs.kinds.Operate.{Kind}
-use Rattle.express.specs.kinds.Shape.{Shape, integer-literal, logical-literal, binary-literal, question, item, name, unary, operator, interval, interval-operator, type, constant, unevaluated, shape-in}
+use Rattle.express.specs.kinds.Shape.{Shape, integer-literal, logical-literal, binary-literal, question, item, name, unary, operator, interval, interval-operator, type, constant}
+use Rattle.express.specs.kinds.Shape.{unevaluated, shape-in}
 use Rattle.express.specs.kinds.Kind.{Finding, kind, fault, finding-in, kind-at, Typing, typed, then, type-nodes-in, typing, constants}
 use Rattle.express.specs.kinds.Kind as kinds
 use Rattle.express.specs.whole.Reply.{Accepted, Checked, accepted, refused, after-kinds, after-names, after-rows, after-syntax, after-tokens, checked, report}

@@ -5,12 +5,12 @@ use Prim.Native.Nat.{ℕ, _≤_, _<_}
 use lib.ListN.{length, getD}
 use Rattle.ebnf.specs.Rows.{Row}
 use Rattle.ebnf.specs.Depth.{Deep}
-use Rattle.express.specs.kinds.Answer.{Answer, indeterminate}
+use Rattle.express.specs.kinds.Answer.{indeterminate}
 use Rattle.express.specs.tokens.Lexis.{at, lexed}
 use Rattle.express.specs.tokens.Scanned.{token-table}
 use Rattle.express.specs.syntax.Grammar.{file}
 use Rattle.express.specs.syntax.Syntax.{Parses, opening, closing, nesting, with-rows}
-use Rattle.express.specs.syntax.Tree.{Table, count}
+use Rattle.express.specs.syntax.Tree.{count}
 use Rattle.express.specs.names.Scope.{bindings}
 use Rattle.express.specs.names.Names.{WellNamed}
 use Rattle.express.specs.kinds.Kind.{constants, WellTyped}
