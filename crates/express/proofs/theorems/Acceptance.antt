@@ -15,7 +15,7 @@ use Rattle.ebnf.specs.Rows as ebnf
 use Rattle.ebnf.specs.Depth.{Outcome, good, unexpected, too-deep}
 use Rattle.express.specs.kinds.Answer.{Answer, indeterminate}
 use Rattle.express.specs.syntax.NodeKind as node
-use Rattle.express.specs.tokens.Lexis.{Row, Reading, at, tokens, counted, lexed}
+use Rattle.express.specs.tokens.Lexis.{TokenRow, Reading, at, tokens, counted, lexed}
 use Rattle.express.specs.tokens.Lexis as lexis
 use Rattle.express.specs.tokens.Scanned.{Scanned, token-table}
 use Rattle.express.specs.syntax.Grammar.{file, rules}
@@ -58,18 +58,18 @@ constant-at t i l =
 
 -- ---- what a table whose names are bound and whose typing is done is accepted with
 
-abbrev made : List Row → Table → List Answer → Accepted
+abbrev made : List TokenRow → Table → List Answer → Accepted
 made ls t xs = record { tokens = ls; table = t; bindings = bindings t; answers = xs }
 
 abbrev computed : Table → List Answer
 computed t = map (answer-at (answers t (bindings t) (order t))) (constants t)
 
-abbrev of-parts : List Row → Table → List ℕ → List Answer → Accepted
+abbrev of-parts : List TokenRow → Table → List ℕ → List Answer → Accepted
 of-parts ls t b xs = record { tokens = ls; table = t; bindings = b; answers = xs }
 
 alike : (u v : Accepted) → u .tokens ≡ v .tokens → u .table ≡ v .table → u .bindings ≡ v .bindings → u .answers ≡ v .answers → u ≡ v
 alike u v p q r s =
-    ap (λ (x : List Row). of-parts x (u .table) (u .bindings) (u .answers)) p
+    ap (λ (x : List TokenRow). of-parts x (u .table) (u .bindings) (u .answers)) p
     ∙ ap (λ (x : Table). of-parts (v .tokens) x (u .bindings) (u .answers)) q
     ∙ ap (λ (x : List ℕ). of-parts (v .tokens) (v .table) x (u .answers)) r
     ∙ ap (λ (x : List Answer). of-parts (v .tokens) (v .table) (v .bindings) x) s
@@ -97,14 +97,14 @@ module _ (t : Table) (scanned : Scanned t) (read : Read file t) (named : WellNam
 clash : {A : Type 0} → _≡_ {A = ℕ} 0 1 → A
 clash z = absurd (omega arith)
 
-record Passed (ls : List Row) (t : Table) (nr ar : ℕ) (a : Accepted) : Type 0 where
+record Passed (ls : List TokenRow) (t : Table) (nr ar : ℕ) (a : Accepted) : Type 0 where
   node-room : count t ≤ nr
   answer-room : length (constants t) ≤ ar
   named : WellNamed t
   types : (ks : List Kind) × (typing t (bindings t) ≡ typed ks)
   made-of : made ls t (computed t) ≡ a
 
-module _ (ls : List Row) (t : Table) (nr ar : ℕ) (a : Accepted) where
+module _ (ls : List TokenRow) (t : Table) (nr ar : ℕ) (a : Accepted) where
   passed-kinds : (x : Typing) → typing t (bindings t) ≡ x → after-kinds ls t x ≡ accepted a → ((ks : List Kind) × (typing t (bindings t) ≡ typed ks)) × (made ls t (computed t) ≡ a)
   passed-kinds (typed ks) e h = ((ks, e), cc)
   passed-kinds (kinds.refused f n) e h = clash (cc)

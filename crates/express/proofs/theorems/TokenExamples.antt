@@ -4,7 +4,7 @@ use mathlib.Core.List.{List, [], _∷_, map}
 use Prim.Native.Nat.{ℕ}
 use Prim.Native.String.{String}
 use Rattle.express.specs.tokens.Bytes.{upper, word-byte, space}
-use Rattle.express.specs.tokens.Lexis.{Row, Reading, at, refused, end-of-run, end-of-remark, skipped-in, skipped, numeral, end-of-integer, end-of-exponent, end-of-real, end-of-string}
+use Rattle.express.specs.tokens.Lexis.{TokenRow, Reading, at, refused, end-of-run, end-of-remark, skipped-in, skipped, numeral, end-of-integer, end-of-exponent, end-of-real, end-of-string}
 use Rattle.express.specs.tokens.Lexis.{end-of-binary, lone, size-of-symbol, end-of-symbol, token-kind-at, end-of-token, lexed-in, lexed}
 use Rattle.express.specs.tokens.Terminal.{bytes, the, identifier, END-SCHEMA, CONST-E, instance-unequal, terminal-of, among}
 use Rattle.express.specs.tokens.Spelling.{same}
@@ -26,16 +26,16 @@ symbol : terminal-of 6 (bytes ":<>:") ≡ the instance-unequal
 unfolding terminal-of among same
 symbol = refl
 
-abbrev pub row : ℕ → ℕ → ℕ → Row
+abbrev pub row : ℕ → ℕ → ℕ → TokenRow
 row k p n = record { kind = k; start = p; size = n }
 
 -- a text, its tokens, and how their reading stops
 pub record Example : Type 0 where
   pub text : String
-  pub rows : List Row
+  pub rows : List TokenRow
   pub stop : Reading
 
-abbrev pub reads : String → List Row → Reading → Example
+abbrev pub reads : String → List TokenRow → Reading → Example
 reads t rows e = record { text = t; rows = rows; stop = e }
 
 -- an exponent, and none; a number and a word; a remark after a number; a remark that holds `)`; a string of one quote; the longest symbol; and

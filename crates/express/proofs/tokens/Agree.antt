@@ -12,7 +12,7 @@ use borrow.Author.Tests.{eqb-true, eqb-false, ne-eqb, not-true}
 use Rattle.express.specs.tokens.Bytes.{space, printable}
 use Rattle.express.specs.tokens.Token.{in-string, spelled-kind, standing-kind, longest, longest-size, longest-kind}
 use Rattle.express.specs.tokens.Token as token
-use Rattle.express.specs.tokens.Lexis.{Reading, at, refused, end-of-run, run, opens, closes, dashes, in-line, end-of-remark, skipped-in, skipped, too-large, longest-end, Row}
+use Rattle.express.specs.tokens.Lexis.{Reading, at, refused, end-of-run, run, opens, closes, dashes, in-line, end-of-remark, skipped-in, skipped, too-large, longest-end, TokenRow}
 use Rattle.express.specs.tokens.Lexis.{longest-in, lexed-whole}
 use Rattle.express.specs.tokens.Cut.{Passes, here, over-space, over-line, over-remark, over-token}
 use Rattle.relations.proofs.Select.{and-fst, and-snd}
@@ -351,7 +351,7 @@ module _ (s s′ : List ℕ) (c : ℕ) (agree : take c s ≡ take c s′) (h : c
               (rw (t .0, ne-eqb (suc n) 0 (λ (z : suc n ≡ 0). omega arith), t .1, piece-agrees p (suc n) m) f, rw (t .0, j) (t .1))
 
     -- what is passed up to c in one is passed in the other
-    pub passes-agree : {p : ℕ} {rs : List Row} → Passes s p rs c → p ≤ c → Passes s′ p rs c
+    pub passes-agree : {p : ℕ} {rs : List TokenRow} → Passes s p rs c → p ≤ c → Passes s′ p rs c
     passes-agree here l = here
     passes-agree (over-space {p} e y) l =
         let k = passes-in s y (omega (arith, space-in s p e)) .0 in
@@ -394,14 +394,14 @@ take-all (suc c) [] = refl
 take-all (suc c) (b ∷ s) = ap (λ (w : List ℕ). b ∷ w) (take-all c s)
 
 -- no byte is passed, and no token
-pub passes-none : (s s′ : List ℕ) (rs : List Row) → Passes s 0 rs 0 → Passes s′ 0 rs 0
+pub passes-none : (s s′ : List ℕ) (rs : List TokenRow) → Passes s 0 rs 0 → Passes s′ 0 rs 0
 passes-none s s′ rs here = here
 passes-none s s′ rs (over-space e y) = absurd (omega (arith, passes-in s y (omega (arith, space-in s 0 e)) .0))
 passes-none s s′ rs (over-line e m y) = absurd (omega (arith, passes-in s y (omega arith) .0))
 passes-none s s′ rs (over-remark {e = e} o i y) = let m = remark-in s 0 e o i in absurd (omega (arith, m .0, passes-in s y (m .1) .0))
 passes-none s s′ rs (over-token {e = e} a b d i y) = let m = token-in s 0 e i in absurd (omega (arith, m .0, passes-in s y (m .1) .0))
 
-pub passes-part : (s : List ℕ) (c : ℕ) (rs : List Row) → Passes s 0 rs c → Passes (take c s) 0 rs c
+pub passes-part : (s : List ℕ) (c : ℕ) (rs : List TokenRow) → Passes s 0 rs c → Passes (take c s) 0 rs c
 passes-part s zero rs x = passes-none s [] rs x
 passes-part s (suc c) rs x =
     let l = passes-in s x (omega arith) .1 in
@@ -414,7 +414,7 @@ unfolding longest-in skipped skipped-in space
 nothing-read = refl
 
 -- THE PART BEFORE A CUT has the tokens that are passed
-pub cut-part : (s : List ℕ) (c : ℕ) (rs : List Row) → Passes s 0 rs c → lexed-whole (take c s) ≡ record { rows = rs; stop = at c }
+pub cut-part : (s : List ℕ) (c : ℕ) (rs : List TokenRow) → Passes s 0 rs c → lexed-whole (take c s) ≡ record { rows = rs; stop = at c }
 cut-part s c rs x =
     let l = passes-in s x (omega arith) .1 in
     let size : length (take c s) ≡ c = omega (arith, length-take c s) in

@@ -14,21 +14,21 @@ use Rattle.relations.proofs.Select.{and-snd}
 use Rattle.express.proofs.tokens.TokenRows.{run-holds}
 use Rattle.express.specs.tokens.Bytes.{space}
 use Rattle.express.specs.tokens.Token.{longest-kind}
-use Rattle.express.specs.tokens.Lexis.{Reading, at, refused, run, opens, dashes, in-line, end-of-remark, reading-then, skipped, longest-end, Row, Lexed, stopped, row-and-rest}
+use Rattle.express.specs.tokens.Lexis.{Reading, at, refused, run, opens, dashes, in-line, end-of-remark, reading-then, skipped, longest-end, TokenRow, Lexed, stopped, row-and-rest}
 use Rattle.express.specs.tokens.Lexis.{longest-after-blank, lexed-whole}
 use Rattle.express.specs.tokens.Cut.{Passes, here, over-space, over-line, over-remark, over-token}
 use Rattle.express.proofs.tokens.Places.{run-low, run-high, inside-at, skip-inside, pair-in}
 use Rattle.express.proofs.tokens.Turns.{skipped-step, from, from-step, whole-from}
 use Rattle.express.proofs.tokens.Cut.{line-feed, space-in, remark-in, token-in}
 
-pub passes-then : {s : List ℕ} {p q c : ℕ} {rs ts : List Row} → Passes s p rs q → Passes s q ts c → Passes s p (rs ++ ts) c
+pub passes-then : {s : List ℕ} {p q c : ℕ} {rs ts : List TokenRow} → Passes s p rs q → Passes s q ts c → Passes s p (rs ++ ts) c
 passes-then here y = y
 passes-then (over-space e x) y = over-space e (passes-then x y)
 passes-then (over-line e l x) y = over-line e l (passes-then x y)
 passes-then (over-remark o i x) y = over-remark o i (passes-then x y)
 passes-then (over-token a b d i x) y = over-token a b d i (passes-then x y)
 
-never-rows : (r : Row) (ts : List Row) → _≡_ {A = List Row} [] (r ∷ ts) → ⊥
+never-rows : (r : TokenRow) (ts : List TokenRow) → _≡_ {A = List TokenRow} [] (r ∷ ts) → ⊥
 never-rows r ts e = let z : _≡_ {A = ℕ} 0 1 = cc in absurd (omega arith)
 
 module _ (s : List ℕ) where
@@ -71,17 +71,17 @@ module _ (s : List ℕ) where
             let same : p ≡ q = cc in
             (subst (λ (k : ℕ). Passes s p [] k) same here, subst Clear same (i, (j, m)))
 
-  abbrev read : List Row → Reading → Lexed
+  abbrev read : List TokenRow → Reading → Lexed
   read rs x = record { rows = rs; stop = x }
 
   -- the first of the tokens from p on
-  record First (p : ℕ) (r : Row) (ts : List Row) (x : Reading) : Type 0 where
+  record First (p : ℕ) (r : TokenRow) (ts : List TokenRow) (x : Reading) : Type 0 where
     upto : Passes s p [] (r .start)
     over : Passes s (r .start) (r ∷ []) (r .start + r .size)
     rest : from s (r .start + r .size) ≡ read ts x
     inside : r .start + r .size ≤ length s
 
-  first-row : (p : ℕ) → p ≤ length s → (r : Row) (ts : List Row) (x : Reading) → from s p ≡ read (r ∷ ts) x → First p r ts x
+  first-row : (p : ℕ) → p ≤ length s → (r : TokenRow) (ts : List TokenRow) (x : Reading) → from s p ≡ read (r ∷ ts) x → First p r ts x
   first-row p h r ts x e = blanks (skipped s p) refl (sym (from-step s p h) ∙ e)
     where
       token : (q : ℕ) → skipped s p ≡ at q → q < length s → (y : Reading) → longest-end s q ≡ y → row-and-rest (longest-kind (drop q s)) q y (from s) ≡ read (r ∷ ts) x → First p r ts x
@@ -91,7 +91,7 @@ module _ (s : List ℕ) where
           let row : record { kind = longest-kind (drop q s); start = q; size = k - q } ≡ r = ap (λ (l : Lexed). head-of (l .rows)) g in
           let there : q + (k - q) ≡ k = omega (arith, m .0) in
           let more : from s k ≡ read ts x = ap (λ (l : Lexed). read (tail-of (l .rows)) (l .stop)) g in
-          subst (λ (o : Row). First p o ts x) row
+          subst (λ (o : TokenRow). First p o ts x) row
           (record {
             upto = t .0;
             over = subst (λ (o : ℕ). Passes s q (record { kind = longest-kind (drop q s); start = q; size = k - q } ∷ []) o) (sym there) (over-token (t .1 .0) (t .1 .1 .0) (t .1 .1 .1) j here);
@@ -99,11 +99,11 @@ module _ (s : List ℕ) where
             inside = omega (arith, m .1);
           })
         where
-          head-of : List Row → Row
+          head-of : List TokenRow → TokenRow
           head-of [] = r
           head-of (o ∷ os) = o
 
-          tail-of : List Row → List Row
+          tail-of : List TokenRow → List TokenRow
           tail-of [] = []
           tail-of (o ∷ os) = os
       token q i l (refused a b) j g = absurd (never-rows r ts (ap (λ (l : Lexed). l .rows) g))
@@ -118,7 +118,7 @@ module _ (s : List ℕ) where
       blanks (refused a b) i g = absurd (never-rows r ts (ap (λ (l : Lexed). l .rows) g))
 
   rows-pass :
-      (p : ℕ) → p ≤ length s → (rs : List Row) (r : Row) (ts : List Row) (x : Reading) → from s p ≡ read (rs ++ (r ∷ ts)) x →
+      (p : ℕ) → p ≤ length s → (rs : List TokenRow) (r : TokenRow) (ts : List TokenRow) (x : Reading) → from s p ≡ read (rs ++ (r ∷ ts)) x →
       Passes s p rs (r .start) × Passes s p (rs ++ (r ∷ [])) (r .start + r .size)
   rows-pass p h [] r ts x e = let f = first-row p h r ts x e in (f .upto, passes-then (f .upto) (f .over))
   rows-pass p h (o ∷ rs) r ts x e =
@@ -128,10 +128,10 @@ module _ (s : List ℕ) where
 
   -- A TOKEN'S START AND END are places between tokens
   pub token-boundary :
-      (rs : List Row) (r : Row) (ts : List Row) → lexed-whole s .rows ≡ rs ++ (r ∷ ts) →
+      (rs : List TokenRow) (r : TokenRow) (ts : List TokenRow) → lexed-whole s .rows ≡ rs ++ (r ∷ ts) →
       Passes s 0 rs (r .start) × Passes s 0 (rs ++ (r ∷ [])) (r .start + r .size)
   token-boundary rs r ts e =
-      rows-pass 0 (omega arith) rs r ts (lexed-whole s .stop) (sym (whole-from s) ∙ ap (λ (os : List Row). read os (lexed-whole s .stop)) e)
+      rows-pass 0 (omega arith) rs r ts (lexed-whole s .stop) (sym (whole-from s) ∙ ap (λ (os : List TokenRow). read os (lexed-whole s .stop)) e)
 
   -- ---- to the end of a text whose last byte is a line feed
 
@@ -152,7 +152,7 @@ module _ (s : List ℕ) where
             let byte : getD (drop (p + 2) s) (length s - 1 - (p + 2)) 0 ≡ 10 = getD-drop (p + 2) s (length s - 1 - (p + 2)) 0 ∙ ap (λ (j : ℕ). getD s j 0) i ∙ fed in
             absurd (false≢true (sym (ap in-line byte) ∙ holds))
 
-    rest-passes : (rs : List Row) (p e : ℕ) → p ≤ length s → from s p ≡ read rs (at e) → Passes s p rs (length s)
+    rest-passes : (rs : List TokenRow) (p e : ℕ) → p ≤ length s → from s p ≡ read rs (at e) → Passes s p rs (length s)
     rest-passes [] p e h i = blanks (skipped s p) refl (sym (from-step s p h) ∙ i)
       where
         ends : (q : ℕ) → skipped s p ≡ at q → length s ≤ q → Passes s p [] (length s)

@@ -13,7 +13,7 @@ use borrow.Author.Tests.{ltb-true, ltb-false, lt-ltb, le-ltb, eqb-true, not-fals
 use Rattle.express.specs.tokens.Bytes.{space}
 use Rattle.express.specs.tokens.Token.{longest, longest-size, longest-kind}
 use Rattle.express.specs.tokens.Lexis.{Reading, at, refused, end-of-run, run, opens, closes, dashes, in-line, end-of-remark, reading-then, skipped-in, skipped, too-large, longest-end}
-use Rattle.express.specs.tokens.Lexis.{Row, Lexed, stopped, row-and-rest, longest-after-blank, longest-in, lexed-whole}
+use Rattle.express.specs.tokens.Lexis.{TokenRow, Lexed, stopped, row-and-rest, longest-after-blank, longest-in, lexed-whole}
 use Rattle.express.specs.tokens.Cut.{Passes, here, over-space, over-line, over-remark, over-token, moved-stop, moved, behind}
 use Rattle.express.proofs.tokens.Longest.{run-is, first-is, token-is-longest}
 use Rattle.express.proofs.tokens.Places.{tail, in-text, pair-in, run-low, inside-at, remark-inside, token-inside}
@@ -101,7 +101,7 @@ module _ (s : List ℕ) where
       from-step s p h′ ∙ ap (λ (r : Reading). longest-after-blank s r (from s)) clear ∙ rw (lt-ltb p (length s) h, i)
 
   -- where it goes to
-  pub passes-in : {p c : ℕ} {rs : List Row} → Passes s p rs c → p ≤ length s → (p ≤ c) × (c ≤ length s)
+  pub passes-in : {p c : ℕ} {rs : List TokenRow} → Passes s p rs c → p ≤ length s → (p ≤ c) × (c ≤ length s)
   passes-in here h = (le-refl _, h)
   passes-in (over-space e x) h = let l = passes-in x (omega (arith, space-in _ e)) in (omega (arith, l .0), l .1)
   passes-in (over-line {p} e k x) h = let l = passes-in x (omega arith) in (omega (arith, l .0, run-low in-line s (p + 2)), l .1)
@@ -109,7 +109,7 @@ module _ (s : List ℕ) where
   passes-in (over-token {p} {e} a b d i x) h = let m = token-in p e i in let l = passes-in x (m .1) in (omega (arith, l .0, m .0), l .1)
 
   -- THE TOKENS from p on are those that are passed, and those from c on
-  pub passes-from : {p c : ℕ} {rs : List Row} → Passes s p rs c → from s p ≡ behind rs (from s c)
+  pub passes-from : {p c : ℕ} {rs : List TokenRow} → Passes s p rs c → from s p ≡ behind rs (from s c)
   passes-from here = refl
   passes-from (over-space {p} e x) = pass-space p e ∙ passes-from x
   passes-from (over-line {p} e k x) = pass-line p e k ∙ passes-from x
@@ -235,5 +235,5 @@ module _ (s : List ℕ) (c : ℕ) where
       ap (moved c) (from-is (length s + 1) t 0 (omega arith) (omega (arith, length-drop c s)) ∙ sym (whole-from t))
 
 -- A TEXT CUT where its reading passes: its tokens are those that are passed, and those of the rest, moved
-pub cut-rest : (s : List ℕ) (c : ℕ) (rs : List Row) → Passes s 0 rs c → lexed-whole s ≡ behind rs (moved c (lexed-whole (drop c s)))
+pub cut-rest : (s : List ℕ) (c : ℕ) (rs : List TokenRow) → Passes s 0 rs c → lexed-whole s ≡ behind rs (moved c (lexed-whole (drop c s)))
 cut-rest s c rs x = whole-from s ∙ passes-from s x ∙ ap (behind rs) (from-moved s c (passes-in s x (omega arith) .1))

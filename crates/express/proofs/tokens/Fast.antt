@@ -10,7 +10,7 @@ use Rattle.express.specs.tokens.Token.{longest-kind}
 use Rattle.express.specs.tokens.Lexis.{Reading, at, refused, skipped, longest-end, token-kind-at, end-of-token, Lexed, stopped, row-and-rest, longest-after-blank, longest-in}
 use Rattle.express.specs.tokens.Lexis.{lexed-whole, lexed-to, most, lexed, token-after-blank, lexed-in, starts, sizes}
 use Rattle.express.specs.tokens.Spelling.{symbols-of}
-use Rattle.express.specs.tokens.Scanned.{terminals, Scanned}
+use Rattle.express.specs.tokens.Scanned.{row-terminals, Scanned}
 use Rattle.express.specs.syntax.Tree.{Table}
 use Rattle.express.proofs.tokens.Longest.{token-is-longest, kind-is-longest}
 
@@ -57,6 +57,6 @@ map-same {B} f g e (x ∷ xs) = ap₂ {C = List B} (λ y ys. y ∷ ys) (e x) (ma
 
 -- a table has the token columns of its bytes where it has those that are read
 pub scanned-by :
-    (t : Table) → t .starts ≡ starts (fast (t .bytes)) → t .lengths ≡ sizes (fast (t .bytes)) → t .terminals ≡ terminals (t .bytes) (fast (t .bytes)) →
+    (t : Table) → t .starts ≡ starts (fast (t .bytes)) → t .lengths ≡ sizes (fast (t .bytes)) → t .terminals ≡ row-terminals (t .bytes) (fast (t .bytes)) →
     t .symbols ≡ symbols-of (t .bytes) (t .starts) (t .lengths) → Scanned t
 scanned-by t a b c d = record { starts-are = rw (fast-is (t .bytes)) a; lengths-are = rw (fast-is (t .bytes)) b; terminals-are = rw (fast-is (t .bytes)) c; symbols-are = d }

@@ -15,7 +15,7 @@ use Rattle.express.specs.tokens.Bytes as bytes
 use Rattle.express.specs.tokens.Spelling.{same}
 use Rattle.express.specs.tokens.Terminal.{Fixed, symbols, among}
 use Rattle.express.specs.tokens.Token.{all-of, some-of, is-word, is-integer, is-exponent, is-fraction, is-decimal, is-real, is-string, is-binary, is-symbol, spelled-kind}
-use Rattle.express.specs.tokens.Lexis.{Lexed, at, dashes, opens, pair, Row, lexed-whole}
+use Rattle.express.specs.tokens.Lexis.{Lexed, at, dashes, opens, pair, TokenRow, lexed-whole}
 use Rattle.express.specs.tokens.Cut.{Passes, adjacent, number-byte, joins, moved, behind}
 use Rattle.relations.specs.Select.{any}
 use Rattle.relations.proofs.Select.{and-fst, and-snd, and-both, or-cases, or-left, or-right}
@@ -244,7 +244,7 @@ append-right (x ∷ a) b = append-right a b
 abbrev pub Apart : List ℕ → List ℕ → Type 0
 Apart a b = joins (getD a (length a - 1) 0) (getD b 0 0) ≡ false
 
-passes-joined : (a b : List ℕ) (rs : List Row) → Passes a 0 rs (length a) → Apart a b → Passes (a ++ b) 0 rs (length a)
+passes-joined : (a b : List ℕ) (rs : List TokenRow) → Passes a 0 rs (length a) → Apart a b → Passes (a ++ b) 0 rs (length a)
 passes-joined [] b rs x e = passes-none [] b rs x
 passes-joined (y ∷ a) b rs x e =
     let size = length-append (y ∷ a) b in
@@ -253,12 +253,12 @@ passes-joined (y ∷ a) b rs x e =
     (uncrossed ((y ∷ a) ++ b) (length (y ∷ a)) (omega arith) (ap₂ joins last (append-right (y ∷ a) b) ∙ e)) x (omega arith)
 
 -- TWO TEXTS SIDE BY SIDE: the tokens of the first, and behind them those of the second, moved
-pub joined : (a b : List ℕ) (rs : List Row) → Passes a 0 rs (length a) → Apart a b → lexed-whole (a ++ b) ≡ behind rs (moved (length a) (lexed-whole b))
+pub joined : (a b : List ℕ) (rs : List TokenRow) → Passes a 0 rs (length a) → Apart a b → lexed-whole (a ++ b) ≡ behind rs (moved (length a) (lexed-whole b))
 joined a b rs x e = cut-rest (a ++ b) (length a) rs (passes-joined a b rs x e) ∙ ap (λ (w : List ℕ). behind rs (moved (length a) (lexed-whole w))) (drop-append-seam a b)
 
 -- AN EDIT: a piece y between two texts, each read by itself. What stands before it keeps its tokens; what stands behind is moved
 pub edited :
-    (a y b : List ℕ) (before inside : List Row) → Passes a 0 before (length a) → Passes y 0 inside (length y) → Apart a (y ++ b) → Apart y b →
+    (a y b : List ℕ) (before inside : List TokenRow) → Passes a 0 before (length a) → Passes y 0 inside (length y) → Apart a (y ++ b) → Apart y b →
     lexed-whole (a ++ (y ++ b)) ≡ behind before (moved (length a) (behind inside (moved (length y) (lexed-whole b))))
 edited a y b before inside x z e f =
     joined a (y ++ b) before x e ∙ ap (λ (l : Lexed). behind before (moved (length a) l)) (joined y b inside z f)
@@ -271,7 +271,7 @@ line-feed-apart c = refl
 -- A TEXT WITH ANOTHER PIECE between c and d, where c lies between two of its tokens: the piece, which ends in a line feed, and the text from d on
 -- are each read by themselves
 pub replaced :
-    (s y : List ℕ) (c d e : ℕ) (before : List Row) → Passes s 0 before c → getD y (length y - 1) 0 ≡ 10 → lexed-whole y .stop ≡ at e → Apart (take c s) (y ++ drop d s) →
+    (s y : List ℕ) (c d e : ℕ) (before : List TokenRow) → Passes s 0 before c → getD y (length y - 1) 0 ≡ 10 → lexed-whole y .stop ≡ at e → Apart (take c s) (y ++ drop d s) →
     lexed-whole (take c s ++ (y ++ drop d s)) ≡ behind before (moved c (behind (lexed-whole y .rows) (moved (length y) (lexed-whole (drop d s)))))
 replaced s y c d e before x fed stop apart =
     let size : length (take c s) ≡ c = omega (arith, length-take c s, passes-in s x (omega arith) .1) in

@@ -10,7 +10,7 @@ use lib.Dec.{T, eqb, leb, leb→le}
 use lib.ListN.{length, set}
 use Rattle.ebnf.specs.Rows as ebnf
 use Rattle.ebnf.specs.Depth.{Outcome, good, unexpected, too-deep}
-use Rattle.express.specs.tokens.Lexis.{Row, Reading, at, counted, tokens, lexed}
+use Rattle.express.specs.tokens.Lexis.{TokenRow, Reading, at, counted, tokens, lexed}
 use Rattle.express.specs.tokens.Lexis as lexis
 use Rattle.express.specs.tokens.Blank.{Stop, all-read, unfinished, too-large, too-long}
 use Rattle.express.specs.tokens.Scanned.{token-table}
@@ -173,7 +173,7 @@ answered-cond : (x : Bool) {a b : Checked} → Answered a → Answered b → Ans
 answered-cond true a b = a
 answered-cond false a b = b
 
-module _ (ls : List Row) (t : Table) where
+module _ (ls : List TokenRow) (t : Table) where
   kinds-answer : {y : Typing} → Types y → Answered (after-kinds ls t y)
   kinds-answer all-typed = is-accepted
   kinds-answer (at-node {f} l h) = is-refused {k = f} (omega arith) (omega arith)

@@ -5,7 +5,7 @@ use mathlib.Core.List.{List, [], _∷_}
 use Prim.Native.Nat.{ℕ, suc, _+_, _<_}
 use lib.ListN.{length, drop}
 use Rattle.express.specs.tokens.Bytes.{space}
-use Rattle.express.specs.tokens.Lexis.{Reading, at, refused, opens, closes, dashes, in-line, Row, most}
+use Rattle.express.specs.tokens.Lexis.{Reading, at, refused, opens, closes, dashes, in-line, TokenRow, most}
 
 -- the rest of a line: up to a line feed, which is left, or to the end of the text
 pub data Line : List ℕ → List ℕ → Type 0 where
@@ -30,9 +30,9 @@ pub data Blank : List ℕ → List ℕ → Type 0 where
 -- ---- rows and what lies between them
 
 -- from one place to another: blanks, a token, blanks, a token and so on, and blanks at the end
-pub data Gaps (s : List ℕ) : ℕ → List Row → ℕ → Type 0 where
+pub data Gaps (s : List ℕ) : ℕ → List TokenRow → ℕ → Type 0 where
   last-gap : {p e : ℕ} → Blank (drop p s) (drop e s) → Gaps s p [] e
-  gap : {p e : ℕ} {r : Row} {rs : List Row} → Blank (drop p s) (drop (r .start) s) → Gaps s (r .start + r .size) rs e → Gaps s p (r ∷ rs) e
+  gap : {p e : ℕ} {r : TokenRow} {rs : List TokenRow} → Blank (drop p s) (drop (r .start) s) → Gaps s (r .start + r .size) rs e → Gaps s p (r ∷ rs) e
 
 -- how the reading of a text stops: at its end, at a byte from which on a token is unfinished or a literal too large, or at once
 pub data Stop (s : List ℕ) : Reading → Type 0 where

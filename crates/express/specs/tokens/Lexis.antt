@@ -185,20 +185,20 @@ end-of-token s p k =
     (end-of-symbol s p)))))
 
 -- "Token table: kind, start, length, in text order."
-pub record Row : Type 0 where
+pub record TokenRow : Type 0 where
   pub kind : ℕ
   pub start : ℕ
   pub size : ℕ
 
 -- the rows read so far, and how the reading stopped: at the end of the text, or refused
 pub record Lexed : Type 0 where
-  pub rows : List Row
+  pub rows : List TokenRow
   pub stop : Reading
 
 abbrev pub stopped : Reading → Lexed
 stopped e = record { rows = []; stop = e }
 
-abbrev pub cons : Row → Lexed → Lexed
+abbrev pub cons : TokenRow → Lexed → Lexed
 cons r l = record { rows = r ∷ l .rows; stop = l .stop }
 
 abbrev pub row-and-rest : ℕ → ℕ → Reading → (ℕ → Lexed) → Lexed

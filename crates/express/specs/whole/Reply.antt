@@ -9,7 +9,7 @@ use Rattle.columns.specs.Column.{padded}
 use Rattle.ebnf.specs.Rows.{Rows}
 use Rattle.ebnf.specs.Depth.{Outcome, good, unexpected, too-deep}
 use Rattle.express.specs.kinds.Answer.{Answer}
-use Rattle.express.specs.tokens.Lexis.{Row, Lexed, Reading, at, starts, tokens, lexed}
+use Rattle.express.specs.tokens.Lexis.{TokenRow, Lexed, Reading, at, starts, tokens, lexed}
 use Rattle.express.specs.tokens.Lexis as lexis
 use Rattle.express.specs.tokens.Scanned.{with-tokens}
 use Rattle.express.specs.syntax.Grammar.{file}
@@ -26,7 +26,7 @@ use Rattle.express.specs.kinds.AnswerRow.{AnswerRow, row-of}
 
 -- What an accepted file leaves: its tokens, its nodes, what each name is bound to, and an answer for each constant, in the order of the text.
 pub record Accepted : Type 0 where
-  pub tokens : List Row
+  pub tokens : List TokenRow
   pub table : Table
   pub bindings : List ℕ
   pub answers : List Answer
@@ -40,7 +40,7 @@ pub data Checked : Type 0 where
 -- for these; 10 to 12 for expressions and clashes; 13 for constants; 14 and 15 by node order. A later stage starts only when the earlier finds
 -- nothing." "A name or token given as number is its start byte."
 
-module _ (ls : List Row) (t : Table) where
+module _ (ls : List TokenRow) (t : Table) where
   abbrev pub after-kinds : Typing → Checked
   after-kinds (typed ks) =
       accepted (record {
@@ -100,7 +100,7 @@ column z values (refused k p) n = replicate n z
 
 -- "Token table: kind, start, length"
 abbrev pub token-kinds : Accepted → List ℕ
-token-kinds a = map (λ (r : Row). r .kind) (a .tokens)
+token-kinds a = map (λ (r : TokenRow). r .kind) (a .tokens)
 
 abbrev pub token-starts : Accepted → List ℕ
 token-starts a = a .table .starts
