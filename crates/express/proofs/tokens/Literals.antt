@@ -1,4 +1,4 @@
--- The literals of a file are within their bounds: "Integer literals reach 9223372036854775807. Binary literals have 1 to 63 bits."
+-- The literals of a file are within their bounds (T10, T14).
 use mathlib.Core.Path.{_≡_, refl, sym, ap, _∙_}
 use mathlib.Core.Logic.{_≢_}
 use mathlib.Core.Bool.{Bool, true, false, cond, _||_, false≢true}

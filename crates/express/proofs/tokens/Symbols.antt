@@ -1,4 +1,4 @@
--- "The longest token wins": what is read as a symbol is one, and no longer symbol stands there.
+-- What is read as a symbol is one, and no longer symbol stands there.
 use mathlib.Core.Path.{_≡_, refl, sym, ap, _∙_, subst}
 use mathlib.Core.Bool.{Bool, true, false, cond, not, _&&_, _||_, false≢true}
 use mathlib.Core.Logic.{_⊎_, inl, inr}

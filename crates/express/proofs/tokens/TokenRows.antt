@@ -116,7 +116,7 @@ refused-at : {n o q : ℕ} → refused n o ≡ at q → ⊥
 refused-at e = subst Goes (sym e) tt
 
 module _ (s : List ℕ) (r : TokenRow) (t : Token s r) where
-  -- "Integer literals reach 9223372036854775807."
+  -- an integer is within its bound (T10)
   pub integer-small : r .kind ≡ 2 → integer-value (row-bytes s r) < 2 ^ 63
   unfolding end-of-token end-of-integer integer-value
   integer-small e = go (leb (integer-value (token-bytes s (r .start) (run digit s (r .start) - r .start))) 9223372036854775807) refl (rw e at t .ends)
@@ -150,7 +150,7 @@ module _ (s : List ℕ) (r : TokenRow) (t : Token s r) where
           let few : run bit s (r .start + 1) - (r .start + 1) ≤ 63 = leb-true _ _ c-is in
           (sym ends, omega (arith, ends, some), omega (arith, ends, few))
 
-  -- "Binary literals have 1 to 63 bits."
+  -- a binary has 1 to 63 bits (T14)
   pub binary-some : r .kind ≡ 5 → 1 ≤ length (binary-bits (row-bytes s r))
   binary-some e = omega (arith, length-bits, binary-ends e .1)
 

@@ -1,4 +1,4 @@
--- "Answer row: kind, number, length."
+-- The row of an answer (K35).
 use mathlib.Core.Bool.{cond}
 use Prim.Native.Nat.{ℕ}
 use lib.Dec.{eqb}
@@ -16,8 +16,7 @@ pub record AnswerRow : Type 0 where
 abbrev pub row : ℕ → ℤ → ℕ → AnswerRow
 row k z l = record { kind = k; number = z; length = l }
 
--- "0 `?`; 1 integer; 2 logical (0, 1, 2 in the order above); 3 binary (bits as a number, length in bits); 4 item (node number)"; an end by its
--- own number; "Unnamed columns are 0."
+-- a logical by its rank, a binary by its bits as a number and how many they are, an item by its node, an end by its kind alone
 abbrev pub row-of : Answer → AnswerRow
 row-of indeterminate = row 0 (pos 0) 0
 row-of (integer z) = row 1 z 0

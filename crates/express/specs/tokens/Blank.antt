@@ -1,4 +1,4 @@
--- What lies between tokens: spaces and remarks. Each relation holds between a text and what is left of it.
+-- What lies between tokens: spaces and remarks (T4 to T6). Each relation holds between a text and what is left of it.
 use mathlib.Core.Path.{_≡_}
 use mathlib.Core.Bool.{true, false}
 use mathlib.Core.List.{List, [], _∷_}

@@ -41,15 +41,15 @@ sign b = eqb b 43 || eqb b 45
 unfoldable pub word-byte : ℕ → Bool
 word-byte b = letter b || (digit b || underscore b)
 
--- "Bytes 9 to 13 and 32 are space."
+-- (T4)
 unfoldable pub space : ℕ → Bool
 space b = within 9 13 b || eqb b 32
 
--- "A string holds bytes 32 to 126"
+-- what a string holds (T13)
 abbrev pub printable : ℕ → Bool
 printable b = within 32 126 b
 
--- "Letters match without case."
+-- letters without case (T3)
 unfoldable pub upper : ℕ → ℕ
 upper b = cond (small b) (b - 32) b
 

@@ -1,4 +1,4 @@
--- Which tokens are spelled alike: "Letters match without case."
+-- Which tokens are spelled alike, letters without case (T3).
 use mathlib.Core.Bool.{Bool, true, false, _&&_}
 use mathlib.Core.List.{List, [], _∷_, map}
 use Prim.Native.Nat.{ℕ}

@@ -24,14 +24,14 @@ abbrev pub numbered : ℕ → List String → List Fixed
 numbered k [] = []
 numbered k (w ∷ ws) = record { spelling = bytes w; code = k } ∷ numbered (suc k) ws
 
--- "The symbols are `?` and `. , ; : * + - = \ / < > [ ] { } | ( ) <= <> >= <* := || ** :=: :<>:`." Their codes are 6 to 34.
+-- the symbols (T15); their codes are 6 to 34
 abbrev pub symbols : List Fixed
 symbols =
     numbered 6 (
     "?" ∷ "." ∷ "," ∷ ";" ∷ ":" ∷ "*" ∷ "+" ∷ "-" ∷ "=" ∷ "\\" ∷ "/" ∷ "<" ∷ ">" ∷ "[" ∷ "]" ∷ "{" ∷ "}" ∷ "|" ∷ "(" ∷ ")" ∷ "<=" ∷ "<>" ∷
     ">=" ∷ "<*" ∷ ":=" ∷ "||" ∷ "**" ∷ ":=:" ∷ ":<>:" ∷ [])
 
--- "All words of clause 7.2 are reserved." The 119 words, in upper case; their codes are 35 to 153.
+-- the reserved words (T9), in upper case; their codes are 35 to 153
 abbrev pub reserved : List Fixed
 reserved =
     numbered 35 (
@@ -247,7 +247,7 @@ unfoldable pub among : List Fixed → List ℕ → ℕ → ℕ
 among [] s other = other
 among (f ∷ fs) s other = let more = among fs s other in cond (same (f .spelling) s) (f .code) more
 
--- "Letters match without case": a word that is no reserved one is an identifier
+-- a word that is no reserved one, letters without case, is an identifier
 abbrev pub word-terminal : List ℕ → ℕ
 word-terminal s = among reserved (map upper s) (the identifier)
 

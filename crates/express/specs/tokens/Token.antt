@@ -19,15 +19,16 @@ some-of f (b ∷ w) = f b && all-of f w
 
 -- ---- the spellings
 
--- a letter, then letters, digits and underscores
+-- a letter, then letters, digits and underscores (T8)
 abbrev pub is-word : List ℕ → Bool
 is-word [] = false
 is-word (b ∷ w) = letter b && all-of word-byte w
 
+-- digits (T10)
 abbrev pub is-integer : List ℕ → Bool
 is-integer w = some-of digit w
 
--- behind the mark of an exponent: a sign if any, and digits
+-- behind the mark of an exponent: a sign if any, and digits (T12)
 abbrev pub is-exponent : List ℕ → Bool
 is-exponent [] = false
 is-exponent (b ∷ w) = cond (sign b) (some-of digit w) (some-of digit (b ∷ w))
@@ -42,6 +43,7 @@ unfoldable pub is-decimal : List ℕ → Bool
 is-decimal [] = false
 is-decimal (b ∷ w) = let more = is-decimal w in cond (digit b) more (eqb b 46 && is-fraction w)
 
+-- (T11)
 abbrev pub is-real : List ℕ → Bool
 is-real [] = false
 is-real (b ∷ w) = digit b && is-decimal w
@@ -56,15 +58,17 @@ in-string false (b ∷ w) =
     let on = in-string false w in
     cond (eqb b 39) quote (printable b && on)
 
+-- (T13)
 abbrev pub is-string : List ℕ → Bool
 is-string [] = false
 is-string (b ∷ w) = eqb b 39 && in-string false w
 
+-- `%` and bits (T14)
 abbrev pub is-binary : List ℕ → Bool
 is-binary [] = false
 is-binary (b ∷ w) = eqb b 37 && some-of bit w
 
--- one of the table of symbols
+-- one of the table of symbols (T15)
 abbrev pub is-symbol : List ℕ → Bool
 is-symbol w = not (eqb (symbol-terminal w) 0)
 
@@ -78,7 +82,7 @@ spelled-kind w =
     (cond (is-binary w) 5
     (cond (is-symbol w) 6 0)))))
 
--- ---- the longest token
+-- ---- the longest token (T2)
 
 -- the kind of token that the first n bytes of a text are: a string is not ended by a quote that another follows
 unfoldable pub standing-kind : List ℕ → ℕ → ℕ

@@ -31,14 +31,12 @@ pub record Accepted : Type 0 where
   pub bindings : List ℕ
   pub answers : List Answer
 
--- "acceptance or a numbered refusal with a number beside it"
+-- accepted, or refused by a number and with a number beside it (R2)
 pub data Checked : Type 0 where
   accepted : Accepted → Checked
   refused : ℕ → ℕ → Checked
 
--- ---- the stages, the last first: "Order: 1; 2 and 3, first in text; 6; 4 and 5, first in text; 7; 8; 9; 10 and 11 for types and supertypes; 13
--- for these; 10 to 12 for expressions and clashes; 13 for constants; 14 and 15 by node order. A later stage starts only when the earlier finds
--- nothing." "A name or token given as number is its start byte."
+-- ---- the stages, the last first (R3): a later one begins where the earlier ones found nothing. A place is a start byte (R2).
 
 module _ (ls : List TokenRow) (t : Table) where
   abbrev pub after-kinds : Typing → Checked
@@ -54,7 +52,7 @@ module _ (ls : List TokenRow) (t : Table) where
   abbrev pub after-names : Fault → Checked
   after-names f = let on = after-kinds (typing t (bindings t)) in cond (eqb (f .number) 0) on (refused (f .number) (f .place))
 
-  -- "7, 8: node, answer table too short: entries needed"
+  -- 7 and 8 with the number of entries that are wanted
   abbrev pub after-rows : ℕ → ℕ → Checked
   after-rows nodes rows =
       let on = after-names (names t) in
@@ -62,7 +60,7 @@ module _ (ls : List TokenRow) (t : Table) where
 
 -- s is the text, and l its tokens
 module _ (s : List ℕ) (l : Lexed) (nodes rows : ℕ) where
-  -- "4: its start, or input length"; "5: its start"
+  -- 4 and 5 at the start of a token, or at the end of the bytes (G27, G28)
   abbrev pub after-syntax : Outcome Rows → Checked
   after-syntax (good r) = after-rows (l .rows) (with-rows (with-tokens s l) (r .rows)) nodes rows
   after-syntax (unexpected j) = refused 4 (getD (starts l) j (length s))
@@ -81,7 +79,7 @@ checked s token-rows node-rows answer-rows = checked-with s (lexed s) token-rows
 
 -- ---- the report and the columns
 
--- "The report is reply, number, tokens, nodes, constants." "Counts are 0 in every refusal."
+-- the report, with counts of 0 after a refusal (R6)
 pub record Report : Type 0 where
   pub reply : ℕ
   pub number : ℕ
@@ -93,12 +91,12 @@ abbrev pub report : Checked → Report
 report (accepted a) = record { reply = 0; number = 0; tokens = length (a .tokens); nodes = count (a .table); constants = length (a .answers) }
 report (refused k p) = record { reply = k; number = p; tokens = 0; nodes = 0; constants = 0 }
 
--- "After a refusal all tables are zero; after acceptance all entries past the counts are": a column of n entries
+-- a column of n entries (R7)
 abbrev pub column : {A : Type 0} → A → (Accepted → List A) → Checked → ℕ → List A
 column z values (accepted a) n = padded z n (values a)
 column z values (refused k p) n = replicate n z
 
--- "Token table: kind, start, length"
+-- the token table (T18)
 abbrev pub token-kinds : Accepted → List ℕ
 token-kinds a = map (λ (r : TokenRow). r .kind) (a .tokens)
 
@@ -108,7 +106,7 @@ token-starts a = a .table .starts
 abbrev pub token-lengths : Accepted → List ℕ
 token-lengths a = a .table .lengths
 
--- "each node holds its kind, its naming token, the number of nodes in its subtree (itself included) and its binding"
+-- the node table (G31)
 abbrev pub node-kinds : Accepted → List ℕ
 node-kinds a = a .table .kinds
 
@@ -121,7 +119,7 @@ node-sizes a = a .table .sizes
 abbrev pub node-bindings : Accepted → List ℕ
 node-bindings a = a .bindings
 
--- "Answer row: kind, number, length." "Rows follow the text."
+-- the answer table (K35, K36)
 abbrev pub answer-rows : Accepted → List AnswerRow
 answer-rows a = map row-of (a .answers)
 
