@@ -2,4 +2,5 @@ pub mod tokens
 pub mod syntax
 pub mod names
 pub mod kinds
+pub mod whole
 pub mod theorems

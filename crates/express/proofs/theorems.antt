@@ -3,9 +3,9 @@ pub mod Cases
 pub mod Divide
 pub mod Exactness
 pub mod File
+pub mod FileRows
 pub mod Files
 pub mod KindCases
-pub mod Longest
 pub mod NameCases
 pub mod NameReplies
 pub mod SyntaxExamples

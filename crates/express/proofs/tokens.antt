@@ -1,5 +1,14 @@
+pub mod Agree
+pub mod Boundary
+pub mod Cut
+pub mod Fast
+pub mod Join
 pub mod Literals
+pub mod Longest
 pub mod Places
 pub mod Spelling
+pub mod Stops
+pub mod Symbols
 pub mod Terminal
 pub mod TokenRows
+pub mod Turns

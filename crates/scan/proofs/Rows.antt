@@ -11,6 +11,7 @@ use lib.ListN.{length, set, length-set}
 use lib.Seq.{sets}
 use borrow.Author.Tests.{lt-ltb, le-ltb, le-leb, lt-leb}
 use Rattle.express.specs.tokens.Lexis.{Reading, at, refused, skipped, token-kind-at, end-of-token, Lexed, stopped, cons, token-after-blank, row-and-rest, lexed-in, lexed, kinds, starts, sizes, counted, tokens}
+use Rattle.express.proofs.tokens.Fast.{lexed-fast}
 use Rattle.express.proofs.tokens.Places.{inside-at, skip-inside, token-inside}
 use Rattle.scan.specs.Scan.{reading, step-meant, token-found-at, ended, Filled, Scanned}
 use Rattle.scan.specs.declared.Step.{Step}
@@ -48,7 +49,7 @@ progress-first src k s z h = record {
   kept-starts = refl;
   kept-lengths = refl;
   left = lexed src;
-  is = rw (le-leb _ _ h) (ap (λ (f : ℕ). lexed-in f src 0) (omega arith));
+  is = ap (λ (f : ℕ). lexed-in f src 0) (omega arith) ∙ sym (lexed-fast 65536 src h);
   stop = refl;
   count = omega arith;
   kinds-are = refl;

@@ -4,7 +4,7 @@ use mathlib.Core.List.{List, map}
 use Prim.Native.Nat.{ℕ, _≤_, _<_}
 use native.Mathlib.Omega.{arith}
 use lib.ListN.{length, getD, length-map, List·getD-map}
-use Rattle.express.specs.tokens.Lexis.{Row, lexed}
+use Rattle.express.specs.tokens.Lexis.{TokenRow, lexed}
 use Rattle.express.specs.syntax.Tree.{Table, nodes}
 use Rattle.express.specs.syntax.Grammar.{file}
 use Rattle.express.specs.syntax.Syntax.{Read}
@@ -15,18 +15,18 @@ use Rattle.express.proofs.tokens.TokenRows.{no-row, row-at, tokens-of}
 use Rattle.express.proofs.names.Untied.{Rising, fault-once}
 
 -- the starts of some rows: from p on, each after the one before it
-pub record Rises (p : ℕ) (rs : List Row) : Type 0 where
-  pub from : (i : ℕ) → i < length rs → p ≤ getD (map (λ (r : Row). r .start) rs) i 0
-  pub rise : (i j : ℕ) → i < j → j < length rs → getD (map (λ (r : Row). r .start) rs) i 0 < getD (map (λ (r : Row). r .start) rs) j 0
+pub record Rises (p : ℕ) (rs : List TokenRow) : Type 0 where
+  pub from : (i : ℕ) → i < length rs → p ≤ getD (map (λ (r : TokenRow). r .start) rs) i 0
+  pub rise : (i j : ℕ) → i < j → j < length rs → getD (map (λ (r : TokenRow). r .start) rs) i 0 < getD (map (λ (r : TokenRow). r .start) rs) j 0
 
 module _ (s : List ℕ) where
-  start-at : (i : ℕ) → getD (map (λ (r : Row). r .start) (lexed s .rows)) i 0 ≡ row-at (lexed s .rows) i .start
-  start-at i = List·getD-map (λ (r : Row). r .start) (lexed s .rows) i no-row
+  start-at : (i : ℕ) → getD (map (λ (r : TokenRow). r .start) (lexed s .rows)) i 0 ≡ row-at (lexed s .rows) i .start
+  start-at i = List·getD-map (λ (r : TokenRow). r .start) (lexed s .rows) i no-row
 
   pub starts-rise : Rises 0 (lexed s .rows)
   starts-rise = record { from = λ i l. omega arith; rise = up }
     where
-      up : (i j : ℕ) → i < j → j < length (lexed s .rows) → getD (map (λ (r : Row). r .start) (lexed s .rows)) i 0 < getD (map (λ (r : Row). r .start) (lexed s .rows)) j 0
+      up : (i j : ℕ) → i < j → j < length (lexed s .rows) → getD (map (λ (r : TokenRow). r .start) (lexed s .rows)) i 0 < getD (map (λ (r : TokenRow). r .start) (lexed s .rows)) j 0
       up i j k l = rw (start-at i, start-at j) (omega (arith, tokens-of s .rise i j k l, tokens-of s .token i (omega (arith, k, l)) .some))
 
 -- so in a table whose token columns are those of its bytes

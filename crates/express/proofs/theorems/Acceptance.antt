@@ -6,7 +6,7 @@ use mathlib.Core.Bool.{Bool, true, false, cond}
 use mathlib.Core.List.{List, [], _∷_, map, List·Memᴰ, List·Memᴰ·head, List·Memᴰ·tail}
 use Prim.Native.Nat.{ℕ, zero, suc, _≤_, _<_}
 use native.Mathlib.Omega.{arith}
-use borrow.Author.Tests.{eqb-true, eq-eqb, leb-true, le-leb}
+use borrow.Author.Tests.{eqb-true, leb-true, le-leb}
 use lib.Dec.{eqb, leb}
 use lib.ListN.{length, getD, length-map}
 use lib.Seq.{ext-getD}
@@ -15,7 +15,7 @@ use Rattle.ebnf.specs.Rows as ebnf
 use Rattle.ebnf.specs.Depth.{Outcome, good, unexpected, too-deep}
 use Rattle.express.specs.kinds.Answer.{Answer, indeterminate}
 use Rattle.express.specs.syntax.NodeKind as node
-use Rattle.express.specs.tokens.Lexis.{Row, Reading, at, tokens, counted, lexed}
+use Rattle.express.specs.tokens.Lexis.{TokenRow, Reading, at, tokens, counted, lexed}
 use Rattle.express.specs.tokens.Lexis as lexis
 use Rattle.express.specs.tokens.Scanned.{Scanned, token-table}
 use Rattle.express.specs.syntax.Grammar.{file, rules}
@@ -29,7 +29,7 @@ use Rattle.express.specs.kinds.Kind as kinds
 use Rattle.express.specs.kinds.Order.{constant-order}
 use Rattle.express.specs.kinds.Evaluate.{answers, answer-at}
 use Rattle.express.specs.kinds.Rule.{Exactly}
-use Rattle.express.specs.whole.Reply.{Accepted, Checked, accepted, refused, after-kinds, after-names, after-rows, after-syntax, after-tokens, checked}
+use Rattle.express.specs.whole.Reply.{Accepted, accepted, refused, after-kinds, after-names, after-rows, after-syntax, after-tokens, checked}
 use Rattle.express.specs.whole.Acceptance.{Acceptable}
 use Rattle.relations.proofs.Select.{keep-mem, upto-mem}
 use Rattle.express.proofs.syntax.Syntax.{parsed-iff, read-good, whole-value}
@@ -58,18 +58,18 @@ constant-at t i l =
 
 -- ---- what a table whose names are bound and whose typing is done is accepted with
 
-abbrev made : List Row → Table → List Answer → Accepted
+abbrev made : List TokenRow → Table → List Answer → Accepted
 made ls t xs = record { tokens = ls; table = t; bindings = bindings t; answers = xs }
 
 abbrev computed : Table → List Answer
 computed t = map (answer-at (answers t (bindings t) (constant-order t))) (constants t)
 
-abbrev of-parts : List Row → Table → List ℕ → List Answer → Accepted
+abbrev of-parts : List TokenRow → Table → List ℕ → List Answer → Accepted
 of-parts ls t b xs = record { tokens = ls; table = t; bindings = b; answers = xs }
 
 alike : (u v : Accepted) → u .tokens ≡ v .tokens → u .table ≡ v .table → u .bindings ≡ v .bindings → u .answers ≡ v .answers → u ≡ v
 alike u v p q r s =
-    ap (λ (x : List Row). of-parts x (u .table) (u .bindings) (u .answers)) p
+    ap (λ (x : List TokenRow). of-parts x (u .table) (u .bindings) (u .answers)) p
     ∙ ap (λ (x : Table). of-parts (v .tokens) x (u .bindings) (u .answers)) q
     ∙ ap (λ (x : List ℕ). of-parts (v .tokens) (v .table) x (u .answers)) r
     ∙ ap (λ (x : List Answer). of-parts (v .tokens) (v .table) (v .bindings) x) s
@@ -97,14 +97,14 @@ module _ (t : Table) (scanned : Scanned t) (read : Read file t) (named : WellNam
 clash : {A : Type 0} → _≡_ {A = ℕ} 0 1 → A
 clash z = absurd (omega arith)
 
-record Passed (ls : List Row) (t : Table) (nr ar : ℕ) (a : Accepted) : Type 0 where
+record Passed (ls : List TokenRow) (t : Table) (nr ar : ℕ) (a : Accepted) : Type 0 where
   node-room : count t ≤ nr
   answer-room : length (constants t) ≤ ar
   named : WellNamed t
   types : (ks : List Kind) × (typing t (bindings t) ≡ typed ks)
   made-of : made ls t (computed t) ≡ a
 
-module _ (ls : List Row) (t : Table) (nr ar : ℕ) (a : Accepted) where
+module _ (ls : List TokenRow) (t : Table) (nr ar : ℕ) (a : Accepted) where
   passed-kinds : (x : Typing) → typing t (bindings t) ≡ x → after-kinds ls t x ≡ accepted a → ((ks : List Kind) × (typing t (bindings t) ≡ typed ks)) × (made ls t (computed t) ≡ a)
   passed-kinds (typed ks) e h = ((ks, e), cc)
   passed-kinds (kinds.ill-typed f n) e h = clash (cc)
@@ -134,11 +134,11 @@ module _ (s : List ℕ) (tr nr ar : ℕ) (a : Accepted) where
   read-of r e = read-good file (token-table s) r e
 
   scanned-of : (rs : List ebnf.Row) → Scanned (with-rows (token-table s) rs)
-  scanned-of rs = record { starts-are = refl; lengths-are = refl; terminals-are = refl }
+  scanned-of rs = record { starts-are = refl; lengths-are = refl; terminals-are = refl; symbols-are = refl }
 
   passed-syntax :
       (n : ℕ) → lexed s .stop ≡ at n → length (lexed s .rows) ≤ tr → (o : Outcome ebnf.Rows) → parsed file (token-table s .terminals) ≡ o →
-      after-syntax s nr ar o ≡ accepted a → Acceptable s tr nr ar a
+      after-syntax s (lexed s) nr ar o ≡ accepted a → Acceptable s tr nr ar a
   passed-syntax n e l (good r) p h =
       let t = with-rows (token-table s) (r .rows) in
       let q = passed-rows (lexed s .rows) t nr ar a h in
@@ -166,7 +166,7 @@ module _ (s : List ℕ) (tr nr ar : ℕ) (a : Accepted) where
   passed-syntax n e l (too-deep k) p h = clash (cc)
 
   passed-tokens :
-      (x : Reading) → lexed s .stop ≡ x → (b : Bool) → leb (length (lexed s .rows)) tr ≡ b → after-tokens s nr ar (counted x (length (lexed s .rows)) tr) ≡ accepted a →
+      (x : Reading) → lexed s .stop ≡ x → (b : Bool) → leb (length (lexed s .rows)) tr ≡ b → after-tokens s (lexed s) nr ar (counted x (length (lexed s .rows)) tr) ≡ accepted a →
       Acceptable s tr nr ar a
   passed-tokens (at n) e true l h = passed-syntax n e (leb-true _ _ l) (parsed file (token-table s .terminals)) refl (rw l at h)
   passed-tokens (at n) e false l h = clash (let q = rw l at h in cc)

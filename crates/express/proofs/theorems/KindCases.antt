@@ -13,17 +13,17 @@ use Rattle.ebnf.specs.Parse.{descend, budget, parse}
 use Rattle.ebnf.specs.Depth.{first-deep, good}
 use Rattle.express.specs.kinds.Answer.{UNKNOWN, TRUE, integer, logical, binary, item, end}
 use Rattle.express.specs.tokens.Terminal.{bytes, among, terminal-of}
-use Rattle.express.specs.tokens.Spelling.{same}
+use Rattle.express.specs.tokens.Spelling.{same, symbol-of, symbols-of}
 use Rattle.express.specs.syntax.Tree.{Table, kind, nodes, is, owner, schema-of}
 use Rattle.relations.specs.Select.{span, first-from, keep, any}
 use Rattle.express.specs.syntax.Syntax.{whole, parsed, with-rows}
 use Rattle.express.specs.syntax.Grammar.{file}
 use Rattle.express.specs.syntax.NodeKind.{constant}
-use Rattle.express.specs.tokens.Bytes.{upper, word-byte, space}
+use Rattle.express.specs.tokens.Bytes.{upper, lower, word-byte, space}
 use Rattle.relations.specs.Reach.{added, closure}
 use Rattle.express.specs.names.Scope.{declarations, items, own, super-edges, renaming-edges, type-edges, inherited, candidates, type-meant, items-of, item-meant, means, binding, bindings}
 use Rattle.express.specs.tokens.Lexis.{end-of-run, end-of-remark, skipped-in, skipped, end-of-integer, end-of-exponent, end-of-real, end-of-string}
-use Rattle.express.specs.tokens.Lexis.{end-of-binary, lone, size-of-symbol, end-of-symbol, token-kind-at, end-of-token, lexed-in, lexed, numeral, integer-value, binary-bits}
+use Rattle.express.specs.tokens.Lexis.{end-of-binary, lone, size-of-symbol, end-of-symbol, token-kind-at, end-of-token, lexed-in, numeral, integer-value, binary-bits}
 use Rattle.express.specs.kinds.Integer.{exact, quotient, remainder, DIV, MOD, power}
 use Rattle.express.specs.kinds.Logic.{AND, OR, XOR}
 use Rattle.relations.specs.Order.{compare-lists}
@@ -33,6 +33,7 @@ use Rattle.express.specs.kinds.Shape.{operator-of, shape-in}
 use Rattle.express.specs.names.Fault.{sort, scope, repeated, type-name-fault, cyclic, qualified, expression, constant-edges}
 use Rattle.express.specs.names.Names.{stages, least, first-fault, names}
 use Rattle.express.specs.tokens.Scanned.{Scanned}
+use Rattle.express.proofs.tokens.Fast.{scanned-by}
 use Rattle.express.specs.kinds.Rule.{Exactly}
 use Rattle.express.specs.kinds.Operate.{Kind}
 use Rattle.express.specs.kinds.Kind.{Typing, typed, ill-typed, type-nodes-in, type-constants, typing}
@@ -99,8 +100,8 @@ press-plan = 10 ∷ 4 ∷ 20 ∷ 25 ∷ []
 
 press-scanned : Scanned press
 unfolding word-byte space upper end-of-run end-of-remark skipped-in skipped numeral end-of-integer end-of-exponent end-of-real end-of-string
-    end-of-binary lone size-of-symbol end-of-symbol token-kind-at end-of-token lexed-in lexed terminal-of among same
-press-scanned = record { starts-are = refl; lengths-are = refl; terminals-are = refl }
+    end-of-binary lone size-of-symbol end-of-symbol token-kind-at end-of-token lexed-in terminal-of among same lower symbol-of symbols-of span first-from
+press-scanned = scanned-by press refl refl refl refl
 
 press-parsed : parsed file (press .terminals) ≡ good (whole press-rows)
 unfolding parsed first-deep parse descend mem budget
@@ -194,8 +195,8 @@ shade-plan = 8 ∷ 13 ∷ 5 ∷ 22 ∷ []
 
 shade-scanned : Scanned shade
 unfolding word-byte space upper end-of-run end-of-remark skipped-in skipped numeral end-of-integer end-of-exponent end-of-real end-of-string
-    end-of-binary lone size-of-symbol end-of-symbol token-kind-at end-of-token lexed-in lexed terminal-of among same
-shade-scanned = record { starts-are = refl; lengths-are = refl; terminals-are = refl }
+    end-of-binary lone size-of-symbol end-of-symbol token-kind-at end-of-token lexed-in terminal-of among same lower symbol-of symbols-of span first-from
+shade-scanned = scanned-by shade refl refl refl refl
 
 shade-parsed : parsed file (shade .terminals) ≡ good (whole shade-rows)
 unfolding parsed first-deep parse descend mem budget

@@ -6,7 +6,8 @@ use Rattle.ebnf.specs.Set.{mem}
 use Rattle.ebnf.specs.Rows.{Row}
 use Rattle.ebnf.specs.Parse.{descend, budget, parse}
 use Rattle.ebnf.specs.Depth.{first-deep, good, unexpected, too-deep}
-use Rattle.express.specs.tokens.Terminal.{identifier, integer, question, dot, comma, semicolon, colon, minus, equal, less, greater, lbrace, rbrace, lparen, rparen, less-equal, unequal, becomes, power, CONSTANT, DERIVE, END-CONSTANT, END-ENTITY, END-SCHEMA, ENTITY, INTEGER, OPTIONAL, REAL, SCHEMA, SELF, WHERE}
+use Rattle.express.specs.tokens.Terminal.{identifier, integer, question, dot, comma, semicolon, colon, minus, equal, less, greater, lbrace, rbrace, lparen, rparen, less-equal, unequal}
+use Rattle.express.specs.tokens.Terminal.{becomes, power, CONSTANT, DERIVE, END-CONSTANT, END-ENTITY, END-SCHEMA, ENTITY, INTEGER, OPTIONAL, REAL, SCHEMA, SELF, WHERE}
 use Rattle.express.specs.syntax.Grammar.{file, expression}
 use Rattle.express.specs.syntax.Syntax.{whole, parsed}
 

@@ -1,4 +1,4 @@
--- The literals of a file are within their bounds: "Integer literals reach 9223372036854775807. Binary literals have 1 to 63 bits."
+-- The literals of a file are within their bounds (T10, T14).
 use mathlib.Core.Path.{_≡_, refl, sym, ap, _∙_}
 use mathlib.Core.Logic.{_≢_}
 use mathlib.Core.Bool.{Bool, true, false, cond, _||_, false≢true}
@@ -10,7 +10,7 @@ use borrow.Author.Tests.{eqb-false}
 use lib.Dec.{eqb}
 use lib.ListN.{length, getD, List·getD-map, List·getD-eq-default}
 use Rattle.express.specs.tokens.Bytes.{within, upper}
-use Rattle.express.specs.tokens.Lexis.{Row, lexed, starts, integer-value, binary-bits}
+use Rattle.express.specs.tokens.Lexis.{TokenRow, lexed, starts, integer-value, binary-bits}
 use Rattle.express.specs.tokens.Terminal.{Fixed, identifier, the, symbols, reserved, among, terminal-of}
 use Rattle.express.specs.tokens.Spelling.{same}
 use Rattle.express.specs.syntax.NodeKind as node
@@ -18,17 +18,17 @@ use Rattle.relations.specs.Select.{any}
 use Rattle.express.specs.syntax.Tree.{Table, count, kind, token, terminal}
 use Rattle.express.specs.syntax.Grammar.{Nonterminal}
 use Rattle.express.specs.syntax.Syntax.{Read}
-use Rattle.express.specs.tokens.Scanned.{spelled, Scanned}
+use Rattle.express.specs.tokens.Scanned.{row-bytes, Scanned}
 use Rattle.express.specs.kinds.Shape.{text, Literals}
 use Rattle.express.proofs.tokens.TokenRows.{no-row, row-at, tokens-of, integer-small, binary-some, binary-few}
 use Rattle.express.proofs.syntax.Within.{integer-named, binary-named}
 
 -- ---- tokens
 
-pub record Sized (s : List ℕ) (r : Row) : Type 0 where
-  pub small : r .kind ≡ 2 → integer-value (spelled s r) < 2 ^ 63
-  pub some-bits : r .kind ≡ 5 → 1 ≤ length (binary-bits (spelled s r))
-  pub few-bits : r .kind ≡ 5 → length (binary-bits (spelled s r)) ≤ 63
+pub record Sized (s : List ℕ) (r : TokenRow) : Type 0 where
+  pub small : r .kind ≡ 2 → integer-value (row-bytes s r) < 2 ^ 63
+  pub some-bits : r .kind ≡ 5 → 1 ≤ length (binary-bits (row-bytes s r))
+  pub few-bits : r .kind ≡ 5 → length (binary-bits (row-bytes s r)) ≤ 63
 
 nothing-sized : (s : List ℕ) → Sized s no-row
 nothing-sized s =
@@ -79,20 +79,22 @@ literal-kind c k s w y i z e = by (eqb k 1) (eqb k 6) (within 2 5 k) e
 
 module _ {x : Nonterminal} {t : Table} (R : Read x t) (S : Scanned t) where
   -- the row of the token that names a node
-  abbrev row : ℕ → Row
+  abbrev row : ℕ → TokenRow
   row n = getD (lexed (t .bytes) .rows) (token t n) no-row
 
-  text-is : (n : ℕ) → text t n ≡ spelled (t .bytes) (row n)
+  text-is : (n : ℕ) → text t n ≡ row-bytes (t .bytes) (row n)
   text-is n =
-      let a : getD (t .lengths) (token t n) 0 ≡ row n .size = ap (λ (c : List ℕ). getD c (token t n) 0) (S .lengths-are) ∙ List·getD-map (λ (r : Row). r .size) (lexed (t .bytes) .rows) (token t n) no-row in
-      let b : getD (t .starts) (token t n) 0 ≡ row n .start = ap (λ (c : List ℕ). getD c (token t n) 0) (S .starts-are) ∙ List·getD-map (λ (r : Row). r .start) (lexed (t .bytes) .rows) (token t n) no-row in
+      let a : getD (t .lengths) (token t n) 0 ≡ row n .size = ap (λ (c : List ℕ). getD c (token t n) 0) (S .lengths-are) ∙
+      List·getD-map (λ (r : TokenRow). r .size) (lexed (t .bytes) .rows) (token t n) no-row in
+      let b : getD (t .starts) (token t n) 0 ≡ row n .start = ap (λ (c : List ℕ). getD c (token t n) 0) (S .starts-are) ∙
+      List·getD-map (λ (r : TokenRow). r .start) (lexed (t .bytes) .rows) (token t n) no-row in
       rw (a, b)
 
-  terminal-is : (n : ℕ) → terminal t n ≡ terminal-of (row n .kind) (spelled (t .bytes) (row n))
+  terminal-is : (n : ℕ) → terminal t n ≡ terminal-of (row n .kind) (row-bytes (t .bytes) (row n))
   unfolding terminal-of
   terminal-is n =
       ap (λ (c : List ℕ). getD c (token t n) 0) (S .terminals-are) ∙
-      List·getD-map (λ (r : Row). terminal-of (r .kind) (spelled (t .bytes) r)) (lexed (t .bytes) .rows) (token t n) no-row
+      List·getD-map (λ (r : TokenRow). terminal-of (r .kind) (row-bytes (t .bytes) r)) (lexed (t .bytes) .rows) (token t n) no-row
 
   inside : (n k : ℕ) → kind t n ≡ k → k ≢ 0 → n < count t
   inside n k e h = by (decLt n (count t))
@@ -104,13 +106,13 @@ module _ {x : Nonterminal} {t : Table} (R : Read x t) (S : Scanned t) where
   integer-row : (n : ℕ) → kind t n ≡ node.integer-literal → row n .kind ≡ 2
   unfolding any
   integer-row n e =
-      literal-kind 2 (row n .kind) (spelled (t .bytes) (row n)) refl refl (λ (i : _≡_ {A = ℕ} 1 2). omega arith) (λ (i : _≡_ {A = ℕ} 0 2). omega arith)
+      literal-kind 2 (row n .kind) (row-bytes (t .bytes) (row n)) refl refl (λ (i : _≡_ {A = ℕ} 1 2). omega arith) (λ (i : _≡_ {A = ℕ} 0 2). omega arith)
       (sym (terminal-is n) ∙ integer-named R n (inside n node.integer-literal e (λ (i : _≡_ {A = ℕ} 1 0). omega arith)) e)
 
   binary-row : (n : ℕ) → kind t n ≡ node.binary-literal → row n .kind ≡ 5
   unfolding any
   binary-row n e =
-      literal-kind 5 (row n .kind) (spelled (t .bytes) (row n)) refl refl (λ (i : _≡_ {A = ℕ} 1 5). omega arith) (λ (i : _≡_ {A = ℕ} 0 5). omega arith)
+      literal-kind 5 (row n .kind) (row-bytes (t .bytes) (row n)) refl refl (λ (i : _≡_ {A = ℕ} 1 5). omega arith) (λ (i : _≡_ {A = ℕ} 0 5). omega arith)
       (sym (terminal-is n) ∙ binary-named R n (inside n node.binary-literal e (λ (i : _≡_ {A = ℕ} 2 0). omega arith)) e)
 
   -- THE LITERALS of a text are within their bounds.

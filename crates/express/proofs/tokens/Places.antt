@@ -8,12 +8,14 @@ use native.Mathlib.Nat.{le-refl, le-trans}
 use native.Mathlib.Numerals.{add-one}
 use native.Mathlib.Decide.{decLt}
 use lib.ListN.{length, drop, getD, length-drop, List·getD-eq-default}
-use lib.Seq.{drop-cons}
+use lib.Seq.{drop-cons, drop-drop}
 use lib.Dec.{eqb, leb}
 use borrow.Author.Needs.{needs}
 use borrow.Author.Tests.{eq-eqb, eqb-true}
-use Rattle.express.specs.tokens.Bytes.{within, letter, digit, word-byte, space}
-use Rattle.express.specs.tokens.Lexis.{Reading, at, refused, part, end-of-run, run, pair, opens, dashes, in-line, end-of-remark, reading-then, skipped-in, skipped, numeral, end-of-integer, either, digits-of-exponent, end-of-exponent, end-of-real, end-of-string, end-of-binary, size-of-symbol, end-of-symbol, token-kind-at, end-of-token}
+use Rattle.express.specs.tokens.Bytes.{token-bytes, within, letter, digit, word-byte, space}
+use Rattle.express.specs.tokens.Lexis.{Reading, at, refused, end-of-run, run, pair, opens, dashes, in-line, end-of-remark, reading-then, skipped-in, skipped, numeral, end-of-integer}
+use Rattle.express.specs.tokens.Lexis.{either, digits-of-exponent, end-of-exponent, end-of-real, end-of-string, end-of-binary, size-of-symbol, end-of-symbol, token-kind-at}
+use Rattle.express.specs.tokens.Lexis.{end-of-token}
 
 -- a step that goes on gives a place from lo to hi
 abbrev pub From : ℕ → ℕ → Reading → Type 0
@@ -67,6 +69,22 @@ in-text f z s i e = go (decLt i (length s))
     go (yes l) = l
     go (no n) = absurd (never (sym z ∙ ap f (sym (past s i (omega arith))) ∙ e))
 
+-- ---- a text from a place on
+
+pub tail : (s : List ℕ) (p b : ℕ) (t : List ℕ) → drop p s ≡ b ∷ t → drop (p + 1) s ≡ t
+tail s p b t e = sym (drop-drop 1 p s) ∙ ap (drop 1) e
+
+pub two-off : (s : List ℕ) (p b c : ℕ) (t : List ℕ) → drop p s ≡ b ∷ c ∷ t → drop (p + 2) s ≡ t
+two-off s p b c t e = sym (drop-drop 2 p s) ∙ ap (drop 2) e
+
+pub one-cut : (s : List ℕ) (p : ℕ) → p < length s → drop p s ≡ getD s p 0 ∷ drop (p + 1) s
+one-cut s p h = rw (add-one, drop-cons s p 0)
+
+pub two-cut : (s : List ℕ) (p : ℕ) → p + 1 < length s → drop p s ≡ getD s p 0 ∷ getD s (p + 1) 0 ∷ drop (p + 2) s
+two-cut s p h =
+    let e : p + 1 + 1 ≡ p + 2 = omega arith in
+    one-cut s p (omega arith) ∙ ap (λ (t : List ℕ). getD s p 0 ∷ t) (one-cut s (p + 1) h ∙ ap (λ (k : ℕ). getD s (p + 1) 0 ∷ drop k s) e)
+
 -- ---- runs
 
 pub run-low-of : (f : ℕ → Bool) (p : ℕ) (t : List ℕ) → p ≤ end-of-run f p t
@@ -90,8 +108,7 @@ module _ (f : ℕ → Bool) (s : List ℕ) (p : ℕ) where
   pub run-some : p < length s → f (getD s p 0) ≡ true → p < run f s p
   unfolding end-of-run
   run-some h e =
-      let cut : drop p s ≡ getD s p 0 ∷ drop (p + 1) s = rw (add-one, drop-cons s p 0) in
-      let step : run f s p ≡ end-of-run f (p + 1) (drop (p + 1) s) = rw (cut, e) in
+      let step : run f s p ≡ end-of-run f (p + 1) (drop (p + 1) s) = rw (one-cut s p h, e) in
       rw step (omega (arith, run-low-of f (p + 1) (drop (p + 1) s)))
 
 -- ---- spaces and remarks
@@ -178,7 +195,7 @@ module _ (s : List ℕ) (p : ℕ) where
   pub integer-inside : p < length s → digit (getD s p 0) ≡ true → Inside (p + 1) (length s) (end-of-integer s p)
   unfolding end-of-integer
   integer-inside h e =
-      inside-cond (leb (numeral 10 0 (part s p points)) 9223372036854775807)
+      inside-cond (leb (numeral 10 0 (token-bytes s p (points - p))) 9223372036854775807)
       (goes (omega (arith, run-some (within 48 57) s p h e)) (run-high (within 48 57) s p (omega (arith, h))))
       stays
 
@@ -291,7 +308,8 @@ module _ (f : ℕ) (s : List ℕ) (p : ℕ) (more : (q : ℕ) → q ≤ length s
   on q l k = inside-weaken (skipped-in f s q) l (le-refl (length s)) (more q k)
 
   turn : (t u v : Bool) → p ≤ length s → space b₀ ≡ t → dashes b₀ b₁ ≡ u → opens b₀ b₁ ≡ v
-      → Inside p (length s) (cond t (skipped-in f s (p + 1)) (cond u (skipped-in f s (run in-line s (p + 2))) (cond v (reading-then (end-of-remark p 1 (p + 2) (drop (p + 2) s)) (λ q. skipped-in f s q)) (at p))))
+      → Inside p (length s) (cond t (skipped-in f s (p + 1)) (cond u (skipped-in f s (run in-line s (p + 2))) (cond v (reading-then (end-of-remark p 1 (p + 2)
+      (drop (p + 2) s)) (λ q. skipped-in f s q)) (at p))))
   unfolding space
   turn true u v h t-is u-is v-is = on (p + 1) (omega arith) (omega (arith, in-text space refl s p t-is))
   turn false true v h t-is u-is v-is =

@@ -1,7 +1,7 @@
 -- Symbols are equal exactly when spellings are.
 use mathlib.Core.Path.{_≡_, refl, sym, ap, ap₂, subst, _∙_}
 use mathlib.Core.Logic.{_↔_}
-use mathlib.Core.Bool.{true, false, false≢true}
+use mathlib.Core.Bool.{true, false≢true}
 use mathlib.Core.List.{List, [], _∷_}
 use Prim.Native.Nat.{ℕ, zero, suc, _-_, _≤_, _<_}
 use native.Mathlib.Omega.{arith}
@@ -74,7 +74,8 @@ pub alike-iff :
     → (tree.symbol t n ≡ tree.symbol t k) ↔ (spelling (t .bytes) (t .starts) (t .lengths) (token t n) ≡ spelling (t .bytes) (t .starts) (t .lengths) (token t k))
 alike-iff t e n k a b = (λ q. iff .0 (sym (at n a) ∙ q ∙ at k b), λ q. at n a ∙ iff .1 q ∙ sym (at k b))
   where
-    iff : (symbol-of (t .bytes) (t .starts) (t .lengths) (token t n) ≡ symbol-of (t .bytes) (t .starts) (t .lengths) (token t k)) ↔ (spelling (t .bytes) (t .starts) (t .lengths) (token t n) ≡ spelling (t .bytes) (t .starts) (t .lengths) (token t k))
+    iff : (symbol-of (t .bytes) (t .starts) (t .lengths) (token t n) ≡ symbol-of (t .bytes) (t .starts) (t .lengths) (token t k)) ↔ (spelling (t .bytes)
+        (t .starts) (t .lengths) (token t n) ≡ spelling (t .bytes) (t .starts) (t .lengths) (token t k))
     iff = symbol-iff (t .bytes) (t .starts) (t .lengths) (token t n) (token t k)
 
     at : (m : ℕ) → token t m < length (t .starts) → tree.symbol t m ≡ symbol-of (t .bytes) (t .starts) (t .lengths) (token t m)

@@ -1,7 +1,13 @@
 -- Classes of bytes.
 use Prim.Native.Nat.{ℕ, _+_, _-_}
 use mathlib.Core.Bool.{Bool, cond, _&&_, _||_}
+use mathlib.Core.List.{List}
 use lib.Dec.{leb, eqb}
+use lib.ListN.{take, drop}
+
+-- the bytes of a token: so many of a text, from a start on
+abbrev pub token-bytes : List ℕ → ℕ → ℕ → List ℕ
+token-bytes s p n = take n (drop p s)
 
 abbrev pub within : ℕ → ℕ → ℕ → Bool
 within lo hi b = leb lo b && leb b hi
@@ -21,19 +27,29 @@ letter b = capital b || small b
 abbrev pub underscore : ℕ → Bool
 underscore b = eqb b 95
 
+-- `0` or `1`; `e` or `E`; `+` or `-`
+abbrev pub bit : ℕ → Bool
+bit b = within 48 49 b
+
+abbrev pub exponent-mark : ℕ → Bool
+exponent-mark b = eqb b 101 || eqb b 69
+
+abbrev pub sign : ℕ → Bool
+sign b = eqb b 43 || eqb b 45
+
 -- what a word goes on with
 unfoldable pub word-byte : ℕ → Bool
 word-byte b = letter b || (digit b || underscore b)
 
--- "Bytes 9 to 13 and 32 are space."
+-- (T4)
 unfoldable pub space : ℕ → Bool
 space b = within 9 13 b || eqb b 32
 
--- "A string holds bytes 32 to 126"
+-- what a string holds (T13)
 abbrev pub printable : ℕ → Bool
 printable b = within 32 126 b
 
--- "Letters match without case."
+-- letters without case (T3)
 unfoldable pub upper : ℕ → ℕ
 upper b = cond (small b) (b - 32) b
 

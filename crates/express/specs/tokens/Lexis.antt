@@ -4,16 +4,14 @@ use mathlib.Core.Bool.{Bool, true, false, cond, not, _&&_, _||_}
 use mathlib.Core.List.{List, [], _∷_, map}
 use lib.Dec.{leb, ltb, eqb}
 use lib.ListN.{length, take, drop, getD}
-use Rattle.express.specs.tokens.Bytes.{within, digit, letter, word-byte, space, printable}
+use Rattle.express.specs.tokens.Bytes as bytes
+use Rattle.express.specs.tokens.Bytes.{token-bytes, within, digit, letter, word-byte, space, printable}
+use Rattle.express.specs.tokens.Token.{longest-size, longest-kind}
 
--- "Each reading step gives a new place or a located refusal": its number and its place.
+-- A step of reading gives a place, or a refusal by its number and place.
 pub data Reading : Type 0 where
   at : ℕ → Reading
   refused : ℕ → ℕ → Reading
-
--- the bytes from one place up to another
-abbrev pub part : List ℕ → ℕ → ℕ → List ℕ
-part s p e = take (e - p) (drop p s)
 
 -- where the bytes of a class end that stand in a row from p on; the list is what is left from there
 unfoldable pub end-of-run : (ℕ → Bool) → ℕ → List ℕ → ℕ
@@ -41,7 +39,7 @@ dashes b c = pair 45 45 b c
 abbrev pub in-line : ℕ → Bool
 in-line b = not (eqb b 10)
 
--- "Remarks `(* *)` nest: inside one, `(*` opens, `*)` closes, any other byte passes": d are open at p, the outermost from o on.
+-- in block remarks (T6, T7), of which d are open at p, the outermost from o on: two bytes open one more, two close one, and else a byte passes
 unfoldable pub end-of-remark : ℕ → ℕ → ℕ → List ℕ → Reading
 end-of-remark o d p [] = refused 2 o
 end-of-remark o d p (b ∷ []) = refused 2 o
@@ -55,7 +53,7 @@ abbrev pub reading-then : Reading → (ℕ → Reading) → Reading
 reading-then (at q) more = more q
 reading-then (refused n o) more = refused n o
 
--- past the spaces and remarks at p, in at most so many turns; "`--` runs to a line feed or the end of input"
+-- past the spaces and remarks at p (T4 to T6), in at most so many turns
 unfoldable pub skipped-in : ℕ → List ℕ → ℕ → Reading
 skipped-in zero s p = refused 0 p
 skipped-in (suc f) s p =
@@ -77,145 +75,64 @@ unfoldable pub numeral : ℕ → ℕ → List ℕ → ℕ
 numeral base v [] = v
 numeral base v (b ∷ s) = numeral base (v * base + (b - 48)) s
 
--- "Integer literals reach 9223372036854775807." "An integer's leading zeros count for nothing."
+-- the bound on integers (T10)
 abbrev pub greatest : ℕ
 greatest = 9223372036854775807
 
-unfoldable pub end-of-integer : List ℕ → ℕ → Reading
-end-of-integer s p =
-    let e = run digit s p in
-    cond (leb (numeral 10 0 (part s p e)) greatest) (at e) (refused 3 p)
-
-abbrev pub either : ℕ → ℕ → ℕ → Bool
-either x y b = eqb b x || eqb b y
-
--- `e` or `E`; `+` or `-`
-abbrev pub exponent-mark : ℕ → Bool
-exponent-mark b = either 101 69 b
-
-abbrev pub sign : ℕ → Bool
-sign b = either 43 45 b
-
--- where the digits of an exponent begin, whose `e` is at p
-abbrev pub digits-of-exponent : List ℕ → ℕ → ℕ
-digits-of-exponent s p = cond (sign (getD s (p + 1) 0)) (p + 2) (p + 1)
-
--- the end of the exponent at p, which is p if there is none: "an exponent without digits is no part of the real"
-unfoldable pub end-of-exponent : List ℕ → ℕ → ℕ
-end-of-exponent s p =
-    let g = digits-of-exponent s p in
-    cond (exponent-mark (getD s p 0) && digit (getD s g 0)) (run digit s g) p
-
--- "A real is digits, a point, optional digits, then optionally `e`, a sign if any and digits."
-unfoldable pub end-of-real : List ℕ → ℕ → ℕ
-end-of-real s p = end-of-exponent s (run digit s (run digit s p + 1))
-
--- ---- strings and binaries
-
--- in the string that starts at o; just after a quote, or not. "A string holds bytes 32 to 126, with `''` for a quote; met by another byte
--- it is unfinished."
-unfoldable pub end-of-string : ℕ → Bool → ℕ → List ℕ → Reading
-end-of-string o true p [] = at p
-end-of-string o false p [] = refused 2 o
-end-of-string o true p (b ∷ s) = let on = end-of-string o false (p + 1) s in cond (eqb b 39) on (at p)
-end-of-string o false p (b ∷ s) =
-    let quote = end-of-string o true (p + 1) s in
-    let on = end-of-string o false (p + 1) s in
-    cond (eqb b 39) quote (cond (printable b) on (refused 2 o))
-
-abbrev pub bit : ℕ → Bool
-bit b = within 48 49 b
-
--- "Binary literals have 1 to 63 bits": a `%` without a bit is unfinished
-unfoldable pub end-of-binary : List ℕ → ℕ → Reading
-end-of-binary s p =
-    let e = run bit s (p + 1) in
-    let n = e - (p + 1) in
-    cond (eqb n 0) (refused 2 p) (cond (leb n 63) (at e) (refused 3 p))
-
--- ---- symbols
-
--- `?`, `( )`, `+ , - . /`, `;`, `=`, `[ \ ]`, `{` and `}`, which begin no longer symbol
-unfoldable pub lone : ℕ → Bool
-lone b =
-    eqb b 63 || (within 40 41 b || (within 43 47 b || (eqb b 59 || (eqb b 61 || (within 91 93 b || (eqb b 123 || eqb b 125))))))
-
--- how many of four bytes are a symbol, "the longest token wins"; 0: none is
-unfoldable pub size-of-symbol : ℕ → ℕ → ℕ → ℕ → ℕ
-size-of-symbol b c d e =
-    cond (lone b) 1
-    (cond (eqb b 58) (cond (eqb c 61) (cond (eqb d 58) 3 2) (cond (pair 60 62 c d && eqb e 58) 4 1))
-    (cond (eqb b 60) (cond (eqb c 61 || either 62 42 c) 2 1)
-    (cond (eqb b 62) (cond (eqb c 61) 2 1)
-    (cond (eqb b 42) (cond (eqb c 42) 2 1)
-    (cond (eqb b 124) (cond (eqb c 124) 2 1) 0)))))
-
-unfoldable pub end-of-symbol : List ℕ → ℕ → Reading
-end-of-symbol s p =
-    let n = size-of-symbol (getD s p 0) (getD s (p + 1) 0) (getD s (p + 2) 0) (getD s (p + 3) 0) in
-    cond (eqb n 0) (refused 2 p) (at (p + n))
-
 -- ---- tokens
 
--- "Kinds: 1 word, 2 integer, 3 real, 4 string, 5 binary, 6 symbol": what the byte at p begins, a number being real if a point ends its digits
-unfoldable pub token-kind-at : List ℕ → ℕ → ℕ
-token-kind-at s p =
-    let b = getD s p 0 in
-    let number : ℕ = cond (eqb (getD s (run digit s p) 0) 46) 3 2 in
-    cond (letter b) 1 (cond (digit b) number (cond (eqb b 39) 4 (cond (eqb b 37) 5 6)))
+-- a literal of kind k beyond its bound (T10, T14): 63 bits, behind the `%`
+abbrev pub too-large : ℕ → List ℕ → Bool
+too-large k w = cond (eqb k 2) (not (leb (numeral 10 0 w) greatest)) (eqb k 5 && not (leb (length w) 64))
 
--- the end of the token of a kind at p
-unfoldable pub end-of-token : List ℕ → ℕ → ℕ → Reading
-end-of-token s p k =
-    cond (eqb k 1) (at (run word-byte s p))
-    (cond (eqb k 2) (end-of-integer s p)
-    (cond (eqb k 3) (at (end-of-real s p))
-    (cond (eqb k 4) (end-of-string p false (p + 1) (drop (p + 1) s))
-    (cond (eqb k 5) (end-of-binary s p)
-    (end-of-symbol s p)))))
+-- THE TOKEN AT A PLACE (T2): the end of the longest that stands there. Where none does, also because it is unfinished, the refusal is 2 (T16)
+unfoldable pub longest-end : List ℕ → ℕ → Reading
+longest-end s p =
+    let t = drop p s in
+    let n = longest-size t in
+    cond (eqb n 0) (refused 2 p) (cond (too-large (longest-kind t) (take n t)) (refused 3 p) (at (p + n)))
 
--- "Token table: kind, start, length, in text order."
-pub record Row : Type 0 where
+-- a row of the token table (T18)
+pub record TokenRow : Type 0 where
   pub kind : ℕ
   pub start : ℕ
   pub size : ℕ
 
 -- the rows read so far, and how the reading stopped: at the end of the text, or refused
 pub record Lexed : Type 0 where
-  pub rows : List Row
+  pub rows : List TokenRow
   pub stop : Reading
 
 abbrev pub stopped : Reading → Lexed
 stopped e = record { rows = []; stop = e }
 
-abbrev pub cons : Row → Lexed → Lexed
+abbrev pub cons : TokenRow → Lexed → Lexed
 cons r l = record { rows = r ∷ l .rows; stop = l .stop }
 
 abbrev pub row-and-rest : ℕ → ℕ → Reading → (ℕ → Lexed) → Lexed
 row-and-rest k q (at e) more = cons (record { kind = k; start = q; size = e - q }) (more e)
 row-and-rest k q (refused n o) more = stopped (refused n o)
 
-abbrev pub token-after-blank : List ℕ → Reading → (ℕ → Lexed) → Lexed
-token-after-blank s (at q) more =
-    let k = token-kind-at s q in
-    let row = row-and-rest k q (end-of-token s q k) more in
+abbrev pub longest-after-blank : List ℕ → Reading → (ℕ → Lexed) → Lexed
+longest-after-blank s (at q) more =
+    let row = row-and-rest (longest-kind (drop q s)) q (longest-end s q) more in
     cond (ltb q (length s)) row (stopped (at q))
-token-after-blank s (refused n o) more = stopped (refused n o)
+longest-after-blank s (refused n o) more = stopped (refused n o)
 
--- the tokens from p on, in at most so many turns
-unfoldable pub lexed-in : ℕ → List ℕ → ℕ → Lexed
-lexed-in zero s p = stopped (refused 0 p)
-lexed-in (suc f) s p = token-after-blank s (skipped s p) (λ q. lexed-in f s q)
+-- THE TOKENS from p on, in at most so many turns: blanks, the longest token, and again
+unfoldable pub longest-in : ℕ → List ℕ → ℕ → Lexed
+longest-in zero s p = stopped (refused 0 p)
+longest-in (suc f) s p = longest-after-blank s (skipped s p) (λ q. longest-in f s q)
 
--- the tokens of a text of any length; each turn passes a byte
+-- the tokens of a text of any length; each turn passes a byte, so the turns never run out (`lexed-stops` of proofs/tokens/Stops)
 abbrev pub lexed-whole : List ℕ → Lexed
-lexed-whole s = lexed-in (length s + 1) s 0
+lexed-whole s = longest-in (length s + 1) s 0
 
 -- of a text with a limit on its bytes: a longer one is refused by 1
 abbrev pub lexed-to : ℕ → List ℕ → Lexed
 lexed-to n s = let all = lexed-whole s in cond (leb (length s) n) all (stopped (refused 1 n))
 
--- "over 65,536 bytes"
+-- (T1)
 abbrev pub most : ℕ
 most = 65536
 
@@ -233,7 +150,7 @@ starts l = map (λ r. r .start) (l .rows)
 abbrev pub sizes : Lexed → List ℕ
 sizes l = map (λ r. r .size) (l .rows)
 
--- the number of tokens, or the first refusal: 6 where the table is too short, with the "entries needed"
+-- the number of tokens, or the first refusal: 6 where the table is too short, with the number of tokens
 abbrev pub counted : Reading → ℕ → ℕ → Reading
 counted (at q) n room = cond (leb n room) (at n) (refused 6 n)
 counted (refused k o) n room = refused k o
@@ -252,3 +169,110 @@ binary-bits t = map (λ b. eqb b 49) (drop 1 t)
 
 unfoldable pub binary-value : List ℕ → ℕ
 binary-value t = numeral 2 0 (drop 1 t)
+
+-- ---- THE FAST READING of the same, by the byte with which a token begins (`token-is-longest` and `lexed-fast` of proofs/tokens)
+
+-- numbers
+
+unfoldable pub end-of-integer : List ℕ → ℕ → Reading
+end-of-integer s p =
+    let e = run digit s p in
+    cond (leb (numeral 10 0 (token-bytes s p (e - p))) greatest) (at e) (refused 3 p)
+
+abbrev pub either : ℕ → ℕ → ℕ → Bool
+either x y b = eqb b x || eqb b y
+
+-- `e` or `E`; `+` or `-`
+abbrev pub exponent-mark : ℕ → Bool
+exponent-mark b = bytes.exponent-mark b
+
+abbrev pub sign : ℕ → Bool
+sign b = bytes.sign b
+
+-- where the digits of an exponent begin, whose `e` is at p
+abbrev pub digits-of-exponent : List ℕ → ℕ → ℕ
+digits-of-exponent s p = cond (sign (getD s (p + 1) 0)) (p + 2) (p + 1)
+
+-- the end of the exponent at p, which is p if there is none (T12)
+unfoldable pub end-of-exponent : List ℕ → ℕ → ℕ
+end-of-exponent s p =
+    let g = digits-of-exponent s p in
+    cond (exponent-mark (getD s p 0) && digit (getD s g 0)) (run digit s g) p
+
+-- (T11)
+unfoldable pub end-of-real : List ℕ → ℕ → ℕ
+end-of-real s p = end-of-exponent s (run digit s (run digit s p + 1))
+
+-- strings and binaries
+
+-- in the string that starts at o; just after a quote, or not (T13)
+unfoldable pub end-of-string : ℕ → Bool → ℕ → List ℕ → Reading
+end-of-string o true p [] = at p
+end-of-string o false p [] = refused 2 o
+end-of-string o true p (b ∷ s) = let on = end-of-string o false (p + 1) s in cond (eqb b 39) on (at p)
+end-of-string o false p (b ∷ s) =
+    let quote = end-of-string o true (p + 1) s in
+    let on = end-of-string o false (p + 1) s in
+    cond (eqb b 39) quote (cond (printable b) on (refused 2 o))
+
+abbrev pub bit : ℕ → Bool
+bit b = bytes.bit b
+
+-- (T14)
+unfoldable pub end-of-binary : List ℕ → ℕ → Reading
+end-of-binary s p =
+    let e = run bit s (p + 1) in
+    let n = e - (p + 1) in
+    cond (eqb n 0) (refused 2 p) (cond (leb n 63) (at e) (refused 3 p))
+
+-- symbols
+
+-- `?`, `( )`, `+ , - . /`, `;`, `=`, `[ \ ]`, `{` and `}`, which begin no longer symbol
+unfoldable pub lone : ℕ → Bool
+lone b =
+    eqb b 63 || (within 40 41 b || (within 43 47 b || (eqb b 59 || (eqb b 61 || (within 91 93 b || (eqb b 123 || eqb b 125))))))
+
+-- how many of four bytes are a symbol, as many as can be; 0: none is
+unfoldable pub size-of-symbol : ℕ → ℕ → ℕ → ℕ → ℕ
+size-of-symbol b c d e =
+    cond (lone b) 1
+    (cond (eqb b 58) (cond (eqb c 61) (cond (eqb d 58) 3 2) (cond (pair 60 62 c d && eqb e 58) 4 1))
+    (cond (eqb b 60) (cond (eqb c 61 || either 62 42 c) 2 1)
+    (cond (eqb b 62) (cond (eqb c 61) 2 1)
+    (cond (eqb b 42) (cond (eqb c 42) 2 1)
+    (cond (eqb b 124) (cond (eqb c 124) 2 1) 0)))))
+
+unfoldable pub end-of-symbol : List ℕ → ℕ → Reading
+end-of-symbol s p =
+    let n = size-of-symbol (getD s p 0) (getD s (p + 1) 0) (getD s (p + 2) 0) (getD s (p + 3) 0) in
+    cond (eqb n 0) (refused 2 p) (at (p + n))
+
+-- tokens
+
+-- its kind, by the byte at p; a number is real if a point ends its digits
+unfoldable pub token-kind-at : List ℕ → ℕ → ℕ
+token-kind-at s p =
+    let b = getD s p 0 in
+    let number : ℕ = cond (eqb (getD s (run digit s p) 0) 46) 3 2 in
+    cond (letter b) 1 (cond (digit b) number (cond (eqb b 39) 4 (cond (eqb b 37) 5 6)))
+
+-- the end of the token of a kind at p
+unfoldable pub end-of-token : List ℕ → ℕ → ℕ → Reading
+end-of-token s p k =
+    cond (eqb k 1) (at (run word-byte s p))
+    (cond (eqb k 2) (end-of-integer s p)
+    (cond (eqb k 3) (at (end-of-real s p))
+    (cond (eqb k 4) (end-of-string p false (p + 1) (drop (p + 1) s))
+    (cond (eqb k 5) (end-of-binary s p)
+    (end-of-symbol s p)))))
+
+abbrev pub token-after-blank : List ℕ → Reading → (ℕ → Lexed) → Lexed
+token-after-blank s (at q) more =
+    let k = token-kind-at s q in
+    let row = row-and-rest k q (end-of-token s q k) more in
+    cond (ltb q (length s)) row (stopped (at q))
+token-after-blank s (refused n o) more = stopped (refused n o)
+
+unfoldable pub lexed-in : ℕ → List ℕ → ℕ → Lexed
+lexed-in zero s p = stopped (refused 0 p)
+lexed-in (suc f) s p = token-after-blank s (skipped s p) (λ q. lexed-in f s q)

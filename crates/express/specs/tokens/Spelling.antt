@@ -1,15 +1,15 @@
--- Which tokens are spelled alike: "Letters match without case."
+-- Which tokens are spelled alike, letters without case (T3).
 use mathlib.Core.Bool.{Bool, true, false, _&&_}
 use mathlib.Core.List.{List, [], _∷_, map}
 use Prim.Native.Nat.{ℕ}
 use lib.Dec.{eqb}
-use lib.ListN.{length, getD, take, drop}
-use Rattle.express.specs.tokens.Bytes.{lower}
+use lib.ListN.{length, getD}
+use Rattle.express.specs.tokens.Bytes.{token-bytes, lower}
 use Rattle.relations.specs.Select.{span, first-from}
 
 -- the bytes of a token, in lower case
 abbrev pub spelling : List ℕ → List ℕ → List ℕ → ℕ → List ℕ
-spelling bytes starts lengths i = map lower (take (getD lengths i 0) (drop (getD starts i 0) bytes))
+spelling bytes starts lengths i = map lower (token-bytes bytes (getD starts i 0) (getD lengths i 0))
 
 unfoldable pub same : List ℕ → List ℕ → Bool
 same [] [] = true

@@ -5,8 +5,8 @@ use Prim.Native.Char.{code}
 use Prim.Native.String.{String, [] as none, _∷_ as _then_}
 use mathlib.Core.Bool.{cond}
 use lib.Dec.{eqb}
-use lib.ListN.{getD, take, drop}
-use Rattle.express.specs.tokens.Bytes.{upper, within}
+use lib.ListN.{getD}
+use Rattle.express.specs.tokens.Bytes.{token-bytes, upper, within}
 use Rattle.express.specs.tokens.Spelling.{same}
 
 -- the bytes of a text
@@ -24,14 +24,14 @@ abbrev pub numbered : ℕ → List String → List Fixed
 numbered k [] = []
 numbered k (w ∷ ws) = record { spelling = bytes w; code = k } ∷ numbered (suc k) ws
 
--- "The symbols are `?` and `. , ; : * + - = \ / < > [ ] { } | ( ) <= <> >= <* := || ** :=: :<>:`." Their codes are 6 to 34.
+-- the symbols (T15); their codes are 6 to 34
 abbrev pub symbols : List Fixed
 symbols =
     numbered 6 (
     "?" ∷ "." ∷ "," ∷ ";" ∷ ":" ∷ "*" ∷ "+" ∷ "-" ∷ "=" ∷ "\\" ∷ "/" ∷ "<" ∷ ">" ∷ "[" ∷ "]" ∷ "{" ∷ "}" ∷ "|" ∷ "(" ∷ ")" ∷ "<=" ∷ "<>" ∷
     ">=" ∷ "<*" ∷ ":=" ∷ "||" ∷ "**" ∷ ":=:" ∷ ":<>:" ∷ [])
 
--- "All words of clause 7.2 are reserved." The 119 words, in upper case; their codes are 35 to 153.
+-- the reserved words (T9), in upper case; their codes are 35 to 153
 abbrev pub reserved : List Fixed
 reserved =
     numbered 35 (
@@ -247,7 +247,7 @@ unfoldable pub among : List Fixed → List ℕ → ℕ → ℕ
 among [] s other = other
 among (f ∷ fs) s other = let more = among fs s other in cond (same (f .spelling) s) (f .code) more
 
--- "Letters match without case": a word that is no reserved one is an identifier
+-- a word that is no reserved one, letters without case, is an identifier
 abbrev pub word-terminal : List ℕ → ℕ
 word-terminal s = among reserved (map upper s) (the identifier)
 
@@ -266,4 +266,4 @@ unfoldable pub terminals : List ℕ → List ℕ → List ℕ → List ℕ → L
 terminals text [] starts sizes = []
 terminals text (k ∷ ks) [] sizes = []
 terminals text (k ∷ ks) (p ∷ ps) [] = []
-terminals text (k ∷ ks) (p ∷ ps) (n ∷ ns) = terminal-of k (take n (drop p text)) ∷ terminals text ks ps ns
+terminals text (k ∷ ks) (p ∷ ps) (n ∷ ns) = terminal-of k (token-bytes text p n) ∷ terminals text ks ps ns

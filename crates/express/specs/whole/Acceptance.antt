@@ -5,20 +5,20 @@ use Prim.Native.Nat.{ℕ, _≤_, _<_}
 use lib.ListN.{length, getD}
 use Rattle.ebnf.specs.Rows.{Row}
 use Rattle.ebnf.specs.Depth.{Deep}
-use Rattle.express.specs.kinds.Answer.{Answer, indeterminate}
+use Rattle.express.specs.kinds.Answer.{indeterminate}
 use Rattle.express.specs.tokens.Lexis.{at, lexed}
 use Rattle.express.specs.tokens.Scanned.{token-table}
 use Rattle.express.specs.syntax.Grammar.{file}
 use Rattle.express.specs.syntax.Syntax.{Parses, opening, closing, nesting, with-rows}
-use Rattle.express.specs.syntax.Tree.{Table, count}
+use Rattle.express.specs.syntax.Tree.{count}
 use Rattle.express.specs.names.Scope.{bindings}
 use Rattle.express.specs.names.Names.{WellNamed}
 use Rattle.express.specs.kinds.Kind.{constants, WellTyped}
 use Rattle.express.specs.kinds.Rule.{Exactly}
 use Rattle.express.specs.whole.Reply.{Accepted}
 
--- "Within the limits a file is accepted exactly when its tokens derive from the grammar and every name and type obeys the rules; the tree is that
--- derivation, each name is bound as the scope rules say, each constant's answer is what the rules make of its expression."
+-- The tokens derive from the grammar, every name and type is right, and nothing is too large for the limits and the tables; the tree is that of
+-- the derivation, names are bound as they are looked up, and each constant has the answer that the rules give it (K34).
 pub record Acceptable (s : List ℕ) (token-rows node-rows answer-rows : ℕ) (a : Accepted) : Type 0 where
   -- the bytes are tokens to the end, and there is room for them
   pub end : ℕ

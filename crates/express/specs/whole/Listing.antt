@@ -1,4 +1,4 @@
--- "A program reads a file from standard input and prints the listing; a refusal prints `refused N at P`." The listing as bytes.
+-- What the program prints of an outcome, as bytes.
 use mathlib.Core.Bool.{Bool, true, false, cond}
 use mathlib.Core.List.{List, [], _∷_, _++_, map, flatMap}
 use Prim.Native.Nat.{ℕ, zero, suc, _+_, _/_, _%_}
@@ -36,11 +36,11 @@ abbrev pub bit-digit : Bool → ℕ
 bit-digit true = 49
 bit-digit false = 48
 
--- "Names and items in lower case."
+-- a name, or an item, in lower case
 abbrev pub name-of : Table → ℕ → List ℕ
 name-of t n = spelling (t .bytes) (t .starts) (t .lengths) (token t n)
 
--- "Ends print as `end N`, an indeterminate answer as `?`."
+-- an answer
 abbrev pub printed : Table → Answer → List ℕ
 printed t indeterminate = bytes "?"
 printed t (integer z) = signed z
@@ -64,6 +64,6 @@ listing (refused k p) = line (bytes "refused " ++ decimal k ++ bytes " at " ++ d
 listing (accepted a) =
     line (bytes "accepted " ++ decimal (length (a .answers))) ++ flatMap (constant-line a) (span 0 (length (a .answers)))
 
--- "The program lends 8,192 tokens, 8,192 nodes and 1,024 answers."
+-- the program, with the tables that it lends
 abbrev pub program : List ℕ → List ℕ
 program s = listing (checked s 8192 8192 1024)

@@ -1,4 +1,4 @@
--- "The longest token wins": what is read as a symbol is one, and no longer symbol stands there.
+-- What is read as a symbol is one, and no longer symbol stands there.
 use mathlib.Core.Path.{_≡_, refl, sym, ap, _∙_, subst}
 use mathlib.Core.Bool.{Bool, true, false, cond, not, _&&_, _||_, false≢true}
 use mathlib.Core.Logic.{_⊎_, inl, inr}
@@ -6,9 +6,10 @@ use mathlib.Core.List.{List, [], _∷_, _++_}
 use Prim.Native.Nat.{ℕ, zero, suc, _≤_, _<_}
 use native.Mathlib.Omega.{arith}
 use native.Mathlib.Decide.{decLt}
-use borrow.Author.Tests.{eq-eqb, eqb-true}
+use borrow.Author.Tests.{eq-eqb, eqb-true, leb-true}
 use lib.ListN.{length, take, drop, getD, take-append-drop}
 use lib.Dec.{T, eqb, leb, leb→le}
+use Rattle.express.specs.tokens.Bytes.{within}
 use Rattle.express.specs.tokens.Lexis.{lone, size-of-symbol, pair, either}
 use Rattle.express.specs.tokens.Spelling.{same}
 use Rattle.express.specs.tokens.Terminal.{Fixed, symbols, among, symbol-terminal}
@@ -147,9 +148,26 @@ below f (suc n) t k h = go (λ l. below f n (and-snd (f n) (upto f n) t) k l) (d
 abbrev pub Symbol : ℕ → List ℕ → Type 0
 Symbol n t = symbol-terminal (take n t) ≡ 0 → ⊥
 
-lone-known : (b : ℕ) (u : List ℕ) → b < 256 → lone b ≡ true → Symbol 1 (b ∷ u)
+-- a lone symbol is a byte
+lone-byte : (b : ℕ) → lone b ≡ true → b < 256
+unfolding lone
+lone-byte b e =
+    or-then _ _ (one-byte 63 tt) (or-then _ _ (some-bytes 40 41 tt) (or-then _ _ (some-bytes 43 47 tt) (or-then _ _ (one-byte 59 tt)
+    (or-then _ _ (one-byte 61 tt) (or-then _ _ (some-bytes 91 93 tt) (or-then _ _ (one-byte 123 tt) (one-byte 125 tt))))))) e
+  where
+    or-then : (x y : Bool) → (x ≡ true → b < 256) → (y ≡ true → b < 256) → x || y ≡ true → b < 256
+    or-then true y f g q = f refl
+    or-then false y f g q = g q
+
+    one-byte : (k : ℕ) → T (leb (suc k) 256) → eqb b k ≡ true → b < 256
+    one-byte k h q = rw (eqb-true b k q) (leb→le (suc k) 256 h)
+
+    some-bytes : (lo hi : ℕ) → T (leb (suc hi) 256) → within lo hi b ≡ true → b < 256
+    some-bytes lo hi h q = omega (arith, leb-true b hi (and-snd (leb lo b) (leb b hi) q), leb→le (suc hi) 256 h)
+
+lone-known : (b : ℕ) (u : List ℕ) → lone b ≡ true → Symbol 1 (b ∷ u)
 unfolding lone among same
-lone-known b u h l z = false≢true (sym (rw (l, eq-eqb (symbol-terminal (b ∷ [])) 0 z)) ∙ below (λ c. not (lone c && eqb (symbol-terminal (c ∷ [])) 0)) 256 refl b h)
+lone-known b u l z = false≢true (sym (rw (l, eq-eqb (symbol-terminal (b ∷ [])) 0 z)) ∙ below (λ c. not (lone c && eqb (symbol-terminal (c ∷ [])) 0)) 256 refl b (lone-byte b l))
 
 coded : (n k : ℕ) (t : List ℕ) → symbol-terminal (take n t) ≡ suc k → Symbol n t
 coded n k t e z = absurd (omega (arith, sym e ∙ z))
@@ -172,7 +190,8 @@ less-known (x ∷ v) true e = go (eqb x 61) (eqb x 62) (eqb x 42) refl refl refl
     go false false false i j k h = absurd (false≢true h)
 less-known u false e = coded 1 16 (60 ∷ u) refl
 
-colon-known : (u : List ℕ) (p q r : Bool) → eqb (getD u 0 0) 61 ≡ p → eqb (getD u 1 0) 58 ≡ q → (pair 60 62 (getD u 0 0) (getD u 1 0) && eqb (getD u 2 0) 58) ≡ r → Symbol (cond p (cond q 3 2) (cond r 4 1)) (58 ∷ u)
+colon-known : (u : List ℕ) (p q r : Bool) → eqb (getD u 0 0) 61 ≡ p → eqb (getD u 1 0) 58 ≡ q → (pair 60 62 (getD u 0 0) (getD u 1 0) && eqb (getD u 2 0) 58) ≡ r →
+    Symbol (cond p (cond q 3 2) (cond r 4 1)) (58 ∷ u)
 unfolding among same
 colon-known u false q false i j k = coded 1 9 (58 ∷ u) refl
 colon-known [] true q r i j k = absurd (false≢true i)
@@ -187,10 +206,10 @@ colon-known (x ∷ y ∷ z ∷ v) false q true i j k =
     rw (eqb-true x 60 (and-fst (eqb x 60) (eqb y 62) xy), eqb-true y 62 (and-snd (eqb x 60) (eqb y 62) xy), eqb-true z 58 (and-snd (eqb x 60 && eqb y 62) (eqb z 58) k))
     (coded 4 33 (58 ∷ 60 ∷ 62 ∷ 58 ∷ v) refl)
 
--- of bytes, what is read is a symbol, or nothing is
-pub read-symbol : (b : ℕ) (u : List ℕ) → b < 256 → (read (b ∷ u) ≡ 0) ⊎ Symbol (read (b ∷ u)) (b ∷ u)
+-- what is read is a symbol, or nothing is
+pub read-symbol : (b : ℕ) (u : List ℕ) → (read (b ∷ u) ≡ 0) ⊎ Symbol (read (b ∷ u)) (b ∷ u)
 unfolding size-of-symbol among same
-read-symbol b u h = go (lone b) (eqb b 58) (eqb b 60) (eqb b 62) (eqb b 42) (eqb b 124) refl refl refl refl refl refl
+read-symbol b u = go (lone b) (eqb b 58) (eqb b 60) (eqb b 62) (eqb b 42) (eqb b 124) refl refl refl refl refl refl
   where
     size : Bool → Bool → Bool → Bool → Bool → Bool → ℕ
     size l m n o p q =
@@ -202,10 +221,12 @@ read-symbol b u h = go (lone b) (eqb b 58) (eqb b 60) (eqb b 62) (eqb b 42) (eqb
         (cond q (cond (eqb (getD u 0 0) 124) 2 1) 0)))))
 
     go : (l m n o p q : Bool) → lone b ≡ l → eqb b 58 ≡ m → eqb b 60 ≡ n → eqb b 62 ≡ o → eqb b 42 ≡ p → eqb b 124 ≡ q → (size l m n o p q ≡ 0) ⊎ Symbol (size l m n o p q) (b ∷ u)
-    go true m n o p q e f g i j k = inr (lone-known b u h e)
-    go false true n o p q e f g i j k = inr (rw (eqb-true b 58 f) (colon-known u (eqb (getD u 0 0) 61) (eqb (getD u 1 0) 58) (pair 60 62 (getD u 0 0) (getD u 1 0) && eqb (getD u 2 0) 58) refl refl refl))
+    go true m n o p q e f g i j k = inr (lone-known b u e)
+    go false true n o p q e f g i j k = inr (rw (eqb-true b 58 f) (colon-known u (eqb (getD u 0 0) 61) (eqb (getD u 1 0) 58) (pair 60 62 (getD u 0 0)
+        (getD u 1 0) && eqb (getD u 2 0) 58) refl refl refl))
     go false false true o p q e f g i j k = inr (rw (eqb-true b 60 g) (less-known u (eqb (getD u 0 0) 61 || either 62 42 (getD u 0 0)) refl))
     go false false false true p q e f g i j k = inr (rw (eqb-true b 62 i) (two 62 61 u (eqb (getD u 0 0) 61) (omega arith) refl (λ v. coded 2 27 (62 ∷ 61 ∷ v) refl) (coded 1 17 (62 ∷ u) refl)))
     go false false false false true q e f g i j k = inr (rw (eqb-true b 42 j) (two 42 42 u (eqb (getD u 0 0) 42) (omega arith) refl (λ v. coded 2 31 (42 ∷ 42 ∷ v) refl) (coded 1 10 (42 ∷ u) refl)))
-    go false false false false false true e f g i j k = inr (rw (eqb-true b 124 k) (two 124 124 u (eqb (getD u 0 0) 124) (omega arith) refl (λ v. coded 2 30 (124 ∷ 124 ∷ v) refl) (coded 1 22 (124 ∷ u) refl)))
+    go false false false false false true e f g i j k =
+        inr (rw (eqb-true b 124 k) (two 124 124 u (eqb (getD u 0 0) 124) (omega arith) refl (λ v. coded 2 30 (124 ∷ 124 ∷ v) refl) (coded 1 22 (124 ∷ u) refl)))
     go false false false false false false e f g i j k = inl refl

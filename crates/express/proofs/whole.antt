@@ -1,0 +1,3 @@
+pub mod AnswerRow
+pub mod Numbers
+pub mod Tables
