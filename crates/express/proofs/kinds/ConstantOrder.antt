@@ -20,9 +20,10 @@ use Rattle.express.specs.names.Names.{WellNamed}
 use Rattle.express.specs.kinds.Declared.{declaration, bound, denoted}
 use Rattle.express.specs.kinds.Shape.{Shape, Operator, name, shape, shape-in, operator-of, evaluated, name-shape-in}
 use Rattle.express.specs.kinds.Order.{Uses, Order, constant-order}
-use Rattle.relations.proofs.Select.{and-fst, and-snd, and-both, untrue, le-or, mem-upto, upto-mem, keep-mem, mem-keep, mem-flat, column-at}
+use Rattle.relations.proofs.Select.{and-fst, and-snd, and-both, untrue, le-or, mem-upto, keep-mem, mem-keep, mem-flat, column-at}
 use Rattle.relations.proofs.Reach.{reaches-iff}
 use Rattle.express.proofs.names.Meaning.{edge-start}
+use Rattle.relations.specs.Sorted.{Sorted}
 use Rattle.relations.proofs.Topological as topological
 use Rattle.relations.proofs.Topological.{sorted-reaches, sorted-narrower}
 
@@ -222,16 +223,20 @@ module _ (t : Table) where
     needs-reached k (direct {a} {b} u) = direct (use-edge a b k u)
     needs-reached k (onward {a} {b} u r) = let e = use-edge a b k u in onward e (needs-reached (edge-constants a b e .1) r)
 
-    -- THE ORDER: of a well-named file's constants, each after those that it needs
-    pub order-is : Order t (bindings t) (constant-order t)
-    order-is =
+    -- A LIST OF THE CONSTANTS THAT IS SORTED BY EDGES is an order
+    pub order-from :
+        (ds : List ℕ) → Sorted (Joins (constant-edges t)) [] ds → ((c : ℕ) → List·Memᴰ c ds → is t node.constant c ≡ true) →
+        ((c : ℕ) → is t node.constant c ≡ true → List·Memᴰ c ds) → Order t (bindings t) ds
+    order-from ds sorted are all =
         record {
           sorted =
-              sorted-narrower (λ d c m N. needs-reached (kept d m .1) (N .reached))
-              (sorted-reaches (λ a c m e. absurd (List·Memᴰ·not-nil m)) (arranged .sorted));
-          among = λ c m. (upto-mem (count t) c (kept c m .0), eqb-true (kind t c) node.constant (kept c m .1));
-          complete = λ c l q. arranged .complete c (constant-mem c (eq-eqb (kind t c) node.constant q));
+              sorted-narrower (λ d c m N. needs-reached (are d m) (N .reached)) (sorted-reaches (λ a c m e. absurd (List·Memᴰ·not-nil m)) sorted);
+          among = λ c m. (constant-below c (are c m), eqb-true (kind t c) node.constant (are c m));
+          complete = λ c l q. all c (eq-eqb (kind t c) node.constant q);
         }
-      where
-        kept : (c : ℕ) → List·Memᴰ c (constant-order t) → List·Memᴰ c (nodes t) × (is t node.constant c ≡ true)
-        kept c m = keep-mem (is t node.constant) (nodes t) (arranged .among c m)
+
+    -- and there is one: of a well-named file's constants, each after those that it needs
+    pub order-is : Order t (bindings t) (constant-order t)
+    order-is =
+        order-from (constant-order t) (arranged .sorted) (λ c m. keep-mem (is t node.constant) (nodes t) (arranged .among c m) .1)
+        (λ c k. arranged .complete c (constant-mem c k))

@@ -2,6 +2,7 @@
 use mathlib.Core.Path.{_≡_, refl}
 use mathlib.Core.Logic.{⊎-elim}
 use mathlib.Core.Bool.{true, false≢true}
+use mathlib.Core.List.{[], _∷_, _++_}
 use Prim.Native.Nat.{ℕ, zero, suc, _+_, _-_, _≤_, _<_}
 use native.Mathlib.Decide.{ℕ-discrete, decLt}
 use native.Mathlib.Omega.{arith}
@@ -9,14 +10,15 @@ use borrow.Author.Tests.{eqb-true, eq-eqb, leb-true, le-leb}
 use lib.Dec.{eqb, leb}
 use lib.ListN.{List·getD-eq-default}
 use Rattle.ebnf.specs.Set.{mem, subset, disjoint}
+use Rattle.relations.specs.Select.{span}
 use Rattle.ebnf.proofs.Sets.{in-more, in-left, in-cases, mem-one}
 use Rattle.express.specs.syntax.NodeKind as node
-use Rattle.express.specs.syntax.Tree.{Table, count, kind, size, last, first, left, upper, middle, lower, low, is, is-declaration, owner}
+use Rattle.express.specs.syntax.Tree.{Table, count, kind, size, last, first, left, upper, middle, lower, low, is, is-declaration, owner, type-node, within}
 use Rattle.express.specs.kinds.Kind.{Constant}
 use Rattle.express.proofs.syntax.KindSets.{expression-kinds, base-kinds, leaf-kinds, operation-kinds, below-constant, base-leaf}
 use Rattle.express.proofs.syntax.Formed.{Formed}
 use Rattle.express.proofs.names.Owned.{undeclared}
-use Rattle.relations.proofs.Select.{and-fst, and-snd, and-both, or-cases, le-or, first-is, first-of}
+use Rattle.relations.proofs.Select.{and-fst, and-snd, and-both, or-cases, le-or, first-is, first-of, span-append}
 
 -- The kinds of nodes that lie in a constant, other than itself
 abbrev pub Part : ℕ → Type 0
@@ -257,6 +259,19 @@ module _ (t : Table) (f : Formed t) where
       let c = r .high in
       let i = inside-below (suc (r .root)) (r .root) m (omega arith) (omega arith) (r .part) (r .lies) in
       record { whole = omega (arith, r .low, i .whole); part = i .part }
+
+  -- in their order: its type, its expression, and itself
+  pub constant-within : (d : ℕ) → d < count t → kind t d ≡ node.constant → within t d ≡ type-node t d ∷ (within t (last d) ++ (d ∷ []))
+  unfolding span
+  constant-within d l e =
+      let z = f .constant d l e .all in
+      let i = f .inside d l in
+      let s : 1 ≤ size t (last d) = f .some (last d) (omega arith) in
+      let p : first t d ≡ type-node t d = omega arith in
+      let q : size t d ≡ suc (size t (last d) + 1) = omega arith in
+      let r : suc (type-node t d) ≡ first t (last d) = omega arith in
+      let y : first t (last d) + size t (last d) ≡ d = omega arith in
+      rw (p, q, r, span-append (first t (last d)) (size t (last d)) 1, y)
 
   -- they belong to it
   pub constant-owner : (d m : ℕ) → d < count t → kind t d ≡ node.constant → first t d ≤ m → m ≤ d → owner t m ≡ d

@@ -10,8 +10,8 @@ use Rattle.express.specs.syntax.NodeKind.{enumeration-item, schema}
 use Rattle.relations.specs.Select.{keep}
 use Rattle.express.specs.syntax.Tree.{Table, count, symbol, nodes, is, is-declaration, is-scope-member, owner, schema-of}
 use Rattle.express.specs.names.Scope.{spelled, declarations, items, items-of, own}
-use Rattle.express.specs.names.Fault.{sort, scope, alike}
-use Rattle.express.specs.names.Key.{width, key-of, key, item-sort, item-key, Narrow}
+use Rattle.express.specs.names.Fault.{declaration-sort, item-sort, member-sort, sort, scope, alike}
+use Rattle.express.specs.names.Key.{width, key-of, key, bare-item-sort, item-key, Narrow}
 use Rattle.relations.proofs.Select.{and-fst, and-snd, and-both, upto-mem, keep-same, first-is}
 use Rattle.express.proofs.names.Once.{sort-declaration, sort-item, sort-member, scope-declaration, scope-item, scope-member, is-alike}
 use Rattle.express.proofs.names.Later.{sorted, sort-two, sort-three, sort-four}
@@ -103,49 +103,49 @@ module _ (t : Table) where
         and-both (eqb (symbol t k) s) (p k) (eq-eqb _ _ (r .2)) (into k (r .0) (r .1))))
 
     -- THE LOOK-UPS BY KEY
-    pub declarations-keyed : (h s : ℕ) → h < width → s < width → declarations t h s ≡ keep (λ k. eqb (key t k) (key-of 2 h s)) (nodes t)
+    pub declarations-keyed : (h s : ℕ) → h < width → s < width → declarations t h s ≡ keep (λ k. eqb (key t k) (key-of declaration-sort h s)) (nodes t)
     unfolding declarations
     declarations-keyed h s a b =
-        by-key 2 h s (λ k. is-declaration t k && eqb (schema-of t k) h) (λ (e : 2 ≡ 0). omega arith) a b
+        by-key declaration-sort h s (λ k. is-declaration t k && eqb (schema-of t k) h) (λ (e : 2 ≡ 0). omega arith) a b
         (λ k q. let e = sort-declaration t k (and-fst (is-declaration t k) _ q) in (e, scope-declaration t k e ∙ eqb-true _ _ (and-snd (is-declaration t k) _ q)))
         (λ k e f. and-both (is-declaration t k) _ (sort-two (sorted t k) e) (eq-eqb _ _ (sym (scope-declaration t k e) ∙ f)))
 
-    pub own-keyed : (d s : ℕ) → d < width → s < width → own t d s ≡ keep (λ k. eqb (key t k) (key-of 4 d s)) (nodes t)
+    pub own-keyed : (d s : ℕ) → d < width → s < width → own t d s ≡ keep (λ k. eqb (key t k) (key-of member-sort d s)) (nodes t)
     unfolding own
     own-keyed d s a b =
-        by-key 4 d s (λ k. is-scope-member t k && eqb (owner t k) d) (λ (e : 4 ≡ 0). omega arith) a b
+        by-key member-sort d s (λ k. is-scope-member t k && eqb (owner t k) d) (λ (e : 4 ≡ 0). omega arith) a b
         (λ k q. let e = sort-member t k (and-fst (is-scope-member t k) _ q) in (e, scope-member t k e ∙ eqb-true _ _ (and-snd (is-scope-member t k) _ q)))
         (λ k e f. and-both (is-scope-member t k) _ (sort-four (sorted t k) e) (eq-eqb _ _ (sym (scope-member t k e) ∙ f)))
 
-    pub items-of-keyed : (y s : ℕ) → y < width → s < width → items-of t y s ≡ keep (λ k. eqb (key t k) (key-of 3 y s)) (nodes t)
+    pub items-of-keyed : (y s : ℕ) → y < width → s < width → items-of t y s ≡ keep (λ k. eqb (key t k) (key-of item-sort y s)) (nodes t)
     unfolding items-of
     items-of-keyed y s a b =
-        by-key 3 y s (λ k. is t enumeration-item k && eqb (owner t k) y) (λ (e : 3 ≡ 0). omega arith) a b
+        by-key item-sort y s (λ k. is t enumeration-item k && eqb (owner t k) y) (λ (e : 3 ≡ 0). omega arith) a b
         (λ k q. let e = sort-item t k (and-fst (is t enumeration-item k) _ q) in (e, scope-item t k e ∙ eqb-true _ _ (and-snd (is t enumeration-item k) _ q)))
         (λ k e f. and-both (is t enumeration-item k) _ (eq-eqb _ _ (sort-three (sorted t k) e)) (eq-eqb _ _ (sym (scope-item t k e) ∙ f)))
 
     -- items without their type, by schema
-    pub items-keyed : (h s : ℕ) → h < width → s < width → items t h s ≡ keep (λ k. eqb (item-key t k) (key-of item-sort h s)) (nodes t)
+    pub items-keyed : (h s : ℕ) → h < width → s < width → items t h s ≡ keep (λ k. eqb (item-key t k) (key-of bare-item-sort h s)) (nodes t)
     unfolding items item-key schema-of
     items-keyed h s a b =
-        keep-same (λ k. eqb (symbol t k) s && (is t enumeration-item k && eqb (schema-of t k) h)) (λ k. eqb (item-key t k) (key-of item-sort h s)) (nodes t)
+        keep-same (λ k. eqb (symbol t k) s && (is t enumeration-item k && eqb (schema-of t k) h)) (λ k. eqb (item-key t k) (key-of bare-item-sort h s)) (nodes t)
         (λ k m. by k (upto-mem (count t) k m) (is t enumeration-item k) refl)
       where
         by : (k : ℕ) → k < count t → (x : Bool) → is t enumeration-item k ≡ x
-            → eqb (symbol t k) s && (x && eqb (schema-of t k) h) ≡ eqb (cond x (key-of item-sort (schema-of t k) (symbol t k)) 0) (key-of item-sort h s)
+            → eqb (symbol t k) s && (x && eqb (schema-of t k) h) ≡ eqb (cond x (key-of bare-item-sort (schema-of t k) (symbol t k)) 0) (key-of bare-item-sort h s)
         by k l true e =
-            same-test (eqb (symbol t k) s && eqb (schema-of t k) h) (eqb (key-of item-sort (schema-of t k) (symbol t k)) (key-of item-sort h s))
+            same-test (eqb (symbol t k) s && eqb (schema-of t k) h) (eqb (key-of bare-item-sort (schema-of t k) (symbol t k)) (key-of bare-item-sort h s))
             (λ q.
             let i = eqb-true (symbol t k) s (and-fst (eqb (symbol t k) s) (eqb (schema-of t k) h) q) in
             let j = eqb-true (schema-of t k) h (and-snd (eqb (symbol t k) s) (eqb (schema-of t k) h) q) in
-            let e : key-of item-sort (schema-of t k) (symbol t k) ≡ key-of item-sort h s = omega arith in
+            let e : key-of bare-item-sort (schema-of t k) (symbol t k) ≡ key-of bare-item-sort h s = omega arith in
             eq-eqb _ _ e)
             (λ q.
             let F = first-is (is t schema) k (count t - k) in
             let z : schema-of t k < width = omega (arith, F .upto, N .few) in
-            let r = key-parts item-sort (schema-of t k) (symbol t k) item-sort h s z (N .symbols k l) a b (eqb-true _ _ q) in
+            let r = key-parts bare-item-sort (schema-of t k) (symbol t k) bare-item-sort h s z (N .symbols k l) a b (eqb-true _ _ q) in
             and-both (eqb (symbol t k) s) _ (eq-eqb _ _ (r .2)) (eq-eqb _ _ (r .1)))
-        by k l false e = none (eqb (symbol t k) s) ∙ sym (ne-eqb 0 (key-of item-sort h s) (λ z. omega arith))
+        by k l false e = none (eqb (symbol t k) s) ∙ sym (ne-eqb 0 (key-of bare-item-sort h s) (λ z. omega arith))
           where
             none : (x : Bool) → x && false ≡ false
             none true = refl

@@ -189,6 +189,10 @@ meaning-first p n i l = rw (keep-first p n i l) (by (ltb k n) refl)
 -- ---- the candidates of a node
 
 module _ (t : Table) where
+  -- of the nodes that pass a test
+  pub meaning-nodes : (p : ℕ → Bool) → meaning (keep p (nodes t)) ≡ first-meaning p (count t) (first-from p 0 (count t))
+  meaning-nodes p = let z : count t - 0 ≡ count t = omega arith in rw z at (meaning-first p (count t) 0 (omega arith))
+
   pub spelled-ascending : (s : ℕ) (p : ℕ → Bool) → Ascending 0 (spelled t s p)
   spelled-ascending s p = ascending-keep (λ k. eqb (symbol t k) s && p k) (ascending-span 0 (count t))
 

@@ -13,11 +13,11 @@ use Rattle.ebnf.proofs.Sorts.{every}
 use Rattle.ebnf.proofs.Below.{every-part}
 use Rattle.express.specs.syntax.NodeKind as node
 use Rattle.express.specs.syntax.NodeKind.{kind-limit}
-use Rattle.express.specs.syntax.Tree.{Table, count, kind, role, first, is, is-name-in, is-declaration, is-attribute, is-scope-member, owner, schema-of, in-constant}
+use Rattle.express.specs.syntax.Tree.{Table, count, kind, role, symbol, symbol-at, first, is, is-name-in, is-declaration, is-attribute, is-scope-member, owner, schema-of, in-constant}
 use Rattle.express.specs.syntax.Grammar.{Nonterminal, file}
 use Rattle.express.specs.syntax.Syntax.{Read}
 use Rattle.relations.specs.Reach.{Reaches, direct, onward, Joins}
-use Rattle.express.specs.names.Scope.{super-edges, declarations-of, own, inherited}
+use Rattle.express.specs.names.Scope.{super-edges, declarations-of, own, inherited, candidates, is-use, type-token, type-meant, value-meant, qualified-meant, means}
 use Rattle.express.proofs.syntax.Nodes.{kinds, all-below}
 use Rattle.express.proofs.syntax.KindSets as set
 use Rattle.express.proofs.syntax.Within.{Over, all-pass-below, passes-below, file-last, schema-over, owner-over}
@@ -203,3 +203,15 @@ module _ {t : Table} (d : Read file t) where
   nothing-own o s h =
       no-members (own t o s)
       (λ k m. let c = own-iff t o s k .0 m in member-owner k (c .within) (c .suits .0) (ap (kind t) (c .suits .1) ∙ h))
+
+  -- so in a constant the schema and the spelling say what a name means
+  pub constant-means : (n : ℕ) → is-use t n ≡ true → kind t (owner t n) ≡ node.constant → means t n ≡ value-meant t (schema-of t n) (symbol t n)
+  unfolding means candidates
+  constant-means n u e =
+      let k : kind t (owner t n) ≢ node.entity = λ (z : kind t (owner t n) ≡ node.entity). omega arith in
+      rw (u, nothing-own (owner t n) (symbol t n) e, nothing-inherited (owner t n) (symbol t n) k)
+
+-- and of a `type.item` always
+pub qualified-means : (t : Table) (n : ℕ) → is t node.qualified-item n ≡ true → means t n ≡ qualified-meant t (schema-of t n) (symbol-at t (type-token t n)) (symbol t n)
+unfolding means type-meant
+qualified-means t n h = rw (eqb-true (kind t n) node.qualified-item h)

@@ -25,6 +25,7 @@ pub record Needs (t : Table) (b : List ℕ) (d c : ℕ) : Type 0 where
   pub is-constant : kind t c ≡ constant
   pub reached : Reaches (Uses t b) d c
 
+-- all constants, each once it is known what it needs
 pub record Order (t : Table) (b : List ℕ) (ds : List ℕ) : Type 0 where
   pub sorted : Sorted (Needs t b) [] ds
   pub among : (c : ℕ) → List·Memᴰ c ds → (c < count t) × (kind t c ≡ constant)

@@ -20,24 +20,42 @@ fault k p = record { number = k; place = p }
 abbrev pub fine : Fault
 fine = fault 0 0
 
--- N2, N3: 9, declared twice in one scope. What a node declares: 1 a schema, 2 a constant, type or entity, 3 an item, 4 an attribute or a label,
--- 5 a supertype in a list; 0 nothing
+-- N2, N3: 9, declared twice in one scope. What a node declares: nothing, a schema, a constant, type or entity, an item, an attribute or a label, or a
+-- supertype in a list
+abbrev pub no-sort : ℕ
+no-sort = 0
+
+abbrev pub schema-sort : ℕ
+schema-sort = 1
+
+abbrev pub declaration-sort : ℕ
+declaration-sort = 2
+
+abbrev pub item-sort : ℕ
+item-sort = 3
+
+abbrev pub member-sort : ℕ
+member-sort = 4
+
+abbrev pub supertype-sort : ℕ
+supertype-sort = 5
+
 unfoldable pub sort : Table → ℕ → ℕ
 sort t n =
-    cond (is t schema n) 1
-    (cond (is-declaration t n) 2
-    (cond (is t enumeration-item n) 3 (cond (is-scope-member t n) 4 (cond (is-name-in t supertype-name n) 5 0))))
+    cond (is t schema n) schema-sort
+    (cond (is-declaration t n) declaration-sort
+    (cond (is t enumeration-item n) item-sort (cond (is-scope-member t n) member-sort (cond (is-name-in t supertype-name n) supertype-sort no-sort))))
 
 -- and the node in which it must differ from all of its sort: the file, the schema, or the type or entity
 unfoldable pub scope : Table → ℕ → ℕ
-scope t n = cond (leb (sort t n) 1) 0 (cond (eqb (sort t n) 2) (schema-of t n) (owner t n))
+scope t n = cond (leb (sort t n) schema-sort) 0 (cond (eqb (sort t n) declaration-sort) (schema-of t n) (owner t n))
 
 abbrev pub alike : Table → ℕ → ℕ → Bool
 alike t n k = eqb (symbol t k) (symbol t n) && eqb (sort t k) (sort t n) && eqb (scope t k) (scope t n)
 
 -- at the later of the two: of two nodes of one sort the later stands later in the text (`repeated-iff` of proofs/names/Later)
 unfoldable pub repeated : Table → ℕ → Fault
-repeated t n = cond (not (eqb (sort t n) 0) && any (alike t n) (span 0 n)) (fault 9 (place t n)) fine
+repeated t n = cond (not (eqb (sort t n) no-sort) && any (alike t n) (span 0 n)) (fault 9 (place t n)) fine
 
 -- N6, N11, N12: 10, not found; 11, found but not of the right sort; 12, two meanings: of a name at place p that must mean a node that passes a test
 abbrev pub judged : (ℕ → Bool) → Meaning → ℕ → Fault

@@ -94,6 +94,14 @@ item-meant t s none = none
 item-meant t s several = none
 item-meant t s (one y) = meaning (items-of t y s)
 
+-- What names mean by their spellings alone, in a schema h: a name in an expression where nothing is own or inherited, as in a constant, and `type.item`
+-- of the two spellings y and s. For an expression that stands in no file it is all there is (`constant-means`, `qualified-means` of proofs/names/Owned).
+abbrev pub value-meant : Table → ℕ → ℕ → Meaning
+value-meant t h s = meaning (nearest (declarations t h s) (items t h s))
+
+abbrev pub qualified-meant : Table → ℕ → ℕ → ℕ → Meaning
+qualified-meant t h y s = item-meant t s (meaning (declarations t h y))
+
 -- the meaning of any name; other nodes mean nothing
 unfoldable pub means : Table → ℕ → Meaning
 means t n =
