@@ -7,5 +7,6 @@ pub mod FileRows
 pub mod Files
 pub mod KindCases
 pub mod NameCases
+pub mod SpelledKinds
 pub mod SyntaxExamples
 pub mod TokenExamples
