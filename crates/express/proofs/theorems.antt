@@ -8,5 +8,6 @@ pub mod Files
 pub mod KindCases
 pub mod NameCases
 pub mod NameReplies
+pub mod SpelledKinds
 pub mod SyntaxExamples
 pub mod TokenExamples

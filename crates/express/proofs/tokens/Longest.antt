@@ -99,7 +99,7 @@ not-among g (f ∷ fs) b w none h =
     by true i false j n more = absurd (false≢true (sym j ∙ ap (λ (v : List ℕ). g (getD v 0 0)) (same-true (f .spelling) (b ∷ w) i) ∙ h))
     by false i false j n more = more n
 
-no-symbol : (g : ℕ → Bool) (b : ℕ) (w : List ℕ) → any (λ (f : Fixed). g (getD (f .spelling) 0 0)) symbols ≡ false → g b ≡ true → is-symbol (b ∷ w) ≡ false
+pub no-symbol : (g : ℕ → Bool) (b : ℕ) (w : List ℕ) → any (λ (f : Fixed). g (getD (f .spelling) 0 0)) symbols ≡ false → g b ≡ true → is-symbol (b ∷ w) ≡ false
 no-symbol g b w none h = rw (not-among g symbols b w none h)
 
 within-range : (lo hi b : ℕ) → within lo hi b ≡ true → (lo ≤ b) × (b ≤ hi)
@@ -125,27 +125,27 @@ unlike : (b c : ℕ) → (b ≡ c → ⊥) → eqb b c ≡ false
 unlike b c h = ne-eqb b c h
 
 module _ (b : ℕ) (w : List ℕ) where
-  word-kind : letter b ≡ true → spelled-kind (b ∷ w) ≡ cond (all-of word-byte w) 1 0
+  pub word-kind : letter b ≡ true → spelled-kind (b ∷ w) ≡ cond (all-of word-byte w) 1 0
   unfolding spelled-kind any
   word-kind e =
       let l = letter-low b e in
       rw (e, above 48 57 b (omega arith), unlike b 39 (λ (q : b ≡ 39). omega arith), unlike b 37 (λ (q : b ≡ 37). omega arith), no-symbol letter b w refl e)
 
-  number-kind : digit b ≡ true → spelled-kind (b ∷ w) ≡ cond (all-of digit w) 2 (cond (is-decimal w) 3 0)
+  pub number-kind : digit b ≡ true → spelled-kind (b ∷ w) ≡ cond (all-of digit w) 2 (cond (is-decimal w) 3 0)
   unfolding spelled-kind any
   number-kind e =
       let r = within-range 48 57 b e in
       rw (not-letter b (omega (arith, r .1)), e, unlike b 39 (λ (q : b ≡ 39). omega (arith, r .0)), unlike b 37 (λ (q : b ≡ 37). omega (arith, r .0)), no-symbol digit b w refl e)
 
-  symbol-kind : letter b ≡ false → digit b ≡ false → eqb b 39 ≡ false → eqb b 37 ≡ false → spelled-kind (b ∷ w) ≡ cond (is-symbol (b ∷ w)) 6 0
+  pub symbol-kind : letter b ≡ false → digit b ≡ false → eqb b 39 ≡ false → eqb b 37 ≡ false → spelled-kind (b ∷ w) ≡ cond (is-symbol (b ∷ w)) 6 0
   unfolding spelled-kind
   symbol-kind i j k l = rw (i, j, k, l)
 
-string-kind : (w : List ℕ) → spelled-kind (39 ∷ w) ≡ cond (in-string false w) 4 0
+pub string-kind : (w : List ℕ) → spelled-kind (39 ∷ w) ≡ cond (in-string false w) 4 0
 unfolding spelled-kind any
 string-kind w = rw (no-symbol (λ b. eqb b 39) 39 w refl refl)
 
-binary-kind : (w : List ℕ) → spelled-kind (37 ∷ w) ≡ cond (some-of bytes.bit w) 5 0
+pub binary-kind : (w : List ℕ) → spelled-kind (37 ∷ w) ≡ cond (some-of bytes.bit w) 5 0
 unfolding spelled-kind any
 binary-kind w = rw (no-symbol (λ b. eqb b 37) 37 w refl refl)
 
@@ -343,7 +343,7 @@ module _ (s : List ℕ) where
           never-on is-decimal (λ w. false) b t (λ w. rw (i, other)) refl (never-false t)
 
 -- a real is no integer
-not-both : (w : List ℕ) → is-decimal w ≡ true → all-of digit w ≡ false
+pub not-both : (w : List ℕ) → is-decimal w ≡ true → all-of digit w ≡ false
 unfolding is-decimal all-of
 not-both [] e = absurd (false≢true e)
 not-both (b ∷ w) e = by (digit b) refl e (λ h. not-both w h)
