@@ -15,7 +15,7 @@ pub enum End {
 }
 
 impl End {
-    // Its number in an answer row.
+    // Its number, which is the kind of its answer row.
     pub fn number(self) -> u8
         ensures { λ r. ⌜ r ≡ end-number self ⌝ }
     {
