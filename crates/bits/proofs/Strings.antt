@@ -47,20 +47,11 @@ length-both : (a b : Binary) → length (bits-of a ++ bits-of b) ≡ a .length +
 length-both a b =
     length-append (bits-of a) (bits-of b) ∙ rw (length-bits (a .length) (a .number), length-bits (b .length) (b .number))
 
-too-long : (a b : Binary) → 63 < a .length + b .length → Joins (bits-of a) (bits-of b) (Ended OutOfRange)
+pub too-long : (a b : Binary) → 63 < a .length + b .length → Joins (bits-of a) (bits-of b) (Ended OutOfRange)
 unfolding join
 too-long a b h = record { is = rw (length-both a b, lt-leb (a .length + b .length) 63 h); canonical = tt }
 
-pub too-long-alone : (a b : Binary) → 63 < a .length → Joins (bits-of a) (bits-of b) (Ended OutOfRange)
-too-long-alone a b h = too-long a b (omega arith)
-
-pub too-long-both : (a b : Binary) → 63 - a .length < b .length → Joins (bits-of a) (bits-of b) (Ended OutOfRange)
-too-long-both a b h = too-long a b (omega arith)
-
-module _ (a b : Binary) {m n : ℕ} (e : m ≡ a .number % 2 ^ a .length) (f : n ≡ b .number % 2 ^ b .length) (i : a .length ≤ 63) (j : b .length ≤ 63 - a .length) where
-  h : a .length + b .length ≤ 63
-  h = omega arith
-
+module _ (a b : Binary) {m n : ℕ} (e : m ≡ a .number % 2 ^ a .length) (f : n ≡ b .number % 2 ^ b .length) (h : a .length + b .length ≤ 64) where
   m-lt : m < 2 ^ a .length
   m-lt = rw e (mod-lt (a .number) (pow-pos (a .length)))
 
@@ -75,7 +66,7 @@ module _ (a b : Binary) {m n : ℕ} (e : m ≡ a .number % 2 ^ a .length) (f : n
 
   pub sum-fits : Fits w64 (m * 2 ^ b .length % 2 ^ 64 + n)
   sum-fits =
-      let g : 2 ^ (a .length + b .length) ≤ 2 ^ 63 = pow-mono h in
+      let g : 2 ^ (a .length + b .length) ≤ 2 ^ 64 = pow-mono h in
       rw shifted (record { fits = omega (arith, sum-lt) })
 
   both : bits (a .length + b .length) (m * 2 ^ b .length + n) ≡ bits-of a ++ bits-of b
@@ -87,11 +78,9 @@ module _ (a b : Binary) {m n : ℕ} (e : m ≡ a .number % 2 ^ a .length) (f : n
       sym (bits-mod (b .length) (b .length) k (omega arith)) ∙ ap (bits (b .length)) (low m (b .length) n-lt ∙ f) ∙ bits-mod (b .length) (b .length) (b .number) (omega arith) in
       bits-append (a .length) (b .length) k ∙ rw (x, y)
 
-  pub joined : Joins (bits-of a) (bits-of b) (Whole (record { number = m * 2 ^ b .length % 2 ^ 64 + n; length = a .length + b .length }))
+  pub joined : a .length + b .length ≤ 63 → Joins (bits-of a) (bits-of b) (Whole (record { number = m * 2 ^ b .length % 2 ^ 64 + n; length = a .length + b .length }))
   unfolding join
-  joined = rw shifted (record { is = rw (length-both a b, le-leb (a .length + b .length) 63 h, both); canonical = (sum-lt, h) })
-
-pub ruleset joins = (too-long-alone, too-long-both, sum-fits, joined)
+  joined k = rw shifted (record { is = rw (length-both a b, le-leb (a .length + b .length) 63 k, both); canonical = (sum-lt, k) })
 
 -- ---- the first bits
 pub first-is : (a : Binary) (l : ℕ) → l ≤ a .length → a .number / 2 ^ (a .length - l) % 2 ^ l ≡ number (take l (bits-of a))
@@ -217,4 +206,4 @@ module _ (a b : Binary) {l m n : ℕ} (S : Shorter (a .length) (b .length) l) (e
         let p : l ≡ a .length = is-shorter S .0 (omega arith) in
         sym (equal ∙ rest-same l (bits-of a) (bits-of b) (rw length-bits (omega arith)) (rw length-bits (omega arith)))
 
-pub ruleset orders = (less, more, shorter-less, longer-more, both-same)
+pub ruleset comparisons = (less, more, shorter-less, longer-more, both-same)

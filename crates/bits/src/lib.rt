@@ -9,7 +9,7 @@ use values::End;
 use values::order::Order;
 
 // The most bits of a binary.
-pub const MOST: u8 = 63;
+pub const MOST: u64 = 63;
 
 // The bits of a number.
 const WORD: u8 = 64;
@@ -51,10 +51,7 @@ fn low(n: u64, k: u8) -> u64
 pub fn join(a: Binary, b: Binary) -> Joined
     ensures { λ r. ⌜ Joins (bits-of a) (bits-of b) r ⌝ }
 {
-    if MOST < a.length {
-        return Joined::Ended(End::OutOfRange);
-    }
-    if MOST - a.length < b.length {
+    if MOST < (a.length as u64) + (b.length as u64) {
         return Joined::Ended(End::OutOfRange);
     }
     let m = low(a.number, a.length);

@@ -5,11 +5,11 @@ use Prim.Native.Nat.{ℕ, zero, suc, _+_, _-_, _*_, _%_, _^_, _≤_, _<_}
 use native.Mathlib.Nat.{add-zero, add-suc, mul-le-mul, le-trans}
 use native.Mathlib.Numerals.{add-one}
 use native.Mathlib.Omega.{arith}
-use lib.Dec.{eqb}
+use lib.Dec.{T, eqb}
 use lib.IntN.{ℤ, pos, negsuc, natAbs, _*ℤ_, pow, one, *ℤ-zero}
-use lib.Signed.{mag, ltZ}
+use lib.Signed.{mag, ltZ, nonNeg}
 use mir.Syntax.{w64}
-use mir.Val.{SFits, toZ, ofZ}
+use mir.Val.{SFits, Fits, toZ, ofZ}
 use mir.Facts.{toZ-ofZ}
 use Rattle.express.specs.kinds.Answer.{Answer, integer, end}
 use Rattle.express.specs.kinds.Integer.{exact, product, negative, signed, power}
@@ -108,6 +108,14 @@ at-negative a (negsuc n) s = refl
 
 pub negative-power : {b : ℤ} (a : ℤ) → SFits w64 b → ltZ (own b) (pos 0) ≡ true → end 18 ≡ power a b
 negative-power {b} a g s = at-negative a b (sign-is g s)
+
+-- b as a number without a sign
+casts : (b : ℤ) → mag b < 2 ^ 63 → negative b ≡ false → T (nonNeg b) × Fits w64 (natAbs b)
+casts (pos n) h s = (tt, record { fits = omega arith })
+casts (negsuc n) h s = absurd (true≢false s)
+
+pub plus-casts : {b : ℤ} → SFits w64 b → ltZ (own b) (pos 0) ≡ false → T (nonNeg (own b)) × Fits w64 (natAbs (own b))
+plus-casts {b} g s = rw (toZ-ofZ g) (casts b (g .sfits) (sign-is g s))
 
 at-natural : (a b : ℤ) → negative b ≡ false → exact (pow a (natAbs b)) ≡ power a b
 unfolding power
