@@ -1,6 +1,6 @@
 -- Products: whether one leaves the range, by a test of the first operand against an end of the range divided by the second.
 use mathlib.Core.Path.{_≡_, refl, sym, _∙_, ap}
-use mathlib.Core.Bool.{true, false, true≢false}
+use mathlib.Core.Bool.{Bool, true, false, true≢false}
 use Prim.Native.Nat.{ℕ, zero, suc, _-_, _*_, _/_, _<_, _≤_, _^_}
 use native.Mathlib.Nat.{zero-mul, div-lt-iff-lt-mul, le-div-iff-mul-le}
 use native.Mathlib.Omega.{arith}
@@ -11,9 +11,10 @@ use mir.Facts.{toZ-ofZ}
 use mir.Syntax.{w64}
 use mir.Val.{SFits, ofZ}
 use Rattle.express.specs.kinds.Answer.{Answer, integer, end}
-use Rattle.express.specs.kinds.Integer.{exact, product, negation, negative}
+use Rattle.express.specs.kinds.Integer.{exact, product, negation, negative, signed}
 use Rattle.express.proofs.kinds.Integer.{least, greatest}
-use Rattle.integers.proofs.Exact.{own, exact-fits, exact-over, Gives, gives, sign-is, bits-are}
+use Rattle.integers.specs.Range.{limit, beyond}
+use Rattle.integers.proofs.Exact.{own, exact-fits, exact-over, Gives, gives, below-zero, sign-is, bits-are}
 use Rattle.integers.proofs.Sums.{less-is}
 use Rattle.integers.proofs.Quotients.{neg-mag, Divides, some, safe, own-quot}
 
@@ -102,31 +103,63 @@ under-zero a (negsuc d) s =
     (λ e. rw (neg-product a d) (low-over (suc d) h (negℤ a) (sym u ∙ e)))
     (λ e f. rw (neg-product a d) (inside (suc d) h (negℤ a) (sym u ∙ f) (sym l ∙ e)))
 
--- ---- as the code has it: a second factor b below 0, and above
-abbrev pub Under : ℤ → ℤ → Type 0
-Under a b = Bounds (own a) (own b) (own (quotZ greatest (own b))) (own (quotZ least (own b))) (a *ℤ b)
+-- ---- by the bound on the side of x alone
+pub record Bounded (x y q z : ℤ) : Type 0 where
+  pub ends : beyond x q ≡ true → end 16 ≡ exact z
+  pub is : beyond x q ≡ false → Gives (x *ℤ y) (exact z)
 
-abbrev pub Over : ℤ → ℤ → Type 0
-Over a b = Bounds (own a) (own b) (own (quotZ least (own b))) (own (quotZ greatest (own b))) (a *ℤ b)
+bounded : (a b : ℤ) → 0 < natAbs b → Bounded a b (quotZ (limit a b) b) (a *ℤ b)
+bounded (pos m) (pos d) h = let B = above-zero (pos m) (pos d) h refl in record { ends = B .above; is = B .plus (below-zero (pos m)) }
+bounded (negsuc m) (pos d) h = let B = above-zero (negsuc m) (pos d) h refl in record { ends = B .below; is = B .minus refl }
+bounded (pos m) (negsuc d) h = let B = under-zero (pos m) (negsuc d) refl in record { ends = B .above; is = B .plus (below-zero (pos m)) }
+bounded (negsuc m) (negsuc d) h = let B = under-zero (negsuc m) (negsuc d) refl in record { ends = B .below; is = B .minus refl }
 
-module _ {a b : ℤ} (D : Divides a b) where
-  by : {z : ℤ} → SFits w64 z → Divides z b
-  by f = record { first = f; second = D .second; not-zero = D .not-zero; not-minus-one = D .not-minus-one }
+limit-small : (a b : ℤ) → mag (limit a b) < 2 ^ 63
+limit-small (pos m) (pos n) = omega arith
+limit-small (pos m) (negsuc n) = omega arith
+limit-small (negsuc m) (pos n) = omega arith
+limit-small (negsuc m) (negsuc n) = omega arith
 
-  ends-fit : SFits w64 least × SFits w64 greatest
-  ends-fit = (record { sfits = omega arith }, record { sfits = omega arith })
+-- ---- as the code has it: l is the limit
+module _ {a b l : ℤ} (D : Divides a b) (e : l ≡ limit (own a) (own b)) where
+  limited : Divides l b
+  limited = record {
+    first = record { sfits = rw e (limit-small (own a) (own b)) };
+    second = D .second;
+    not-zero = D .not-zero;
+    not-minus-one = D .not-minus-one;
+  }
 
-  pub safe-least : (0 < ofZ w64 b) × SFits w64 (quotZ least (own b))
-  safe-least = safe (by (ends-fit .0))
+  pub mul-safe : (0 < ofZ w64 b) × SFits w64 (quotZ (own l) (own b))
+  mul-safe = safe limited
 
-  pub safe-greatest : (0 < ofZ w64 b) × SFits w64 (quotZ greatest (own b))
-  safe-greatest = safe (by (ends-fit .1))
+  pub mul-bounded : Bounded (own a) (own b) (own (quotZ (own l) (own b))) (a *ℤ b)
+  mul-bounded = rw (own-quot limited, e, toZ-ofZ (D .first), toZ-ofZ (D .second)) (bounded a b (some D))
 
-  pub mul-plus : ltZ (own b) (pos 0) ≡ false → Over a b
-  mul-plus s = rw (own-quot (by (ends-fit .0)), own-quot (by (ends-fit .1)), toZ-ofZ (D .first), toZ-ofZ (D .second)) (above-zero a b (some D) (sign-is (D .second) s))
+-- ---- the limit and the test, by their signs
+limit-signs : (a b : ℤ) → limit (signed (negative a) (pos 1)) (signed (negative b) (pos 1)) ≡ limit a b
+limit-signs (pos m) (pos n) = refl
+limit-signs (pos m) (negsuc n) = refl
+limit-signs (negsuc m) (pos n) = refl
+limit-signs (negsuc m) (negsuc n) = refl
 
-  pub mul-minus : ltZ (own b) (pos 0) ≡ true → Under a b
-  mul-minus s = rw (own-quot (by (ends-fit .0)), own-quot (by (ends-fit .1)), toZ-ofZ (D .first), toZ-ofZ (D .second)) (under-zero a b (sign-is (D .second) s))
+minus-beyond : (a b : ℤ) → negative a ≡ true → ltZ a b ≡ beyond a b
+minus-beyond (pos m) b s = absurd (true≢false (sym s))
+minus-beyond (negsuc m) b s = refl
+
+plus-beyond : (a b : ℤ) → negative a ≡ false → ltZ b a ≡ beyond a b
+plus-beyond (pos m) b s = refl
+plus-beyond (negsuc m) b s = absurd (true≢false s)
+
+module _ {a b : ℤ} (f : SFits w64 a) (g : SFits w64 b) where
+  pub limit-by : {s t : Bool} → ltZ (own a) (pos 0) ≡ s → ltZ (own b) (pos 0) ≡ t → limit (signed s (pos 1)) (signed t (pos 1)) ≡ limit a b
+  limit-by p q = rw (← sign-is f p, ← sign-is g q) (limit-signs a b)
+
+  pub beyond-minus : ltZ (own a) (pos 0) ≡ true → ltZ (own a) (own b) ≡ beyond a b
+  beyond-minus p = rw (toZ-ofZ f, toZ-ofZ g) (minus-beyond a b (sign-is f p))
+
+  pub beyond-plus : ltZ (own a) (pos 0) ≡ false → ltZ (own b) (own a) ≡ beyond a b
+  beyond-plus p = rw (toZ-ofZ f, toZ-ofZ g) (plus-beyond a b (sign-is f p))
 
 pub mul-zero : {b : ℤ} (a : ℤ) → SFits w64 b → ofZ w64 b ≡ 0 → integer (pos 0) ≡ product a b
 mul-zero a g e = rw (bits-are g e, *ℤ-zero a) (sym (exact-fits (pos 0) (omega arith)))

@@ -5,6 +5,7 @@ ghost use lib.IntN.{natAbs, pow};
 ghost use Rattle.express.specs.kinds.Integer.{exact, sum, difference, product, negation, DIV, MOD, power, compareℤ};
 ghost use Rattle.values.specs.Meaning.{ordering-of};
 ghost use Rattle.integers.specs.Meaning.{integer-answer};
+ghost use Rattle.integers.specs.Range.{limit, beyond};
 use values::End;
 use values::order::Order;
 
@@ -61,8 +62,34 @@ pub fn negate(a: i64) -> Outcome
     Outcome::Ended(End::OutOfRange)
 }
 
-// Whether the product leaves the range is seen from the first operand too: against the end of the range on the product's
-// side, divided by the second. `/` rounds toward 0, and by -1 it has no quotient of the least integer.
+// The end of the range on the side of a product.
+fn limit(a: i64, b: i64) -> i64
+    ensures { λ r. ⌜ r ≡ limit a b ⌝ }
+{
+    if a < 0 {
+        if b < 0 {
+            return GREATEST;
+        }
+        return LEAST;
+    }
+    if b < 0 {
+        return LEAST;
+    }
+    GREATEST
+}
+
+// Whether a lies further from 0 than a bound on its side.
+fn beyond(a: i64, bound: i64) -> bool
+    ensures { λ r. ⌜ r ≡ beyond a bound ⌝ }
+{
+    if a < 0 {
+        return a < bound;
+    }
+    bound < a
+}
+
+// Whether the product leaves the range is seen from the first operand too: the end of the range is divided by the second.
+// `/` rounds toward 0, and by -1 it has no quotient of the least integer.
 pub fn multiply(a: i64, b: i64) -> Outcome
     ensures { λ r. ⌜ integer-answer r ≡ product a b ⌝ }
 {
@@ -72,25 +99,7 @@ pub fn multiply(a: i64, b: i64) -> Outcome
     if b == -1 {
         return negate(a);
     }
-    if b < 0 {
-        if a < 0 {
-            if a < GREATEST / b {
-                return Outcome::Ended(End::OutOfRange);
-            }
-            return Outcome::Value(a * b);
-        }
-        if LEAST / b < a {
-            return Outcome::Ended(End::OutOfRange);
-        }
-        return Outcome::Value(a * b);
-    }
-    if a < 0 {
-        if a < LEAST / b {
-            return Outcome::Ended(End::OutOfRange);
-        }
-        return Outcome::Value(a * b);
-    }
-    if GREATEST / b < a {
+    if beyond(a, limit(a, b) / b) {
         return Outcome::Ended(End::OutOfRange);
     }
     Outcome::Value(a * b)
