@@ -2,7 +2,6 @@
 pub mod answers;
 pub mod ends;
 pub mod labels;
-pub mod logicals;
 pub mod nodes;
 pub mod replies;
 pub mod roles;

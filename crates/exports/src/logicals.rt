@@ -13,8 +13,8 @@ fn logical(n: u8) -> Logical
     ensures { λ r. ⌜ logical-of r ≡ logical-at n ⌝ }
 {
     match n {
-        codes::logicals::FALSE => Logical::FALSE,
-        codes::logicals::UNKNOWN => Logical::UNKNOWN,
+        codes::answers::FALSE => Logical::FALSE,
+        codes::answers::UNKNOWN => Logical::UNKNOWN,
         _ => Logical::TRUE,
     }
 }

@@ -22,9 +22,9 @@ impl Logical {
         ensures { λ r. ⌜ r ≡ rank (logical-of self) ⌝ }
     {
         match self {
-            Logical::False => codes::logicals::FALSE,
-            Logical::Unknown => codes::logicals::UNKNOWN,
-            Logical::True => codes::logicals::TRUE,
+            Logical::False => codes::answers::FALSE,
+            Logical::Unknown => codes::answers::UNKNOWN,
+            Logical::True => codes::answers::TRUE,
         }
     }
 
