@@ -1,12 +1,12 @@
 -- Results that fit, and results that leave the range. A signed local holds bits: `own z` is what those of z read as.
 use mathlib.Core.Path.{_≡_, refl, sym, ap, _∙_}
-use mathlib.Core.Bool.{Bool, true, false, cond}
+use mathlib.Core.Bool.{Bool, true, false, cond, not}
 use Prim.Native.Nat.{ℕ, zero, suc, _^_, _≤_, _<_}
 use native.Mathlib.Omega.{arith}
-use borrow.Author.Tests.{ltb-false, lt-ltb, le-ltb}
+use borrow.Author.Tests.{ltb-false, lt-ltb, le-ltb, le-leb}
 use lib.Dec.{ltb}
 use lib.IntN.{ℤ, pos, negsuc, negℤ, natAbs}
-use lib.Signed.{mag, ltZ}
+use lib.Signed.{mag, ltZ, leZ}
 use mir.Syntax.{w64}
 use mir.Val.{SFits, toZ, ofZ}
 use mir.Facts.{toZ-ofZ}
@@ -56,6 +56,10 @@ gives z e h =
 pub below-zero : (z : ℤ) → ltZ z (pos 0) ≡ negative z
 below-zero (pos n) = le-ltb n 0 (omega arith)
 below-zero (negsuc n) = refl
+
+pub not-below : (z : ℤ) {t : Bool} → leZ (pos 0) z ≡ t → ltZ z (pos 0) ≡ not t
+not-below (pos n) e = rw (← e, le-leb 0 n (omega arith)) (le-ltb n 0 (omega arith))
+not-below (negsuc n) e = rw (← e)
 
 pub sign-is : {z : ℤ} {t : Bool} → SFits w64 z → ltZ (own z) (pos 0) ≡ t → negative z ≡ t
 sign-is {z} f e = sym (below-zero z) ∙ rw (toZ-ofZ f) at e

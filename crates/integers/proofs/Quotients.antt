@@ -1,20 +1,20 @@
 -- DIV and MOD from `/`, which rounds toward 0, and `%`, which has the dividend's sign.
 use mathlib.Core.Path.{_≡_, refl, sym, _∙_, ap}
-use mathlib.Core.Bool.{Bool, true, false, true≢false}
+use mathlib.Core.Bool.{Bool, true, false, not, true≢false}
 use Prim.Native.Nat.{ℕ, zero, suc, _+_, _-_, _*_, _/_, _%_, _<_, _≤_, _^_}
 use native.Mathlib.Nat.{mod-lt, div-add-mod', suc-mul, zero-mul, div-le-self, div-mul-le-self, mul-le-mul, le-refl}
 use native.Mathlib.Numerals.{add-one}
 use native.Mathlib.Omega.{arith}
-use borrow.Author.Tests.{ne-eqb}
+use borrow.Author.Tests.{ltb-false, ne-eqb}
 use lib.Arith.{digits-div, digits-mod}
 use lib.IntN.{ℤ, pos, negsuc, negℤ, natAbs, _+ℤ_, _-ℤ_, +ℤ-idl}
-use lib.Signed.{ltZ, mag, quotZ, remZ, shrZ, mag-shr, mag-rem}
+use lib.Signed.{ltZ, leZ, mag, quotZ, remZ, shrZ, mag-shr, mag-rem}
 use mir.Facts.{toZ-ofZ}
 use mir.Syntax.{w64}
 use mir.Val.{SFits, ofZ}
 use Rattle.express.specs.kinds.Answer.{Answer, integer, end}
 use Rattle.express.specs.kinds.Integer.{exact, negation, negative, signed, rest, quotient, remainder, DIV, MOD}
-use Rattle.integers.proofs.Exact.{own, Gives, gives, sign-is, bits-are}
+use Rattle.integers.proofs.Exact.{own, Gives, gives, not-below, sign-is, bits-are}
 use Rattle.integers.proofs.Sums.{sub-le, sub-lt}
 
 -- ---- the quotient and the rest of m, from those of m + 1
@@ -130,6 +130,14 @@ not-none : (b : ℤ) → (ofZ w64 b ≡ 0 → ⊥) → 0 < natAbs b
 not-none (pos n) z = omega arith
 not-none (negsuc n) z = omega arith
 
+above-is : (b : ℤ) → ltZ (pos 0) b ≡ true → negative b ≡ false
+above-is (pos n) t = refl
+above-is (negsuc n) t = absurd (true≢false (sym t))
+
+under-is : (b : ℤ) → 0 < natAbs b → ltZ (pos 0) b ≡ false → negative b ≡ true
+under-is (pos n) h t = let g = ltb-false 0 n t in absurd (omega arith)
+under-is (negsuc n) h t = refl
+
 shr-one : (a : ℤ) → shrZ a 1 ≡ a
 shr-one (pos m) = ap pos (omega arith)
 shr-one (negsuc m) = ap negsuc (omega arith)
@@ -184,6 +192,9 @@ module _ {a b : ℤ} (D : Divides a b) where
   rem-sign : {t : Bool} → ltZ (own (remZ (own a) (own b))) (pos 0) ≡ t → negative (remZ a b) ≡ t
   rem-sign e = rw (toZ-ofZ (D .first), toZ-ofZ (D .second)) at (sign-is rem-fits e)
 
+  pub rem-below : {t : Bool} → leZ (pos 0) (own (remZ (own a) (own b))) ≡ t → ltZ (own (remZ (own a) (own b))) (pos 0) ≡ not t
+  rem-below = not-below (own (remZ (own a) (own b)))
+
   pub safe : (0 < ofZ w64 b) × SFits w64 (quotZ (own a) (own b))
   safe = (omega (arith, D .not-zero), quot-fits)
 
@@ -212,11 +223,11 @@ module _ {a b : ℤ} (D : Divides a b) where
     pub div-same : Gives (quotZ (own a) (own b)) (DIV a b)
     div-same = quotient-is (rw (toZ-ofZ (D .first), toZ-ofZ (D .second)) (same-quotient a b some (rem-sign s)))
 
-    signed-rem : {t : Bool} → ltZ (own b) (pos 0) ≡ t → signed t (remZ a b) ≡ remainder a b
-    signed-rem t = rw (sign-is (D .second) t) at (same-remainder a b some (rem-sign s))
+    signed-rem : {t : Bool} → negative b ≡ t → signed t (remZ a b) ≡ remainder a b
+    signed-rem t = rw t at (same-remainder a b some (rem-sign s))
 
-    pub mod-opposite : ltZ (own b) (pos 0) ≡ true → Gives (pos 0 -ℤ own (remZ (own a) (own b))) (MOD a b)
-    mod-opposite t = remainder-is (rw own-rem (+ℤ-idl (negℤ (remZ a b)) ∙ signed-rem t))
+    pub mod-same : ltZ (pos 0) (own b) ≡ true → Gives (remZ (own a) (own b)) (MOD a b)
+    mod-same t = remainder-is (rw (toZ-ofZ (D .first), toZ-ofZ (D .second)) (signed-rem (above-is b (rw (toZ-ofZ (D .second)) at t))))
 
-    pub mod-same : ltZ (own b) (pos 0) ≡ false → Gives (remZ (own a) (own b)) (MOD a b)
-    mod-same t = remainder-is (rw (toZ-ofZ (D .first), toZ-ofZ (D .second)) (signed-rem t))
+    pub mod-opposite : ltZ (pos 0) (own b) ≡ false → Gives (pos 0 -ℤ own (remZ (own a) (own b))) (MOD a b)
+    mod-opposite t = remainder-is (rw own-rem (+ℤ-idl (negℤ (remZ a b)) ∙ signed-rem (under-is b some (rw (toZ-ofZ (D .second)) at t))))

@@ -117,13 +117,13 @@ pub fn div(a: i64, b: i64) -> Outcome
         return negate(a);
     }
     let q = a / b;
-    if a % b < 0 {
-        if b < 0 {
-            return Outcome::Value(q + 1);
-        }
-        return Outcome::Value(q - 1);
+    if 0 <= a % b {
+        return Outcome::Value(q);
     }
-    Outcome::Value(q)
+    if b < 0 {
+        return Outcome::Value(q + 1);
+    }
+    Outcome::Value(q - 1)
 }
 
 // MOD: with the divisor's sign. `%` has the dividend's.
@@ -143,10 +143,10 @@ pub fn modulo(a: i64, b: i64) -> Outcome
         }
         return Outcome::Value(b + r);
     }
-    if b < 0 {
-        return Outcome::Value(-r);
+    if 0 < b {
+        return Outcome::Value(r);
     }
-    Outcome::Value(r)
+    Outcome::Value(-r)
 }
 
 // a to the n, for an a of magnitude 2 or more: at most 63 turns, since each doubles the magnitude or more.
