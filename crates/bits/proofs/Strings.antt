@@ -18,22 +18,22 @@ use Rattle.express.specs.kinds.Bits.{bit, number, bits, join, compare-bits}
 use Rattle.express.proofs.kinds.Bits.{length-bits, number-mod, number-lt, bits-mod, bits-append}
 use Rattle.express.proofs.kinds.Order.{compare-lt, compare-gt, compare-eq}
 use Rattle.values.specs.declared.End.the-variants.{OutOfRange}
-use Rattle.bits.specs.Meaning.{string, Joins, Shorter}
+use Rattle.bits.specs.Meaning.{bits-of, Joins, Shorter}
 use Rattle.bits.specs.declared.Binary.{Binary}
 use Rattle.bits.specs.declared.Joined.the-variants.{Whole, Ended}
 
 -- ---- shifts of every width
-under : (n k : ℕ) → Fits w64 n → 63 < k → n < 2 ^ k
+under : (n k : ℕ) → Fits w64 n → 64 ≤ k → n < 2 ^ k
 under n k f h = let g : n < 2 ^ 64 = f .fits in lt-of-lt-of-le g (pow-mono h)
 
-module _ (n k : ℕ) (f : Fits w64 n) (h : 63 < k) where
+module _ (n k : ℕ) (f : Fits w64 n) (h : 64 ≤ k) where
   pub none-high : 0 ≡ n / 2 ^ k
   none-high = sym (div-eq-of-lt (under n k f h))
 
   pub all-low : n ≡ n % 2 ^ k
   all-low = sym (mod-eq-of-lt (under n k f h))
 
-module _ (k : ℕ) (h : k ≤ 63) where
+module _ (k : ℕ) (h : k < 64) where
   one-shifted : 1 * 2 ^ k % 2 ^ 64 ≡ 2 ^ k
   one-shifted = rw (one-mul (2 ^ k)) (mod-eq-of-lt (pow-lt {i = k} {j = 64} (omega arith)))
 
@@ -44,24 +44,15 @@ module _ (k : ℕ) (h : k ≤ 63) where
   mask-is n = rw one-shifted
 
 -- ---- joining
-length-both : (a b : Binary) → length (string a ++ string b) ≡ a .length + b .length
+length-both : (a b : Binary) → length (bits-of a ++ bits-of b) ≡ a .length + b .length
 length-both a b =
-    length-append (string a) (string b) ∙ rw (length-bits (a .length) (a .number), length-bits (b .length) (b .number))
+    length-append (bits-of a) (bits-of b) ∙ rw (length-bits (a .length) (a .number), length-bits (b .length) (b .number))
 
-too-long : (a b : Binary) → 63 < a .length + b .length → Joins (string a) (string b) (Ended OutOfRange)
+pub too-long : (a b : Binary) → 63 < a .length + b .length → Joins (bits-of a) (bits-of b) (Ended OutOfRange)
 unfolding join
-too-long a b h = record { is = rw (length-both a b, lt-leb (a .length + b .length) 63 h); tidy = tt }
+too-long a b h = record { is = rw (length-both a b, lt-leb (a .length + b .length) 63 h); canonical = tt }
 
-pub too-long-alone : (a b : Binary) → 63 < a .length → Joins (string a) (string b) (Ended OutOfRange)
-too-long-alone a b h = too-long a b (omega arith)
-
-pub too-long-both : (a b : Binary) → 63 - a .length < b .length → Joins (string a) (string b) (Ended OutOfRange)
-too-long-both a b h = too-long a b (omega arith)
-
-module _ (a b : Binary) {m n : ℕ} (e : m ≡ a .number % 2 ^ a .length) (f : n ≡ b .number % 2 ^ b .length) (i : a .length ≤ 63) (j : b .length ≤ 63 - a .length) where
-  h : a .length + b .length ≤ 63
-  h = omega arith
-
+module _ (a b : Binary) {m n : ℕ} (e : m ≡ a .number % 2 ^ a .length) (f : n ≡ b .number % 2 ^ b .length) (h : a .length + b .length ≤ 64) where
   m-lt : m < 2 ^ a .length
   m-lt = rw e (mod-lt (a .number) (pow-pos (a .length)))
 
@@ -76,34 +67,32 @@ module _ (a b : Binary) {m n : ℕ} (e : m ≡ a .number % 2 ^ a .length) (f : n
 
   pub sum-fits : Fits w64 (m * 2 ^ b .length % 2 ^ 64 + n)
   sum-fits =
-      let g : 2 ^ (a .length + b .length) ≤ 2 ^ 63 = pow-mono h in
+      let g : 2 ^ (a .length + b .length) ≤ 2 ^ 64 = pow-mono h in
       rw shifted (record { fits = omega (arith, sum-lt) })
 
-  both : bits (a .length + b .length) (m * 2 ^ b .length + n) ≡ string a ++ string b
+  both : bits (a .length + b .length) (m * 2 ^ b .length + n) ≡ bits-of a ++ bits-of b
   both =
       let k = m * 2 ^ b .length + n in
-      let x : bits (a .length) (k / 2 ^ b .length) ≡ string a =
+      let x : bits (a .length) (k / 2 ^ b .length) ≡ bits-of a =
       ap (bits (a .length)) (high m (b .length) n-lt ∙ e) ∙ bits-mod (a .length) (a .length) (a .number) (omega arith) in
-      let y : bits (b .length) k ≡ string b =
+      let y : bits (b .length) k ≡ bits-of b =
       sym (bits-mod (b .length) (b .length) k (omega arith)) ∙ ap (bits (b .length)) (low m (b .length) n-lt ∙ f) ∙ bits-mod (b .length) (b .length) (b .number) (omega arith) in
       bits-append (a .length) (b .length) k ∙ rw (x, y)
 
-  pub joined : Joins (string a) (string b) (Whole (record { number = m * 2 ^ b .length % 2 ^ 64 + n; length = a .length + b .length }))
+  pub joined : a .length + b .length ≤ 63 → Joins (bits-of a) (bits-of b) (Whole (record { number = m * 2 ^ b .length % 2 ^ 64 + n; length = a .length + b .length }))
   unfolding join
-  joined = rw shifted (record { is = rw (length-both a b, le-leb (a .length + b .length) 63 h, both); tidy = sum-lt })
-
-pub ruleset joins = (too-long-alone, too-long-both, sum-fits, joined)
+  joined k = rw shifted (record { is = rw (length-both a b, le-leb (a .length + b .length) 63 k, both); canonical = (sum-lt, k) })
 
 -- ---- the first bits
-pub first-is : (a : Binary) (l : ℕ) → l ≤ a .length → a .number / 2 ^ (a .length - l) % 2 ^ l ≡ number (take l (string a))
+pub first-is : (a : Binary) (l : ℕ) → l ≤ a .length → a .number / 2 ^ (a .length - l) % 2 ^ l ≡ number (take l (bits-of a))
 first-is a l h =
     let k = a .length - l in
     let e : l + (a .length - l) ≡ a .length = omega arith in
-    let s : string a ≡ bits l (a .number / 2 ^ (a .length - l)) ++ bits (a .length - l) (a .number) =
+    let s : bits-of a ≡ bits l (a .number / 2 ^ (a .length - l)) ++ bits (a .length - l) (a .number) =
     ap (λ (j : ℕ). bits j (a .number)) (sym e) ∙ bits-append l (a .length - l) (a .number) in
     sym (ap (λ (xs : List Bool). number (take l xs)) s ∙ ap number (take-at _ _ l (length-bits l (a .number / 2 ^ (a .length - l)))) ∙ number-mod l (a .number / 2 ^ (a .length - l)))
 
-pub first-number : (a : Binary) (l : ℕ) {x y : ℕ} → l ≤ a .length → y ≡ a .number / 2 ^ (a .length - l) → x ≡ y % 2 ^ l → x ≡ number (take l (string a))
+pub first-number : (a : Binary) (l : ℕ) {x y : ℕ} → l ≤ a .length → y ≡ a .number / 2 ^ (a .length - l) → x ≡ y % 2 ^ l → x ≡ number (take l (bits-of a))
 first-number a l h e f = f ∙ rw e (first-is a l h)
 
 -- ---- the smaller length
@@ -181,36 +170,36 @@ module _ (l : ℕ) (xs ys : List Bool) where
   unfolding compare-lists
   rest-same g h = rw (drop-of-length-le xs g, drop-of-length-le ys h)
 
-module _ (a b : Binary) {l m n : ℕ} (S : Shorter (a .length) (b .length) l) (e : m ≡ number (take l (string a))) (f : n ≡ number (take l (string b))) where
-  by-numbers : {o : Ordering} → compare m n ≡ o → compare-bits (string a) (string b) ≡ then o (compare-bits (drop l (string a)) (drop l (string b)))
+module _ (a b : Binary) {l m n : ℕ} (S : Shorter (a .length) (b .length) l) (e : m ≡ number (take l (bits-of a))) (f : n ≡ number (take l (bits-of b))) where
+  by-numbers : {o : Ordering} → compare m n ≡ o → compare-bits (bits-of a) (bits-of b) ≡ then o (compare-bits (drop l (bits-of a)) (drop l (bits-of b)))
   by-numbers {o} h =
-      let k : compare (number (take l (string a))) (number (take l (string b))) ≡ o = rw (← e, ← f) h in
-      compare-first l (string a) (string b) (rw (length-bits (a .length) (a .number)) (S .first)) (rw (length-bits (b .length) (b .number)) (S .second))
-      ∙ ap (λ (o : Ordering). then o (compare-bits (drop l (string a)) (drop l (string b)))) k
+      let k : compare (number (take l (bits-of a))) (number (take l (bits-of b))) ≡ o = rw (← e, ← f) h in
+      compare-first l (bits-of a) (bits-of b) (rw (length-bits (a .length) (a .number)) (S .first)) (rw (length-bits (b .length) (b .number)) (S .second))
+      ∙ ap (λ (o : Ordering). then o (compare-bits (drop l (bits-of a)) (drop l (bits-of b)))) k
 
-  pub less : m < n → Ordering·lt ≡ compare-bits (string a) (string b)
+  pub less : m < n → Ordering·lt ≡ compare-bits (bits-of a) (bits-of b)
   less h = sym (by-numbers (compare-lt m n h))
 
-  pub more : n < m → Ordering·gt ≡ compare-bits (string a) (string b)
+  pub more : n < m → Ordering·gt ≡ compare-bits (bits-of a) (bits-of b)
   more h = sym (by-numbers (compare-gt m n h))
 
   module _ (g : n ≤ m) (h : m ≤ n) where
-    equal : compare-bits (string a) (string b) ≡ compare-bits (drop l (string a)) (drop l (string b))
+    equal : compare-bits (bits-of a) (bits-of b) ≡ compare-bits (drop l (bits-of a)) (drop l (bits-of b))
     equal = by-numbers (compare-eq m n (omega arith))
 
-    pub shorter-less : a .length < b .length → Ordering·lt ≡ compare-bits (string a) (string b)
+    pub shorter-less : a .length < b .length → Ordering·lt ≡ compare-bits (bits-of a) (bits-of b)
     shorter-less k =
         let p : l ≡ a .length = is-shorter S .0 (omega arith) in
-        sym (equal ∙ rest-less l (string a) (string b) (rw length-bits (omega arith)) (rw length-bits (omega arith)))
+        sym (equal ∙ rest-less l (bits-of a) (bits-of b) (rw length-bits (omega arith)) (rw length-bits (omega arith)))
 
-    pub longer-more : b .length < a .length → Ordering·gt ≡ compare-bits (string a) (string b)
+    pub longer-more : b .length < a .length → Ordering·gt ≡ compare-bits (bits-of a) (bits-of b)
     longer-more k =
         let p : l ≡ b .length = is-shorter S .1 (omega arith) in
-        sym (equal ∙ rest-more l (string a) (string b) (rw length-bits (omega arith)) (rw length-bits (omega arith)))
+        sym (equal ∙ rest-more l (bits-of a) (bits-of b) (rw length-bits (omega arith)) (rw length-bits (omega arith)))
 
-    pub both-same : b .length ≤ a .length → a .length ≤ b .length → Ordering·eq ≡ compare-bits (string a) (string b)
+    pub both-same : b .length ≤ a .length → a .length ≤ b .length → Ordering·eq ≡ compare-bits (bits-of a) (bits-of b)
     both-same j k =
         let p : l ≡ a .length = is-shorter S .0 (omega arith) in
-        sym (equal ∙ rest-same l (string a) (string b) (rw length-bits (omega arith)) (rw length-bits (omega arith)))
+        sym (equal ∙ rest-same l (bits-of a) (bits-of b) (rw length-bits (omega arith)) (rw length-bits (omega arith)))
 
-pub ruleset orders = (less, more, shorter-less, longer-more, both-same)
+pub ruleset comparisons = (less, more, shorter-less, longer-more, both-same)

@@ -12,21 +12,22 @@ use Rattle.bits.specs.declared.Joined.{Joined}
 use Rattle.bits.specs.declared.Joined.the-variants.{Whole, Ended}
 
 -- the list of a pair: the last `length` bits of `number`
-abbrev pub string : Binary → List Bool
-string b = bits (b .length) (b .number)
+abbrev pub bits-of : Binary → List Bool
+bits-of b = bits (b .length) (b .number)
 
-abbrev pub joined-of : Joined → Answer
-joined-of (Whole b) = binary (string b)
-joined-of (Ended e) = end (end-number e)
+-- the answer that joining gives
+abbrev pub binary-answer : Joined → Answer
+binary-answer (Whole b) = binary (bits-of b)
+binary-answer (Ended e) = end (end-number e)
 
--- the number holds the bits and nothing else, so that it is "bits as a number" of an answer row
-abbrev pub Tidy : Joined → Type 0
-Tidy (Whole b) = b .number < 2 ^ b .length
-Tidy (Ended e) = Unit {0}
+-- the number has these bits and no others, and fits the number of an answer row
+abbrev pub Canonical : Joined → Type 0
+Canonical (Whole b) = (b .number < 2 ^ b .length) × (b .length ≤ 63)
+Canonical (Ended e) = Unit {0}
 
 pub record Joins (xs ys : List Bool) (r : Joined) : Type 0 where
-  pub is : joined-of r ≡ join xs ys
-  pub tidy : Tidy r
+  pub is : binary-answer r ≡ join xs ys
+  pub canonical : Canonical r
 
 -- r is the smaller of l and k
 pub record Shorter (l k r : ℕ) : Type 0 where

@@ -4,9 +4,15 @@ ghost use Prim.Native.Nat.{_≤_, _/_, _%_, _^_};
 ghost use lib.ListN.{take};
 ghost use Rattle.express.specs.kinds.Bits.{number, compare-bits};
 ghost use Rattle.values.specs.Meaning.{ordering-of};
-ghost use Rattle.bits.specs.Meaning.{string, Joins, Shorter};
+ghost use Rattle.bits.specs.Meaning.{bits-of, Joins, Shorter};
 use values::End;
 use values::order::Order;
+
+// The most bits of a binary.
+pub const MOST: u64 = 63;
+
+// The bits of a number.
+const WORD: u8 = 64;
 
 // The last `length` bits of `number`, the leftmost of them weighing most. Every pair stands for a list of bits: what
 // `number` has left of them plays no part.
@@ -25,7 +31,7 @@ pub enum Joined {
 fn high(n: u64, k: u8) -> u64
     ensures { λ r. ⌜ r ≡ n / 2 ^ k ⌝ }
 {
-    if 63 < k {
+    if WORD <= k {
         return 0;
     }
     n >> (k as u64)
@@ -35,20 +41,17 @@ fn high(n: u64, k: u8) -> u64
 fn low(n: u64, k: u8) -> u64
     ensures { λ r. ⌜ r ≡ n % 2 ^ k ⌝ }
 {
-    if 63 < k {
+    if WORD <= k {
         return n;
     }
     n % (1 << (k as u64))
 }
 
-// The bits of a, then those of b: 63 at most.
+// The bits of a, then those of b.
 pub fn join(a: Binary, b: Binary) -> Joined
-    ensures { λ r. ⌜ Joins (string a) (string b) r ⌝ }
+    ensures { λ r. ⌜ Joins (bits-of a) (bits-of b) r ⌝ }
 {
-    if 63 < a.length {
-        return Joined::Ended(End::OutOfRange);
-    }
-    if 63 - a.length < b.length {
+    if MOST < (a.length as u64) + (b.length as u64) {
         return Joined::Ended(End::OutOfRange);
     }
     let m = low(a.number, a.length);
@@ -62,7 +65,7 @@ pub fn join(a: Binary, b: Binary) -> Joined
 // The number of the first l bits.
 fn first(a: Binary, l: u8) -> u64
     requires { ⌜ l ≤ a .length ⌝ }
-    ensures { λ r. ⌜ r ≡ number (take l (string a)) ⌝ }
+    ensures { λ r. ⌜ r ≡ number (take l (bits-of a)) ⌝ }
 {
     low(high(a.number, a.length - l), l)
 }
@@ -76,7 +79,7 @@ fn shorter(l: u8, k: u8) -> u8
 
 // From the left as far as both go; then the shorter is less.
 pub fn compare(a: Binary, b: Binary) -> Order
-    ensures { λ r. ⌜ ordering-of r ≡ compare-bits (string a) (string b) ⌝ }
+    ensures { λ r. ⌜ ordering-of r ≡ compare-bits (bits-of a) (bits-of b) ⌝ }
 {
     let l = shorter(a.length, b.length);
     let m = first(a, l);

@@ -8,3 +8,10 @@ pub const LOGICAL: u8 = 2;
 pub const BINARY: u8 = 3;
 
 pub const ITEM: u8 = 4;
+
+// The numbers of logical answers.
+pub const FALSE: u8 = 0;
+
+pub const UNKNOWN: u8 = 1;
+
+pub const TRUE: u8 = 2;

@@ -1,3 +1,3 @@
+pub mod Places
 pub mod Reply
-pub mod Row
 pub mod Told

@@ -1,72 +1,80 @@
-// The arithmetic on integers: the kind of the answer is returned, 1 for a value and else the end's number; a value is
-// written, and what is written for an end is left free.
+// The arithmetic on integers. An answer passes as its row: the kind is returned, number and length are written.
 ghost use mathlib.Core.Path.{_≡_};
-ghost use Rattle.express.specs.kinds.Integer.{sum, difference, product, DIV, MOD, power, negation};
+ghost use Rattle.express.specs.kinds.AnswerRow.{row, row-of};
+ghost use Rattle.express.specs.kinds.Integer.{sum, difference, product, DIV, MOD, power, negation, compareℤ};
 ghost use Rattle.integers.specs.Meaning.{integer-answer};
-ghost use Rattle.exports.specs.Row.{row-answer};
+ghost use Rattle.exports.specs.Places.{order-place};
+use crate::logicals;
 use integers::Outcome;
 
-// An outcome as a kind and a number.
-fn row(o: Outcome, value: &mut i64) -> u8
-    ensures { λ r. ⌜ row-answer r (now (value .exit)) ≡ integer-answer o ⌝ }
+fn answer_row(outcome: Outcome, number: &mut i64, length: &mut u8) -> u8
+    ensures { λ r. ⌜ row r (now (number .exit)) (now (length .exit)) ≡ row-of (integer-answer outcome) ⌝ }
 {
-    match o {
+    *length = 0;
+    match outcome {
         Outcome::Value(v) => {
-            *value = v;
-            1
+            *number = v;
+            codes::answers::INTEGER
         }
         Outcome::Ended(e) => {
-            *value = 0;
+            *number = 0;
             e.number()
         }
     }
 }
 
 #[no_mangle]
-pub extern "C" fn woffulent_add(a: i64, b: i64, value: &mut i64) -> u8
-    ensures { λ r. ⌜ row-answer r (now (value .exit)) ≡ sum a b ⌝ }
+pub extern "C" fn woffulent_add(a: i64, b: i64, number: &mut i64, length: &mut u8) -> u8
+    ensures { λ r. ⌜ row r (now (number .exit)) (now (length .exit)) ≡ row-of (sum a b) ⌝ }
 {
-    row(integers::add(a, b), value)
+    answer_row(integers::add(a, b), number, length)
 }
 
 #[no_mangle]
-pub extern "C" fn woffulent_subtract(a: i64, b: i64, value: &mut i64) -> u8
-    ensures { λ r. ⌜ row-answer r (now (value .exit)) ≡ difference a b ⌝ }
+pub extern "C" fn woffulent_subtract(a: i64, b: i64, number: &mut i64, length: &mut u8) -> u8
+    ensures { λ r. ⌜ row r (now (number .exit)) (now (length .exit)) ≡ row-of (difference a b) ⌝ }
 {
-    row(integers::subtract(a, b), value)
+    answer_row(integers::subtract(a, b), number, length)
 }
 
 #[no_mangle]
-pub extern "C" fn woffulent_multiply(a: i64, b: i64, value: &mut i64) -> u8
-    ensures { λ r. ⌜ row-answer r (now (value .exit)) ≡ product a b ⌝ }
+pub extern "C" fn woffulent_multiply(a: i64, b: i64, number: &mut i64, length: &mut u8) -> u8
+    ensures { λ r. ⌜ row r (now (number .exit)) (now (length .exit)) ≡ row-of (product a b) ⌝ }
 {
-    row(integers::multiply(a, b), value)
+    answer_row(integers::multiply(a, b), number, length)
 }
 
 #[no_mangle]
-pub extern "C" fn woffulent_div(a: i64, b: i64, value: &mut i64) -> u8
-    ensures { λ r. ⌜ row-answer r (now (value .exit)) ≡ DIV a b ⌝ }
+pub extern "C" fn woffulent_div(a: i64, b: i64, number: &mut i64, length: &mut u8) -> u8
+    ensures { λ r. ⌜ row r (now (number .exit)) (now (length .exit)) ≡ row-of (DIV a b) ⌝ }
 {
-    row(integers::div(a, b), value)
+    answer_row(integers::div(a, b), number, length)
 }
 
 #[no_mangle]
-pub extern "C" fn woffulent_modulo(a: i64, b: i64, value: &mut i64) -> u8
-    ensures { λ r. ⌜ row-answer r (now (value .exit)) ≡ MOD a b ⌝ }
+pub extern "C" fn woffulent_modulo(a: i64, b: i64, number: &mut i64, length: &mut u8) -> u8
+    ensures { λ r. ⌜ row r (now (number .exit)) (now (length .exit)) ≡ row-of (MOD a b) ⌝ }
 {
-    row(integers::modulo(a, b), value)
+    answer_row(integers::modulo(a, b), number, length)
 }
 
 #[no_mangle]
-pub extern "C" fn woffulent_power(a: i64, b: i64, value: &mut i64) -> u8
-    ensures { λ r. ⌜ row-answer r (now (value .exit)) ≡ power a b ⌝ }
+pub extern "C" fn woffulent_power(a: i64, b: i64, number: &mut i64, length: &mut u8) -> u8
+    ensures { λ r. ⌜ row r (now (number .exit)) (now (length .exit)) ≡ row-of (power a b) ⌝ }
 {
-    row(integers::power(a, b), value)
+    answer_row(integers::power(a, b), number, length)
 }
 
 #[no_mangle]
-pub extern "C" fn woffulent_negate(a: i64, value: &mut i64) -> u8
-    ensures { λ r. ⌜ row-answer r (now (value .exit)) ≡ negation a ⌝ }
+pub extern "C" fn woffulent_negate(a: i64, number: &mut i64, length: &mut u8) -> u8
+    ensures { λ r. ⌜ row r (now (number .exit)) (now (length .exit)) ≡ row-of (negation a) ⌝ }
 {
-    row(integers::negate(a), value)
+    answer_row(integers::negate(a), number, length)
+}
+
+#[no_mangle]
+pub extern "C" fn woffulent_compare(a: i64, b: i64) -> u8
+    ensures { λ r. ⌜ r ≡ order-place (compareℤ a b) ⌝ }
+{
+    logicals::order_place(integers::compare(a, b))
 }

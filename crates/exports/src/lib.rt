@@ -2,7 +2,9 @@
 // length; a reading step as its reply, returned, and its number, written to a place of the caller's; any other enum as one
 // number.
 pub mod arithmetic;
+pub mod binaries;
 pub mod graphs;
+pub mod logicals;
 pub mod names;
 
 ghost use mathlib.Core.Path.{_≡_};

@@ -1,42 +1,31 @@
 -- Laws of the power: a turn of the loop, what is too large stays so, and the powers of 0, 1 and -1.
 use mathlib.Core.Path.{_≡_, refl, sym, ap, _∙_}
-use mathlib.Core.Bool.{Bool, true, false, not}
+use mathlib.Core.Bool.{Bool, true, false, not, true≢false}
 use Prim.Native.Nat.{ℕ, zero, suc, _+_, _-_, _*_, _%_, _^_, _≤_, _<_}
 use native.Mathlib.Nat.{add-zero, add-suc, mul-le-mul, le-trans}
 use native.Mathlib.Numerals.{add-one}
 use native.Mathlib.Omega.{arith}
-use lib.Dec.{eqb}
-use lib.IntN.{ℤ, pos, negsuc, negℤ, natAbs, _*ℤ_, pow, one, *ℤ-zero}
-use lib.Signed.{mag}
+use lib.Dec.{T, eqb}
+use lib.IntN.{ℤ, pos, negsuc, natAbs, _*ℤ_, pow, one, *ℤ-zero}
+use lib.Signed.{mag, ltZ, nonNeg}
 use mir.Syntax.{w64}
-use mir.Val.{SFits, toZ, ofZ}
+use mir.Val.{SFits, Fits, toZ, ofZ}
 use mir.Facts.{toZ-ofZ}
 use Rattle.express.specs.kinds.Answer.{Answer, integer, end}
-use Rattle.express.specs.kinds.Integer.{exact, product, signed, power}
+use Rattle.express.specs.kinds.Integer.{exact, product, negative, signed, power}
 use Rattle.integers.specs.Meaning.{integer-answer}
 use Rattle.values.specs.Meaning.{end-number}
 use Rattle.values.specs.declared.End.{End}
 use Rattle.integers.specs.declared.Outcome.{Outcome}
 use Rattle.integers.specs.declared.Outcome.the-variants.{Value, Ended}
-use Rattle.integers.specs.Parted.{Complemented, Measured}
-use Rattle.integers.specs.declared.Complement.{Complement}
-use Rattle.integers.specs.declared.Magnitude.{Magnitude}
-use Rattle.integers.proofs.Arithmetic.{exact-fits, exact-over, value-is, ended-is, is-zero, is-minus, is-plus, own, own-measure}
+use Rattle.integers.proofs.Exact.{own, exact-fits, exact-over, value-is, ended-is, sign-is, bits-are, mag-abs, abs-neg}
 
 -- ---- the magnitude of a product, and that what is too large stays so
-abs-neg : (n : ℕ) → natAbs (negℤ (pos n)) ≡ n
-abs-neg zero = refl
-abs-neg (suc n) = refl
-
 abs-times : (a b : ℤ) → natAbs (a *ℤ b) ≡ natAbs a * natAbs b
 abs-times (pos m) (pos n) = refl
-abs-times (pos m) (negsuc n) = abs-neg (m * suc n)
-abs-times (negsuc m) (pos n) = abs-neg (suc m * n)
+abs-times (pos m) (negsuc n) = abs-neg (pos (m * suc n))
+abs-times (negsuc m) (pos n) = abs-neg (pos (suc m * n))
 abs-times (negsuc m) (negsuc n) = refl
-
-mag-abs : (z : ℤ) → mag z ≤ natAbs z
-mag-abs (pos n) = omega arith
-mag-abs (negsuc n) = omega arith
 
 abs-mag : (z : ℤ) → natAbs z ≤ mag z + 1
 abs-mag (pos n) = omega arith
@@ -111,31 +100,59 @@ of-minus-one zero = refl
 of-minus-one (suc n) =
     ap (λ (z : ℤ). z *ℤ negsuc 0) (of-minus-one n) ∙ turned (eqb (n % 2) 1) ∙ ap (λ (t : Bool). signed t (pos 1)) (sym (parity (n % 2) (suc n % 2) (omega arith) (omega arith)))
 
--- ---- the answer, by the parts of the two numbers, as `search` takes it
-pub negative-power : (a : ℤ) {b : ℤ} {q : Complement} → Complemented b q → q .minus ≡ true → end 18 ≡ power a b
+-- ---- the answers, as the code has them: n is b, which is not below 0
+at-negative : (a b : ℤ) → negative b ≡ true → end 18 ≡ power a b
 unfolding power
-negative-power a Q s = rw (← is-minus Q s)
+at-negative a (pos n) s = absurd (true≢false (sym s))
+at-negative a (negsuc n) s = refl
 
-module _ (a : ℤ) {b : ℤ} {q : Complement} (Q : Complemented b q) (s : q .minus ≡ false) where
-  raised : exact (pow a (q .size)) ≡ power a b
-  unfolding power
-  raised = rw (← is-plus Q s)
+pub negative-power : {b : ℤ} (a : ℤ) → SFits w64 b → ltZ (own b) (pos 0) ≡ true → end 18 ≡ power a b
+negative-power {b} a g s = at-negative a b (sign-is g s)
 
-pub raised-is : {a b : ℤ} {q : Complement} {x : Answer} → SFits w64 a → Complemented b q → q .minus ≡ false → x ≡ exact (pow (toZ w64 (ofZ w64 a)) (q .size)) → x ≡ power a b
-raised-is {a} f Q s e = rw (toZ-ofZ f) at e ∙ raised a Q s
+-- b as a number without a sign
+casts : (b : ℤ) → mag b < 2 ^ 63 → negative b ≡ false → T (nonNeg b) × Fits w64 (natAbs b)
+casts (pos n) h s = (tt, record { fits = omega arith })
+casts (negsuc n) h s = absurd (true≢false s)
 
-module _ {a b : ℤ} {q : Complement} {p : Magnitude} {x : Answer} (Q : Complemented b q) (s : q .minus ≡ false) (P : Measured a p) where
-  pub zero-zero : p .abs ≡ 0 → q .size ≡ 0 → x ≡ exact (pos 1) → x ≡ power a b
+pub plus-casts : {b : ℤ} → SFits w64 b → ltZ (own b) (pos 0) ≡ false → T (nonNeg (own b)) × Fits w64 (natAbs (own b))
+plus-casts {b} g s = rw (toZ-ofZ g) (casts b (g .sfits) (sign-is g s))
+
+at-natural : (a b : ℤ) → negative b ≡ false → exact (pow a (natAbs b)) ≡ power a b
+unfolding power
+at-natural a (pos n) s = refl
+at-natural a (negsuc n) s = absurd (true≢false s)
+
+module _ {a b : ℤ} (f : SFits w64 a) (g : SFits w64 b) (s : ltZ (own b) (pos 0) ≡ false) where
+  natural : {z : ℤ} → z ≡ pow a (natAbs (own b)) → mag z < 2 ^ 63 → integer z ≡ power a b
+  natural {z} e h = sym (exact-fits z h) ∙ ap exact e ∙ rw (toZ-ofZ g) (at-natural a b (sign-is g s))
+
+  pub raised-is : {x : Answer} → x ≡ exact (pow (own a) (natAbs (own b))) → x ≡ power a b
+  raised-is e = rw (toZ-ofZ f, toZ-ofZ g) at e ∙ at-natural a b (sign-is g s)
+
+  pub power-of-none : natAbs (own b) ≡ 0 → integer (pos 1) ≡ power a b
   unfolding pow one
-  zero-zero e f g = g ∙ ap exact (rw f) ∙ raised a Q s
+  power-of-none n = natural (rw n) (omega arith)
 
-  pub zero-some : p .abs ≡ 0 → (q .size ≡ 0 → ⊥) → x ≡ exact (pos 0) → x ≡ power a b
-  zero-some e f g = g ∙ ap exact (sym (rw (← is-zero P e) (of-zero (q .size) f))) ∙ raised a Q s
+  pub power-zero : (natAbs (own b) ≡ 0 → ⊥) → ofZ w64 a ≡ 0 → integer (pos 0) ≡ power a b
+  power-zero n e = natural (sym (rw (bits-are f e) (of-zero (natAbs (own b)) n))) (omega arith)
 
-  pub one-minus : p .abs ≡ 1 → p .minus ≡ true → x ≡ exact (signed (eqb (q .size % 2) 1) (pos 1)) → x ≡ power a b
-  one-minus e f g = let h : negsuc 0 ≡ a = rw (e, f) at (P .is) in g ∙ ap exact (sym (rw (← h) (of-minus-one (q .size)))) ∙ raised a Q s
+  pub power-one : ofZ w64 a ≡ 1 → integer (pos 1) ≡ power a b
+  power-one e = natural (sym (rw (bits-are f e) (of-one (natAbs (own b))))) (omega arith)
 
-  pub one-plus : p .abs ≡ 1 → p .minus ≡ false → x ≡ exact (pos 1) → x ≡ power a b
-  one-plus e f g = let h : pos 1 ≡ a = rw (e, f) at (P .is) in g ∙ ap exact (sym (rw (← h) (of-one (q .size)))) ∙ raised a Q s
+  module _ (e : ofZ w64 a ≡ 18446744073709551615) where
+    minus-one : (r : ℕ) → natAbs (own b) % 2 ≡ r → signed (eqb r 1) (pos 1) ≡ pow a (natAbs (own b))
+    minus-one r p = rw (bits-are f e, ← p) (sym (of-minus-one (natAbs (own b))))
 
-pub ruleset powers = (own, own-measure, negative-power, raised-is, zero-zero, zero-some, one-minus, one-plus)
+    pub power-even : natAbs (own b) % 2 ≡ 0 → integer (pos 1) ≡ power a b
+    power-even p = natural (minus-one 0 p) (omega arith)
+
+    pub power-odd : (natAbs (own b) % 2 ≡ 0 → ⊥) → integer (negsuc 0) ≡ power a b
+    power-odd p = natural (minus-one 1 (omega arith)) (omega arith)
+
+two-or-more : (a : ℤ) → (ofZ w64 a ≡ 0 → ⊥) → (ofZ w64 a ≡ 1 → ⊥) → (ofZ w64 a ≡ 18446744073709551615 → ⊥) → 2 ≤ natAbs a
+two-or-more (pos n) p q r = omega arith
+two-or-more (negsuc zero) p q r = absurd (r refl)
+two-or-more (negsuc (suc n)) p q r = omega arith
+
+pub large : {a : ℤ} → SFits w64 a → (ofZ w64 a ≡ 0 → ⊥) → (ofZ w64 a ≡ 1 → ⊥) → (ofZ w64 a ≡ 18446744073709551615 → ⊥) → 2 ≤ natAbs (own a)
+large {a} f p q r = rw (toZ-ofZ f) (two-or-more a p q r)

@@ -1,175 +1,174 @@
--- Sums: whether one leaves the range, by a test of the first operand against the end of the range less the second. Differences, by a sum.
+-- Sums and differences: whether one leaves the range, by a test of the first operand against the end of the range less the second. Negation.
 use mathlib.Core.Path.{_≡_, refl, sym, _∙_, ap}
-use mathlib.Core.Bool.{Bool, true, false}
-use Prim.Native.Nat.{ℕ, suc, _+_, _-_, _<_, _≤_, _^_}
+use mathlib.Core.Bool.{Bool, true, false, true≢false}
+use Prim.Native.Nat.{ℕ, zero, suc, _-_, _<_, _≤_, _^_}
 use native.Mathlib.Omega.{arith}
-use borrow.Author.Tests.{ltb-true, ltb-false}
-use lib.Dec.{ltb}
-use lib.IntN.{ℤ, pos, negsuc, subℕ, negℤ, _+ℤ_, _-ℤ_, +ℤ-assoc, +ℤ-idl, negℤ-+ℤ, negℤ-negℤ}
-use lib.Signed.{ltZ, mag}
+use borrow.Author.Tests.{ltb-true, ltb-false, lt-ltb, le-ltb}
+use lib.Dec.{ltb, leb·suc-suc}
+use lib.IntN.{ℤ, pos, negsuc, subℕ, negℤ, natAbs, _+ℤ_, _-ℤ_, +ℤ-assoc, +ℤ-comm, +ℤ-idl, negℤ-+ℤ, negℤ-negℤ}
+use lib.Signed.{ltZ, mag, natAbs-le}
 use mir.Facts.{toZ-ofZ}
 use mir.Syntax.{w64}
-use mir.Val.{SFits, toZ, ofZ}
-use Rattle.express.specs.kinds.Answer.{integer, end}
-use Rattle.values.specs.declared.End.{End}
-use Rattle.values.specs.Meaning.{end-number}
-use Rattle.integers.specs.Meaning.{integer-answer}
-use Rattle.integers.specs.declared.Outcome.{Outcome}
-use Rattle.integers.specs.declared.Outcome.the-variants.{Value, Ended}
-use Rattle.express.specs.kinds.Integer.{exact, sum, difference, negative}
+use mir.Val.{SFits, ofZ}
+use Rattle.express.specs.kinds.Answer.{end}
+use Rattle.express.specs.kinds.Integer.{exact, negation, negative}
 use Rattle.express.proofs.kinds.Integer.{least, greatest}
-use Rattle.integers.proofs.Arithmetic.{sub-le, sub-lt, pos-pos, below-zero, exact-fits, exact-over, value-is, ended-is, ones-minus, ones-plus}
+use Rattle.integers.proofs.Exact.{own, exact-over, Gives, gives, sign-is, bits-are, abs-neg}
 
-small-by : (m n : ℕ) (t : Bool) → ltb m (suc n) ≡ t → m < 2 ^ 63 → n < 2 ^ 63 → mag (subℕ m (suc n)) < 2 ^ 63
-small-by m n true e g h = let l = ltb-true m (suc n) e in rw (sub-lt m (suc n) l) (omega arith)
-small-by m n false e g h = let l = ltb-false m (suc n) e in rw (sub-le m (suc n) l) (omega arith)
+-- ---- the order by the sign of a difference, so that a number can be moved to the other side
+pub sub-le : (a b : ℕ) → b ≤ a → subℕ a b ≡ pos (a - b)
+sub-le a b h = rw (le-ltb a b h)
 
-small : (m n : ℕ) → m < 2 ^ 63 → n < 2 ^ 63 → mag (subℕ m (suc n)) < 2 ^ 63
-small m n = small-by m n (ltb m (suc n)) refl
+pub sub-lt : (a b : ℕ) → a < b → subℕ a b ≡ negsuc (b - suc a)
+sub-lt a b h = rw (lt-ltb a b h)
 
--- ---- a second operand -(n + 1): least + (n + 1) is 0, or below it
-room : (n : ℕ) (t : Bool) → ltb (suc n) (2 ^ 63) ≡ t → n < 2 ^ 63 → mag (least -ℤ negsuc n) < 2 ^ 63
-room n true e h = let l = ltb-true (suc n) (2 ^ 63) e in rw (sub-lt (suc n) (2 ^ 63) l) (omega arith)
-room n false e h = let l = ltb-false (suc n) (2 ^ 63) e in rw (sub-le (suc n) (2 ^ 63) l) (omega arith)
+pos-pos : (m n : ℕ) → pos m -ℤ pos n ≡ subℕ m n
+pos-pos m zero = ap pos (omega arith) ∙ sym (sub-le m 0 (omega arith))
+pos-pos m (suc n) = refl
 
-low-over : (a : ℤ) (n : ℕ) (t : Bool) → ltb (suc n) (2 ^ 63) ≡ t → n < 2 ^ 63 → ltZ a (least -ℤ negsuc n) ≡ true → 2 ^ 63 ≤ mag (a +ℤ negsuc n)
-low-over (pos m) n true e h k = let z : _≡_ {A = ℕ} 0 1 = cc (rw (sub-lt (suc n) (2 ^ 63) (ltb-true (suc n) (2 ^ 63) e)) at k) in absurd (omega arith)
-low-over (pos m) n false e h k =
-    let l = ltb-false (suc n) (2 ^ 63) e in
-    let i : ltb m (suc n - 2 ^ 63) ≡ true = rw (sub-le (suc n) (2 ^ 63) l) at k in
-    let j = ltb-true m (suc n - 2 ^ 63) i in absurd (omega arith)
-low-over (negsuc m) n true e h k =
-    let l = ltb-true (suc n) (2 ^ 63) e in
-    let i : ltb (2 ^ 63 - suc (suc n)) m ≡ true = rw (sub-lt (suc n) (2 ^ 63) l) at k in
-    let j = ltb-true (2 ^ 63 - suc (suc n)) m i in omega arith
-low-over (negsuc m) n false e h k = let l = ltb-false (suc n) (2 ^ 63) e in omega arith
+less-by : (m n : ℕ) (t : Bool) → ltb m n ≡ t → negative (subℕ m n) ≡ t
+less-by m n true e = rw e
+less-by m n false e = rw e
 
-low-under : (a : ℤ) (n : ℕ) (t : Bool) → ltb (suc n) (2 ^ 63) ≡ t → mag a < 2 ^ 63 → n < 2 ^ 63 → ltZ a (least -ℤ negsuc n) ≡ false → mag (a +ℤ negsuc n) < 2 ^ 63
-low-under (pos m) n t e g h k = small m n g h
-low-under (negsuc m) n true e g h k =
-    let l = ltb-true (suc n) (2 ^ 63) e in
-    let i : ltb (2 ^ 63 - suc (suc n)) m ≡ false = rw (sub-lt (suc n) (2 ^ 63) l) at k in
-    let j = ltb-false (2 ^ 63 - suc (suc n)) m i in omega arith
-low-under (negsuc m) n false e g h k = let z : _≡_ {A = ℕ} 0 1 = cc (rw (sub-le (suc n) (2 ^ 63) (ltb-false (suc n) (2 ^ 63) e)) at k) in absurd (omega arith)
+pub less-is : (a b : ℤ) → ltZ a b ≡ negative (a -ℤ b)
+less-is (pos m) (pos n) = rw (pos-pos m n) (sym (less-by m n (ltb m n) refl))
+less-is (pos m) (negsuc n) = refl
+less-is (negsuc m) (pos zero) = sym (less-by 0 (suc m) true (lt-ltb 0 (suc m) (omega arith)))
+less-is (negsuc m) (pos (suc n)) = refl
+less-is (negsuc m) (negsuc n) = sym (less-by (suc n) (suc m) (ltb n m) (leb·suc-suc (suc n) m))
 
--- ---- a second operand n
-high-is : (n : ℕ) → n < 2 ^ 63 → greatest -ℤ pos n ≡ pos (9223372036854775807 - n)
-high-is n h = pos-pos 9223372036854775807 n ∙ sub-le 9223372036854775807 n (omega arith)
+minus-minus : (a c b : ℤ) → a -ℤ (c -ℤ b) ≡ a +ℤ b -ℤ c
+minus-minus a c b =
+    ap (λ (z : ℤ). a +ℤ z) (negℤ-+ℤ c (negℤ b) ∙ ap (λ (z : ℤ). negℤ c +ℤ z) (negℤ-negℤ b) ∙ +ℤ-comm (negℤ c) b) ∙ sym (+ℤ-assoc a b (negℤ c))
 
-high-over : (a : ℤ) (n : ℕ) → n < 2 ^ 63 → ltZ (pos (9223372036854775807 - n)) a ≡ true → 2 ^ 63 ≤ mag (a +ℤ pos n)
-high-over (pos m) n h k = let j = ltb-true (9223372036854775807 - n) m k in omega arith
-high-over (negsuc m) n h k = let z : _≡_ {A = ℕ} 0 1 = cc in absurd (omega arith)
+minus-plus : (c b a : ℤ) → c -ℤ b -ℤ a ≡ c -ℤ (a +ℤ b)
+minus-plus c b a = +ℤ-assoc c (negℤ b) (negℤ a) ∙ ap (λ (z : ℤ). c +ℤ z) (+ℤ-comm (negℤ b) (negℤ a) ∙ sym (negℤ-+ℤ a b))
 
-high-under : (a : ℤ) (n : ℕ) → mag a < 2 ^ 63 → n < 2 ^ 63 → ltZ (pos (9223372036854775807 - n)) a ≡ false → mag (a +ℤ pos n) < 2 ^ 63
-high-under (pos m) n g h k = let j = ltb-false (9223372036854775807 - n) m k in omega arith
-high-under (negsuc m) n g h k = small n m h g
+under : (a c b : ℤ) → ltZ a (c -ℤ b) ≡ ltZ (a +ℤ b) c
+under a c b = less-is a (c -ℤ b) ∙ ap negative (minus-minus a c b) ∙ sym (less-is (a +ℤ b) c)
 
--- ---- by the sign of the second operand: the room that it leaves, and what a test against that says
-pub record Low (a b : ℤ) : Type 0 where
-  pub fits : mag (least -ℤ b) < 2 ^ 63
-  pub over : ltZ a (least -ℤ b) ≡ true → 2 ^ 63 ≤ mag (a +ℤ b)
-  pub under : ltZ a (least -ℤ b) ≡ false → mag (a +ℤ b) < 2 ^ 63
+over : (c b a : ℤ) → ltZ (c -ℤ b) a ≡ ltZ c (a +ℤ b)
+over c b a = less-is (c -ℤ b) a ∙ ap negative (minus-plus c b a) ∙ sym (less-is c (a +ℤ b))
 
-low : (a b : ℤ) → mag a < 2 ^ 63 → mag b < 2 ^ 63 → negative b ≡ true → Low a b
-low a (pos n) f g s = let z : _≡_ {A = ℕ} 0 1 = cc in absurd (omega arith)
-low a (negsuc n) f g s =
-    let t = ltb (suc n) (2 ^ 63) in
-    record { fits = room n t refl g; over = low-over a n t refl g; under = low-under a n t refl f g }
+-- ---- the two ends of the range
+low-over : (z : ℤ) → ltZ z least ≡ true → 2 ^ 63 ≤ mag z
+low-over (pos n) e = absurd (true≢false (sym e))
+low-over (negsuc n) e = let h = ltb-true 9223372036854775807 n e in omega arith
 
-pub record High (a b : ℤ) : Type 0 where
-  pub fits : mag (greatest -ℤ b) < 2 ^ 63
-  pub over : ltZ (greatest -ℤ b) a ≡ true → 2 ^ 63 ≤ mag (a +ℤ b)
-  pub under : ltZ (greatest -ℤ b) a ≡ false → mag (a +ℤ b) < 2 ^ 63
+high-over : (z : ℤ) → ltZ greatest z ≡ true → 2 ^ 63 ≤ mag z
+high-over (pos n) e = let h = ltb-true 9223372036854775807 n e in omega arith
+high-over (negsuc n) e = absurd (true≢false (sym e))
 
-high : (a b : ℤ) → mag a < 2 ^ 63 → mag b < 2 ^ 63 → negative b ≡ false → High a b
-high a (negsuc n) f g s = let z : _≡_ {A = ℕ} 0 1 = cc in absurd (omega arith)
-high a (pos n) f g s =
-    record {
-      fits = rw (high-is n g) (omega arith);
-      over = λ k. high-over a n g (rw (high-is n g) at k);
-      under = λ k. high-under a n f g (rw (high-is n g) at k);
-    }
+between : (z : ℤ) → ltZ z least ≡ false → ltZ greatest z ≡ false → mag z < 2 ^ 63
+between (pos n) e f = let h = ltb-false 9223372036854775807 n f in omega arith
+between (negsuc n) e f = let h = ltb-false 9223372036854775807 n e in omega arith
 
--- ---- the same of operands that are read back from their bits, as the code has them
+not-low : (z : ℤ) → mag z < 2 ^ 63 → ltZ z least ≡ false
+not-low (pos n) h = refl
+not-low (negsuc n) h = le-ltb 9223372036854775807 n (omega arith)
+
+not-high : (z : ℤ) → mag z < 2 ^ 63 → ltZ greatest z ≡ false
+not-high (pos n) h = le-ltb 9223372036854775807 n (omega arith)
+not-high (negsuc n) h = refl
+
+-- ---- a +ℤ c, where c is not above 0 (it can leave the range below) or not below 0 (above)
+plus-plus : (x y : ℤ) → negative x ≡ false → negative y ≡ false → negative (x +ℤ y) ≡ false
+plus-plus (pos m) (pos n) e f = refl
+plus-plus (pos m) (negsuc n) e f = absurd (true≢false f)
+plus-plus (negsuc m) y e f = absurd (true≢false e)
+
+module _ (a c : ℤ) where
+  low-ends : ltZ a (least -ℤ c) ≡ true → end 16 ≡ exact (a +ℤ c)
+  low-ends e = sym (exact-over (a +ℤ c) (low-over (a +ℤ c) (sym (under a least c) ∙ e)))
+
+  high-ends : ltZ (greatest -ℤ c) a ≡ true → end 16 ≡ exact (a +ℤ c)
+  high-ends e = sym (exact-over (a +ℤ c) (high-over (a +ℤ c) (sym (over greatest c a) ∙ e)))
+
+  module _ (h : mag a < 2 ^ 63) where
+    low-fits : negative (negℤ c) ≡ false → ltZ a (least -ℤ c) ≡ false → mag (a +ℤ c) < 2 ^ 63
+    low-fits s e =
+        let g : ltZ greatest (a +ℤ c) ≡ false =
+        less-is greatest (a +ℤ c) ∙ ap negative (ap (λ (z : ℤ). greatest +ℤ z) (negℤ-+ℤ a c) ∙ sym (+ℤ-assoc greatest (negℤ a) (negℤ c)))
+        ∙ plus-plus (greatest -ℤ a) (negℤ c) (sym (less-is greatest a) ∙ not-high a h) s in
+        between (a +ℤ c) (sym (under a least c) ∙ e) g
+
+    high-fits : negative c ≡ false → ltZ (greatest -ℤ c) a ≡ false → mag (a +ℤ c) < 2 ^ 63
+    high-fits s e =
+        let g : ltZ (a +ℤ c) least ≡ false =
+        less-is (a +ℤ c) least ∙ ap negative (+ℤ-assoc a c (negℤ least) ∙ ap (λ (z : ℤ). a +ℤ z) (+ℤ-comm c (negℤ least)) ∙ sym (+ℤ-assoc a (negℤ least) c))
+        ∙ plus-plus (a -ℤ least) c (sym (less-is a least) ∙ not-low a h) s in
+        between (a +ℤ c) g (sym (over greatest c a) ∙ e)
+
+-- ---- the end of the range less c fits
+small-by : (m n : ℕ) (t : Bool) → ltb m n ≡ t → m - n < 2 ^ 63 → n ≤ 2 ^ 63 → mag (subℕ m n) < 2 ^ 63
+small-by m n true e g h = let l = ltb-true m n e in rw e (omega arith)
+small-by m n false e g h = rw e g
+
+small : (m n : ℕ) → m - n < 2 ^ 63 → n ≤ 2 ^ 63 → mag (subℕ m n) < 2 ^ 63
+small m n = small-by m n (ltb m n) refl
+
+low-room : (c : ℤ) → negative (negℤ c) ≡ false → natAbs c ≤ 2 ^ 63 → mag (least -ℤ c) < 2 ^ 63
+low-room (pos zero) s h = omega arith
+low-room (pos (suc n)) s h = absurd (true≢false s)
+low-room (negsuc n) s h = small (suc n) (2 ^ 63) (omega arith) (omega arith)
+
+high-room : (c : ℤ) → negative c ≡ false → natAbs c ≤ 2 ^ 63 → mag (greatest -ℤ c) < 2 ^ 63
+high-room (pos n) s h = rw (pos-pos 9223372036854775807 n) (small 9223372036854775807 n (omega arith) (omega arith))
+high-room (negsuc n) s h = absurd (true≢false s)
+
+-- ---- as the code has it: m is the end of the range less c, t the test of a against it, and r the sum
+pub record Tested (m : ℤ) (t : Bool) (r z : ℤ) : Type 0 where
+  pub room : SFits w64 m
+  pub ends : t ≡ true → end 16 ≡ exact z
+  pub is : t ≡ false → Gives r (exact z)
+
+module _ {a : ℤ} (c m r : ℤ) (f : SFits w64 a) (k : natAbs c ≤ 2 ^ 63) (p : r ≡ a +ℤ c) where
+  low : m ≡ least -ℤ c → negative (negℤ c) ≡ false → Tested m (ltZ (own a) (own m)) r (a +ℤ c)
+  low e s =
+      let g : SFits w64 m = record { sfits = rw e (low-room c s k) } in
+      rw (toZ-ofZ g, toZ-ofZ f, e) (record {
+        room = rw (← e) g;
+        ends = low-ends a c;
+        is = λ t. gives (a +ℤ c) p (low-fits a c (f .sfits) s t);
+      })
+
+  high : m ≡ greatest -ℤ c → negative c ≡ false → Tested m (ltZ (own m) (own a)) r (a +ℤ c)
+  high e s =
+      let g : SFits w64 m = record { sfits = rw e (high-room c s k) } in
+      rw (toZ-ofZ g, toZ-ofZ f, e) (record {
+        room = rw (← e) g;
+        ends = high-ends a c;
+        is = λ t. gives (a +ℤ c) p (high-fits a c (f .sfits) s t);
+      })
+
+plus-neg : (z : ℤ) → negative z ≡ true → negative (negℤ z) ≡ false
+plus-neg (pos n) e = absurd (true≢false (sym e))
+plus-neg (negsuc n) e = refl
+
 module _ {a b : ℤ} (f : SFits w64 a) (g : SFits w64 b) where
-  sum-own : toZ w64 (ofZ w64 a) +ℤ toZ w64 (ofZ w64 b) ≡ a +ℤ b
-  sum-own = rw (toZ-ofZ f, toZ-ofZ g)
+  size : natAbs b ≤ 2 ^ 63
+  size = natAbs-le b (g .sfits)
 
-  sum-ends : 2 ^ 63 ≤ mag (a +ℤ b) → end 16 ≡ sum a b
-  sum-ends h = sym (exact-over (a +ℤ b) h)
+  pub add-low : ltZ (own b) (pos 0) ≡ true → Tested (least -ℤ own b) (ltZ (own a) (own (least -ℤ own b))) (own a +ℤ own b) (a +ℤ b)
+  add-low s = low b (least -ℤ own b) (own a +ℤ own b) f size (rw (toZ-ofZ f, toZ-ofZ g)) (rw (toZ-ofZ g)) (plus-neg b (sign-is g s))
 
-  sum-fits : mag (a +ℤ b) < 2 ^ 63 → SFits w64 (toZ w64 (ofZ w64 a) +ℤ toZ w64 (ofZ w64 b))
-  sum-fits h = rw sum-own (record { sfits = h })
+  pub add-high : ltZ (own b) (pos 0) ≡ false → Tested (greatest -ℤ own b) (ltZ (own (greatest -ℤ own b)) (own a)) (own a +ℤ own b) (a +ℤ b)
+  add-high s = high b (greatest -ℤ own b) (own a +ℤ own b) f size (rw (toZ-ofZ f, toZ-ofZ g)) (rw (toZ-ofZ g)) (sign-is g s)
 
-  sum-is : mag (a +ℤ b) < 2 ^ 63 → integer (toZ w64 (ofZ w64 (toZ w64 (ofZ w64 a) +ℤ toZ w64 (ofZ w64 b)))) ≡ sum a b
-  sum-is h = ap integer (toZ-ofZ (sum-fits h) ∙ sum-own) ∙ sym (exact-fits (a +ℤ b) h)
+  pub subtract-high : ltZ (own b) (pos 0) ≡ true → Tested (greatest +ℤ own b) (ltZ (own (greatest +ℤ own b)) (own a)) (own a -ℤ own b) (a -ℤ b)
+  subtract-high s = high (negℤ b) (greatest +ℤ own b) (own a -ℤ own b) f (rw (abs-neg b) size) (rw (toZ-ofZ f, toZ-ofZ g)) (rw (toZ-ofZ g, negℤ-negℤ b)) (plus-neg b (sign-is g s))
 
-  module _ (s : ltZ (toZ w64 (ofZ w64 b)) (pos 0) ≡ true) where
-    low-of : Low a b
-    low-of = low a b (f .sfits) (g .sfits) (sym (below-zero b) ∙ rw (toZ-ofZ g) at s)
+  pub subtract-low : ltZ (own b) (pos 0) ≡ false → Tested (least +ℤ own b) (ltZ (own a) (own (least +ℤ own b))) (own a -ℤ own b) (a -ℤ b)
+  subtract-low s = low (negℤ b) (least +ℤ own b) (own a -ℤ own b) f (rw (abs-neg b) size) (rw (toZ-ofZ f, toZ-ofZ g)) (rw (toZ-ofZ g, negℤ-negℤ b)) (rw (negℤ-negℤ b) (sign-is g s))
 
-    pub low-fits : SFits w64 (least -ℤ toZ w64 (ofZ w64 b))
-    low-fits = rw (toZ-ofZ g) (record { sfits = low-of .fits })
+-- ---- a negation
+pub negate-ends : {a : ℤ} → SFits w64 a → ofZ w64 a ≡ 9223372036854775808 → end 16 ≡ negation a
+negate-ends f e = rw (bits-are f e) (sym (exact-over (pos 9223372036854775808) (omega arith)))
 
-    low-test : {t : Bool} → ltZ (toZ w64 (ofZ w64 a)) (toZ w64 (ofZ w64 (least -ℤ toZ w64 (ofZ w64 b)))) ≡ t → ltZ a (least -ℤ b) ≡ t
-    low-test e = rw (toZ-ofZ low-fits, toZ-ofZ f, toZ-ofZ g) at e
+neg-small : (a : ℤ) → mag a < 2 ^ 63 → (ofZ w64 a ≡ 9223372036854775808 → ⊥) → mag (negℤ a) < 2 ^ 63
+neg-small (pos zero) h n = h
+neg-small (pos (suc m)) h n = omega arith
+neg-small (negsuc m) h n = omega arith
 
-    pub low-ends : ltZ (toZ w64 (ofZ w64 a)) (toZ w64 (ofZ w64 (least -ℤ toZ w64 (ofZ w64 b)))) ≡ true → end 16 ≡ sum a b
-    low-ends e = sum-ends (low-of .over (low-test e))
-
-    pub low-sum-fits : ltZ (toZ w64 (ofZ w64 a)) (toZ w64 (ofZ w64 (least -ℤ toZ w64 (ofZ w64 b)))) ≡ false → SFits w64 (toZ w64 (ofZ w64 a) +ℤ toZ w64 (ofZ w64 b))
-    low-sum-fits e = sum-fits (low-of .under (low-test e))
-
-    pub low-sum : ltZ (toZ w64 (ofZ w64 a)) (toZ w64 (ofZ w64 (least -ℤ toZ w64 (ofZ w64 b)))) ≡ false → integer (toZ w64 (ofZ w64 (toZ w64 (ofZ w64 a) +ℤ toZ w64 (ofZ w64 b)))) ≡ sum a b
-    low-sum e = sum-is (low-of .under (low-test e))
-
-  module _ (s : ltZ (toZ w64 (ofZ w64 b)) (pos 0) ≡ false) where
-    high-of : High a b
-    high-of = high a b (f .sfits) (g .sfits) (sym (below-zero b) ∙ rw (toZ-ofZ g) at s)
-
-    pub high-fits : SFits w64 (greatest -ℤ toZ w64 (ofZ w64 b))
-    high-fits = rw (toZ-ofZ g) (record { sfits = high-of .fits })
-
-    high-test : {t : Bool} → ltZ (toZ w64 (ofZ w64 (greatest -ℤ toZ w64 (ofZ w64 b)))) (toZ w64 (ofZ w64 a)) ≡ t → ltZ (greatest -ℤ b) a ≡ t
-    high-test e = rw (toZ-ofZ high-fits, toZ-ofZ f, toZ-ofZ g) at e
-
-    pub high-ends : ltZ (toZ w64 (ofZ w64 (greatest -ℤ toZ w64 (ofZ w64 b)))) (toZ w64 (ofZ w64 a)) ≡ true → end 16 ≡ sum a b
-    high-ends e = sum-ends (high-of .over (high-test e))
-
-    pub high-sum-fits : ltZ (toZ w64 (ofZ w64 (greatest -ℤ toZ w64 (ofZ w64 b)))) (toZ w64 (ofZ w64 a)) ≡ false → SFits w64 (toZ w64 (ofZ w64 a) +ℤ toZ w64 (ofZ w64 b))
-    high-sum-fits e = sum-fits (high-of .under (high-test e))
-
-    pub high-sum : ltZ (toZ w64 (ofZ w64 (greatest -ℤ toZ w64 (ofZ w64 b)))) (toZ w64 (ofZ w64 a)) ≡ false → integer (toZ w64 (ofZ w64 (toZ w64 (ofZ w64 a) +ℤ toZ w64 (ofZ w64 b)))) ≡ sum a b
-    high-sum e = sum-is (high-of .under (high-test e))
-
--- ---- a difference: -1 - z has the size of z, and a - b is that of (-1 - a) + b
-mag-ones : (z : ℤ) → mag (negsuc 0 -ℤ z) ≡ mag z
-mag-ones (pos n) = ap mag (ones-plus n)
-mag-ones (negsuc n) = ap mag (ones-minus (negsuc n) refl)
-
-ones-sum : (a b : ℤ) → negsuc 0 -ℤ (negsuc 0 -ℤ a +ℤ b) ≡ a -ℤ b
-ones-sum a b =
-    ap (λ (z : ℤ). negsuc 0 +ℤ z) (negℤ-+ℤ (negsuc 0 -ℤ a) b ∙ ap (λ (z : ℤ). z +ℤ negℤ b) (negℤ-+ℤ (negsuc 0) (negℤ a) ∙ ap (λ (z : ℤ). pos 1 +ℤ z) (negℤ-negℤ a)))
-    ∙ sym (+ℤ-assoc (negsuc 0) (pos 1 +ℤ a) (negℤ b))
-    ∙ ap (λ (z : ℤ). z +ℤ negℤ b) (sym (+ℤ-assoc (negsuc 0) (pos 1) a) ∙ +ℤ-idl a)
-
-pub ones-fits : {z : ℤ} → SFits w64 z → SFits w64 (negsuc 0 -ℤ toZ w64 (ofZ w64 z))
-ones-fits {z} f = rw (toZ-ofZ f) (record { sfits = rw (mag-ones z) (f .sfits) })
-
-module _ {a b : ℤ} (r : Outcome) (f : SFits w64 a) (g : SFits w64 b) (p : integer-answer r ≡ sum (toZ w64 (ofZ w64 (negsuc 0 -ℤ toZ w64 (ofZ w64 a)))) (toZ w64 (ofZ w64 b))) where
-  ones-own : integer-answer r ≡ sum (negsuc 0 -ℤ a) b
-  ones-own = rw (toZ-ofZ (ones-fits f), toZ-ofZ f, toZ-ofZ g) at p
-
-  pub difference-is : {v : ℤ} → SFits w64 v → r ≡ Value v → integer (toZ w64 (ofZ w64 (negsuc 0 -ℤ toZ w64 (ofZ w64 v)))) ≡ difference a b
-  difference-is {v} h e =
-      let i : negsuc 0 -ℤ a +ℤ b ≡ v = value-is (negsuc 0 -ℤ a +ℤ b) (sym ones-own ∙ ap integer-answer e) in
-      let j : negsuc 0 -ℤ v ≡ a -ℤ b = ap (λ (z : ℤ). negsuc 0 -ℤ z) (sym i) ∙ ones-sum a b in
-      let k : mag (a -ℤ b) < 2 ^ 63 = rw (← j, mag-ones v) (h .sfits) in
-      ap integer (toZ-ofZ (ones-fits h) ∙ ap (λ (z : ℤ). negsuc 0 -ℤ z) (toZ-ofZ h) ∙ j) ∙ sym (exact-fits (a -ℤ b) k)
-
-  pub difference-ends : {k : End} → r ≡ Ended k → end (end-number k) ≡ difference a b
-  difference-ends {k} e =
-      let i : exact (negsuc 0 -ℤ a +ℤ b) ≡ end (end-number k) = sym ones-own ∙ ap integer-answer e in
-      let o : 2 ^ 63 ≤ mag (negsuc 0 -ℤ a +ℤ b) = ended-is (negsuc 0 -ℤ a +ℤ b) i in
-      let j : 2 ^ 63 ≤ mag (a -ℤ b) = rw (← ones-sum a b, mag-ones (negsuc 0 -ℤ a +ℤ b)) o in
-      sym i ∙ exact-over (negsuc 0 -ℤ a +ℤ b) o ∙ sym (exact-over (a -ℤ b) j)
+pub negate-is : {a : ℤ} → SFits w64 a → (ofZ w64 a ≡ 9223372036854775808 → ⊥) → Gives (pos 0 -ℤ own a) (negation a)
+negate-is {a} f n = gives (negℤ a) (rw (toZ-ofZ f) (+ℤ-idl (negℤ a))) (neg-small a (f .sfits) n)

@@ -1,13 +1,18 @@
 // Integers of 64 bits: exact results, and the ends of what has none.
 ghost use mathlib.Core.Path.{_≡_};
 ghost use Prim.Native.Nat.{_≤_};
-ghost use lib.IntN.{pos, natAbs, pow};
-ghost use Rattle.express.specs.kinds.Integer.{exact, sum, difference, product, negation, signed, DIV, MOD, power, compareℤ};
+ghost use lib.IntN.{natAbs, pow};
+ghost use Rattle.express.specs.kinds.Integer.{exact, sum, difference, product, negation, DIV, MOD, power, compareℤ};
 ghost use Rattle.values.specs.Meaning.{ordering-of};
 ghost use Rattle.integers.specs.Meaning.{integer-answer};
-ghost use Rattle.integers.specs.Parted.{complement, Complemented, Measured};
+ghost use Rattle.integers.specs.Range.{limit, beyond};
 use values::End;
 use values::order::Order;
+
+// The ends of the range.
+pub const LEAST: i64 = -9223372036854775808;
+
+pub const GREATEST: i64 = 9223372036854775807;
 
 // What an operation gives: its exact result, or the end that it comes to.
 pub enum Outcome {
@@ -15,158 +20,133 @@ pub enum Outcome {
     Ended(End),
 }
 
-// An integer as its sign and a size below 2^63, which is n both of n and of -(n + 1).
-struct Complement {
-    minus: bool,
-    size: u64,
-}
-
-// An integer as its sign and its magnitude, at most 2^63.
-struct Magnitude {
-    minus: bool,
-    abs: u64,
-}
-
-// The two functions that touch signed numbers: `split` takes one apart, and `made` makes one.
-fn split(a: i64) -> Complement
-    ensures { λ r. ⌜ Complemented a r ⌝ }
-{
-    if a < 0 {
-        return Complement {
-            minus: true,
-            size: (-1 - a) as u64,
-        };
-    }
-    Complement {
-        minus: false,
-        size: a as u64,
-    }
-}
-
-fn made(minus: bool, n: u64) -> Outcome
-    ensures { λ r. ⌜ integer-answer r ≡ exact (complement minus n) ⌝ }
-{
-    if 9223372036854775807 < n {
-        return Outcome::Ended(End::OutOfRange);
-    }
-    if minus {
-        return Outcome::Value(-1 - (n as i64));
-    }
-    Outcome::Value(n as i64)
-}
-
 // Whether the sum leaves the range is seen from the first operand: the end of the range less the second lies within it.
 pub fn add(a: i64, b: i64) -> Outcome
     ensures { λ r. ⌜ integer-answer r ≡ sum a b ⌝ }
 {
     if b < 0 {
-        if a < -9223372036854775808 - b {
+        if a < LEAST - b {
             return Outcome::Ended(End::OutOfRange);
         }
         return Outcome::Value(a + b);
     }
-    if 9223372036854775807 - b < a {
+    if GREATEST - b < a {
         return Outcome::Ended(End::OutOfRange);
     }
     Outcome::Value(a + b)
 }
 
-// -1 - x lies in the range exactly when x does, and a - b is that of (-1 - a) + b.
+// Likewise of a difference.
 pub fn subtract(a: i64, b: i64) -> Outcome
     ensures { λ r. ⌜ integer-answer r ≡ difference a b ⌝ }
 {
-    match add(-1 - a, b) {
-        Outcome::Value(v) => Outcome::Value(-1 - v),
-        Outcome::Ended(e) => Outcome::Ended(e),
+    if b < 0 {
+        if GREATEST + b < a {
+            return Outcome::Ended(End::OutOfRange);
+        }
+        return Outcome::Value(a - b);
     }
+    if a < LEAST + b {
+        return Outcome::Ended(End::OutOfRange);
+    }
+    Outcome::Value(a - b)
 }
 
+// The least integer alone has its opposite out of the range.
 pub fn negate(a: i64) -> Outcome
     ensures { λ r. ⌜ integer-answer r ≡ negation a ⌝ }
 {
-    subtract(0, a)
+    if a != LEAST {
+        return Outcome::Value(-a);
+    }
+    Outcome::Ended(End::OutOfRange)
 }
 
-fn measure(a: i64) -> Magnitude
-    ensures { λ r. ⌜ Measured a r ⌝ }
+// The end of the range on the side of a product.
+fn limit(a: i64, b: i64) -> i64
+    ensures { λ r. ⌜ r ≡ limit a b ⌝ }
 {
-    let p = split(a);
-    if p.minus {
-        return Magnitude {
-            minus: true,
-            abs: p.size + 1,
-        };
+    if a < 0 {
+        if b < 0 {
+            return GREATEST;
+        }
+        return LEAST;
     }
-    Magnitude {
-        minus: false,
-        abs: p.size,
+    if b < 0 {
+        return LEAST;
     }
+    GREATEST
 }
 
-// n, or -n.
-fn sign(minus: bool, n: u64) -> Outcome
-    ensures { λ r. ⌜ integer-answer r ≡ exact (signed minus (pos n)) ⌝ }
+// Whether a lies further from 0 than a bound on its side.
+fn beyond(a: i64, bound: i64) -> bool
+    ensures { λ r. ⌜ r ≡ beyond a bound ⌝ }
 {
-    if n == 0 {
-        return made(false, 0);
+    if a < 0 {
+        return a < bound;
     }
-    if minus {
-        return made(true, n - 1);
-    }
-    made(false, n)
+    bound < a
 }
 
+// Whether the product leaves the range is seen from the first operand too: the end of the range is divided by the second.
+// `/` rounds toward 0, and by -1 it has no quotient of the least integer.
 pub fn multiply(a: i64, b: i64) -> Outcome
     ensures { λ r. ⌜ integer-answer r ≡ product a b ⌝ }
 {
-    let p = measure(a);
-    let q = measure(b);
-    let m = p.abs;
-    let n = q.abs;
-    if m == 0 {
-        return made(false, 0);
+    if b == 0 {
+        return Outcome::Value(0);
     }
-    if 9223372036854775808 / m < n {
+    if b == -1 {
+        return negate(a);
+    }
+    if beyond(a, limit(a, b) / b) {
         return Outcome::Ended(End::OutOfRange);
     }
-    sign(p.minus != q.minus, m * n)
+    Outcome::Value(a * b)
 }
 
-// DIV: rounded down for a positive divisor, and -(a DIV -b) for a negative one.
+// DIV: rounded down for a positive divisor, and -(a DIV -b) for a negative one. `/` rounds toward 0: where a is below 0 and
+// leaves a rest, DIV lies one further from 0.
 pub fn div(a: i64, b: i64) -> Outcome
     ensures { λ r. ⌜ integer-answer r ≡ DIV a b ⌝ }
 {
-    let p = split(a);
-    let q = measure(b);
-    let d = q.abs;
-    if d == 0 {
+    if b == 0 {
         return Outcome::Ended(End::ZeroDivisor);
     }
-    let k = p.size / d;
-    if p.minus {
-        if q.minus {
-            return made(false, k + 1);
-        }
-        return made(true, k);
+    if b == -1 {
+        return negate(a);
     }
-    sign(q.minus, k)
+    let q = a / b;
+    if 0 <= a % b {
+        return Outcome::Value(q);
+    }
+    if b < 0 {
+        return Outcome::Value(q + 1);
+    }
+    Outcome::Value(q - 1)
 }
 
-// MOD: with the divisor's sign.
+// MOD: with the divisor's sign. `%` has the dividend's.
 pub fn modulo(a: i64, b: i64) -> Outcome
     ensures { λ r. ⌜ integer-answer r ≡ MOD a b ⌝ }
 {
-    let p = split(a);
-    let q = measure(b);
-    let d = q.abs;
-    if d == 0 {
+    if b == 0 {
         return Outcome::Ended(End::ZeroDivisor);
     }
-    let r = p.size % d;
-    if p.minus {
-        return sign(q.minus, d - 1 - r);
+    if b == -1 {
+        return Outcome::Value(0);
     }
-    sign(q.minus, r)
+    let r = a % b;
+    if r < 0 {
+        if b < 0 {
+            return Outcome::Value(b - r);
+        }
+        return Outcome::Value(b + r);
+    }
+    if 0 < b {
+        return Outcome::Value(r);
+    }
+    Outcome::Value(-r)
 }
 
 // a to the n, for an a of magnitude 2 or more: at most 63 turns, since each doubles the magnitude or more.
@@ -189,23 +169,24 @@ fn raise(a: i64, n: u64) -> Outcome
 pub fn power(a: i64, b: i64) -> Outcome
     ensures { λ r. ⌜ integer-answer r ≡ power a b ⌝ }
 {
-    let q = split(b);
-    if q.minus {
+    if b < 0 {
         return Outcome::Ended(End::NegativePower);
     }
-    let n = q.size;
-    let p = measure(a);
-    if p.abs == 0 {
-        if n == 0 {
-            return made(false, 1);
-        }
-        return made(false, 0);
+    let n = b as u64;
+    if n == 0 {
+        return Outcome::Value(1);
     }
-    if p.abs == 1 {
-        if p.minus {
-            return sign(n % 2 == 1, 1);
+    if a == 0 {
+        return Outcome::Value(0);
+    }
+    if a == 1 {
+        return Outcome::Value(1);
+    }
+    if a == -1 {
+        if n % 2 == 0 {
+            return Outcome::Value(1);
         }
-        return made(false, 1);
+        return Outcome::Value(-1);
     }
     raise(a, n)
 }

@@ -8,7 +8,7 @@ use Rattle.express.specs.kinds.Answer.{FALSE, UNKNOWN, TRUE}
 use Rattle.express.specs.kinds.Logic.{rank, AND, OR, NOT, XOR}
 use Rattle.express.specs.kinds.Relation.{related}
 use Rattle.express.proofs.kinds.Order.{compare-lt, compare-gt, compare-eq}
-use Rattle.values.specs.Meaning.{logical-meant, relation-of}
+use Rattle.values.specs.Meaning.{logical-of, relation-of}
 use Rattle.values.specs.declared.logical.Logical.{Logical}
 use Rattle.values.specs.declared.logical.Logical.the-variants.{False, Unknown, True}
 use Rattle.values.specs.declared.order.Relation.{Relation}
@@ -58,14 +58,14 @@ xor-true-is UNKNOWN = refl
 xor-true-is TRUE = refl
 
 module _ {a : Logical} (b : answer.Logical) where
-  pub xor-false : a ≡ False → b ≡ XOR (logical-meant a) b
+  pub xor-false : a ≡ False → b ≡ XOR (logical-of a) b
   xor-false e = rw e (sym (xor-false-is b))
 
-  pub xor-unknown : a ≡ Unknown → UNKNOWN ≡ XOR (logical-meant a) b
+  pub xor-unknown : a ≡ Unknown → logical-of a ≡ XOR (logical-of a) b
   unfolding XOR
   xor-unknown e = rw e
 
-  pub xor-true : {x : answer.Logical} → a ≡ True → x ≡ NOT b → x ≡ XOR (logical-meant a) b
+  pub xor-true : {x : answer.Logical} → a ≡ True → x ≡ NOT b → x ≡ XOR (logical-of a) b
   xor-true e f = f ∙ rw e (sym (xor-true-is b))
 
 pub ruleset xors = (xor-false, xor-unknown, xor-true)

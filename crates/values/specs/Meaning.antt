@@ -1,4 +1,4 @@
--- What the types of the code stand for: the paper's number and value for each of their cases.
+-- What the types of the code stand for: the number and the value of each of their cases.
 use Prim.Native.Nat.{ℕ, Ordering, Ordering·lt, Ordering·eq, Ordering·gt}
 use Rattle.express.specs.kinds.Answer.{FALSE, UNKNOWN, TRUE}
 use Rattle.express.specs.kinds.Answer as answer
@@ -13,18 +13,20 @@ use Rattle.values.specs.declared.order.Order.the-variants.{Less, Same, M
 use Rattle.values.specs.declared.order.Relation.{Relation}
 use Rattle.values.specs.declared.order.Relation.the-variants.{LessThan, GreaterThan, AtMost, AtLeast, Unequal, Equal, InstanceUnequal, InstanceEqual}
 
--- "Ends: 16 outside 64 signed bits or over 63 joined bits; 17 zero divisor; 18 negative power; 19 UNKNOWN for a BOOLEAN."
+-- the number of an end, which is the kind of its answer row
 abbrev pub end-number : End → ℕ
 end-number OutOfRange = 16
 end-number ZeroDivisor = 17
 end-number NegativePower = 18
 end-number UnknownBoolean = 19
 
-abbrev pub logical-meant : Logical → answer.Logical
-logical-meant False = FALSE
-logical-meant Unknown = UNKNOWN
-logical-meant True = TRUE
+-- its number in an answer row is its `rank`
+abbrev pub logical-of : Logical → answer.Logical
+logical-of False = FALSE
+logical-of Unknown = UNKNOWN
+logical-of True = TRUE
 
+-- the first operand less than the second, the same, or greater
 abbrev pub ordering-of : Order → Ordering
 ordering-of Less = Ordering·lt
 ordering-of Same = Ordering·eq

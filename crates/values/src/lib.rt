@@ -15,15 +15,15 @@ pub enum End {
 }
 
 impl End {
-    // Its number in an answer row.
+    // Its number, which is the kind of its answer row.
     pub fn number(self) -> u8
         ensures { λ r. ⌜ r ≡ end-number self ⌝ }
     {
         match self {
-            End::OutOfRange => 16,
-            End::ZeroDivisor => 17,
-            End::NegativePower => 18,
-            End::UnknownBoolean => 19,
+            End::OutOfRange => codes::ends::OUTSIDE,
+            End::ZeroDivisor => codes::ends::ZERO_DIVISOR,
+            End::NegativePower => codes::ends::NEGATIVE_POWER,
+            End::UnknownBoolean => codes::ends::UNKNOWN_BOOLEAN,
         }
     }
 }

@@ -1,6 +1,6 @@
 ghost use mathlib.Core.Path.{_≡_};
 ghost use Rattle.express.specs.kinds.Logic.{rank, compare-logical, AND, OR, NOT, XOR};
-ghost use Rattle.values.specs.Meaning.{logical-meant, ordering-of};
+ghost use Rattle.values.specs.Meaning.{logical-of, ordering-of};
 use crate::order::Order;
 
 // The three logical values, in their order.
@@ -19,17 +19,17 @@ impl Logical {
 
     // Its number in an answer row: its place in the order.
     pub fn rank(self) -> u8
-        ensures { λ r. ⌜ r ≡ rank (logical-meant self) ⌝ }
+        ensures { λ r. ⌜ r ≡ rank (logical-of self) ⌝ }
     {
         match self {
-            Logical::False => 0,
-            Logical::Unknown => 1,
-            Logical::True => 2,
+            Logical::False => codes::answers::FALSE,
+            Logical::Unknown => codes::answers::UNKNOWN,
+            Logical::True => codes::answers::TRUE,
         }
     }
 
     pub fn compare(self, other: Logical) -> Order
-        ensures { λ r. ⌜ ordering-of r ≡ compare-logical (logical-meant self) (logical-meant other) ⌝ }
+        ensures { λ r. ⌜ ordering-of r ≡ compare-logical (logical-of self) (logical-of other) ⌝ }
     {
         let m = self.rank();
         let n = other.rank();
@@ -44,7 +44,7 @@ impl Logical {
 
     // The smaller.
     pub fn and(self, other: Logical) -> Logical
-        ensures { λ r. ⌜ logical-meant r ≡ AND (logical-meant self) (logical-meant other) ⌝ }
+        ensures { λ r. ⌜ logical-of r ≡ AND (logical-of self) (logical-of other) ⌝ }
     {
         if self.rank() <= other.rank() {
             return self;
@@ -54,7 +54,7 @@ impl Logical {
 
     // The larger.
     pub fn or(self, other: Logical) -> Logical
-        ensures { λ r. ⌜ logical-meant r ≡ OR (logical-meant self) (logical-meant other) ⌝ }
+        ensures { λ r. ⌜ logical-of r ≡ OR (logical-of self) (logical-of other) ⌝ }
     {
         if self.rank() <= other.rank() {
             return other;
@@ -63,7 +63,7 @@ impl Logical {
     }
 
     pub fn not(self) -> Logical
-        ensures { λ r. ⌜ logical-meant r ≡ NOT (logical-meant self) ⌝ }
+        ensures { λ r. ⌜ logical-of r ≡ NOT (logical-of self) ⌝ }
     {
         match self {
             Logical::False => Logical::TRUE,
@@ -73,11 +73,11 @@ impl Logical {
     }
 
     pub fn xor(self, other: Logical) -> Logical
-        ensures { λ r. ⌜ logical-meant r ≡ XOR (logical-meant self) (logical-meant other) ⌝ }
+        ensures { λ r. ⌜ logical-of r ≡ XOR (logical-of self) (logical-of other) ⌝ }
     {
         match self {
             Logical::False => other,
-            Logical::Unknown => Logical::UNKNOWN,
+            Logical::Unknown => self,
             Logical::True => other.not(),
         }
     }

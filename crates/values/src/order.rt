@@ -1,6 +1,6 @@
 ghost use mathlib.Core.Path.{_≡_};
 ghost use Rattle.express.specs.kinds.Relation.{by, related};
-ghost use Rattle.values.specs.Meaning.{logical-meant, ordering-of, relation-of};
+ghost use Rattle.values.specs.Meaning.{logical-of, ordering-of, relation-of};
 use crate::logical::Logical;
 
 // How a first operand stands to a second.
@@ -25,7 +25,7 @@ pub enum Relation {
 impl Order {
     // One of three logicals.
     fn choose(self, less: Logical, same: Logical, more: Logical) -> Logical
-        ensures { λ r. ⌜ logical-meant r ≡ by (ordering-of self) (logical-meant less) (logical-meant same) (logical-meant more) ⌝ }
+        ensures { λ r. ⌜ logical-of r ≡ by (ordering-of self) (logical-of less) (logical-of same) (logical-of more) ⌝ }
     {
         match self {
             Order::Less => less,
@@ -36,7 +36,7 @@ impl Order {
 
     // Whether a relation holds of two operands in this order.
     pub fn relate(self, relation: Relation) -> Logical
-        ensures { λ r. ⌜ logical-meant r ≡ related (relation-of relation) (ordering-of self) ⌝ }
+        ensures { λ r. ⌜ logical-of r ≡ related (relation-of relation) (ordering-of self) ⌝ }
     {
         match relation {
             Relation::LessThan => self.choose(Logical::TRUE, Logical::FALSE, Logical::FALSE),

@@ -7,7 +7,7 @@ use compare::random::{well_typed, Rng, LARGEST};
 use proved::{intern, parse, scan, terminals};
 use reference::parser;
 use reference::terminals::{classify, Terminal};
-use reference::{symbols, tokens, TokenRow, MAX_BYTES};
+use reference::{symbols, tokens, AnswerRow, TokenRow, MAX_BYTES};
 use std::hint::black_box;
 use std::time::Instant;
 
@@ -85,18 +85,28 @@ fn steps(file: &[u8], rows: &[TokenRow]) -> [Timed; 4] {
         .map(|(step, [proved, reference])| Timed { step, proved, reference })
 }
 
-type Operation = fn(i64, i64) -> Result<i64, u8>;
+type Operation = fn(i64, i64) -> AnswerRow;
+
+/// A value, or what has none: a zero divisor, a negative power, or a result outside 64 bits.
+fn row(value: Option<i64>, end: u8) -> AnswerRow {
+    match value {
+        Some(number) => AnswerRow { kind: 1, number, length: 0 },
+        None => AnswerRow { kind: end, number: 0, length: 0 },
+    }
+}
 
 /// The proved operations, each with its like in Rust's checked arithmetic.
-const OPERATIONS: [(&str, Operation, Operation); 4] = [
-    ("add", proved::add, |a, b| a.checked_add(b).ok_or(16)),
-    ("multiply", proved::multiply, |a, b| a.checked_mul(b).ok_or(16)),
-    ("div", proved::div, |a, b| a.checked_div_euclid(b).ok_or(if b == 0 { 17 } else { 16 })),
+const OPERATIONS: [(&str, Operation, Operation); 6] = [
+    ("add", proved::add, |a, b| row(a.checked_add(b), 16)),
+    ("subtract", proved::subtract, |a, b| row(a.checked_sub(b), 16)),
+    ("multiply", proved::multiply, |a, b| row(a.checked_mul(b), 16)),
+    ("div", proved::div, |a, b| row(a.checked_div_euclid(b), if b == 0 { 17 } else { 16 })),
+    ("modulo", proved::modulo, |a, b| row((b != 0).then(|| a.wrapping_rem_euclid(b) * b.signum()), 17)),
     ("power", proved::power, |a, b| match (a, u32::try_from(b)) {
-        _ if b < 0 => Err(18),
-        (-1..=1, _) => Ok(a.pow((b != 0) as u32 * (2 - (b & 1) as u32))),
-        (_, Ok(b)) => a.checked_pow(b).ok_or(16),
-        _ => Err(16),
+        _ if b < 0 => row(None, 18),
+        (-1..=1, _) => row(Some(a.pow((b != 0) as u32 * (2 - (b & 1) as u32))), 16),
+        (_, Ok(b)) => row(a.checked_pow(b), 16),
+        _ => row(None, 16),
     }),
 ];
 
@@ -110,7 +120,7 @@ fn print_arithmetic() {
         assert!(operands.iter().all(|&(a, b)| proved(a, b) == plain(a, b)), "{name}");
         let all = |operation: Operation| {
             let operation = black_box(operation);
-            operands.iter().filter(|&&(a, b)| operation(a, b).is_ok()).count()
+            operands.iter().filter(|&&(a, b)| operation(a, b).kind == 1).count()
         };
         let [a, b] = best(|| all(proved), || all(plain)).map(|time| time / operands.len() as f64);
         println!("{name:12}{a:8.2}{b:10.2}{:8.2}", a / b);

@@ -5,7 +5,8 @@
 //! what is written is lent to no one else.
 #![allow(unsafe_code)]
 
-use reference::Refusal;
+use reference::{AnswerRow, Refusal};
+use std::cmp::Ordering;
 
 #[link(name = "exports", kind = "static")]
 extern "C" {
@@ -47,13 +48,21 @@ extern "C" {
     ) -> u8;
     fn woffulent_integer(s: *const u8, s_length: usize, start: usize, length: usize) -> u64;
     fn woffulent_binary(s: *const u8, s_length: usize, start: usize, length: usize) -> u64;
-    fn woffulent_add(a: i64, b: i64, value: &mut i64) -> u8;
-    fn woffulent_subtract(a: i64, b: i64, value: &mut i64) -> u8;
-    fn woffulent_multiply(a: i64, b: i64, value: &mut i64) -> u8;
-    fn woffulent_div(a: i64, b: i64, value: &mut i64) -> u8;
-    fn woffulent_modulo(a: i64, b: i64, value: &mut i64) -> u8;
-    fn woffulent_power(a: i64, b: i64, value: &mut i64) -> u8;
-    fn woffulent_negate(a: i64, value: &mut i64) -> u8;
+    fn woffulent_add(a: i64, b: i64, number: &mut i64, length: &mut u8) -> u8;
+    fn woffulent_subtract(a: i64, b: i64, number: &mut i64, length: &mut u8) -> u8;
+    fn woffulent_multiply(a: i64, b: i64, number: &mut i64, length: &mut u8) -> u8;
+    fn woffulent_div(a: i64, b: i64, number: &mut i64, length: &mut u8) -> u8;
+    fn woffulent_modulo(a: i64, b: i64, number: &mut i64, length: &mut u8) -> u8;
+    fn woffulent_power(a: i64, b: i64, number: &mut i64, length: &mut u8) -> u8;
+    fn woffulent_negate(a: i64, number: &mut i64, length: &mut u8) -> u8;
+    fn woffulent_compare(a: i64, b: i64) -> u8;
+    fn woffulent_join(a: u64, m: u8, b: u64, n: u8, number: &mut i64, length: &mut u8) -> u8;
+    fn woffulent_compare_binaries(a: u64, m: u8, b: u64, n: u8) -> u8;
+    fn woffulent_and(a: u8, b: u8) -> u8;
+    fn woffulent_or(a: u8, b: u8) -> u8;
+    fn woffulent_xor(a: u8, b: u8) -> u8;
+    fn woffulent_not(a: u8) -> u8;
+    fn woffulent_relate(a: u8, by: u8, b: u8) -> u8;
     fn woffulent_intern(
         bytes: *const u8,
         bytes_length: usize,
@@ -327,53 +336,110 @@ pub fn order(first: &[u32], to: &[u32], order: &mut [u32], scratch: [&mut [u32];
     }
 }
 
-/// The value that a call writes, or the number of the end that it returns.
-fn value(call: impl FnOnce(&mut i64) -> u8) -> Result<i64, u8> {
-    let mut value = 0;
-    match call(&mut value) {
-        1 => Ok(value),
-        end => Err(end),
-    }
+/// The row of an answer: the kind that a call returns, the number and the length that it writes.
+fn row(call: impl FnOnce(&mut i64, &mut u8) -> u8) -> AnswerRow {
+    let (mut number, mut length) = (i64::MIN + 77, 77);
+    let kind = call(&mut number, &mut length);
+    AnswerRow { kind, number, length: length.into() }
 }
 
-/// `a + b`, or the number of the end that it comes to.
-pub fn add(a: i64, b: i64) -> Result<i64, u8> {
-    // SAFETY: numbers, and a place that is lent to the call alone.
-    value(|value| unsafe { woffulent_add(a, b, value) })
+/// The answer row of `a + b`.
+pub fn add(a: i64, b: i64) -> AnswerRow {
+    // SAFETY: numbers, and places that are lent to the call alone.
+    row(|number, length| unsafe { woffulent_add(a, b, number, length) })
 }
 
-/// `a - b`, or the number of the end that it comes to.
-pub fn subtract(a: i64, b: i64) -> Result<i64, u8> {
-    // SAFETY: numbers, and a place that is lent to the call alone.
-    value(|value| unsafe { woffulent_subtract(a, b, value) })
+/// The answer row of `a - b`.
+pub fn subtract(a: i64, b: i64) -> AnswerRow {
+    // SAFETY: numbers, and places that are lent to the call alone.
+    row(|number, length| unsafe { woffulent_subtract(a, b, number, length) })
 }
 
-/// `a * b`, or the number of the end that it comes to.
-pub fn multiply(a: i64, b: i64) -> Result<i64, u8> {
-    // SAFETY: numbers, and a place that is lent to the call alone.
-    value(|value| unsafe { woffulent_multiply(a, b, value) })
+/// The answer row of `a * b`.
+pub fn multiply(a: i64, b: i64) -> AnswerRow {
+    // SAFETY: numbers, and places that are lent to the call alone.
+    row(|number, length| unsafe { woffulent_multiply(a, b, number, length) })
 }
 
-/// `a DIV b`, or the number of the end that it comes to.
-pub fn div(a: i64, b: i64) -> Result<i64, u8> {
-    // SAFETY: numbers, and a place that is lent to the call alone.
-    value(|value| unsafe { woffulent_div(a, b, value) })
+/// The answer row of `a DIV b`.
+pub fn div(a: i64, b: i64) -> AnswerRow {
+    // SAFETY: numbers, and places that are lent to the call alone.
+    row(|number, length| unsafe { woffulent_div(a, b, number, length) })
 }
 
-/// `a MOD b`, or the number of the end that it comes to.
-pub fn modulo(a: i64, b: i64) -> Result<i64, u8> {
-    // SAFETY: numbers, and a place that is lent to the call alone.
-    value(|value| unsafe { woffulent_modulo(a, b, value) })
+/// The answer row of `a MOD b`.
+pub fn modulo(a: i64, b: i64) -> AnswerRow {
+    // SAFETY: numbers, and places that are lent to the call alone.
+    row(|number, length| unsafe { woffulent_modulo(a, b, number, length) })
 }
 
-/// `a ** b`, or the number of the end that it comes to.
-pub fn power(a: i64, b: i64) -> Result<i64, u8> {
-    // SAFETY: numbers, and a place that is lent to the call alone.
-    value(|value| unsafe { woffulent_power(a, b, value) })
+/// The answer row of `a ** b`.
+pub fn power(a: i64, b: i64) -> AnswerRow {
+    // SAFETY: numbers, and places that are lent to the call alone.
+    row(|number, length| unsafe { woffulent_power(a, b, number, length) })
 }
 
-/// `-a`, or the number of the end that it comes to.
-pub fn negate(a: i64) -> Result<i64, u8> {
-    // SAFETY: a number, and a place that is lent to the call alone.
-    value(|value| unsafe { woffulent_negate(a, value) })
+/// The answer row of `-a`.
+pub fn negate(a: i64) -> AnswerRow {
+    // SAFETY: numbers, and places that are lent to the call alone.
+    row(|number, length| unsafe { woffulent_negate(a, number, length) })
+}
+
+/// A binary: the last `length` bits of a number.
+#[derive(Clone, Copy, Debug, PartialEq, Eq)]
+pub struct Binary {
+    pub number: u64,
+    pub length: u8,
+}
+
+/// The answer row of `a + b`.
+pub fn join(a: Binary, b: Binary) -> AnswerRow {
+    // SAFETY: numbers, and places that are lent to the call alone.
+    row(|number, length| unsafe { woffulent_join(a.number, a.length, b.number, b.length, number, length) })
+}
+
+fn ordering(place: u8) -> Ordering {
+    [Ordering::Less, Ordering::Equal, Ordering::Greater][usize::from(place)]
+}
+
+/// The order of two integers.
+pub fn compare(a: i64, b: i64) -> Ordering {
+    // SAFETY: numbers alone.
+    ordering(unsafe { woffulent_compare(a, b) })
+}
+
+/// The order of two binaries.
+pub fn compare_binaries(a: Binary, b: Binary) -> Ordering {
+    // SAFETY: numbers alone.
+    ordering(unsafe { woffulent_compare_binaries(a.number, a.length, b.number, b.length) })
+}
+
+/// `a AND b` of logicals by their numbers: 0 FALSE, 1 UNKNOWN, 2 TRUE.
+pub fn and(a: u8, b: u8) -> u8 {
+    // SAFETY: numbers alone.
+    unsafe { woffulent_and(a, b) }
+}
+
+/// `a OR b`.
+pub fn or(a: u8, b: u8) -> u8 {
+    // SAFETY: numbers alone.
+    unsafe { woffulent_or(a, b) }
+}
+
+/// `a XOR b`.
+pub fn xor(a: u8, b: u8) -> u8 {
+    // SAFETY: numbers alone.
+    unsafe { woffulent_xor(a, b) }
+}
+
+/// `NOT a`.
+pub fn not(a: u8) -> u8 {
+    // SAFETY: a number alone.
+    unsafe { woffulent_not(a) }
+}
+
+/// A relation of two logicals, by its place in `<`, `>`, `<=`, `>=`, `<>`, `=`, `:<>:`, `:=:`.
+pub fn relate(a: u8, by: u8, b: u8) -> u8 {
+    // SAFETY: numbers alone.
+    unsafe { woffulent_relate(a, by, b) }
 }

@@ -130,6 +130,62 @@ fn columns_that_are_no_graph_are_refused() {
     }
 }
 
+/// The vertices that one of them reaches, where all paths are too many.
+fn reached_from(graph: &Graph, from: usize) -> Vec<u32> {
+    let (mut marks, mut open) = (vec![0; graph.vertices()], graph.targets(from).to_vec());
+    while let Some(vertex) = open.pop() {
+        if std::mem::replace(&mut marks[vertex as usize], 1) == 0 {
+            open.extend(graph.targets(vertex as usize));
+        }
+    }
+    marks
+}
+
+/// Where each vertex leads, and more arcs; the smallest vertex on a cycle is the given one.
+fn hold_large(vertices: usize, next: impl Fn(usize) -> Option<usize>, more: &[(usize, usize)], least: Option<usize>) {
+    let (mut first, mut to) = (vec![0], Vec::new());
+    for vertex in 0..vertices {
+        to.extend(next(vertex).map(|target| target as u32));
+        to.extend(more.iter().filter(|(from, _)| *from == vertex).map(|(_, target)| *target as u32));
+        first.push(to.len() as u32);
+    }
+    let graph = Graph { first, to };
+    let (sorted, column) = ordered(&graph, vertices, vertices);
+    match least {
+        Some(vertex) => {
+            assert_eq!(sorted, Sorted::Cyclic(vertex), "{more:?}");
+            assert_eq!(reached_from(&graph, vertex)[vertex], 1, "{more:?}");
+        }
+        None => {
+            assert_eq!(sorted, Sorted::Acyclic, "{more:?}");
+            let mut place = vec![vertices; vertices];
+            column.iter().zip(0..).for_each(|(&vertex, at)| place[vertex as usize] = at);
+            let before = |from: usize| graph.targets(from).iter().all(|&target| place[target as usize] < place[from]);
+            assert!(place.iter().all(|&at| at < vertices) && (0..vertices).all(before), "{more:?}");
+        }
+    }
+    for from in [0, 5, vertices / 3, vertices - 1] {
+        let (mut mark, mut queue) = (vec![BEFORE; vertices], vec![BEFORE; vertices]);
+        assert!(reachable(&graph.first, &graph.to, from, &mut mark, &mut queue));
+        assert!(mark == reached_from(&graph, from), "from {from}, {more:?}");
+    }
+}
+
+/// A chain; a cycle at its end; one in its middle; an arc from a vertex to itself; two cycles with a way between them over
+/// a smaller vertex that lies on none.
+#[test]
+fn large_graphs_with_few_cycles() {
+    const VERTICES: usize = 60_000;
+    let down = |vertex: usize| (vertex + 1 < VERTICES).then_some(vertex + 1);
+    hold_large(VERTICES, down, &[], None);
+    hold_large(VERTICES, down, &[(59_999, 59_998)], Some(59_998));
+    hold_large(VERTICES, down, &[(30_001, 30_000)], Some(30_000));
+    hold_large(VERTICES, down, &[(45_000, 45_000)], Some(45_000));
+    let up = |vertex: usize| (vertex > 20_000).then(|| vertex - 1);
+    let between = [(20_000, 20_001), (5, 20_000), (50_000, 50_001), (50_001, 5)];
+    hold_large(VERTICES, up, &between, Some(20_000));
+}
+
 /// A chain of the most vertices, a ring of them, and one more than that.
 #[test]
 fn large_graphs() {

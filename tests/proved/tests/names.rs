@@ -50,6 +50,27 @@ fn tokens_of_files_are_interned() {
     cases::all().iter().for_each(|case| hold(&case.input, 512));
 }
 
+/// Words that have one hash (`c0` and `an` count alike in it), words that differ in case alone, and words that come again
+/// and again, in any order.
+#[test]
+fn words_that_collide_are_told_apart() {
+    let mut rng = Rng::new(0);
+    let mut words: Vec<String> = (0..512).map(|n| (0..9).map(|i| ["c0", "an"][n >> i & 1]).collect()).collect();
+    words.extend((0..300).map(|n| format!("entity_{n}")));
+    words
+        .extend(["schema", "end_schema", "a", "ab", "abc", "%101", "%0101", "12", "'s'", "+", ":=:"].map(String::from));
+    for buckets in [4_096, 61, 1] {
+        let mut text = Vec::new();
+        for _ in 0..3_000 {
+            let word = words[rng.below(words.len())].bytes();
+            text.extend(word.map(|byte| if rng.one_in(2) { byte.to_ascii_uppercase() } else { byte }));
+            text.push(b' ');
+        }
+        assert_eq!(tokens::read(&text).map(|rows| rows.len()), Ok(3_000));
+        hold(&text, buckets);
+    }
+}
+
 /// Tokens that reach past the bytes are spelled by what is there; without room nothing is stored.
 #[test]
 fn any_columns_are_interned_or_refused() {
@@ -83,21 +104,39 @@ fn keys(rng: &mut Rng) -> Vec<u64> {
     (0..length).map(|_| rng.below(values) as u64 * 0x1_0000_0001).collect()
 }
 
+/// Each key's least entry, and the next of each entry; then keys that no entry has.
+fn hold_keys(keys: &[u64], buckets: usize, spare: usize) {
+    let (mut heads, mut next) = (vec![BEFORE; buckets], vec![BEFORE; keys.len() + spare]);
+    assert!(build(keys, &mut heads, &mut next));
+    let (mut first, mut later) = (HashMap::new(), vec![None; keys.len() + 2]);
+    for (at, &key) in keys.iter().enumerate().rev().filter(|(_, &key)| key != 0) {
+        later[at] = first.insert(key, at);
+    }
+    for key in keys.iter().copied().chain([0, 9, u64::MAX]) {
+        assert_eq!(find(keys, &heads, &next, key), first.get(&key).copied(), "key {key} of {keys:?}");
+    }
+    for (at, &later) in later.iter().enumerate() {
+        assert_eq!(next_of(keys, &next, at), later, "after {at} of {keys:?}");
+    }
+}
+
 #[test]
 fn entries_are_found_by_their_keys() {
     for seed in 0..DICTIONARIES {
         let mut rng = Rng::new(seed);
         let keys = keys(&mut rng);
-        let (mut heads, mut next) = (vec![BEFORE; 1 + rng.below(30)], vec![BEFORE; keys.len() + rng.below(3)]);
-        assert!(build(&keys, &mut heads, &mut next));
-        for key in keys.iter().copied().chain([0, 7, u64::MAX]) {
-            let expected = keys.iter().position(|&other| other == key && key != 0);
-            assert_eq!(find(&keys, &heads, &next, key), expected, "key {key} of {keys:?}");
-        }
-        for at in 0..keys.len() + 2 {
-            let later = (at + 1..keys.len()).find(|&later| keys[later] == keys[at] && keys[at] != 0);
-            assert_eq!(next_of(&keys, &next, at), later, "after {at} of {keys:?}");
-        }
+        hold_keys(&keys, 1 + rng.below(30), rng.below(3));
+    }
+}
+
+/// A scope and a symbol; all alike; all different; some 0; a few that come again and again.
+#[test]
+fn many_entries_are_found_by_their_keys() {
+    let sorts: [fn(u64) -> u64; 5] =
+        [|i| (i / 50 + 1) * 65_536 + i * i % 614, |_| 77, |i| i * 65_536 + 1, |i| i % 3, |i| i % 10 * 4_294_967_296];
+    for sort in sorts {
+        let keys: Vec<u64> = (0..3_014).map(sort).collect();
+        [4_096, 7, 1].into_iter().for_each(|buckets| hold_keys(&keys, buckets, 0));
     }
 }
 

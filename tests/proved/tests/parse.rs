@@ -1,6 +1,6 @@
 //! The proved parser gives what the reference's gives, on any terminals and with columns of any lengths.
 
-use compare::random;
+use compare::{cases, random};
 use proved::{parse, scan, terminals};
 use reference::parser::{read, SyntaxRow};
 use reference::terminals::classify;
@@ -59,25 +59,60 @@ fn expected(bytes: &[u8], rows: &[TokenRow]) -> Result<Vec<SyntaxRow>, Refusal> 
     read(&classify(bytes, rows)).map_err(|stop| Refusal { reply: stop.reply, number: stop.token.into() })
 }
 
+/// Holds the parser on a file whose tokens can be read, with columns of many lengths; the reply.
+fn hold_file(bytes: &[u8], seed: u64) -> Option<u32> {
+    let rows = tokens::read(bytes).ok()?;
+    let codes = codes(bytes, &rows);
+    let expected = expected(bytes, &rows);
+    let needed = expected.as_ref().map_or(rows.len(), Vec::len);
+    let some = seed as usize % (needed + 2);
+    for lengths in [[needed + 1; 4], [needed; 4], [0; 4], [some; 4], [needed, some, needed + 1, needed]] {
+        hold(seed, &codes, &expected, lengths);
+    }
+    if needed < 60 {
+        (0..needed + 2).for_each(|length| hold(seed, &codes, &expected, [length; 4]));
+    }
+    Some(expected.map_or_else(|refusal| refusal.reply, |_| 0))
+}
+
 #[test]
 fn random_files() {
     let mut replies = [0; 8];
     for seed in 0..FILES {
-        let bytes = random::file(seed);
-        let Ok(rows) = tokens::read(&bytes) else { continue };
-        let codes = codes(&bytes, &rows);
-        let expected = expected(&bytes, &rows);
-        let needed = expected.as_ref().map_or(rows.len(), Vec::len);
-        let some = seed as usize % (needed + 2);
-        for lengths in [[needed + 1; 4], [needed; 4], [0; 4], [some; 4], [needed, some, needed + 1, needed]] {
-            hold(seed, &codes, &expected, lengths);
+        if let Some(reply) = hold_file(&random::file(seed), seed) {
+            replies[reply as usize] += 1;
         }
-        if needed < 40 {
-            (0..needed + 2).for_each(|length| hold(seed, &codes, &expected, [length; 4]));
-        }
-        replies[expected.map_or_else(|refusal| refusal.reply as usize, |_| 0)] += 1;
     }
     assert!(replies[0] > 0 && replies[4] > 0 && replies[5] > 0, "replies {replies:?}");
+}
+
+#[test]
+fn the_corpus() {
+    let replies = cases::all().iter().zip(0..).filter_map(|(case, seed)| hold_file(&case.input, seed)).count();
+    assert!(replies > 100, "{replies} cases with tokens");
+}
+
+#[test]
+fn a_file_of_every_sort_of_declaration() {
+    let text = br"SCHEMA Press;
+CONSTANT
+  stroke : INTEGER := step * 3;
+  safe : LOGICAL := {0 < step <= 10} OR NOT (-2 ** kind.low = ?);
+END_CONSTANT;
+TYPE kind = ENUMERATION OF (low, high); END_TYPE;
+TYPE any = SELECT (kind, part); WHERE ok : SELF <> ?; TRUE; END_TYPE;
+ENTITY part SUBTYPE OF (whole);
+  a, b : OPTIONAL REAL;
+  c : kind;
+DERIVE
+  d : kind := low;
+WHERE
+  a < b;
+END_ENTITY;
+END_SCHEMA;
+";
+    assert_eq!(hold_file(text, 0), Some(0));
+    assert_eq!(expected(text, &tokens::read(text).unwrap()).map(|rows| rows.len()), Ok(53));
 }
 
 /// Any bytes are codes: one that is no terminal is refused by 4, as is one that no text goes on with.

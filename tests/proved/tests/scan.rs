@@ -92,6 +92,22 @@ fn the_corpus() {
     }
 }
 
+/// Remarks in remarks and to the end of a line, reals with and without their parts, quotes in strings, most symbols.
+#[test]
+fn a_text_of_every_sort_of_token() {
+    let text = br"SCHEMA Press; (* a remark (* in a remark *) *)
+CONSTANT
+  stroke : INTEGER := step * 3;      -- to the end of the line
+  mask : BINARY := %10 + %011;
+  r : REAL := 1.e5 + 2.5E-3 + 1.e;   (*)*) 5--3
+  s : STRING := 'it''s' ; t := '''' :<>: a:=:b
+END_CONSTANT; 12ab <* ** || [ ] { } \ / ? <> <= >= < > | , . 9223372036854775807
+END_SCHEMA;
+";
+    assert_eq!(rows(text).len(), 70);
+    hold_at_all_lengths(text, 0);
+}
+
 /// Every text of up to five of the bytes that open, part and close tokens and remarks.
 #[test]
 fn all_short_texts() {
