@@ -88,7 +88,13 @@ fn main() {
     let mut kinds = [0u8; 8192];
     let mut starts = [0u32; 8192];
     let mut lengths = [0u32; 8192];
-    let step = scan::scan(&text[..n], &mut kinds, &mut starts, &mut lengths);
+    let step = scan::scan(
+        &text[..n],
+        codes::limits::BYTES,
+        &mut kinds,
+        &mut starts,
+        &mut lengths,
+    );
     match step {
         scan::Step::At(count) => {
             let end = columns::shorter(count, 8192);

@@ -49,7 +49,13 @@ fn main() {
     let mut kinds = [0u8; 8192];
     let mut starts = [0u32; 8192];
     let mut lengths = [0u32; 8192];
-    let step = scan::scan(&text[..n], &mut kinds, &mut starts, &mut lengths);
+    let step = scan::scan(
+        &text[..n],
+        codes::limits::BYTES,
+        &mut kinds,
+        &mut starts,
+        &mut lengths,
+    );
     match step {
         scan::Step::At(count) => print_rows(&kinds, &starts, &lengths, count),
         scan::Step::Refused(number, place) => print_refused(number, place),

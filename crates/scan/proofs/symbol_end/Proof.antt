@@ -46,13 +46,27 @@ add-t15 : tie.Need-add-t15
 add-t15 c = search needs
 
 returns-2 : tie.Need-returns-2
-returns-2 c = rw (eq-eqb _ _ (c .if3 .taken)) at (assign-is (c .before .before .before .before .before .before .before .before .before .args .s .now) (c .before .before .before .before .before .before .before .before .before .args .at) (c .before .before .before .before .byte .result) (c .before .byte2 .result) (c .before .before .before .before .byte .ensures) (sym (c .before .before .before .is-pair .ensures) ∙ c .before .before .if2 .taken) (c .before .byte2 .ensures))
+returns-2 c =
+    let c2 = c .before .before in
+    let c3 = c2 .before in
+    let c4 = c3 .before in
+    let c9 = c4 .before .before .before .before .before in
+    rw (eq-eqb _ _ (c .if3 .taken)) at
+    (assign-is (c9 .args .s .now) (c9 .args .at) (c4 .byte .result) (c .before .byte2 .result) (c4 .byte .ensures)
+    (sym (c3 .is-pair .ensures) ∙ c2 .if2 .taken) (c .before .byte2 .ensures))
 
 add-t13 : tie.Need-add-t13
 add-t13 c = search needs
 
 returns-3 : tie.Need-returns-3
-returns-3 c = rw (ne-eqb _ _ (c .if3 .left)) at (assign-is (c .before .before .before .before .before .before .before .before .before .args .s .now) (c .before .before .before .before .before .before .before .before .before .args .at) (c .before .before .before .before .byte .result) (c .before .byte2 .result) (c .before .before .before .before .byte .ensures) (sym (c .before .before .before .is-pair .ensures) ∙ c .before .before .if2 .taken) (c .before .byte2 .ensures))
+returns-3 c =
+    let c2 = c .before .before in
+    let c3 = c2 .before in
+    let c4 = c3 .before in
+    let c9 = c4 .before .before .before .before .before in
+    rw (ne-eqb _ _ (c .if3 .left)) at
+    (assign-is (c9 .args .s .now) (c9 .args .at) (c4 .byte .result) (c .before .byte2 .result) (c4 .byte .ensures)
+    (sym (c3 .is-pair .ensures) ∙ c2 .if2 .taken) (c .before .byte2 .ensures))
 
 add-byte-3 : tie.Need-add-byte-3
 add-byte-3 c = search needs
@@ -71,14 +85,36 @@ symbol-size-requires c κs = search needs
 
 returns-4 : tie.Need-returns-4
 unfolding end-of-symbol
-returns-4 c = rw (← size-is _ _ _ _ _ _ (c .before .before .before .before .before .before .byte .ensures) (c .before .before .before .byte3 .ensures) (c .before .before .byte4 .ensures) (c .before .symbol-size .ensures), eq-eqb _ _ (c .if4 .taken))
+returns-4 c =
+    let c2 = c .before .before in
+    let c3 = c2 .before in
+    let c6 = c3 .before .before .before in
+    rw (
+      ← size-is _ _ _ _ _ _ (c6 .byte .ensures) (c3 .byte3 .ensures) (c2 .byte4 .ensures) (c .before .symbol-size .ensures),
+      eq-eqb _ _ (c .if4 .taken),
+    )
 
 add-t10 : tie.Need-add-t10
-add-t10 c = omega (arith, size-is (c .before .before .before .before .before .before .before .before .before .before .before .args .s .now) (c .before .before .before .before .before .before .before .before .before .before .before .args .at) (c .before .symbol-size .result) _ _ _ (c .before .before .before .before .before .before .byte .ensures) (c .before .before .before .byte3 .ensures) (c .before .before .byte4 .ensures) (c .before .symbol-size .ensures), size-inside (c .before .before .before .before .before .before .before .before .before .before .before .args .s .now) (c .before .before .before .before .before .before .before .before .before .before .before .args .at) (c .before .before .before .before .before .before .before .before .before .before .before .pre))
+add-t10 c =
+    let c2 = c .before .before in
+    let c3 = c2 .before in
+    let c6 = c3 .before .before .before in
+    let c11 = c6 .before .before .before .before .before in
+    omega (
+      arith,
+      size-is (c11 .args .s .now) (c11 .args .at) (c .before .symbol-size .result) _ _ _ (c6 .byte .ensures) (c3 .byte3 .ensures) (c2 .byte4 .ensures)
+          (c .before .symbol-size .ensures),
+      size-inside (c11 .args .s .now) (c11 .args .at) (c11 .pre),
+    )
 
 returns-5 : tie.Need-returns-5
 unfolding end-of-symbol
-returns-5 c = rw (← size-is _ _ _ _ _ _ (c .before .before .before .before .before .before .byte .ensures) (c .before .before .before .byte3 .ensures) (c .before .before .byte4 .ensures) (c .before .symbol-size .ensures), ne-eqb _ _ (c .if4 .left))
+returns-5 c =
+    let c2 = c .before .before in
+    let c3 = c2 .before in
+    let c6 = c3 .before .before .before in
+    rw
+    (← size-is _ _ _ _ _ _ (c6 .byte .ensures) (c3 .byte3 .ensures) (c2 .byte4 .ensures) (c .before .symbol-size .ensures), ne-eqb _ _ (c .if4 .left))
 
 pub symbol-end-spec : {M : Type 1} → statement M
 symbol-end-spec =
