@@ -1,18 +1,17 @@
 -- Sets of bytes: a test that is computed for each byte.
-use mathlib.Core.Path.{_≡_, refl, sym, ap, _∙_}
-use mathlib.Core.Bool.{Bool, true, false, cond, _&&_, _||_}
-use mathlib.Core.Logic.{inl, inr}
-use mathlib.Core.List.{List, [], _∷_}
+use mathlib.Core.Path.{_≡_, refl, ap, _∙_}
+use mathlib.Core.Bool.{Bool, true, false, cond, not, _&&_}
+use mathlib.Core.List.{List}
 use Prim.Native.Nat.{ℕ, zero, suc, _<_}
 use native.Mathlib.Omega.{arith}
-use native.Mathlib.Nat.{not-suc-le-zero}
+use native.Mathlib.Nat.{not-suc-le-zero, zero-add}
 use native.Mathlib.Decide.{decLt}
 use lib.ListN.{getD}
 use lib.Dec.{T, eqb, eqb→eq}
-use types.Run.{OneOf, hit}
-use mir.Val.{hasKey}
 use Rattle.express.specs.tokens.Bytes.{letter, digit}
 use Rattle.express.specs.tokens.Lexis.{lone, token-kind-at}
+use Rattle.columns.proofs.Laws.{tabulated-at}
+use Rattle.scan.specs.Scan.{underscore, lone-mark, lone-table}
 
 abbrev below : (ℕ → Bool) → ℕ → Bool
 below f zero = true
@@ -30,56 +29,29 @@ at-byte f (suc n) t b h = go (decLt b n) (λ l. at-byte f n (both (f n) (below f
     go (yes l) more = more l
     go (no g) more = let last : n ≡ b = omega (arith, g, h) in rw (← last) (both (f n) (below f n) t .0)
 
--- ---- the symbols of one byte, by the arms of the `match` that knows them
+-- ---- the table of the symbols that begin no longer one
 
-abbrev all : (ℕ → Bool) → List ℕ → Bool
-all f [] = true
-all f (k ∷ ks) = f k && all f ks
+abbrev agree : Bool → Bool → Bool
+agree x y = cond x y (not y)
 
-true-is : (x : Bool) → T x → true ≡ x
-true-is true t = refl
-true-is false t = absurd t
+agreed : (x y : Bool) → T (agree x y) → x ≡ y
+agreed true true t = refl
+agreed true false t = absurd t
+agreed false true t = absurd t
+agreed false false t = refl
 
-pub by-key : (f : ℕ → Bool) (ks : List ℕ) (b : ℕ) → T (all f ks) → OneOf ks b → true ≡ f b
-by-key f [] b t h = absurd h
-by-key f (k ∷ []) b t h = true-is (f k) (both (f k) true t .0) ∙ ap f (sym h)
-by-key f (k ∷ l ∷ ks) b t (inl h) = true-is (f k) (both (f k) (all f (l ∷ ks)) t .0) ∙ ap f (sym h)
-by-key f (k ∷ l ∷ ks) b t (inr h) = by-key f (l ∷ ks) b (both (f k) (all f (l ∷ ks)) t .1) h
+abbrev marked : ℕ → Bool
+marked b = not (eqb (lone-mark b) underscore)
 
-abbrev pub opening : List ℕ
-opening = 40 ∷ 91 ∷ 123 ∷ []
-
-abbrev pub closing : List ℕ
-closing = 41 ∷ 93 ∷ 125 ∷ []
-
-abbrev pub operators : List ℕ
-operators = 43 ∷ 45 ∷ 47 ∷ 61 ∷ 92 ∷ []
-
-abbrev pub marks : List ℕ
-marks = 44 ∷ 46 ∷ 59 ∷ 63 ∷ []
-
-abbrev in-arms : ℕ → Bool
-in-arms b = hasKey opening b || (hasKey closing b || (hasKey operators b || hasKey marks b))
-
-lone-in-arms : T (below (λ b. cond (lone b) (in-arms b) true) 256)
+marks-all : T (below (λ b. agree (marked b) (lone b)) 256)
 unfolding lone
-lone-in-arms = tt
+marks-all = tt
 
-no-arm : (x y z w : Bool) → (T x → ⊥) → (T y → ⊥) → (T z → ⊥) → (T w → ⊥) → T (x || (y || (z || w))) → ⊥
-no-arm true y z w nx ny nz nw t = nx tt
-no-arm false true z w nx ny nz nw t = ny tt
-no-arm false false true w nx ny nz nw t = nz tt
-no-arm false false false w nx ny nz nw t = nw t
-
-pub not-lone : (b : ℕ) → b < 256 → (OneOf opening b → ⊥) → (OneOf closing b → ⊥) → (OneOf operators b → ⊥) → (OneOf marks b → ⊥) → false ≡ lone b
-not-lone b h o c p m = go (lone b) (at-byte (λ x. cond (lone x) (in-arms x) true) 256 lone-in-arms b h)
-  where
-    go : (x : Bool) → T (cond x (in-arms b) true) → false ≡ x
-    go false t = refl
-    go true t =
-        absurd
-        (no-arm (hasKey opening b) (hasKey closing b) (hasKey operators b) (hasKey marks b) (λ k. o (hit opening b k)) (λ k. c (hit closing b k))
-        (λ k. p (hit operators b k)) (λ k. m (hit marks b k)) t)
+pub lone-at : (t : List ℕ) (b i : ℕ) → t ≡ lone-table → i ≡ b → b < 256 → not (eqb (getD t i 0) underscore) ≡ lone b
+unfolding lone-table
+lone-at t b i is at h =
+    let entry : getD t i 0 ≡ lone-mark b = rw (is, at) (tabulated-at lone-mark 0 256 b h ∙ ap lone-mark (zero-add b)) in
+    ap (λ (x : ℕ). not (eqb x underscore)) entry ∙ agreed (marked b) (lone b) (at-byte (λ x. agree (marked x) (lone x)) 256 marks-all b h)
 
 -- a symbol alone is a symbol
 abbrev kind-by : Bool → Bool → Bool → Bool → ℕ → ℕ

@@ -8,7 +8,7 @@ use lib.Seq.{sets}
 use Rattle.columns.specs.Column.{tabulated}
 use Rattle.express.specs.tokens.Bytes.{digit, word-byte}
 use Rattle.express.specs.tokens.Lexis as Lexis
-use Rattle.express.specs.tokens.Lexis.{Reading, at, refused, Lexed, in-line, bit, token-kind-at, end-of-token, lexed-to, tokens}
+use Rattle.express.specs.tokens.Lexis.{Reading, at, refused, Lexed, in-line, bit, lone, token-kind-at, end-of-token, lexed-to, tokens}
 use Rattle.scan.specs.declared.Step.{Step}
 use Rattle.scan.specs.declared.Step.the-variants.{At, Refused}
 use Rattle.scan.specs.declared.Class.{Class}
@@ -19,7 +19,7 @@ abbrev pub reading : Step → Reading
 reading (At p) = at p
 reading (Refused n p) = refused n p
 
--- the bytes `0`, `1` and `:`
+-- the bytes `0`, `1`, `:` and `_`
 abbrev pub zero-mark : ℕ
 zero-mark = 48
 
@@ -29,12 +29,22 @@ one-mark = 49
 abbrev pub colon : ℕ
 colon = 58
 
+abbrev pub underscore : ℕ
+underscore = 95
+
 abbrev pub mark : Bool → ℕ
 mark x = cond x one-mark zero-mark
 
 -- by its byte: `1` for what a word goes on with
 unfoldable pub word-table : List ℕ
 word-table = tabulated (λ b. mark (word-byte b)) 0 256
+
+-- by its byte: the byte itself where it is a symbol that begins no longer one, else `_`
+abbrev pub lone-mark : ℕ → ℕ
+lone-mark b = cond (lone b) b underscore
+
+unfoldable pub lone-table : List ℕ
+lone-table = tabulated lone-mark 0 256
 
 abbrev pub member : Class → ℕ → Bool
 member Digit = digit

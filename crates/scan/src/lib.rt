@@ -6,7 +6,7 @@ ghost use lib.ListN.{length, drop, getD, set};
 ghost use Rattle.express.specs.tokens.Bytes.{within, digit, letter, word-byte};
 ghost use Rattle.express.specs.tokens.Lexis.{pair, either, run, end-of-remark, skipped, end-of-integer, digits-of-exponent, end-of-exponent};
 ghost use Rattle.express.specs.tokens.Lexis.{end-of-string, end-of-binary, lone, size-of-symbol, end-of-symbol, lexed-to};
-ghost use Rattle.scan.specs.Scan.{reading, member, mark, word-table, colon, TokenRead, Filled, ScanResult};
+ghost use Rattle.scan.specs.Scan.{reading, member, mark, word-table, lone-table, colon, TokenRead, Filled, ScanResult};
 
 // A reading step gives a new place, or a located refusal: its number and its place.
 pub enum Step {
@@ -25,6 +25,17 @@ const WORD_BYTES: [u8; 256] = *b"\
     00000000000000000000000000000000\
     00000000000000000000000000000000\
     00000000000000000000000000000000";
+
+// By its byte: the byte itself where it is a symbol that begins no longer one, `_` for the others, 32 to a line.
+const LONE_BYTES: [u8; 256] = *b"\
+    ________________________________\
+    ________()_+,-./___________;_=_?\
+    ___________________________[\\]__\
+    ___________________________{_}__\
+    ________________________________\
+    ________________________________\
+    ________________________________\
+    ________________________________";
 
 // The classes of bytes that a run is made of.
 enum Class {
@@ -293,17 +304,12 @@ fn binary_end(s: &[u8], at: usize) -> Step
     Step::At(end)
 }
 
-// The symbols of one byte that begin no longer one.
-fn is_lone(b: u8) -> bool
+// Whether a byte is a symbol that begins no longer one.
+fn is_lone(table: &[u8; 256], b: u8) -> bool
+    requires { ⌜ now table ≡ lone-table ⌝ }
     ensures { λ r. ⌜ r ≡ lone b ⌝ }
 {
-    match b {
-        b'(' | b'[' | b'{' => true,
-        b')' | b']' | b'}' => true,
-        b'+' | b'-' | b'/' | b'=' | b'\\' => true,
-        b',' | b'.' | b';' | b'?' => true,
-        _ => false,
-    }
+    table[columns::byte_index(b)] != b'_'
 }
 
 // How many of four bytes are a symbol, of which the first is a colon and these are the others.
@@ -325,11 +331,9 @@ fn colon_size(c: u8, d: u8, e: u8) -> usize
 }
 
 fn symbol_size(b: u8, c: u8, d: u8, e: u8) -> usize
+    requires { ⌜ lone b ≡ false ⌝ }
     ensures { λ r. ⌜ r ≡ size-of-symbol b c d e ⌝ }
 {
-    if is_lone(b) {
-        return 1;
-    }
     if b == b':' {
         return colon_size(c, d, e);
     }
@@ -363,14 +367,12 @@ fn symbol_size(b: u8, c: u8, d: u8, e: u8) -> usize
     0
 }
 
+// The end of a symbol that is not by its first byte alone one.
 fn symbol_end(s: &[u8], at: usize) -> Step
-    requires { ⌜ at < length (now s) ⌝ }
+    requires { ⌜ (at < length (now s)) × (lone (getD (now s) at 0) ≡ false) ⌝ }
     ensures { λ r. ⌜ reading r ≡ end-of-symbol (now (s .entry)) at ⌝ }
 {
     let b = s[at];
-    if is_lone(b) {
-        return Step::At(at + 1);
-    }
     // `:=` is the commonest symbol of two bytes.
     let c = byte(s, at + 1);
     if is_pair(b':', b'=', b, c) {
@@ -401,18 +403,18 @@ fn number(s: &[u8], at: usize, kind: &mut u8) -> Step
 }
 
 // The token at a place, by its first byte: its end, and its kind.
-fn token(s: &[u8], at: usize, table: &[u8; 256], kind: &mut u8) -> Step
-    requires { ⌜ (at < length (now s)) × (now table ≡ word-table) ⌝ }
+fn token(s: &[u8], at: usize, words: &[u8; 256], lones: &[u8; 256], kind: &mut u8) -> Step
+    requires { ⌜ (at < length (now s)) × (now words ≡ word-table) × (now lones ≡ lone-table) ⌝ }
     ensures { λ r. ⌜ TokenRead (now (s .entry)) at r (now (kind .exit)) ⌝ }
 {
     let b = s[at];
-    if is_lone(b) {
+    if is_lone(lones, b) {
         *kind = codes::tokens::SYMBOL;
         return Step::At(at + 1);
     }
     if is_letter(b) {
         *kind = codes::tokens::WORD;
-        return Step::At(word_end(s, at + 1, table));
+        return Step::At(word_end(s, at + 1, words));
     }
     if is_within(b'0', b'9', b) {
         return number(s, at, kind);
@@ -473,7 +475,8 @@ fn fill(
         return Step::Refused(codes::replies::TOO_LONG, most);
     }
     // A constant array is built anew wherever it is named: once here, and lent from here on.
-    let table = WORD_BYTES;
+    let words = WORD_BYTES;
+    let lones = LONE_BYTES;
     let mut n: usize = 0;
     let mut at: usize = 0;
     loop {
@@ -485,7 +488,7 @@ fn fill(
             return Step::At(n);
         }
         let mut kind = codes::tokens::NONE;
-        let read = token(src, p, &table, &mut kind);
+        let read = token(src, p, &words, &lones, &mut kind);
         let Step::At(e) = read else {
             return read;
         };

@@ -1,3 +1,4 @@
+-- The digits still to come, after the number so far, give the whole; once it is above the bound it stays there (`Numerals`).
 use Rattle.literals.proofs.numeral_of.Statement.{statement}
 use Rattle.literals.proofs.numeral_of.Tie as tie
 use Rattle.literals.proofs.numeral_of.Reads as reads

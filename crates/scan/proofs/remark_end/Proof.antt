@@ -1,3 +1,4 @@
+-- The end of the remark from here on, at the depth reached, is that of the whole (`Turns`).
 use Rattle.scan.proofs.remark_end.Statement.{statement}
 use Rattle.scan.proofs.remark_end.Tie as tie
 use Rattle.scan.proofs.remark_end.Reads as reads

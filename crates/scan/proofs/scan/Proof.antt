@@ -1,3 +1,4 @@
+-- The answer of `fill`, and the room of the shortest column.
 use borrow.Author.Needs.{needs}
 use Rattle.scan.proofs.scan.Statement.{statement}
 use Rattle.scan.proofs.scan.Tie as tie

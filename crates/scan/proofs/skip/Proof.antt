@@ -1,3 +1,4 @@
+-- What is left to skip from here on is what is wanted, in enough turns (`Skipping`).
 use Rattle.scan.proofs.skip.Statement.{statement}
 use Rattle.scan.proofs.skip.Tie as tie
 use Rattle.scan.proofs.skip.Reads as reads

@@ -1,3 +1,4 @@
+-- The end of the string from here on, just after a quote or not, is that of the whole (`Turns`).
 use Rattle.scan.proofs.string_end.Statement.{statement}
 use Rattle.scan.proofs.string_end.Tie as tie
 use Rattle.scan.proofs.string_end.Reads as reads

@@ -1,3 +1,4 @@
+-- The kind by the first byte, and the end that the reader of that kind gives (`Tokens`).
 use borrow.Author.Needs.{needs}
 use Rattle.scan.proofs.token.Statement.{statement}
 use Rattle.scan.proofs.token.Tie as tie
@@ -24,8 +25,8 @@ shared-slice-read-b c = search needs
 is-lone-requires : tie.Need-is-lone-requires
 is-lone-requires c κs = search needs
 
-add-t9 : tie.Need-add-t9
-add-t9 c = search needs
+add-t10 : tie.Need-add-t10
+add-t10 c = search needs
 
 returns : tie.Need-returns
 returns c = lone-token _ _ (omega (arith, c .before .before .shared-slice-known2 .given (c .before .before .before .before .args .at))) (sym (c .before .is-lone .ensures) ∙ c .if1 .taken)
@@ -82,7 +83,11 @@ returns-5 c =
     (c .before .if5 .taken) (c .binary-end .ensures)
 
 symbol-end-requires : tie.Need-symbol-end-requires
-symbol-end-requires c κs = search needs
+symbol-end-requires c κs =
+    let c6 = c .before .before .before .before .before .before in
+    let c7 = c6 .before in
+    let c10 = c7 .before .before .before in
+    (c10 .pre .0, sym (c7 .is-lone .ensures) ∙ c6 .if1 .left)
 
 returns-6 : tie.Need-returns-6
 returns-6 c =
@@ -100,7 +105,7 @@ token-spec =
     (tie.spec
     shared-slice-read-b
     is-lone-requires
-    add-t9
+    add-t10
     returns
     is-letter-requires
     add-word-end

@@ -1,3 +1,4 @@
+-- The run from here on is the run from the start on; two marks are joined by `&` (`Words`).
 use Rattle.scan.proofs.word_end.Statement.{statement}
 use Rattle.scan.proofs.word_end.Tie as tie
 use Rattle.scan.proofs.word_end.Reads as reads

@@ -1,3 +1,4 @@
+-- Every spelling lies in the slot of its hash: computed for all of them (`Entries`), so what is not there is none.
 use borrow.Author.Needs.{needs}
 use Rattle.terminals.proofs.code_of.Statement.{statement}
 use Rattle.terminals.proofs.code_of.Tie as tie

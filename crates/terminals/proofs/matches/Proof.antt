@@ -1,3 +1,4 @@
+-- What is left to compare from here on decides what all of it does (`Parts`).
 use Rattle.terminals.proofs.matches.Statement.{statement}
 use Rattle.terminals.proofs.matches.Tie as tie
 use Rattle.terminals.proofs.matches.Reads as reads

@@ -1,3 +1,4 @@
+-- The terminals from here on, over the column as it is, give what all of them give (`Columns`).
 use Rattle.terminals.proofs.terminals.Statement.{statement}
 use Rattle.terminals.proofs.terminals.Tie as tie
 use Rattle.terminals.proofs.terminals.Reads as reads
