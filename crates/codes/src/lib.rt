@@ -1,7 +1,9 @@
-// Numbers with names, and nothing else: docs/LANGUAGE.md lists them. The terminals stand here, the rest in modules.
+// Numbers with names, and nothing else. The terminals stand here, the rest in modules.
+// This file is written by tools/codes from its list of words and symbols.
 pub mod answers;
 pub mod ends;
 pub mod labels;
+pub mod limits;
 pub mod nodes;
 pub mod replies;
 pub mod roles;
@@ -68,11 +70,11 @@ pub const UNEQUAL: u8 = 27;
 
 pub const GREATER_EQUAL: u8 = 28;
 
-pub const QUERY_BAR: u8 = 29;
+pub const ALL_IN: u8 = 29;
 
 pub const BECOMES: u8 = 30;
 
-pub const JOIN: u8 = 31;
+pub const CONSTRUCT: u8 = 31;
 
 pub const POWER: u8 = 32;
 
@@ -80,7 +82,9 @@ pub const INSTANCE_EQUAL: u8 = 33;
 
 pub const INSTANCE_UNEQUAL: u8 = 34;
 
-// The reserved words.
+// The reserved words: every code from the first of them on is one.
+pub const FIRST_WORD: u8 = ABS;
+
 pub const ABS: u8 = 35;
 
 pub const ABSTRACT: u8 = 36;

@@ -1,4 +1,6 @@
 // The kinds of tokens.
+pub const NONE: u8 = 0;
+
 pub const WORD: u8 = 1;
 
 pub const INTEGER: u8 = 2;

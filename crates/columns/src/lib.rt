@@ -1,6 +1,6 @@
 // Lent columns: a number stored as far as it fits, zeros from an index on, and the cast of an index.
 ghost use mathlib.Core.Path.{_≡_};
-ghost use Prim.Native.Nat.{min, _≤_};
+ghost use Prim.Native.Nat.{min, _-_, _≤_};
 ghost use lib.IntN.{pos};
 ghost use lib.ListN.{set};
 ghost use Rattle.columns.specs.Column.{cleared};
@@ -27,6 +27,16 @@ pub fn shorter(a: usize, b: usize) -> usize
         return a;
     }
     b
+}
+
+// What is left of n when k are taken away, and 0 where there are fewer.
+pub fn saturating_sub(n: usize, k: usize) -> usize
+    ensures { λ r. ⌜ r ≡ n - k ⌝ }
+{
+    if n < k {
+        return 0;
+    }
+    n - k
 }
 
 // Stores a number at an index; past the column's end nothing changes.

@@ -2,14 +2,15 @@
 use Prim.Native.Nat.{ℕ}
 use mathlib.Core.Path.{_≡_, ap, _∙_}
 use mathlib.Core.List.{List}
-use Rattle.scan.specs.Scan.{reading, Scanned}
+use Rattle.scan.specs.Scan.{reading, ScanResult}
 use Rattle.scan.specs.declared.Step.{Step}
 use Rattle.express.specs.syntax.Grammar.{file}
 use Rattle.expressions.specs.declared.Parsed.{Parsed}
 use Rattle.expressions.specs.Parsing as Parsing
 use Rattle.exports.specs.Reply.{reply, number, Scans, Parses}
 
-pub scans : {src k₀ s₀ z₀ k s z : List ℕ} {step : Step} {r n : ℕ} → Scanned src k₀ s₀ z₀ step k s z → n ≡ number (reading step) → r ≡ reply (reading step) → Scans src k₀ s₀ z₀ r n k s z
+pub scans : {limit : ℕ} {src k₀ s₀ z₀ k s z : List ℕ} {step : Step} {r n : ℕ} → ScanResult limit src k₀ s₀ z₀ step k s z
+    → n ≡ number (reading step) → r ≡ reply (reading step) → Scans limit src k₀ s₀ z₀ r n k s z
 scans whole counted replied =
     record {
       replies = replied ∙ ap reply (whole .is);

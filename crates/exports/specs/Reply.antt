@@ -8,7 +8,7 @@ use Rattle.express.specs.tokens.Lexis as Lexis
 use Rattle.ebnf.specs.Rows.{Row}
 use Rattle.express.specs.syntax.Grammar.{file}
 use Rattle.expressions.specs.Parsing as Parsing
-use Rattle.express.specs.tokens.Lexis.{Reading, at, refused, lexed, tokens}
+use Rattle.express.specs.tokens.Lexis.{Reading, at, refused, lexed-to, tokens}
 
 -- 0 for a new place or a count, else the number of the refusal
 abbrev pub reply : Reading → ℕ
@@ -21,12 +21,12 @@ number (at p) = p
 number (refused k p) = p
 
 -- what `woffulent_scan` answers and leaves: the promise of `scan`, its step as two numbers
-pub record Scans (src k₀ s₀ z₀ : List ℕ) (r n : ℕ) (k s z : List ℕ) : Type 0 where
-  pub replies : r ≡ reply (tokens (lexed src) (min (length k₀) (min (length s₀) (length z₀))))
-  pub counts : n ≡ number (tokens (lexed src) (min (length k₀) (min (length s₀) (length z₀))))
-  pub kinds : k ≡ sets k₀ 0 (Lexis.kinds (lexed src))
-  pub starts : s ≡ sets s₀ 0 (Lexis.starts (lexed src))
-  pub lengths : z ≡ sets z₀ 0 (Lexis.sizes (lexed src))
+pub record Scans (limit : ℕ) (src k₀ s₀ z₀ : List ℕ) (r n : ℕ) (k s z : List ℕ) : Type 0 where
+  pub replies : r ≡ reply (tokens (lexed-to limit src) (min (length k₀) (min (length s₀) (length z₀))))
+  pub counts : n ≡ number (tokens (lexed-to limit src) (min (length k₀) (min (length s₀) (length z₀))))
+  pub kinds : k ≡ sets k₀ 0 (Lexis.kinds (lexed-to limit src))
+  pub starts : s ≡ sets s₀ 0 (Lexis.starts (lexed-to limit src))
+  pub lengths : z ≡ sets z₀ 0 (Lexis.sizes (lexed-to limit src))
 
 -- what `woffulent_parse` answers and leaves: the promise of `parse`, its answer as two numbers
 pub record Parses (ts : List ℕ) (r n : ℕ) (k t z o k′ t′ z′ o′ : List ℕ) : Type 0 where

@@ -38,14 +38,15 @@ fn number_of(step: scan::Step) -> usize
 #[no_mangle]
 pub extern "C" fn woffulent_scan(
     src: &[u8],
+    limit: u32,
     kinds: &mut [u8],
     starts: &mut [u32],
     lengths: &mut [u32],
     count: &mut usize,
 ) -> u8
-    ensures { λ r. ⌜ Scans (now (src .entry)) (now (kinds .entry)) (now (starts .entry)) (now (lengths .entry)) r (now (count .exit)) (now (kinds .exit)) (now (starts .exit)) (now (lengths .exit)) ⌝ }
+    ensures { λ r. ⌜ Scans limit (now (src .entry)) (now (kinds .entry)) (now (starts .entry)) (now (lengths .entry)) r (now (count .exit)) (now (kinds .exit)) (now (starts .exit)) (now (lengths .exit)) ⌝ }
 {
-    let step = scan::scan(src, kinds, starts, lengths);
+    let step = scan::scan(src, limit, kinds, starts, lengths);
     *count = number_of(step);
     reply_of(step)
 }

@@ -1,4 +1,4 @@
--- Numerals: what one digit more does, and the bound of 63 bits. Assumes nothing.
+-- Numerals: what one digit more does, and the bound of 63 bits.
 use mathlib.Core.Path.{_≡_, refl, sym, ap, _∙_}
 use mathlib.Core.List.{List, [], _∷_}
 use Prim.Native.Nat.{ℕ, suc, _+_, _-_, _*_, _/_, _≤_, _<_}
@@ -7,14 +7,11 @@ use native.Mathlib.Nat.{le-refl, le-trans, le-div-iff-mul-le, le-mul-of-pos-righ
 use native.Mathlib.Decide.{decLt}
 use lib.ListN.{length, take, drop, getD}
 use lib.Seq.{take-nil}
-use Rattle.express.specs.tokens.Lexis.{numeral, integer-value, binary-value}
+use Rattle.express.specs.tokens.Lexis.{numeral, greatest, integer-value, binary-value}
 use Rattle.literals.specs.Literal.{capped, Zeros}
 use lib.Seq.{drop-cons}
 use lib.ListN.{drop-of-length-le}
 use native.Mathlib.Numerals.{add-one}
-
-abbrev pub most : ℕ
-most = 9223372036854775807
 
 at-cons : (s : List ℕ) (i : ℕ) → i < length s → drop i s ≡ getD s i 0 ∷ drop (i + 1) s
 at-cons s i h = rw (add-one, drop-cons s i 0)
@@ -30,18 +27,18 @@ part-over s i left h = ap (take left) (drop-of-length-le s h) ∙ take-nil left
 
 module _ (base : ℕ) (pos : 0 < base) where
   -- the test for one digit more is exact
-  pub digit-over : (v d : ℕ) → d ≤ 255 → (most - d) / base < v → most < v * base + d
-  digit-over v d small h = go (decLt most (v * base + d))
+  pub digit-over : (v d : ℕ) → d ≤ 255 → (greatest - d) / base < v → greatest < v * base + d
+  digit-over v d small h = go (decLt greatest (v * base + d))
     where
-      go : Dec (most < v * base + d) → most < v * base + d
+      go : Dec (greatest < v * base + d) → greatest < v * base + d
       go (yes l) = l
       go (no n) =
-          let fits : v * base ≤ most - d = omega (arith, n, small) in
-          let back : v ≤ (most - d) / base = le-div-iff-mul-le pos .1 fits in
+          let fits : v * base ≤ greatest - d = omega (arith, n, small) in
+          let back : v ≤ (greatest - d) / base = le-div-iff-mul-le pos .1 fits in
           absurd (omega (arith, back, h))
 
-  pub digit-fits : (v d : ℕ) → d ≤ 255 → v ≤ (most - d) / base → v * base + d ≤ most
-  digit-fits v d small h = let fits : v * base ≤ most - d = le-div-iff-mul-le pos .0 h in omega (arith, fits, small)
+  pub digit-fits : (v d : ℕ) → d ≤ 255 → v ≤ (greatest - d) / base → v * base + d ≤ greatest
+  digit-fits v d small h = let fits : v * base ≤ greatest - d = le-div-iff-mul-le pos .0 h in omega (arith, fits, small)
 
   -- a numeral only grows
   numeral-grows : (v : ℕ) (t : List ℕ) → v ≤ numeral base v t
@@ -49,10 +46,10 @@ module _ (base : ℕ) (pos : 0 < base) where
   numeral-grows v [] = le-refl v
   numeral-grows v (b ∷ t) = le-trans (omega (arith, le-mul-of-pos-right v pos)) (numeral-grows (v * base + (b - 48)) t)
 
-  pub capped-over : (v : ℕ) (t : List ℕ) → most < v → 9223372036854775808 ≡ capped (numeral base v t)
+  pub capped-over : (v : ℕ) (t : List ℕ) → greatest < v → greatest + 1 ≡ capped (numeral base v t)
   capped-over v t h = omega (arith, h, numeral-grows v t)
 
-pub capped-fits : (v : ℕ) → v ≤ most → v ≡ capped v
+pub capped-fits : (v : ℕ) → v ≤ greatest → v ≡ capped v
 capped-fits v h = omega (arith, h)
 
 -- what is still to come of a part, after digits that stand for v
@@ -81,7 +78,8 @@ zeros-none s start size =
 
 pub zeros-more : (s : List ℕ) (start size n : ℕ) → Zeros s start size n → n < size → start + n < length s → getD s (start + n) 0 ≡ 48 → Zeros s start size (n + 1)
 zeros-more s start size n z l h e =
-    let more : numeral 10 0 (take (size - n) (drop (start + n) s)) ≡ numeral 10 0 (take (size - n - 1) (drop (start + n + 1) s)) = numeral-more 10 s (start + n) (size - n) 0 0 h (λ q. omega (arith, q, l)) (omega (arith, e)) in
+    let more : numeral 10 0 (take (size - n) (drop (start + n) s)) ≡ numeral 10 0 (take (size - n - 1) (drop (start + n + 1) s)) =
+    numeral-more 10 s (start + n) (size - n) 0 0 h (λ q. omega (arith, q, l)) (omega (arith, e)) in
     let left : size - (n + 1) ≡ size - n - 1 = omega arith in
     let next : start + (n + 1) ≡ start + n + 1 = omega arith in
     record { few = omega (arith, l); inside = omega (arith, h); is = rw (left, next) (sym more ∙ z .is) }

@@ -3,14 +3,22 @@ use mathlib.Core.Path.{_≡_}
 use mathlib.Core.List.{List}
 use Prim.Native.Nat.{ℕ, min, _+_, _-_, _≤_}
 use lib.ListN.{length, take, drop}
-use Rattle.express.specs.tokens.Lexis.{numeral}
+use Rattle.express.specs.tokens.Lexis.{numeral, greatest}
 
--- A number as far as 2 to the 63: "Integer literals reach 9223372036854775807. Binary literals have 1 to 63 bits.", so that the values of
--- tokens of the language are read whole, and whatever is larger is seen to be.
+-- what a byte counts as a digit; `0` is byte 48
+abbrev pub digit-value : ℕ → ℕ
+digit-value b = b - 48
+
+-- numerals are decimal or binary
+abbrev pub greatest-base : ℕ
+greatest-base = 10
+
+-- A number up to one more than the largest integer, which is 2 to the 63: the values of tokens of the language are read whole, and whatever
+-- is larger is seen to be.
 abbrev pub capped : ℕ → ℕ
-capped n = min n 9223372036854775808
+capped n = min n (greatest + 1)
 
--- the first n bytes of a part count for nothing: "An integer's leading zeros count for nothing."
+-- the first n bytes of a part are zeros in front, which count for nothing
 pub record Zeros (s : List ℕ) (start size n : ℕ) : Type 0 where
   pub few : n ≤ size
   pub inside : n ≤ length s - start

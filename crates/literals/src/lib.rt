@@ -3,20 +3,27 @@ ghost use mathlib.Core.Path.{_≡_};
 ghost use Prim.Native.Nat.{_-_, _≤_, _<_};
 ghost use lib.ListN.{take, drop};
 ghost use Rattle.express.specs.tokens.Lexis.{numeral, integer-value, binary-value};
-ghost use Rattle.literals.specs.Literal.{capped, Zeros};
+ghost use Rattle.literals.specs.Literal.{digit-value, greatest-base, capped, Zeros};
+
+const DECIMAL: u64 = 10;
+
+const BINARY: u64 = 2;
+
+// What is read of any larger number.
+const BEYOND: u64 = codes::limits::INTEGER + 1;
 
 fn digit(b: u8) -> u64
-    ensures { λ r. ⌜ (r ≡ b - 48) × (r ≤ 255) ⌝ }
+    ensures { λ r. ⌜ (r ≡ digit-value b) × (r ≤ 255) ⌝ }
 {
-    if b < 48 {
+    if b < b'0' {
         return 0;
     }
-    (b - 48) as u64
+    (b - b'0') as u64
 }
 
 // The number that bytes stand for in a base, as far as 2 to the 63.
 fn numeral_of(s: &[u8], start: usize, length: usize, base: u64) -> u64
-    requires { ⌜ (0 < base) × (base ≤ 10) ⌝ }
+    requires { ⌜ (0 < base) × (base ≤ greatest-base) ⌝ }
     ensures { λ r. ⌜ r ≡ capped (numeral base 0 (take length (drop start (now (s .entry))))) ⌝ }
 {
     let mut i = start;
@@ -27,8 +34,8 @@ fn numeral_of(s: &[u8], start: usize, length: usize, base: u64) -> u64
             return v;
         }
         let d = digit(s[i]);
-        if v > (9223372036854775807 - d) / base {
-            return 9223372036854775808;
+        if v > (codes::limits::INTEGER - d) / base {
+            return BEYOND;
         }
         v = v * base + d;
         i += 1;
@@ -46,7 +53,7 @@ fn zeros(s: &[u8], start: usize, length: usize) -> usize
         if start + n >= s.len() {
             return n;
         }
-        if s[start + n] != 48 {
+        if s[start + n] != b'0' {
             return n;
         }
         n += 1;
@@ -59,7 +66,7 @@ pub fn integer(s: &[u8], start: usize, length: usize) -> u64
     ensures { λ r. ⌜ r ≡ capped (integer-value (take length (drop start (now (s .entry))))) ⌝ }
 {
     let n = zeros(s, start, length);
-    numeral_of(s, start + n, length - n, 10)
+    numeral_of(s, start + n, length - n, DECIMAL)
 }
 
 // The bits of a binary literal as a number, its `%` passed over; there are as many as the token has bytes after that.
@@ -72,5 +79,5 @@ pub fn binary(s: &[u8], start: usize, length: usize) -> u64
     if length == 0 {
         return 0;
     }
-    numeral_of(s, start + 1, length - 1, 2)
+    numeral_of(s, start + 1, length - 1, BINARY)
 }

@@ -1,4 +1,4 @@
-pub mod Bits
+pub mod ByteSets
 pub mod Numbers
 pub mod Rows
 pub mod Skipping

@@ -9,59 +9,55 @@ use lib.Bits.{bitAnd}
 use Rattle.express.specs.tokens.Bytes.{word-byte}
 use Rattle.express.specs.tokens.Lexis.{run}
 use Rattle.columns.proofs.Laws.{tabulated-at}
-use Rattle.scan.specs.Scan.{one, word-table}
+use Rattle.scan.specs.Scan.{zero-mark, one-mark, mark, word-table}
 use Rattle.scan.proofs.Turns.{run-more, run-stop, run-over}
 
-pub table-at : (t : List ℕ) (b i : ℕ) → t ≡ word-table → i ≡ b → b < 256 → getD t i 0 ≡ one (word-byte b)
+pub table-at : (t : List ℕ) (b i : ℕ) → t ≡ word-table → i ≡ b → b < 256 → getD t i 0 ≡ mark (word-byte b)
 unfolding word-table
-table-at t b i is at h = rw (is, at) (tabulated-at (λ x. one (word-byte x)) 0 256 b h ∙ ap (λ (x : ℕ). one (word-byte x)) (omega arith))
+table-at t b i is at h = rw (is, at) (tabulated-at (λ x. mark (word-byte x)) 0 256 b h ∙ ap (λ (x : ℕ). mark (word-byte x)) (omega arith))
 
-none : (x : Bool) → one x ≡ 0 → x ≡ false
+none : (x : Bool) → mark x ≡ zero-mark → x ≡ false
 none true e = absurd (omega (arith, e))
 none false e = refl
 
-some : (x : Bool) → (one x ≡ 0 → ⊥) → x ≡ true
+some : (x : Bool) → (mark x ≡ zero-mark → ⊥) → x ≡ true
 some true n = refl
 some false n = absurd (n refl)
 
-second : (x y : Bool) → x ≡ true → bitAnd (one x) (one y) ≡ 0 → y ≡ false
+second : (x y : Bool) → x ≡ true → bitAnd (mark x) (mark y) ≡ zero-mark → y ≡ false
 second true y e z = go y z
   where
-    go : (y : Bool) → bitAnd 1 (one y) ≡ 0 → y ≡ false
+    go : (y : Bool) → bitAnd one-mark (mark y) ≡ zero-mark → y ≡ false
     go true z = absurd (omega (arith, z))
     go false z = refl
 second false y e z = absurd (mathlib.Core.Bool.false≢true e)
 
-both : (x y : Bool) → (bitAnd (one x) (one y) ≡ 0 → ⊥) → (x ≡ true) × (y ≡ true)
+both : (x y : Bool) → (bitAnd (mark x) (mark y) ≡ zero-mark → ⊥) → (x ≡ true) × (y ≡ true)
 both true true n = (refl, refl)
 both true false n = absurd (n refl)
 both false true n = absurd (n refl)
 both false false n = absurd (n refl)
 
 -- what is known of the bytes at i and after it: a of the first and b of the second
-module _ (s : List ℕ) (i a : ℕ) (a-is : a ≡ one (word-byte (getD s i 0))) where
-  pub word-stops : i < length s → a ≡ 0 → i ≡ run word-byte s i
+module _ (s : List ℕ) (i a : ℕ) (a-is : a ≡ mark (word-byte (getD s i 0))) where
+  pub word-stops : i < length s → a ≡ zero-mark → i ≡ run word-byte s i
   word-stops h e = sym (run-stop word-byte s i h (none _ (sym a-is ∙ e)))
 
-  pub word-last : i < length s → length s ≤ i + 1 → i + a ≡ run word-byte s i
-  word-last h l = ap (λ (n : ℕ). i + n) a-is ∙ go (word-byte (getD s i 0)) refl
-    where
-      go : (x : Bool) → word-byte (getD s i 0) ≡ x → i + one x ≡ run word-byte s i
-      go true e = sym (run-more word-byte s i h e ∙ run-over word-byte s (i + 1) l)
-      go false e = omega (arith, run-stop word-byte s i h e)
+  first : (a ≡ zero-mark → ⊥) → word-byte (getD s i 0) ≡ true
+  first n = some _ (λ e. n (a-is ∙ e))
 
-  module _ (b : ℕ) (b-is : b ≡ one (word-byte (getD s (i + 1) 0))) (h : i + 1 < length s) where
-    first : (a ≡ 0 → ⊥) → word-byte (getD s i 0) ≡ true
-    first n = some _ (λ e. n (a-is ∙ e))
+  pub word-last : i < length s → length s ≤ i + 1 → (a ≡ zero-mark → ⊥) → i + 1 ≡ run word-byte s i
+  word-last h l n = sym (run-more word-byte s i h (first n) ∙ run-over word-byte s (i + 1) l)
 
-    pub word-stops-next : (a ≡ 0 → ⊥) → bitAnd a b ≡ 0 → i + 1 ≡ run word-byte s i
+  module _ (b : ℕ) (b-is : b ≡ mark (word-byte (getD s (i + 1) 0))) (h : i + 1 < length s) where
+    pub word-stops-next : (a ≡ zero-mark → ⊥) → bitAnd a b ≡ zero-mark → i + 1 ≡ run word-byte s i
     word-stops-next n e =
         let f : word-byte (getD s i 0) ≡ true = first n in
-        let z : bitAnd (one (word-byte (getD s i 0))) (one (word-byte (getD s (i + 1) 0))) ≡ 0 = rw (← a-is, ← b-is) e in
+        let z : bitAnd (mark (word-byte (getD s i 0))) (mark (word-byte (getD s (i + 1) 0))) ≡ zero-mark = rw (← a-is, ← b-is) e in
         sym (run-more word-byte s i (omega arith) f ∙ run-stop word-byte s (i + 1) h (second _ _ f z))
 
-    pub word-goes-on : (bitAnd a b ≡ 0 → ⊥) → run word-byte s (i + 2) ≡ run word-byte s i
-    word-goes-on n =
+    pub word-more : (bitAnd a b ≡ zero-mark → ⊥) → run word-byte s (i + 2) ≡ run word-byte s i
+    word-more n =
         let t = both (word-byte (getD s i 0)) (word-byte (getD s (i + 1) 0)) (λ e. n (rw (a-is, b-is) e)) in
         let two : i + 2 ≡ i + 1 + 1 = omega arith in
         rw two (sym (run-more word-byte s i (omega arith) (t .0) ∙ run-more word-byte s (i + 1) h (t .1)))

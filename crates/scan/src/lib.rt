@@ -4,8 +4,9 @@ ghost use mathlib.Core.Bool.{true, false};
 ghost use Prim.Native.Nat.{_+_, _≤_, _<_};
 ghost use lib.ListN.{length, drop, getD, set};
 ghost use Rattle.express.specs.tokens.Bytes.{within, digit, letter, word-byte};
-ghost use Rattle.express.specs.tokens.Lexis.{pair, either, run, end-of-remark, skipped, end-of-integer, digits-of-exponent, end-of-exponent, end-of-string, end-of-binary, lone, size-of-symbol, end-of-symbol, lexed};
-ghost use Rattle.scan.specs.Scan.{reading, half-of, among-bytes, member, one, word-table, token-meant, step-meant, token-found-at, Filled, Scanned};
+ghost use Rattle.express.specs.tokens.Lexis.{pair, either, run, end-of-remark, skipped, end-of-integer, digits-of-exponent, end-of-exponent};
+ghost use Rattle.express.specs.tokens.Lexis.{end-of-string, end-of-binary, lone, size-of-symbol, end-of-symbol, lexed-to};
+ghost use Rattle.scan.specs.Scan.{reading, member, mark, word-table, lone-table, colon, TokenRead, Filled, ScanResult};
 
 // A reading step gives a new place, or a located refusal: its number and its place.
 pub enum Step {
@@ -13,15 +14,28 @@ pub enum Step {
     Refused(u8, usize),
 }
 
-// A token gives its kind and its end, or a located refusal.
-enum Found {
-    Token(u8, usize),
-    Refusal(u8, usize),
-}
+// By its byte: `1` for what a word goes on with, `0` for the others. A line has 32 bytes: the digits are in the second, the
+// capital letters and the underscore in the third, the small letters in the fourth.
+const WORD_BYTES: [u8; 256] = *b"\
+    00000000000000000000000000000000\
+    00000000000000001111111111000000\
+    01111111111111111111111111100001\
+    01111111111111111111111111100000\
+    00000000000000000000000000000000\
+    00000000000000000000000000000000\
+    00000000000000000000000000000000\
+    00000000000000000000000000000000";
 
-// 1 for each byte that a word goes on with, 0 for the others: specs/Scan has the rule.
-const WORDS: [u8; 256] =
-    *b"\x00\x00\x00\x00\x00\x00\x00\x00\x00\x00\x00\x00\x00\x00\x00\x00\x00\x00\x00\x00\x00\x00\x00\x00\x00\x00\x00\x00\x00\x00\x00\x00\x00\x00\x00\x00\x00\x00\x00\x00\x00\x00\x00\x00\x00\x00\x00\x00\x01\x01\x01\x01\x01\x01\x01\x01\x01\x01\x00\x00\x00\x00\x00\x00\x00\x01\x01\x01\x01\x01\x01\x01\x01\x01\x01\x01\x01\x01\x01\x01\x01\x01\x01\x01\x01\x01\x01\x01\x01\x01\x01\x00\x00\x00\x00\x01\x00\x01\x01\x01\x01\x01\x01\x01\x01\x01\x01\x01\x01\x01\x01\x01\x01\x01\x01\x01\x01\x01\x01\x01\x01\x01\x01\x00\x00\x00\x00\x00\x00\x00\x00\x00\x00\x00\x00\x00\x00\x00\x00\x00\x00\x00\x00\x00\x00\x00\x00\x00\x00\x00\x00\x00\x00\x00\x00\x00\x00\x00\x00\x00\x00\x00\x00\x00\x00\x00\x00\x00\x00\x00\x00\x00\x00\x00\x00\x00\x00\x00\x00\x00\x00\x00\x00\x00\x00\x00\x00\x00\x00\x00\x00\x00\x00\x00\x00\x00\x00\x00\x00\x00\x00\x00\x00\x00\x00\x00\x00\x00\x00\x00\x00\x00\x00\x00\x00\x00\x00\x00\x00\x00\x00\x00\x00\x00\x00\x00\x00\x00\x00\x00\x00\x00\x00\x00\x00\x00\x00\x00\x00\x00\x00\x00\x00\x00\x00\x00\x00\x00\x00\x00\x00\x00\x00\x00\x00\x00";
+// By its byte: the byte itself where it is a symbol that begins no longer one, `_` for the others, 32 to a line.
+const LONE_BYTES: [u8; 256] = *b"\
+    ________________________________\
+    ________()_+,-./___________;_=_?\
+    ___________________________[\\]__\
+    ___________________________{_}__\
+    ________________________________\
+    ________________________________\
+    ________________________________\
+    ________________________________";
 
 // The classes of bytes that a run is made of.
 enum Class {
@@ -38,12 +52,6 @@ fn byte(s: &[u8], i: usize) -> u8
         return s[i];
     }
     0
-}
-
-fn wide(b: u8) -> u64
-    ensures { λ r. ⌜ r ≡ b ⌝ }
-{
-    b as u64
 }
 
 fn is_within(lo: u8, hi: u8, b: u8) -> bool
@@ -76,40 +84,19 @@ fn is_pair(x: u8, y: u8, b: u8, c: u8) -> bool
 fn is_letter(b: u8) -> bool
     ensures { λ r. ⌜ r ≡ letter b ⌝ }
 {
-    if is_within(65, 90, b) {
+    if is_within(b'A', b'Z', b) {
         return true;
     }
-    is_within(97, 122, b)
-}
-
-// The half of a set of bytes that a byte is looked for in: the first has the bytes below 64, the second those below 128.
-fn half(low: u64, high: u64, b: u8) -> u64
-    ensures { λ r. ⌜ r ≡ half-of low high b ⌝ }
-{
-    if b < 64 {
-        return low;
-    }
-    if b < 128 {
-        return high;
-    }
-    0
-}
-
-// Whether a byte is in a set, a bit for each byte: one jump where a chain of tests has several that are hard to foretell.
-fn is_in(low: u64, high: u64, b: u8) -> bool
-    ensures { λ r. ⌜ r ≡ among-bytes low high b ⌝ }
-{
-    let shift = wide(b % 64);
-    (half(low, high, b) >> shift) % 2 == 1
+    is_within(b'a', b'z', b)
 }
 
 fn is_member(class: Class, b: u8) -> bool
     ensures { λ r. ⌜ r ≡ member class b ⌝ }
 {
     match class {
-        Class::Digit => is_within(48, 57, b),
-        Class::Bit => is_within(48, 49, b),
-        Class::Line => b != 10,
+        Class::Digit => is_within(b'0', b'9', b),
+        Class::Bit => is_within(b'0', b'1', b),
+        Class::Line => b != b'\n',
     }
 }
 
@@ -128,25 +115,25 @@ fn run_end(s: &[u8], at: usize, class: Class) -> usize
     i
 }
 
-// 1 where a word goes on with a byte, 0 where it does not.
-fn goes_on(words: &[u8; 256], b: u8) -> u8
-    requires { ⌜ now words ≡ word-table ⌝ }
-    ensures { λ r. ⌜ r ≡ one (word-byte b) ⌝ }
+// `1` where a word goes on with a byte, `0` where it does not.
+fn word_mark(table: &[u8; 256], b: u8) -> u8
+    requires { ⌜ now table ≡ word-table ⌝ }
+    ensures { λ r. ⌜ r ≡ mark (word-byte b) ⌝ }
 {
-    words[columns::byte_index(b)]
+    table[columns::byte_index(b)]
 }
 
 // The end of the word that goes on at a place. Two bytes a turn: half the jumps, and lengths 1 apart are alike to them.
-fn word_end(s: &[u8], at: usize, words: &[u8; 256]) -> usize
-    requires { ⌜ (at ≤ length (now s)) × (now words ≡ word-table) ⌝ }
+fn word_end(s: &[u8], at: usize, table: &[u8; 256]) -> usize
+    requires { ⌜ (at ≤ length (now s)) × (now table ≡ word-table) ⌝ }
     ensures { λ r. ⌜ r ≡ run word-byte (now (s .entry)) at ⌝ }
 {
     let mut i = at;
     while i + 1 < s.len() {
-        let a = goes_on(words, s[i]);
-        let b = goes_on(words, s[i + 1]);
-        if a & b == 0 {
-            if a == 0 {
+        let a = word_mark(table, s[i]);
+        let b = word_mark(table, s[i + 1]);
+        if a & b == b'0' {
+            if a == b'0' {
                 return i;
             }
             return i + 1;
@@ -154,7 +141,10 @@ fn word_end(s: &[u8], at: usize, words: &[u8; 256]) -> usize
         i += 2;
     }
     if i < s.len() {
-        return i + columns::byte_index(goes_on(words, s[i]));
+        if word_mark(table, s[i]) == b'0' {
+            return i;
+        }
+        return i + 1;
     }
     i
 }
@@ -168,12 +158,12 @@ fn remark_end(s: &[u8], from: usize) -> Step
     let mut depth: usize = 1;
     while i + 1 < s.len() {
         let b = s[i];
-        if is_either(40, 42, b) {
+        if is_either(b'(', b'*', b) {
             let c = s[i + 1];
-            if is_pair(40, 42, b, c) {
+            if is_pair(b'(', b'*', b, c) {
                 depth += 1;
                 i += 2;
-            } else if is_pair(42, 41, b, c) {
+            } else if is_pair(b'*', b')', b, c) {
                 if depth == 1 {
                     return Step::At(i + 2);
                 }
@@ -186,7 +176,7 @@ fn remark_end(s: &[u8], from: usize) -> Step
             i += 1;
         }
     }
-    Step::Refused(2, from)
+    Step::Refused(codes::replies::NO_TOKEN, from)
 }
 
 // The first place from `at` on that is no space and in no remark.
@@ -196,17 +186,17 @@ fn skip(s: &[u8], at: usize) -> Step
     let mut i = at;
     while i < s.len() {
         let b = s[i];
-        if b == 32 {
+        if b == b' ' {
             i += 1;
-        } else if b > 45 {
+        } else if b > b'-' {
             return Step::At(i);
-        } else if is_within(9, 13, b) {
+        } else if is_within(b'\t', b'\r', b) {
             i += 1;
         } else {
             let c = byte(s, i + 1);
-            if is_pair(45, 45, b, c) {
+            if is_pair(b'-', b'-', b, c) {
                 i = run_end(s, i + 2, Class::Line);
-            } else if is_pair(40, 42, b, c) {
+            } else if is_pair(b'(', b'*', b, c) {
                 let step = remark_end(s, i);
                 let Step::At(q) = step else {
                     return step;
@@ -225,11 +215,11 @@ fn integer_end(s: &[u8], at: usize, end: usize) -> Step
     requires { ⌜ end ≡ run digit (now s) at ⌝ }
     ensures { λ r. ⌜ reading r ≡ end-of-integer (now (s .entry)) at ⌝ }
 {
-    if end - at < 19 {
+    if end - at < codes::limits::INTEGER_DIGITS {
         return Step::At(end);
     }
-    if literals::integer(s, at, end - at) > 9223372036854775807 {
-        return Step::Refused(3, at);
+    if literals::integer(s, at, end - at) > codes::limits::INTEGER {
+        return Step::Refused(codes::replies::TOO_LARGE, at);
     }
     Step::At(end)
 }
@@ -238,7 +228,7 @@ fn exponent_digits(s: &[u8], at: usize) -> usize
     requires { ⌜ at < length (now s) ⌝ }
     ensures { λ r. ⌜ r ≡ digits-of-exponent (now (s .entry)) at ⌝ }
 {
-    if is_either(43, 45, byte(s, at + 1)) {
+    if is_either(b'+', b'-', byte(s, at + 1)) {
         return at + 2;
     }
     at + 1
@@ -251,11 +241,11 @@ fn exponent_end(s: &[u8], at: usize) -> usize
     if at >= s.len() {
         return at;
     }
-    if !is_either(101, 69, s[at]) {
+    if !is_either(b'e', b'E', s[at]) {
         return at;
     }
     let digits = exponent_digits(s, at);
-    if !is_within(48, 57, byte(s, digits)) {
+    if !is_within(b'0', b'9', byte(s, digits)) {
         return at;
     }
     run_end(s, digits, Class::Digit)
@@ -278,17 +268,17 @@ fn string_end(s: &[u8], at: usize) -> Step
     while i < s.len() {
         let b = s[i];
         if quote {
-            if b != 39 {
+            if b != b'\'' {
                 return Step::At(i);
             }
             quote = false;
             i += 1;
-        } else if b == 39 {
+        } else if b == b'\'' {
             quote = true;
             i += 1;
         } else {
-            if !is_within(32, 126, b) {
-                return Step::Refused(2, at);
+            if !is_within(b' ', b'~', b) {
+                return Step::Refused(codes::replies::NO_TOKEN, at);
             }
             i += 1;
         }
@@ -296,7 +286,7 @@ fn string_end(s: &[u8], at: usize) -> Step
     if quote {
         return Step::At(i);
     }
-    Step::Refused(2, at)
+    Step::Refused(codes::replies::NO_TOKEN, at)
 }
 
 fn binary_end(s: &[u8], at: usize) -> Step
@@ -306,32 +296,34 @@ fn binary_end(s: &[u8], at: usize) -> Step
     let end = run_end(s, at + 1, Class::Bit);
     let bits = end - (at + 1);
     if bits == 0 {
-        return Step::Refused(2, at);
+        return Step::Refused(codes::replies::NO_TOKEN, at);
     }
-    if bits > 63 {
-        return Step::Refused(3, at);
+    if bits > codes::limits::BITS {
+        return Step::Refused(codes::replies::TOO_LARGE, at);
     }
     Step::At(end)
 }
 
-fn is_lone(b: u8) -> bool
+// Whether a byte is a symbol that begins no longer one.
+fn is_lone(table: &[u8; 256], b: u8) -> bool
+    requires { ⌜ now table ≡ lone-table ⌝ }
     ensures { λ r. ⌜ r ≡ lone b ⌝ }
 {
-    is_in(12105951775790465024, 2882303762456641536, b)
+    table[columns::byte_index(b)] != b'_'
 }
 
-// How many of the four bytes are a symbol that starts with a colon, which b is.
+// How many of four bytes are a symbol, of which the first is a colon and these are the others.
 fn colon_size(c: u8, d: u8, e: u8) -> usize
-    ensures { λ r. ⌜ r ≡ size-of-symbol 58 c d e ⌝ }
+    ensures { λ r. ⌜ r ≡ size-of-symbol colon c d e ⌝ }
 {
-    if c == 61 {
-        if d == 58 {
+    if c == b'=' {
+        if d == b':' {
             return 3;
         }
         return 2;
     }
-    if is_pair(60, 62, c, d) {
-        if e == 58 {
+    if is_pair(b'<', b'>', c, d) {
+        if e == b':' {
             return 4;
         }
     }
@@ -339,37 +331,35 @@ fn colon_size(c: u8, d: u8, e: u8) -> usize
 }
 
 fn symbol_size(b: u8, c: u8, d: u8, e: u8) -> usize
+    requires { ⌜ lone b ≡ false ⌝ }
     ensures { λ r. ⌜ r ≡ size-of-symbol b c d e ⌝ }
 {
-    if is_lone(b) {
-        return 1;
-    }
-    if b == 58 {
+    if b == b':' {
         return colon_size(c, d, e);
     }
-    if b == 60 {
-        if c == 61 {
+    if b == b'<' {
+        if c == b'=' {
             return 2;
         }
-        if is_either(62, 42, c) {
-            return 2;
-        }
-        return 1;
-    }
-    if b == 62 {
-        if c == 61 {
+        if is_either(b'>', b'*', c) {
             return 2;
         }
         return 1;
     }
-    if b == 42 {
-        if c == 42 {
+    if b == b'>' {
+        if c == b'=' {
             return 2;
         }
         return 1;
     }
-    if b == 124 {
-        if c == 124 {
+    if b == b'*' {
+        if c == b'*' {
+            return 2;
+        }
+        return 1;
+    }
+    if b == b'|' {
+        if c == b'|' {
             return 2;
         }
         return 1;
@@ -377,83 +367,68 @@ fn symbol_size(b: u8, c: u8, d: u8, e: u8) -> usize
     0
 }
 
+// The end of a symbol that is not by its first byte alone one.
 fn symbol_end(s: &[u8], at: usize) -> Step
-    requires { ⌜ at < length (now s) ⌝ }
+    requires { ⌜ (at < length (now s)) × (lone (getD (now s) at 0) ≡ false) ⌝ }
     ensures { λ r. ⌜ reading r ≡ end-of-symbol (now (s .entry)) at ⌝ }
 {
     let b = s[at];
-    if is_lone(b) {
-        return Step::At(at + 1);
-    }
     // `:=` is the commonest symbol of two bytes.
     let c = byte(s, at + 1);
-    if is_pair(58, 61, b, c) {
-        if byte(s, at + 2) == 58 {
+    if is_pair(b':', b'=', b, c) {
+        if byte(s, at + 2) == b':' {
             return Step::At(at + 3);
         }
         return Step::At(at + 2);
     }
     let size = symbol_size(b, c, byte(s, at + 2), byte(s, at + 3));
     if size == 0 {
-        return Step::Refused(2, at);
+        return Step::Refused(codes::replies::NO_TOKEN, at);
     }
     Step::At(at + size)
 }
 
-// A token of a kind, by the step that reads it.
-fn named(kind: u8, step: Step) -> Found
-    ensures { λ r. ⌜ r ≡ token-meant kind (reading step) ⌝ }
-{
-    match step {
-        Step::At(e) => Found::Token(kind, e),
-        Step::Refused(n, o) => Found::Refusal(n, o),
-    }
-}
-
-// The refusal of a token, as one of a step.
-fn refusal(found: Found) -> Step
-    ensures { λ r. ⌜ r ≡ step-meant found ⌝ }
-{
-    match found {
-        Found::Token(_, e) => Step::At(e),
-        Found::Refusal(n, o) => Step::Refused(n, o),
-    }
-}
-
-// An integer, or a real where a point ends its digits.
-fn number(s: &[u8], at: usize) -> Found
+// An integer, or a real where a point ends its digits: its end, and its kind.
+fn number(s: &[u8], at: usize, kind: &mut u8) -> Step
     requires { ⌜ (at < length (now s)) × (letter (getD (now s) at 0) ≡ false) × (digit (getD (now s) at 0) ≡ true) ⌝ }
-    ensures { λ r. ⌜ r ≡ token-found-at (now (s .entry)) at ⌝ }
+    ensures { λ r. ⌜ TokenRead (now (s .entry)) at r (now (kind .exit)) ⌝ }
 {
     let end = run_end(s, at, Class::Digit);
-    if byte(s, end) == 46 {
-        return Found::Token(3, real_end(s, end));
+    if byte(s, end) == b'.' {
+        *kind = codes::tokens::REAL;
+        return Step::At(real_end(s, end));
     }
-    named(2, integer_end(s, at, end))
+    *kind = codes::tokens::INTEGER;
+    integer_end(s, at, end)
 }
 
-// The token at a place, by its first byte.
-fn token(s: &[u8], at: usize, words: &[u8; 256]) -> Found
-    requires { ⌜ (at < length (now s)) × (now words ≡ word-table) ⌝ }
-    ensures { λ r. ⌜ r ≡ token-found-at (now (s .entry)) at ⌝ }
+// The token at a place, by its first byte: its end, and its kind.
+fn token(s: &[u8], at: usize, words: &[u8; 256], lones: &[u8; 256], kind: &mut u8) -> Step
+    requires { ⌜ (at < length (now s)) × (now words ≡ word-table) × (now lones ≡ lone-table) ⌝ }
+    ensures { λ r. ⌜ TokenRead (now (s .entry)) at r (now (kind .exit)) ⌝ }
 {
     let b = s[at];
-    if is_lone(b) {
-        return Found::Token(6, at + 1);
+    if is_lone(lones, b) {
+        *kind = codes::tokens::SYMBOL;
+        return Step::At(at + 1);
     }
     if is_letter(b) {
-        return Found::Token(1, word_end(s, at + 1, words));
+        *kind = codes::tokens::WORD;
+        return Step::At(word_end(s, at + 1, words));
     }
-    if is_within(48, 57, b) {
-        return number(s, at);
+    if is_within(b'0', b'9', b) {
+        return number(s, at, kind);
     }
-    if b == 39 {
-        return named(4, string_end(s, at));
+    if b == b'\'' {
+        *kind = codes::tokens::STRING;
+        return string_end(s, at);
     }
-    if b == 37 {
-        return named(5, binary_end(s, at));
+    if b == b'%' {
+        *kind = codes::tokens::BINARY;
+        return binary_end(s, at);
     }
-    named(6, symbol_end(s, at))
+    *kind = codes::tokens::SYMBOL;
+    symbol_end(s, at)
 }
 
 // One row, as far as the columns go; each of them has room entries.
@@ -468,7 +443,8 @@ fn push(
     size: u32,
 )
     requires { ⌜ (room ≤ length (now kinds)) × (room ≤ length (now starts)) × (room ≤ length (now lengths)) ⌝ }
-    ensures { λ _. ⌜ (now (kinds .exit) ≡ set (now (kinds .entry)) n kind) × (now (starts .exit) ≡ set (now (starts .entry)) n start) × (now (lengths .exit) ≡ set (now (lengths .entry)) n size) ⌝ }
+    ensures { λ _. ⌜ (now (kinds .exit) ≡ set (now (kinds .entry)) n kind) × (now (starts .exit) ≡ set (now (starts .entry)) n start)
+        × (now (lengths .exit) ≡ set (now (lengths .entry)) n size) ⌝ }
 {
     if n < room {
         kinds[n] = kind;
@@ -482,28 +458,39 @@ fn push(
 }
 
 // One row for each token, as far as the columns go; the number of tokens, or the first refusal.
-fn fill(src: &[u8], kinds: &mut [u8], starts: &mut [u32], lengths: &mut [u32], room: usize) -> Step
+fn fill(
+    src: &[u8],
+    limit: u32,
+    kinds: &mut [u8],
+    starts: &mut [u32],
+    lengths: &mut [u32],
+    room: usize,
+) -> Step
     requires { ⌜ (room ≤ length (now kinds)) × (room ≤ length (now starts)) × (room ≤ length (now lengths)) ⌝ }
-    ensures { λ r. ⌜ Filled (lexed (now (src .entry))) (now (kinds .entry)) (now (starts .entry)) (now (lengths .entry)) r (now (kinds .exit)) (now (starts .exit)) (now (lengths .exit)) ⌝ }
+    ensures { λ r. ⌜ Filled (lexed-to limit (now (src .entry))) (now (kinds .entry)) (now (starts .entry)) (now (lengths .entry)) r
+        (now (kinds .exit)) (now (starts .exit)) (now (lengths .exit)) ⌝ }
 {
-    if src.len() > 65536 {
-        return Step::Refused(1, 65536);
+    let most = columns::index(limit);
+    if src.len() > most {
+        return Step::Refused(codes::replies::TOO_LONG, most);
     }
     // A constant array is built anew wherever it is named: once here, and lent from here on.
-    let words = WORDS;
+    let words = WORD_BYTES;
+    let lones = LONE_BYTES;
     let mut n: usize = 0;
     let mut at: usize = 0;
     loop {
-        let step = skip(src, at);
-        let Step::At(p) = step else {
-            return step;
+        let space = skip(src, at);
+        let Step::At(p) = space else {
+            return space;
         };
         if p >= src.len() {
             return Step::At(n);
         }
-        let found = token(src, p, &words);
-        let Found::Token(kind, e) = found else {
-            return refusal(found);
+        let mut kind = codes::tokens::NONE;
+        let read = token(src, p, &words, &lones, &mut kind);
+        let Step::At(e) = read else {
+            return read;
         };
         push(
             kinds,
@@ -520,17 +507,24 @@ fn fill(src: &[u8], kinds: &mut [u8], starts: &mut [u32], lengths: &mut [u32], r
     }
 }
 
-// The tokens of a text, a row for each: its kind, its start and its length.
-pub fn scan(src: &[u8], kinds: &mut [u8], starts: &mut [u32], lengths: &mut [u32]) -> Step
-    ensures { λ r. ⌜ Scanned (now (src .entry)) (now (kinds .entry)) (now (starts .entry)) (now (lengths .entry)) r (now (kinds .exit)) (now (starts .exit)) (now (lengths .exit)) ⌝ }
+// The tokens of a text of so many bytes at most, a row for each: its kind, its start and its length.
+pub fn scan(
+    src: &[u8],
+    limit: u32,
+    kinds: &mut [u8],
+    starts: &mut [u32],
+    lengths: &mut [u32],
+) -> Step
+    ensures { λ r. ⌜ ScanResult limit (now (src .entry)) (now (kinds .entry)) (now (starts .entry)) (now (lengths .entry)) r
+        (now (kinds .exit)) (now (starts .exit)) (now (lengths .exit)) ⌝ }
 {
     let room = columns::shorter(kinds.len(), columns::shorter(starts.len(), lengths.len()));
-    let step = fill(src, kinds, starts, lengths, room);
+    let step = fill(src, limit, kinds, starts, lengths, room);
     let Step::At(n) = step else {
         return step;
     };
     if n > room {
-        return Step::Refused(6, n);
+        return Step::Refused(codes::replies::TOKENS_SHORT, n);
     }
     Step::At(n)
 }

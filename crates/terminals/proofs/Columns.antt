@@ -62,7 +62,8 @@ module _ {src ks ps ns c₀ c : List ℕ} {i : ℕ} (p : Progress src ks ps ns c
       unfolding terminals
       no-size h = let over : sets c i (terminals src (drop i ks) (drop i ps) (drop i ns)) ≡ c = rw (cut ks k, cut ps s, drop-of-length-le ns h) in sym over ∙ p .is
 
-      pub one-more : (n : i < length ns) {c′ : List ℕ} {start size v : ℕ} → start ≡ getD ps i 0 → size ≡ getD ns i 0 → v ≡ terminal-of (getD ks i 0) (take size (drop start src)) → c′ ≡ set c i v → Progress src ks ps ns c₀ c′ (i + 1)
+      pub one-more : (n : i < length ns) {c′ : List ℕ} {start size v : ℕ} → start ≡ getD ps i 0 → size ≡ getD ns i 0
+          → v ≡ terminal-of (getD ks i 0) (take size (drop start src)) → c′ ≡ set c i v → Progress src ks ps ns c₀ c′ (i + 1)
       unfolding terminals
       one-more n {c′} {start} {size} {v} s-is n-is v-is c-is =
           let t : v ≡ terminal-of (getD ks i 0) (take (getD ns i 0) (drop (getD ps i 0) src)) = rw (← s-is, ← n-is) v-is in

@@ -1,18 +1,20 @@
--- The table of spellings, by one test that is computed at each of its 148 entries.
+-- The table of spellings, by one test that is computed at each of its entries.
 use mathlib.Core.Path.{_≡_, refl, sym, ap, _∙_, subst}
-use mathlib.Core.Bool.{Bool, true, false, cond, _&&_}
+use mathlib.Core.Bool.{Bool, true, false, cond, _&&_, _||_}
 use mathlib.Core.List.{List, [], _∷_, map}
 use Prim.Native.Nat.{ℕ, zero, suc, _+_, _-_, _≤_, _<_}
 use native.Mathlib.Omega.{arith}
+use native.Mathlib.Numerals.{add-one}
 use native.Mathlib.Nat.{le-of-suc-le-suc, not-suc-le-zero, add-zero, zero-add, suc-add, add-suc}
 use lib.ListN.{length, take, drop, getD, List·getD-append}
 use lib.Seq.{getD-append-add}
-use lib.Dec.{T, eqb, leb, ltb, eqb→eq, leb→le}
+use lib.Dec.{T, eqb, leb, ltb, eqb→eq, leb→le, ltb→lt}
 use Rattle.express.specs.tokens.Spelling.{same}
 use Rattle.express.specs.tokens.Terminal.{Fixed, symbols, reserved, among, word-terminal, symbol-terminal}
 use Rattle.express.proofs.tokens.Spelling.{same-true, same-refl}
 use borrow.Author.Tests.{lt-ltb, le-ltb, ne-eqb}
-use Rattle.terminals.specs.Lookup.{spellings, spelling, folded, hash, slots, froms, text, Named, none, one}
+use Rattle.terminals.specs.Lookup.{spellings, spelling, folded, hash, CodeOf, none, one}
+use Rattle.terminals.specs.Spellings.{spelling-count, first-code, first-word, longest, slot-count, slots, text-size, text, offsets}
 
 left : (a b : Bool) → T (a && b) → T a
 left true b t = tt
@@ -44,20 +46,28 @@ module _ {A : Type 0} (d : A) where
   each f xs t k h = subst (λ (m : ℕ). T (f m (getD xs k d))) (zero-add k) (from f xs 0 t k h)
 
 abbrev code-of-word : ℕ → ℕ
-code-of-word r = cond (ltb r 30) 1 (r + 5)
+code-of-word r = cond (ltb r first-word) 1 r
 
 abbrev code-of-symbol : ℕ → ℕ
-code-of-symbol r = cond (eqb r 0) 0 (cond (ltb r 30) (r + 5) 0)
+code-of-symbol r = cond (ltb r first-word) r 0
 
 -- the hash leads to it, the text has it, its length is as said, and its code is by its number
 abbrev found : ℕ → List ℕ → Bool
-found k w = eqb (getD slots (hash w) 0) (suc k)
+found k w = eqb (getD slots (hash w) 0) (first-code + k)
 
 abbrev lies : ℕ → List ℕ → Bool
-lies k w = same (take (length w) (drop (getD froms k 0) text)) w && (eqb (getD froms (suc k) 0) (getD froms k 0 + length w) && (leb (getD froms (suc k) 0) 719 && leb (length w) 13))
+lies k w = same (take (length w) (drop (getD offsets (first-code + k) 0) text)) w
+
+abbrev bounded : ℕ → List ℕ → Bool
+bounded k w = eqb (getD offsets (suc (first-code + k)) 0) (getD offsets (first-code + k) 0 + length w)
+    && (leb (getD offsets (suc (first-code + k)) 0) text-size && leb (length w) longest)
 
 abbrev coded : ℕ → List ℕ → Bool
-coded k w = eqb (among reserved w 1) (code-of-word (suc k)) && eqb (among symbols w 0) (code-of-symbol (suc k))
+coded k w = eqb (among reserved w 1) (code-of-word (first-code + k)) && eqb (among symbols w 0) (code-of-symbol (first-code + k))
+
+-- a slot is empty, or has the code of a spelling
+abbrev filled : ℕ → ℕ → Bool
+filled h c = eqb c 0 || (leb first-code c && ltb c (first-code + spelling-count))
 
 found-all : T (every [] found 0 spellings)
 found-all = tt
@@ -66,95 +76,131 @@ lies-all : T (every [] lies 0 spellings)
 unfolding same
 lies-all = tt
 
+bounded-all : T (every [] bounded 0 spellings)
+bounded-all = tt
+
 coded-all : T (every [] coded 0 spellings)
 unfolding same among
 coded-all = tt
 
-few-all : T (every 0 (λ i x. leb x 148) 0 slots)
-few-all = tt
+filled-all : T (every 0 filled 0 slots)
+filled-all = tt
 
 -- ---- what the tests say of each entry
 
-module _ (k : ℕ) (h : k < 148) where
-  entry-found : getD slots (hash (spelling k)) 0 ≡ suc k
+module _ (k : ℕ) (h : k < spelling-count) where
+  entry-found : getD slots (hash (spelling k)) 0 ≡ first-code + k
   entry-found = eqb→eq _ _ (each [] found spellings found-all k h)
 
-  lying : T (lies k (spelling k))
-  lying = each [] lies spellings lies-all k h
+  pub entry-text : take (length (spelling k)) (drop (getD offsets (first-code + k) 0) text) ≡ spelling k
+  entry-text = same-true _ _ (true-of _ (each [] lies spellings lies-all k h))
 
-  pub entry-text : take (length (spelling k)) (drop (getD froms k 0) text) ≡ spelling k
-  entry-text = same-true _ _ (true-of _ (left (same (take (length (spelling k)) (drop (getD froms k 0) text)) (spelling k)) _ lying))
+  abbrev start : ℕ
+  start = getD offsets (first-code + k) 0
 
-  bounds : T (eqb (getD froms (suc k) 0) (getD froms k 0 + length (spelling k)) && (leb (getD froms (suc k) 0) 719 && leb (length (spelling k)) 13))
-  bounds = right (same (take (length (spelling k)) (drop (getD froms k 0) text)) (spelling k)) _ lying
+  abbrev end : ℕ
+  end = getD offsets (suc (first-code + k)) 0
 
-  pub entry-ends : getD froms (suc k) 0 ≡ getD froms k 0 + length (spelling k)
-  entry-ends = eqb→eq _ _ (left (eqb (getD froms (suc k) 0) (getD froms k 0 + length (spelling k))) _ bounds)
+  bounds : T (eqb end (start + length (spelling k)) && (leb end text-size && leb (length (spelling k)) longest))
+  bounds = each [] bounded spellings bounded-all k h
 
-  pub entry-inside : getD froms (suc k) 0 ≤ 719
-  entry-inside = leb→le _ _ (left (leb (getD froms (suc k) 0) 719) _ (right (eqb (getD froms (suc k) 0) (getD froms k 0 + length (spelling k))) _ bounds))
+  within-bounds : T (leb end text-size && leb (length (spelling k)) longest)
+  within-bounds = right (eqb end (start + length (spelling k))) _ bounds
 
-  entry-short : length (spelling k) ≤ 13
-  entry-short = leb→le _ _ (right (leb (getD froms (suc k) 0) 719) _ (right (eqb (getD froms (suc k) 0) (getD froms k 0 + length (spelling k))) _ bounds))
+  pub entry-ends : end ≡ start + length (spelling k)
+  entry-ends = eqb→eq _ _ (left (eqb end (start + length (spelling k))) _ bounds)
 
-  entry-word : among reserved (spelling k) 1 ≡ code-of-word (suc k)
-  entry-word = eqb→eq _ _ (left (eqb (among reserved (spelling k) 1) (code-of-word (suc k))) _ (each [] coded spellings coded-all k h))
+  pub entry-inside : end ≤ text-size
+  entry-inside = leb→le _ _ (left (leb end text-size) _ within-bounds)
 
-  entry-symbol : among symbols (spelling k) 0 ≡ code-of-symbol (suc k)
-  entry-symbol = eqb→eq _ _ (right (eqb (among reserved (spelling k) 1) (code-of-word (suc k))) _ (each [] coded spellings coded-all k h))
+  entry-short : length (spelling k) ≤ longest
+  entry-short = leb→le _ _ (right (leb end text-size) _ within-bounds)
 
-pub slot-few : (h : ℕ) → h < 1024 → getD slots h 0 ≤ 148
-slot-few h l = leb→le _ _ (each 0 (λ i x. leb x 148) slots few-all h l)
+  by-code : T (coded k (spelling k))
+  by-code = each [] coded spellings coded-all k h
+
+  entry-word : among reserved (spelling k) 1 ≡ code-of-word (first-code + k)
+  entry-word = eqb→eq _ _ (left (eqb (among reserved (spelling k) 1) (code-of-word (first-code + k))) _ by-code)
+
+  entry-symbol : among symbols (spelling k) 0 ≡ code-of-symbol (first-code + k)
+  entry-symbol = eqb→eq _ _ (right (eqb (among reserved (spelling k) 1) (code-of-word (first-code + k))) _ by-code)
+
+module _ (h : ℕ) (l : h < slot-count) (some : getD slots h 0 ≡ 0 → ⊥) where
+  abbrev code-at : ℕ
+  code-at = getD slots h 0
+
+  tested : T (leb first-code code-at && ltb code-at (first-code + spelling-count))
+  tested = rw (ne-eqb code-at 0 some) at (each 0 filled slots filled-all h l)
+
+  pub slot-filled : (first-code ≤ code-at) × (code-at < first-code + spelling-count)
+  slot-filled = (leb→le _ _ (left (leb first-code code-at) _ tested), ltb→lt _ _ (right (leb first-code code-at) _ tested))
 
 -- ---- looking up a word
 
 module _ (w : List ℕ) where
-  miss : ((j : ℕ) → j < 148 → w ≡ spelling j → ⊥) → Named w 0
+  miss : ((j : ℕ) → j < spelling-count → w ≡ spelling j → ⊥) → CodeOf w 0
   miss never = none (λ j h. go j h (same (spelling j) w) refl)
     where
-      go : (j : ℕ) → j < 148 → (t : Bool) → same (spelling j) w ≡ t → t ≡ false
+      go : (j : ℕ) → j < spelling-count → (t : Bool) → same (spelling j) w ≡ t → t ≡ false
       go j h true e = absurd (never j h (sym (same-true (spelling j) w e)))
       go j h false e = refl
 
-  pub miss-long : 13 < length w → Named w 0
+  pub miss-long : longest < length w → CodeOf w 0
   miss-long l = miss (λ j h e. absurd (omega (arith, l, ap length e, entry-short j h)))
 
+  -- k is what the slot of w has
   module _ (k : ℕ) (is : k ≡ getD slots (hash w) 0) where
-    slot-of : (j : ℕ) → j < 148 → w ≡ spelling j → k ≡ suc j
+    abbrev start-of : ℕ
+    start-of = getD offsets k 0
+
+    abbrev size-of : ℕ
+    size-of = getD offsets (k + 1) 0 - getD offsets k 0
+
+    slot-of : (j : ℕ) → j < spelling-count → w ≡ spelling j → k ≡ first-code + j
     slot-of j h e = is ∙ ap (λ (v : List ℕ). getD slots (hash v) 0) e ∙ entry-found j h
 
-    pub miss-slot : k ≡ 0 → Named w 0
+    pub miss-slot : k ≡ 0 → CodeOf w 0
     miss-slot z = miss (λ j h e. absurd (omega (arith, z, slot-of j h e)))
 
-    pub miss-length : (getD froms k 0 - getD froms (k - 1) 0 ≡ length w → ⊥) → Named w 0
-    miss-length never = miss (λ j h e. never (differ j h e))
+    pub miss-length : (size-of ≡ length w → ⊥) → CodeOf w 0
+    miss-length never = miss (λ j h e. never (equal j h e))
       where
-        differ : (j : ℕ) → j < 148 → w ≡ spelling j → getD froms k 0 - getD froms (k - 1) 0 ≡ length w
-        differ j h e =
-            let one-less : k - 1 ≡ j = omega (arith, slot-of j h e) in
-            rw (one-less, slot-of j h e) (omega (arith, entry-ends j h, ap length e))
+        equal : (j : ℕ) → j < spelling-count → w ≡ spelling j → size-of ≡ length w
+        equal j h e = rw (add-one, slot-of j h e) (omega (arith, entry-ends j h, ap length e))
 
-    pub miss-text : same (take (length w) (drop (getD froms (k - 1) 0) text)) w ≡ false → Named w 0
+    pub miss-text : same (take (length w) (drop start-of text)) w ≡ false → CodeOf w 0
     miss-text never = miss (λ j h e. mathlib.Core.Bool.false≢true (sym never ∙ equal j h e))
       where
-        equal : (j : ℕ) → j < 148 → w ≡ spelling j → same (take (length w) (drop (getD froms (k - 1) 0) text)) w ≡ true
-        equal j h e =
-            let one-less : k - 1 ≡ j = omega (arith, slot-of j h e) in
-            rw (one-less, e, entry-text j h) (same-refl (spelling j))
+        equal : (j : ℕ) → j < spelling-count → w ≡ spelling j → same (take (length w) (drop start-of text)) w ≡ true
+        equal j h e = rw (slot-of j h e, e, entry-text j h) (same-refl (spelling j))
 
-    pub hit : (k ≡ 0 → ⊥) → k ≤ 148 → getD froms k 0 - getD froms (k - 1) 0 ≡ length w → same (take (length w) (drop (getD froms (k - 1) 0) text)) w ≡ true → Named w k
-    hit some few long e =
-        let less : k - 1 < 148 = omega (arith, some, few) in
-        let up : suc (k - 1) ≡ k = omega (arith, some) in
-        let size : length w ≡ length (spelling (k - 1)) = omega (arith, long, rw up at (entry-ends (k - 1) less)) in
-        let w-is : w ≡ spelling (k - 1) = sym (same-true _ _ e) ∙ ap (λ (n : ℕ). take n (drop (getD froms (k - 1) 0) text)) size ∙ entry-text (k - 1) less in
-        subst (Named w) (omega (arith, some)) (one (k - 1) less w-is)
+    module _ (low : first-code ≤ k) (high : k < first-code + spelling-count) where
+      abbrev number : ℕ
+      number = k - first-code
+
+      number-less : number < spelling-count
+      number-less = omega (arith, low, high)
+
+      k-is : first-code + number ≡ k
+      k-is = omega (arith, low)
+
+      pub ends : getD offsets (k + 1) 0 ≡ start-of + length (spelling number)
+      ends =
+          rw add-one
+          (subst (λ (m : ℕ). getD offsets (suc m) 0 ≡ getD offsets m 0 + length (spelling number)) k-is (entry-ends number number-less))
+
+      pub text-inside : getD offsets (k + 1) 0 ≤ text-size
+      text-inside = rw add-one (subst (λ (m : ℕ). getD offsets (suc m) 0 ≤ text-size) k-is (entry-inside number number-less))
+
+      pub hit : size-of ≡ length w → same (take (length w) (drop start-of text)) w ≡ true → CodeOf w k
+      hit long e =
+          let size : length w ≡ length (spelling number) = omega (arith, long, ends) in
+          let there : take (length (spelling number)) (drop start-of text) ≡ spelling number =
+          subst (λ (m : ℕ). take (length (spelling number)) (drop (getD offsets m 0) text) ≡ spelling number) k-is (entry-text number number-less) in
+          let w-is : w ≡ spelling number = sym (same-true _ _ e) ∙ ap (λ (n : ℕ). take n (drop start-of text)) size ∙ there in
+          subst (CodeOf w) k-is (one number number-less w-is)
 
 -- ---- codes
-
-pub named-few : (w : List ℕ) (r : ℕ) → Named w r → r ≤ 148
-named-few w _ (none never) = omega arith
-named-few w _ (one j h e) = omega (arith, h)
 
 among-none : (fs : List Fixed) (w : List ℕ) (d : ℕ) → ((j : ℕ) → j < length fs → same (getD (map (λ f. f .spelling) fs) j []) w ≡ false) → among fs w d ≡ d
 unfolding among
@@ -164,76 +210,94 @@ among-none (f ∷ fs) w d never = rw (never 0 (omega arith)) (among-none fs w d 
 abbrev of : List Fixed → List (List ℕ)
 of fs = map (λ f. f .spelling) fs
 
-pub word-code : (w : List ℕ) (r : ℕ) → Named w r → among reserved w 1 ≡ code-of-word r
-word-code w _ (none never) = among-none reserved w 1 (λ j h. ap (λ (v : List ℕ). same v w) (sym (getD-append-add (of symbols) (of reserved) j [])) ∙ never (29 + j) (omega (arith, h)))
-word-code w _ (one j h e) = let up : suc j ≡ j + 1 = omega arith in ap (λ (v : List ℕ). among reserved v 1) e ∙ entry-word j h ∙ ap code-of-word up
+pub word-code : (w : List ℕ) (r : ℕ) → CodeOf w r → among reserved w 1 ≡ code-of-word r
+word-code w _ (none never) =
+    among-none reserved w 1
+    (λ j h. ap (λ (v : List ℕ). same v w) (sym (getD-append-add (of symbols) (of reserved) j [])) ∙ never (length (of symbols) + j) (omega (arith, h)))
+word-code w _ (one j h e) = ap (λ (v : List ℕ). among reserved v 1) e ∙ entry-word j h
 
-pub symbol-code : (w : List ℕ) (r : ℕ) → Named w r → among symbols w 0 ≡ code-of-symbol r
-symbol-code w _ (none never) = among-none symbols w 0 (λ j h. ap (λ (v : List ℕ). same v w) (sym (List·getD-append (of symbols) (of reserved) [] j h)) ∙ never j (omega (arith, h)))
-symbol-code w _ (one j h e) = let up : suc j ≡ j + 1 = omega arith in ap (λ (v : List ℕ). among symbols v 0) e ∙ entry-symbol j h ∙ ap code-of-symbol up
+pub symbol-code : (w : List ℕ) (r : ℕ) → CodeOf w r → among symbols w 0 ≡ code-of-symbol r
+symbol-code w _ (none never) =
+    among-none symbols w 0
+    (λ j h. ap (λ (v : List ℕ). same v w) (sym (List·getD-append (of symbols) (of reserved) [] j h)) ∙ never j (omega (arith, h)))
+symbol-code w _ (one j h e) = ap (λ (v : List ℕ). among symbols v 0) e ∙ entry-symbol j h
 
 -- ---- the same, for tables as they are lent
 
-module _ (sl fr tx w : List ℕ) (n h k : ℕ) (sl-is : sl ≡ slots) (fr-is : fr ≡ froms) (tx-is : tx ≡ text) (size : length w ≡ n) (h-is : h ≡ hash w) (k-is : k ≡ getD sl h 0) where
-  at-slot : k ≡ getD slots (hash w) 0
-  at-slot = rw (← sl-is, ← h-is) k-is
+-- w has n bytes, and c is what its slot has
+pub record Slot (sl off tx w : List ℕ) (n c : ℕ) : Type 0 where
+  pub slots-are : sl ≡ slots
+  pub offsets-are : off ≡ offsets
+  pub text-is : tx ≡ text
+  pub size : length w ≡ n
+  pub slot : c ≡ getD sl (hash w) 0
 
-  pub few : k ≤ 148
-  few = let less : hash w < 1024 = omega arith in rw at-slot (slot-few (hash w) less)
+module _ {sl off tx w : List ℕ} {n c : ℕ} (a : Slot sl off tx w n c) where
+  at-slot : c ≡ getD slots (hash w) 0
+  at-slot = rw (← a .slots-are) (a .slot)
 
-  pub no-slot : k ≡ 0 → Named w 0
-  no-slot z = miss-slot w k at-slot z
+  pub no-slot : c ≡ 0 → CodeOf w 0
+  no-slot z = miss-slot w c at-slot z
 
-  module _ (some : k ≡ 0 → ⊥) where
-    k-less : k - 1 < 148
-    k-less = omega (arith, some, few)
+  module _ (some : c ≡ 0 → ⊥) where
+    bounds-of : (first-code ≤ c) × (c < first-code + spelling-count)
+    bounds-of =
+        let less : hash w < slot-count = omega arith in
+        rw at-slot (slot-filled (hash w) less (λ z. some (at-slot ∙ z)))
 
-    ends : getD froms k 0 ≡ getD froms (k - 1) 0 + length (spelling (k - 1))
-    ends = let up : suc (k - 1) ≡ k = omega (arith, some) in rw up at (entry-ends (k - 1) k-less)
+    pub few : c < first-code + spelling-count
+    few = bounds-of .1
 
-    pub rises : getD fr (k - 1) 0 ≤ getD fr k 0
-    rises = rw fr-is (omega (arith, ends))
+    module _ (k : ℕ) (k-is : k ≡ c) where
+      abbrev start-at : ℕ
+      start-at = getD off k 0
 
-    pub no-length : (getD fr k 0 - getD fr (k - 1) 0 ≡ n → ⊥) → Named w 0
-    no-length never = miss-length w k at-slot (λ e. never (rw fr-is (e ∙ size)))
+      abbrev size-at : ℕ
+      size-at = getD off (k + 1) 0 - getD off k 0
 
-    module _ (long : getD fr k 0 - getD fr (k - 1) 0 ≡ n) where
-      long-is : getD froms k 0 - getD froms (k - 1) 0 ≡ length w
-      long-is = rw fr-is at long ∙ sym size
+      lies-at : getD off (k + 1) 0 ≡ getD off k 0 + length (spelling (c - first-code))
+      lies-at = rw (a .offsets-are, k-is) (ends w c at-slot (bounds-of .0) (bounds-of .1))
 
-      pub inside : getD fr (k - 1) 0 + n ≤ 719
-      inside =
-          let up : suc (k - 1) ≡ k = omega (arith, some) in
-          let last : getD froms k 0 ≤ 719 = rw up at (entry-inside (k - 1) k-less) in
-          rw fr-is (omega (arith, last, ends, long-is, size))
+      pub rises : getD off k 0 ≤ getD off (k + 1) 0
+      rises = omega (arith, lies-at)
 
-      abbrev there : List ℕ
-      there = take n (drop (getD fr (k - 1) 0) tx)
+      pub no-length : (size-at ≡ n → ⊥) → CodeOf w 0
+      no-length never = miss-length w c at-slot (λ e. never (rw (a .offsets-are, k-is) (e ∙ a .size)))
 
-      there-is : there ≡ take (length w) (drop (getD froms (k - 1) 0) text)
-      there-is = rw (fr-is, tx-is, size)
+      module _ (long : size-at ≡ n) where
+        long-is : getD offsets (c + 1) 0 - getD offsets c 0 ≡ length w
+        long-is = rw (a .offsets-are, k-is) at long ∙ sym (a .size)
 
-      pub no-text : same there w ≡ false → Named w 0
-      no-text e = miss-text w k at-slot (ap (λ (x : List ℕ). same x w) (sym there-is) ∙ e)
+        pub inside : start-at + n ≤ text-size
+        inside =
+            let last : getD off (k + 1) 0 ≤ text-size = rw (a .offsets-are, k-is) (text-inside w c at-slot (bounds-of .0) (bounds-of .1)) in
+            omega (arith, last, rises, long)
 
-      pub yes-text : same there w ≡ true → Named w k
-      yes-text e = hit w k at-slot some few long-is (ap (λ (x : List ℕ). same x w) (sym there-is) ∙ e)
+        abbrev there : List ℕ
+        there = take n (drop start-at tx)
 
-module _ (t : List ℕ) (r : ℕ) where
-  module _ (is : Named (folded true t) r) where
-    pub word-low : r < 30 → 1 ≡ word-terminal t
-    word-low h = sym (word-code (folded true t) r is ∙ rw (lt-ltb r 30 h))
+        there-is : there ≡ take (length w) (drop (getD offsets c 0) text)
+        there-is = rw (a .offsets-are, k-is, a .text-is, a .size)
 
-    pub word-high : 30 ≤ r → r + 5 ≡ word-terminal t
-    word-high h = sym (word-code (folded true t) r is ∙ rw (le-ltb r 30 h))
+        pub no-text : same there w ≡ false → CodeOf w 0
+        no-text e = miss-text w c at-slot (ap (λ (x : List ℕ). same x w) (sym there-is) ∙ e)
 
-  module _ (is : Named (folded false t) r) where
-    pub symbol-none : r ≡ 0 → 0 ≡ symbol-terminal t
-    symbol-none z = sym (symbol-code t r is ∙ rw z)
+        pub yes-text : same there w ≡ true → CodeOf w c
+        yes-text e = hit w c at-slot (bounds-of .0) (bounds-of .1) long-is (ap (λ (x : List ℕ). same x w) (sym there-is) ∙ e)
 
-    module _ (some : r ≡ 0 → ⊥) where
-      pub symbol-low : r < 30 → r + 5 ≡ symbol-terminal t
-      symbol-low h = sym (symbol-code t r is ∙ rw (ne-eqb r 0 some, lt-ltb r 30 h))
+-- ---- words and symbols
 
-      pub symbol-high : 30 ≤ r → 0 ≡ symbol-terminal t
-      symbol-high h = sym (symbol-code t r is ∙ rw (ne-eqb r 0 some, le-ltb r 30 h))
+module _ (t : List ℕ) {r : ℕ} where
+  module _ (is : CodeOf (folded true t) r) where
+    pub word-low : r < first-word → 1 ≡ word-terminal t
+    word-low h = sym (word-code (folded true t) r is ∙ rw (lt-ltb r first-word h))
+
+    pub word-high : first-word ≤ r → r ≡ word-terminal t
+    word-high h = sym (word-code (folded true t) r is ∙ rw (le-ltb r first-word h))
+
+  module _ (is : CodeOf (folded false t) r) where
+    pub symbol-low : r < first-word → r ≡ symbol-terminal t
+    symbol-low h = sym (symbol-code t r is ∙ rw (lt-ltb r first-word h))
+
+    pub symbol-high : first-word ≤ r → 0 ≡ symbol-terminal t
+    symbol-high h = sym (symbol-code t r is ∙ rw (le-ltb r first-word h))

@@ -10,7 +10,8 @@ use lib.Seq.{drop-cons, getD-take, getD-drop, take-all}
 use borrow.Author.Tests.{eq-eqb, ne-eqb}
 use Rattle.express.specs.tokens.Bytes.{upper}
 use Rattle.express.specs.tokens.Spelling.{same}
-use Rattle.terminals.specs.Lookup.{folded, mixed, hash, text}
+use Rattle.terminals.specs.Lookup.{folded, hash}
+use Rattle.terminals.specs.Spellings.{mixed, text-size, text}
 
 -- n bytes of s from a start on, all of them there
 module _ (s : List ℕ) (start n : ℕ) (h : n ≤ length s - start) where
@@ -71,7 +72,7 @@ module _ (x w : List ℕ) (j : ℕ) where
     same-stop e = rw (cut x h, cut w l, ne-eqb _ _ e)
 
 -- the same, by the bytes of the text and of the source
-module _ (t s : List ℕ) (start n from j : ℕ) (h : n ≤ length s - start) (ends : from + n ≤ 719) (is : t ≡ text) where
+module _ (t s : List ℕ) (start n from j : ℕ) (h : n ≤ length s - start) (ends : from + n ≤ text-size) (is : t ≡ text) where
   abbrev x : List ℕ
   x = take n (drop from t)
 
@@ -79,7 +80,7 @@ module _ (t s : List ℕ) (start n from j : ℕ) (h : n ≤ length s - start) (e
   w fold = folded fold (take n (drop start s))
 
   all : n ≤ length t - from
-  all = let size : length t ≡ 719 = ap length is in omega (arith, size, ends)
+  all = let size : length t ≡ text-size = ap length is in omega (arith, size, ends)
 
   long : length x ≡ n
   long = length-part t from n all

@@ -8,29 +8,24 @@ ghost use Prim.Native.Nat.{_+_, _-_, _≤_, _<_, min};
 ghost use lib.ListN.{length, take, drop, getD};
 ghost use lib.Seq.{sets};
 ghost use Rattle.express.specs.tokens.Bytes.{upper as uppercase};
-ghost use Rattle.express.specs.tokens.Spelling.{same as sameBytes};
-ghost use Rattle.express.specs.tokens.Terminal.{word-terminal, symbol-terminal, terminal-of, terminals as terminalsOf};
-ghost use Rattle.terminals.specs.Lookup.{folded, hash, slots as slotList, froms as fromList, text as textList, Named};
+ghost use Rattle.express.specs.tokens.Spelling.{same as same-bytes};
+ghost use Rattle.express.specs.tokens.Terminal.{word-terminal, symbol-terminal, terminal-of, terminals as terminal-list};
+ghost use Rattle.terminals.specs.Spellings.{longest, text-size, slots as slot-list, offsets as offset-list, text as text-list};
+ghost use Rattle.terminals.specs.Lookup.{folded, hash, CodeOf};
 
-fn back(n: usize, k: usize) -> usize
-    ensures { λ r. ⌜ r ≡ n - k ⌝ }
-{
-    if n < k {
-        return 0;
-    }
-    n - k
-}
+// A small letter and its capital are as far apart as `a` and `A`.
+const CASE: u8 = b'a' - b'A';
 
 fn upper(b: u8) -> u8
     ensures { λ r. ⌜ r ≡ uppercase b ⌝ }
 {
-    if b < 97 {
+    if b < b'a' {
         return b;
     }
-    if b > 122 {
+    if b > b'z' {
         return b;
     }
-    b - 32
+    b - CASE
 }
 
 // Byte i of the n bytes from a start on, in upper case where case does not count; 0 past them.
@@ -49,19 +44,30 @@ fn letter(s: &[u8], start: usize, n: usize, fold: bool, i: usize) -> u8
 }
 
 fn hash_of(s: &[u8], start: usize, n: usize, fold: bool) -> usize
-    requires { ⌜ (n ≤ length (now s) - start) × (n ≤ 13) ⌝ }
+    requires { ⌜ (n ≤ length (now s) - start) × (n ≤ longest) ⌝ }
     ensures { λ r. ⌜ r ≡ hash (folded fold (take n (drop start (now (s .entry))))) ⌝ }
 {
     let first = columns::byte_index(letter(s, start, n, fold, 0));
-    let last = columns::byte_index(letter(s, start, n, fold, back(n, 1)));
-    let before = columns::byte_index(letter(s, start, n, fold, back(n, 2)));
-    (first * 462 + n * 300 + last * 447 + before * 332) % 1024
+    let last = columns::byte_index(letter(s, start, n, fold, columns::saturating_sub(n, 1)));
+    let before = columns::byte_index(letter(s, start, n, fold, columns::saturating_sub(n, 2)));
+    (first * table::BY_FIRST
+        + n * table::BY_LENGTH
+        + last * table::BY_LAST
+        + before * table::BY_BEFORE)
+        % table::SLOT_COUNT
 }
 
 // Whether the n bytes of the text from a place on are those of the source.
-fn matches(s: &[u8], start: usize, n: usize, fold: bool, text: &[u8; 719], from: usize) -> bool
-    requires { ⌜ (n ≤ length (now s) - start) × (from + n ≤ 719) × (now text ≡ textList) ⌝ }
-    ensures { λ r. ⌜ r ≡ sameBytes (take n (drop from (now (text .entry)))) (folded fold (take n (drop start (now (s .entry))))) ⌝ }
+fn matches(
+    s: &[u8],
+    start: usize,
+    n: usize,
+    fold: bool,
+    text: &[u8; table::TEXT_SIZE],
+    from: usize,
+) -> bool
+    requires { ⌜ (n ≤ length (now s) - start) × (from + n ≤ text-size) × (now text ≡ text-list) ⌝ }
+    ensures { λ r. ⌜ r ≡ same-bytes (take n (drop from (now (text .entry)))) (folded fold (take n (drop start (now (s .entry))))) ⌝ }
 {
     let mut j = 0;
     while j < n {
@@ -74,95 +80,95 @@ fn matches(s: &[u8], start: usize, n: usize, fold: bool, text: &[u8; 719], from:
     true
 }
 
-// The number plus 1 of the spelling that the n bytes from a start on are, or 0.
-fn number(
+// The code of the spelling that the n bytes from a start on are, or 0.
+fn code_of(
     s: &[u8],
     start: usize,
     n: usize,
     fold: bool,
-    slots: &[u8; 1024],
-    froms: &[usize; 149],
-    text: &[u8; 719],
-) -> usize
-    requires { ⌜ (n ≤ length (now s) - start) × (now slots ≡ slotList) × (now froms ≡ fromList) × (now text ≡ textList) ⌝ }
-    ensures { λ r. ⌜ Named (folded fold (take n (drop start (now (s .entry))))) r ⌝ }
+    slots: &[u8; table::SLOT_COUNT],
+    offsets: &[usize; table::OFFSET_COUNT],
+    text: &[u8; table::TEXT_SIZE],
+) -> u8
+    requires { ⌜ (n ≤ length (now s) - start) × (now slots ≡ slot-list) × (now offsets ≡ offset-list) × (now text ≡ text-list) ⌝ }
+    ensures { λ r. ⌜ CodeOf (folded fold (take n (drop start (now (s .entry))))) r ⌝ }
 {
-    if n > 13 {
-        return 0;
+    if n > table::LONGEST {
+        return codes::NONE;
     }
-    let h = hash_of(s, start, n, fold);
-    let k = columns::byte_index(slots[h]);
-    if k == 0 {
-        return 0;
+    let code = slots[hash_of(s, start, n, fold)];
+    if code == codes::NONE {
+        return codes::NONE;
     }
-    let from = froms[k - 1];
-    if froms[k] - from != n {
-        return 0;
+    let k = columns::byte_index(code);
+    let from = offsets[k];
+    if offsets[k + 1] - from != n {
+        return codes::NONE;
     }
     if !matches(s, start, n, fold, text, from) {
-        return 0;
+        return codes::NONE;
     }
-    k
+    code
 }
 
-// The words have the numbers from 29 on; a code is a number plus 6.
+// A word that is not reserved is an identifier.
 fn word(
     s: &[u8],
     start: usize,
     n: usize,
-    slots: &[u8; 1024],
-    froms: &[usize; 149],
-    text: &[u8; 719],
+    slots: &[u8; table::SLOT_COUNT],
+    offsets: &[usize; table::OFFSET_COUNT],
+    text: &[u8; table::TEXT_SIZE],
 ) -> u8
-    requires { ⌜ (n ≤ length (now s) - start) × (now slots ≡ slotList) × (now froms ≡ fromList) × (now text ≡ textList) ⌝ }
+    requires { ⌜ (n ≤ length (now s) - start) × (now slots ≡ slot-list) × (now offsets ≡ offset-list) × (now text ≡ text-list) ⌝ }
     ensures { λ r. ⌜ r ≡ word-terminal (take n (drop start (now (s .entry)))) ⌝ }
 {
-    let k = number(s, start, n, true, slots, froms, text);
-    if k < 30 {
-        return 1;
+    let code = code_of(s, start, n, true, slots, offsets, text);
+    if code < codes::FIRST_WORD {
+        return codes::IDENTIFIER;
     }
-    (k + 5) as u8
+    code
 }
 
-// The terminal of a symbol of one byte below 64, or 0. These are dense, so that the compiler makes a table of them, and no jump.
-fn dense(b: u8) -> u8
+// The terminal of a symbol of one byte up to `?`, or 0. These are dense, so that the compiler makes a table of them, and no jump.
+fn low_byte(b: u8) -> u8
     requires { ⌜ b < 64 ⌝ }
     ensures { λ r. ⌜ r ≡ symbol-terminal (b ∷ []) ⌝ }
 {
     match b {
-        40 => 24,
-        41 => 25,
-        42 => 11,
-        43 => 12,
-        44 => 8,
-        45 => 13,
-        46 => 7,
-        47 => 16,
-        58 => 10,
-        59 => 9,
-        60 => 17,
-        61 => 14,
-        62 => 18,
-        63 => 6,
-        _ => 0,
+        b'(' => codes::LPAREN,
+        b')' => codes::RPAREN,
+        b'*' => codes::TIMES,
+        b'+' => codes::PLUS,
+        b',' => codes::COMMA,
+        b'-' => codes::MINUS,
+        b'.' => codes::DOT,
+        b'/' => codes::SLASH,
+        b':' => codes::COLON,
+        b';' => codes::SEMICOLON,
+        b'<' => codes::LESS,
+        b'=' => codes::EQUAL,
+        b'>' => codes::GREATER,
+        b'?' => codes::QUESTION,
+        _ => codes::NONE,
     }
 }
 
 // The terminal of a symbol of one byte, or 0.
-fn alone(b: u8) -> u8
+fn one_byte(b: u8) -> u8
     ensures { λ r. ⌜ r ≡ symbol-terminal (b ∷ []) ⌝ }
 {
-    if b < 64 {
-        return dense(b);
+    if b <= b'?' {
+        return low_byte(b);
     }
     match b {
-        91 => 19,
-        92 => 15,
-        93 => 20,
-        123 => 21,
-        124 => 23,
-        125 => 22,
-        _ => 0,
+        b'[' => codes::LBRACKET,
+        b'\\' => codes::BACKSLASH,
+        b']' => codes::RBRACKET,
+        b'{' => codes::LBRACE,
+        b'|' => codes::BAR,
+        b'}' => codes::RBRACE,
+        _ => codes::NONE,
     }
 }
 
@@ -170,24 +176,21 @@ fn symbol(
     s: &[u8],
     start: usize,
     n: usize,
-    slots: &[u8; 1024],
-    froms: &[usize; 149],
-    text: &[u8; 719],
+    slots: &[u8; table::SLOT_COUNT],
+    offsets: &[usize; table::OFFSET_COUNT],
+    text: &[u8; table::TEXT_SIZE],
 ) -> u8
-    requires { ⌜ (n ≤ length (now s) - start) × (now slots ≡ slotList) × (now froms ≡ fromList) × (now text ≡ textList) ⌝ }
+    requires { ⌜ (n ≤ length (now s) - start) × (now slots ≡ slot-list) × (now offsets ≡ offset-list) × (now text ≡ text-list) ⌝ }
     ensures { λ r. ⌜ r ≡ symbol-terminal (take n (drop start (now (s .entry)))) ⌝ }
 {
     if n == 1 {
-        return alone(s[start]);
+        return one_byte(s[start]);
     }
-    let k = number(s, start, n, false, slots, froms, text);
-    if k == 0 {
-        return 0;
+    let code = code_of(s, start, n, false, slots, offsets, text);
+    if code < codes::FIRST_WORD {
+        return code;
     }
-    if k < 30 {
-        return (k + 5) as u8;
-    }
-    0
+    codes::NONE
 }
 
 fn terminal(
@@ -195,36 +198,37 @@ fn terminal(
     kind: u8,
     start: usize,
     size: usize,
-    slots: &[u8; 1024],
-    froms: &[usize; 149],
-    text: &[u8; 719],
+    slots: &[u8; table::SLOT_COUNT],
+    offsets: &[usize; table::OFFSET_COUNT],
+    text: &[u8; table::TEXT_SIZE],
 ) -> u8
-    requires { ⌜ (now slots ≡ slotList) × (now froms ≡ fromList) × (now text ≡ textList) ⌝ }
+    requires { ⌜ (now slots ≡ slot-list) × (now offsets ≡ offset-list) × (now text ≡ text-list) ⌝ }
     ensures { λ r. ⌜ r ≡ terminal-of kind (take size (drop start (now (s .entry)))) ⌝ }
 {
-    let n = columns::shorter(size, back(s.len(), start));
-    if kind == 1 {
-        return word(s, start, n, slots, froms, text);
+    let n = columns::shorter(size, columns::saturating_sub(s.len(), start));
+    if kind == codes::tokens::WORD {
+        return word(s, start, n, slots, offsets, text);
     }
-    if kind == 6 {
-        return symbol(s, start, n, slots, froms, text);
+    if kind == codes::tokens::SYMBOL {
+        return symbol(s, start, n, slots, offsets, text);
     }
-    if kind < 2 {
-        return 0;
+    if kind < codes::tokens::INTEGER {
+        return codes::NONE;
     }
-    if kind > 5 {
-        return 0;
+    if kind > codes::tokens::BINARY {
+        return codes::NONE;
     }
+    // A literal's terminal has the number of its kind.
     kind
 }
 
 // The terminal of each token into a column, as far as it goes.
 pub fn terminals(src: &[u8], kinds: &[u8], starts: &[u32], lengths: &[u32], out: &mut [u8])
-    ensures { λ _. ⌜ now (out .exit) ≡ sets (now (out .entry)) 0 (terminalsOf (now (src .entry)) (now (kinds .entry)) (now (starts .entry)) (now (lengths .entry))) ⌝ }
+    ensures { λ _. ⌜ now (out .exit) ≡ sets (now (out .entry)) 0 (terminal-list (now (src .entry)) (now (kinds .entry)) (now (starts .entry)) (now (lengths .entry))) ⌝ }
 {
     // A constant array is built anew wherever it is named: once here, and lent from here on.
     let slots = table::SLOTS;
-    let froms = table::FROMS;
+    let offsets = table::OFFSETS;
     let text = table::TEXT;
     let mut i: usize = 0;
     while i < kinds.len() {
@@ -239,7 +243,7 @@ pub fn terminals(src: &[u8], kinds: &[u8], starts: &[u32], lengths: &[u32], out:
         columns::put8(
             out,
             i,
-            terminal(src, kinds[i], start, size, &slots, &froms, &text),
+            terminal(src, kinds[i], start, size, &slots, &offsets, &text),
         );
         i += 1;
     }

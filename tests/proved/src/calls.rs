@@ -5,7 +5,7 @@
 //! what is written is lent to no one else.
 #![allow(unsafe_code)]
 
-use reference::{AnswerRow, Refusal};
+use reference::{AnswerRow, Refusal, MAX_BYTES};
 use std::cmp::Ordering;
 
 #[link(name = "exports", kind = "static")]
@@ -13,6 +13,7 @@ extern "C" {
     fn woffulent_scan(
         src: *const u8,
         src_length: usize,
+        limit: u32,
         kinds: *mut u8,
         kinds_length: usize,
         starts: *mut u32,
@@ -142,14 +143,26 @@ fn outcome(reply: u8, number: usize) -> Result<usize, Refusal> {
     }
 }
 
-/// The tokens of a text, a row for each as far as the columns go; their number, or the refusal.
+/// The tokens of a file, a row for each as far as the columns go; their number, or the refusal.
 pub fn scan(src: &[u8], kinds: &mut [u8], starts: &mut [u32], lengths: &mut [u32]) -> Result<usize, Refusal> {
+    scan_to(src, MAX_BYTES as u32, kinds, starts, lengths)
+}
+
+/// The same of a text with any limit on its bytes.
+pub fn scan_to(
+    src: &[u8],
+    limit: u32,
+    kinds: &mut [u8],
+    starts: &mut [u32],
+    lengths: &mut [u32],
+) -> Result<usize, Refusal> {
     let mut number = 0;
     // SAFETY: see the head of this file.
     let reply = unsafe {
         woffulent_scan(
             src.as_ptr(),
             src.len(),
+            limit,
             kinds.as_mut_ptr(),
             kinds.len(),
             starts.as_mut_ptr(),

@@ -1,7 +1,7 @@
 //! The proved token reader gives what the reference's gives, on any bytes and with columns of any lengths.
 
 use compare::{cases, random};
-use proved::scan;
+use proved::{scan, scan_to};
 use reference::{tokens, Refusal, TokenRow, MAX_BYTES};
 
 const FILES: u64 = 20_000;
@@ -163,4 +163,24 @@ fn files_of_one_sort_of_bytes() {
     hold_at_all_lengths(remarks.as_bytes(), 0);
     hold_at_all_lengths("'a' ".repeat(MAX_BYTES / 4).as_bytes(), 0);
     hold_at_all_lengths("7 ".repeat(MAX_BYTES / 2).as_bytes(), 0);
+}
+
+/// A text is read up to its limit, and one byte less refuses it by 1, with nothing written.
+#[test]
+fn a_limit_of_any_size() {
+    let long = b"word 12 ".repeat(20_000);
+    for bytes in (0..200).map(random::file).chain([long]) {
+        let (mut kinds, mut starts, mut sizes) = (vec![7; bytes.len()], vec![7; bytes.len()], vec![7; bytes.len()]);
+        if let Some(less) = (bytes.len() as u32).checked_sub(1) {
+            let refused = scan_to(&bytes, less, &mut kinds, &mut starts, &mut sizes);
+            assert_eq!(refused, Err(Refusal { reply: 1, number: less.into() }), "{}", bytes.escape_ascii());
+            assert!(kinds.iter().all(|&kind| kind == 7) && starts.iter().chain(&sizes).all(|&entry| entry == 7));
+        }
+        let read = scan_to(&bytes, bytes.len() as u32, &mut kinds, &mut starts, &mut sizes);
+        if bytes.len() > MAX_BYTES {
+            assert_eq!(read, Ok(40_000));
+        } else {
+            assert_eq!(read, scan(&bytes, &mut kinds, &mut starts, &mut sizes), "{}", bytes.escape_ascii());
+        }
+    }
 }

@@ -24,7 +24,10 @@ numeral-of-requires : tie.Need-numeral-of-requires
 numeral-of-requires c κs = (omega arith, omega arith)
 
 returns-3 : tie.Need-returns-3
-returns-3 c = c .numeral-of .ensures ∙ binary-is (c .before .before .before .before .args .s .now) (c .before .before .before .before .args .start) (c .before .before .before .before .args .length) (c .before .before .if1 .left) (c .before .if2 .left)
+returns-3 c =
+    let c2 = c .before .before in
+    let c4 = c2 .before .before in
+    c .numeral-of .ensures ∙ binary-is (c4 .args .s .now) (c4 .args .start) (c4 .args .length) (c2 .if1 .left) (c .before .if2 .left)
 
 pub binary-spec : {M : Type 1} → statement M
 binary-spec =

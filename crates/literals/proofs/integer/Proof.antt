@@ -22,7 +22,9 @@ numeral-of-requires : tie.Need-numeral-of-requires
 numeral-of-requires c κs = search needs
 
 returns : tie.Need-returns
-returns c = c .numeral-of .ensures ∙ ap capped (c .before .zeros .ensures .is) ∙ integer-is (c .before .before .before .args .s .now) (c .before .before .before .args .start) (c .before .before .before .args .length)
+returns c =
+    let c3 = c .before .before .before in
+    c .numeral-of .ensures ∙ ap capped (c .before .zeros .ensures .is) ∙ integer-is (c3 .args .s .now) (c3 .args .start) (c3 .args .length)
 
 pub integer-spec : {M : Type 1} → statement M
 integer-spec =

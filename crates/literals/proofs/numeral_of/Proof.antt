@@ -1,3 +1,4 @@
+-- The digits still to come, after the number so far, give the whole; once it is above the bound it stays there (`Numerals`).
 use Rattle.literals.proofs.numeral_of.Statement.{statement}
 use Rattle.literals.proofs.numeral_of.Tie as tie
 use Rattle.literals.proofs.numeral_of.Reads as reads
@@ -6,13 +7,13 @@ use Rattle.literals.proofs.digit.Reads as digit-reads
 use mathlib.Core.Path.{_≡_, refl, sym, ap, _∙_}
 use Prim.Native.Nat.{_≤_, _-_}
 use lib.ListN.{length as size, take, drop}
-use Rattle.express.specs.tokens.Lexis.{numeral}
+use Rattle.express.specs.tokens.Lexis.{numeral, greatest}
 use Rattle.literals.specs.Literal.{capped}
-use Rattle.literals.proofs.Numerals.{most, coming, digit-over, digit-fits, capped-over, capped-fits, numeral-none, numeral-over, numeral-more}
+use Rattle.literals.proofs.Numerals.{coming, digit-over, digit-fits, capped-over, capped-fits, numeral-none, numeral-over, numeral-more}
 use native.Mathlib.Omega.{arith}
 
 abbrev Inv-loop : tie.InvT-loop
-Inv-loop s start length base i₀ left₀ v₀ i left v = (v ≤ most) × (capped (coming base s i left v) ≡ capped (coming base s start length 0))
+Inv-loop s start length base i₀ left₀ v₀ i left v = (v ≤ greatest) × (capped (coming base s i left v) ≡ capped (coming base s start length 0))
 
 abbrev μ-loop : tie.MeasureT-loop
 μ-loop s start length base i₀ left₀ v₀ i left v = size s - i
@@ -21,7 +22,11 @@ loop-holds : tie.Need-loop-holds Inv-loop μ-loop
 loop-holds c = (omega arith, refl)
 
 returns : tie.Need-returns Inv-loop μ-loop
-returns c = capped-fits _ (c .before .before .loop .inv .0) ∙ ap capped (sym (numeral-none (c .before .before .before .before .args .base) (c .before .before .before .before .args .s .now) (c .before .before .loop .i) (c .before .before .loop .left) (c .before .before .loop .v) (c .if1 .taken))) ∙ c .before .before .loop .inv .1
+returns c =
+    let c2 = c .before .before in
+    let c4 = c2 .before .before in
+    capped-fits _ (c2 .loop .inv .0) ∙ ap capped
+    (sym (numeral-none (c4 .args .base) (c4 .args .s .now) (c2 .loop .i) (c2 .loop .left) (c2 .loop .v) (c .if1 .taken))) ∙ c2 .loop .inv .1
 
 shared-slice-read-digit : tie.Need-shared-slice-read-digit Inv-loop μ-loop
 shared-slice-read-digit c = omega arith
@@ -36,7 +41,13 @@ div-if2 : tie.Need-div-if2 Inv-loop μ-loop
 div-if2 c = c .before .before .before .before .before .before .pre .0
 
 returns-2 : tie.Need-returns-2 Inv-loop μ-loop
-returns-2 c = capped-over _ (c .before .before .before .before .before .before .before .pre .0) _ _ (digit-over _ (c .before .before .before .before .before .before .before .pre .0) _ _ (c .before .digit .ensures .1) (c .if2 .taken)) ∙ ap capped (sym (numeral-more _ _ _ _ _ _ (c .before .before .before .before .loop-test .taken) (c .before .before .before .if1 .left) (c .before .digit .ensures .0))) ∙ c .before .before .before .before .before .loop .inv .1
+returns-2 c =
+    let c3 = c .before .before .before in
+    let c4 = c3 .before in
+    let c5 = c4 .before in
+    let c7 = c5 .before .before in
+    capped-over _ (c7 .pre .0) _ _ (digit-over _ (c7 .pre .0) _ _ (c .before .digit .ensures .1) (c .if2 .taken)) ∙ ap capped
+    (sym (numeral-more _ _ _ _ _ _ (c4 .loop-test .taken) (c3 .if1 .left) (c .before .digit .ensures .0))) ∙ c5 .loop .inv .1
 
 mul-v : tie.Need-mul-v Inv-loop μ-loop
 mul-v c = omega (arith, (digit-fits _ (c .before .before .before .before .before .before .before .pre .0) _ _ (c .before .digit .ensures .1) (c .if2 .left)))
@@ -54,10 +65,21 @@ loop-less : tie.Need-loop-less Inv-loop μ-loop
 loop-less c = omega arith
 
 loop-again : tie.Need-loop-again Inv-loop μ-loop
-loop-again c = ((digit-fits _ (c .before .before .before .before .before .before .before .pre .0) _ _ (c .before .digit .ensures .1) (c .if2 .left)), ap capped (sym (numeral-more _ _ _ _ _ _ (c .before .before .before .before .loop-test .taken) (c .before .before .before .if1 .left) (c .before .digit .ensures .0))) ∙ c .before .before .before .before .before .loop .inv .1)
+loop-again c =
+    let c3 = c .before .before .before in
+    let c4 = c3 .before in
+    let c5 = c4 .before in
+    let c7 = c5 .before .before in (
+      (digit-fits _ (c7 .pre .0) _ _ (c .before .digit .ensures .1) (c .if2 .left)),
+      ap capped (sym (numeral-more _ _ _ _ _ _ (c4 .loop-test .taken) (c3 .if1 .left) (c .before .digit .ensures .0))) ∙ c5 .loop .inv .1,
+    )
 
 returns-3 : tie.Need-returns-3 Inv-loop μ-loop
-returns-3 c = capped-fits _ (c .before .loop .inv .0) ∙ ap capped (sym (numeral-over (c .before .before .before .args .base) (c .before .before .before .args .s .now) (c .before .loop .i) (c .before .loop .left) (c .before .loop .v) (c .loop-test .left))) ∙ c .before .loop .inv .1
+returns-3 c =
+    let c3 = c .before .before .before in
+    capped-fits _ (c .before .loop .inv .0) ∙ ap capped
+    (sym (numeral-over (c3 .args .base) (c3 .args .s .now) (c .before .loop .i) (c .before .loop .left) (c .before .loop .v) (c .loop-test .left))) ∙
+    c .before .loop .inv .1
 
 pub numeral-of-spec : {M : Type 1} → statement M
 numeral-of-spec =

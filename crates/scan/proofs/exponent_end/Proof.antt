@@ -39,13 +39,30 @@ is-within-requires : tie.Need-is-within-requires
 is-within-requires c κs = search needs
 
 returns-3 : tie.Need-returns-3
-returns-3 c = sym (exponent-bare _ _ (sym (c .before .is-within .ensures ∙ ap (within 48 57) (c .before .before .byte .ensures ∙ ap (λ g. getD (c .before .before .before .before .before .before .before .before .before .args .s .now) g 0) (c .before .before .before .exponent-digits .ensures))) ∙ not-true _ (c .if3 .taken)))
+returns-3 c =
+    let c2 = c .before .before in
+    let c3 = c2 .before in
+    let c9 = c3 .before .before .before .before .before .before in
+    sym
+    (exponent-bare _ _
+    (sym (c .before .is-within .ensures ∙ ap (within 48 57) (c2 .byte .ensures ∙ ap (λ g. getD (c9 .args .s .now) g 0) (c3 .exponent-digits .ensures)))
+    ∙ not-true _ (c .if3 .taken)))
 
 run-end-requires : tie.Need-run-end-requires
 run-end-requires c κs = search needs
 
 returns-4 : tie.Need-returns-4
-returns-4 c = c .run-end .ensures ∙ ap (λ g. run (member Digit) (c .before .before .before .before .before .before .before .before .before .before .args .s .now) g) (c .before .before .before .before .exponent-digits .ensures) ∙ sym (exponent-is _ _ (sym (c .before .before .before .before .before .before .is-either .ensures) ∙ not-false _ (c .before .before .before .before .before .if2 .left)) (sym (c .before .before .is-within .ensures ∙ ap (within 48 57) (c .before .before .before .byte .ensures ∙ ap (λ g. getD (c .before .before .before .before .before .before .before .before .before .before .args .s .now) g 0) (c .before .before .before .before .exponent-digits .ensures))) ∙ not-false _ (c .before .if3 .left)))
+returns-4 c =
+    let c2 = c .before .before in
+    let c3 = c2 .before in
+    let c4 = c3 .before in
+    let c5 = c4 .before in
+    let c6 = c5 .before in
+    let c10 = c6 .before .before .before .before in
+    c .run-end .ensures ∙ ap (λ g. run (member Digit) (c10 .args .s .now) g) (c4 .exponent-digits .ensures) ∙ sym
+    (exponent-is _ _ (sym (c6 .is-either .ensures) ∙ not-false _ (c5 .if2 .left))
+    (sym (c2 .is-within .ensures ∙ ap (within 48 57) (c3 .byte .ensures ∙ ap (λ g. getD (c10 .args .s .now) g 0) (c4 .exponent-digits .ensures))) ∙
+    not-false _ (c .before .if3 .left)))
 
 pub exponent-end-spec : {M : Type 1} → statement M
 exponent-end-spec =

@@ -1,3 +1,4 @@
+-- The end of the remark from here on, at the depth reached, is that of the whole (`Turns`).
 use Rattle.scan.proofs.remark_end.Statement.{statement}
 use Rattle.scan.proofs.remark_end.Tie as tie
 use Rattle.scan.proofs.remark_end.Reads as reads
@@ -51,7 +52,14 @@ loop-less : tie.Need-loop-less Inv-loop μ-loop
 loop-less c = omega arith
 
 loop-again : tie.Need-loop-again Inv-loop μ-loop
-loop-again c = (omega arith, omega arith, omega arith, sym (remark-deeper _ _ _ _ (c .before .before .before .before .before .before .loop-test .taken) (sym (c .before .is-pair .ensures) ∙ c .if2 .taken)) ∙ c .before .before .before .before .before .before .before .loop .inv .3)
+loop-again c =
+    let c6 = c .before .before .before .before .before .before in
+    let c7 = c6 .before in (
+      omega arith,
+      omega arith,
+      omega arith,
+      sym (remark-deeper _ _ _ _ (c6 .loop-test .taken) (sym (c .before .is-pair .ensures) ∙ c .if2 .taken)) ∙ c7 .loop .inv .3,
+    )
 
 is-pair-requires-2 : tie.Need-is-pair-requires-2 Inv-loop μ-loop
 is-pair-requires-2 c κs = tt
@@ -60,7 +68,16 @@ add-t19 : tie.Need-add-t19 Inv-loop μ-loop
 add-t19 c = omega arith
 
 returns : tie.Need-returns Inv-loop μ-loop
-returns c = sym (remark-done _ _ _ _ (c .before .before .before .before .before .before .before .before .before .loop-test .taken) (sym (c .before .before .before .before .is-pair .ensures) ∙ c .before .before .before .if2 .left) (sym (c .before .before .is-pair2 .ensures) ∙ c .before .if3 .taken) (c .if4 .taken)) ∙ c .before .before .before .before .before .before .before .before .before .before .loop .inv .3
+returns c =
+    let c2 = c .before .before in
+    let c3 = c2 .before in
+    let c4 = c3 .before in
+    let c9 = c4 .before .before .before .before .before in
+    let c10 = c9 .before in
+    sym
+    (remark-done _ _ _ _ (c9 .loop-test .taken) (sym (c4 .is-pair .ensures) ∙ c3 .if2 .left) (sym (c2 .is-pair2 .ensures) ∙ c .before .if3 .taken)
+    (c .if4 .taken))
+    ∙ c10 .loop .inv .3
 
 sub-depth : tie.Need-sub-depth Inv-loop μ-loop
 sub-depth c = omega arith
@@ -72,7 +89,20 @@ loop-less-2 : tie.Need-loop-less-2 Inv-loop μ-loop
 loop-less-2 c = omega arith
 
 loop-again-2 : tie.Need-loop-again-2 Inv-loop μ-loop
-loop-again-2 c = (omega arith, omega arith, omega arith, sym (remark-out _ _ _ _ (c .before .before .before .before .before .before .before .before .before .loop-test .taken) (sym (c .before .before .before .before .is-pair .ensures) ∙ c .before .before .before .if2 .left) (sym (c .before .before .is-pair2 .ensures) ∙ c .before .if3 .taken) (c .if4 .left)) ∙ c .before .before .before .before .before .before .before .before .before .before .loop .inv .3)
+loop-again-2 c =
+    let c2 = c .before .before in
+    let c3 = c2 .before in
+    let c4 = c3 .before in
+    let c9 = c4 .before .before .before .before .before in
+    let c10 = c9 .before in (
+      omega arith,
+      omega arith,
+      omega arith,
+      sym
+          (remark-out _ _ _ _ (c9 .loop-test .taken) (sym (c4 .is-pair .ensures) ∙ c3 .if2 .left) (sym (c2 .is-pair2 .ensures) ∙ c .before .if3 .taken)
+          (c .if4 .left))
+          ∙ c10 .loop .inv .3,
+    )
 
 add-i-4 : tie.Need-add-i-4 Inv-loop μ-loop
 add-i-4 c = omega arith
@@ -81,7 +111,17 @@ loop-less-3 : tie.Need-loop-less-3 Inv-loop μ-loop
 loop-less-3 c = omega arith
 
 loop-again-3 : tie.Need-loop-again-3 Inv-loop μ-loop
-loop-again-3 c = (omega arith, omega arith, omega arith, sym (remark-on _ _ _ _ (c .before .before .before .before .before .before .before .before .loop-test .taken) (sym (c .before .before .before .is-pair .ensures) ∙ c .before .before .if2 .left) (sym (c .before .is-pair2 .ensures) ∙ c .if3 .left)) ∙ c .before .before .before .before .before .before .before .before .before .loop .inv .3)
+loop-again-3 c =
+    let c2 = c .before .before in
+    let c3 = c2 .before in
+    let c8 = c3 .before .before .before .before .before in
+    let c9 = c8 .before in (
+      omega arith,
+      omega arith,
+      omega arith,
+      sym (remark-on _ _ _ _ (c8 .loop-test .taken) (sym (c3 .is-pair .ensures) ∙ c2 .if2 .left) (sym (c .before .is-pair2 .ensures) ∙ c .if3 .left)) ∙
+          c9 .loop .inv .3,
+    )
 
 add-i-5 : tie.Need-add-i-5 Inv-loop μ-loop
 add-i-5 c = omega arith
@@ -90,7 +130,14 @@ loop-less-4 : tie.Need-loop-less-4 Inv-loop μ-loop
 loop-less-4 c = omega arith
 
 loop-again-4 : tie.Need-loop-again-4 Inv-loop μ-loop
-loop-again-4 c = (omega arith, omega arith, omega arith, sym (remark-pass _ _ _ _ (c .before .before .before .loop-test .taken) (sym (c .before .is-either .ensures) ∙ c .if1 .left)) ∙ c .before .before .before .before .loop .inv .3)
+loop-again-4 c =
+    let c3 = c .before .before .before in
+    let c4 = c3 .before in (
+      omega arith,
+      omega arith,
+      omega arith,
+      sym (remark-pass _ _ _ _ (c3 .loop-test .taken) (sym (c .before .is-either .ensures) ∙ c .if1 .left)) ∙ c4 .loop .inv .3,
+    )
 
 returns-2 : tie.Need-returns-2 Inv-loop μ-loop
 returns-2 c = sym (remark-over _ _ _ _ (c .loop-test .left)) ∙ c .before .loop .inv .3

@@ -1,3 +1,4 @@
+-- The end of the string from here on, just after a quote or not, is that of the whole (`Turns`).
 use Rattle.scan.proofs.string_end.Statement.{statement}
 use Rattle.scan.proofs.string_end.Tie as tie
 use Rattle.scan.proofs.string_end.Reads as reads
@@ -52,7 +53,13 @@ is-within-requires : tie.Need-is-within-requires Inv-loop μ-loop
 is-within-requires c κs = tt
 
 returns-2 : tie.Need-returns-2 Inv-loop μ-loop
-returns-2 c = sym (string-bad _ _ _ (c .before .before .before .before .before .loop-test .taken) (c .before .before .if3 .left) (sym (c .before .is-within .ensures) ∙ not-true _ (c .if4 .taken))) ∙ rw (c .before .before .before .if1 .left) at (c .before .before .before .before .before .before .loop .inv .1)
+returns-2 c =
+    let c2 = c .before .before in
+    let c3 = c2 .before in
+    let c5 = c3 .before .before in
+    let c6 = c5 .before in
+    sym (string-bad _ _ _ (c5 .loop-test .taken) (c2 .if3 .left) (sym (c .before .is-within .ensures) ∙ not-true _ (c .if4 .taken))) ∙ rw
+    (c3 .if1 .left) at (c6 .loop .inv .1)
 
 add-i-4 : tie.Need-add-i-4 Inv-loop μ-loop
 add-i-4 c = omega arith
@@ -61,7 +68,16 @@ loop-less-3 : tie.Need-loop-less-3 Inv-loop μ-loop
 loop-less-3 c = omega arith
 
 loop-again-3 : tie.Need-loop-again-3 Inv-loop μ-loop
-loop-again-3 c = (omega arith, rw (c .before .before .before .if1 .left) (sym (string-on _ _ _ (c .before .before .before .before .before .loop-test .taken) (c .before .before .if3 .left) (sym (c .before .is-within .ensures) ∙ not-false _ (c .if4 .left))) ∙ rw (c .before .before .before .if1 .left) at (c .before .before .before .before .before .before .loop .inv .1)))
+loop-again-3 c =
+    let c2 = c .before .before in
+    let c3 = c2 .before in
+    let c5 = c3 .before .before in
+    let c6 = c5 .before in (
+      omega arith,
+      rw (c3 .if1 .left)
+          (sym (string-on _ _ _ (c5 .loop-test .taken) (c2 .if3 .left) (sym (c .before .is-within .ensures) ∙ not-false _ (c .if4 .left))) ∙ rw
+          (c3 .if1 .left) at (c6 .loop .inv .1)),
+    )
 
 returns-3 : tie.Need-returns-3 Inv-loop μ-loop
 returns-3 c = sym (string-end _ _ _ (c .before .loop-test .left)) ∙ rw (c .if5 .taken) at (c .before .before .loop .inv .1)

@@ -4,7 +4,6 @@ use Rattle.scan.proofs.symbol_end.Tie as tie
 use Rattle.scan.proofs.symbol_end.Reads as reads
 use Rattle.scan.proofs.symbol_end.Lts as lts
 use Rattle.scan.proofs.byte.Reads as byte-reads
-use Rattle.scan.proofs.is_lone.Reads as is-lone-reads
 use Rattle.scan.proofs.is_pair.Reads as is-pair-reads
 use Rattle.scan.proofs.symbol_size.Reads as symbol-size-reads
 use mathlib.Core.Path.{_≡_, sym, _∙_, ap}
@@ -16,16 +15,6 @@ use native.Mathlib.Omega.{arith}
 
 shared-slice-read-b : tie.Need-shared-slice-read-b
 shared-slice-read-b c = search needs
-
-is-lone-requires : tie.Need-is-lone-requires
-is-lone-requires c κs = search needs
-
-add-t9 : tie.Need-add-t9
-add-t9 c = search needs
-
-returns : tie.Need-returns
-unfolding end-of-symbol size-of-symbol
-returns c = rw (sym (c .before .is-lone .ensures) ∙ c .if1 .taken)
 
 add-byte : tie.Need-add-byte
 add-byte c = search needs
@@ -42,17 +31,33 @@ add-byte-2 c = search needs
 byte-requires-2 : tie.Need-byte-requires-2
 byte-requires-2 c κs = search needs
 
-add-t15 : tie.Need-add-t15
-add-t15 c = search needs
-
-returns-2 : tie.Need-returns-2
-returns-2 c = rw (eq-eqb _ _ (c .if3 .taken)) at (assign-is (c .before .before .before .before .before .before .before .before .before .args .s .now) (c .before .before .before .before .before .before .before .before .before .args .at) (c .before .before .before .before .byte .result) (c .before .byte2 .result) (c .before .before .before .before .byte .ensures) (sym (c .before .before .before .is-pair .ensures) ∙ c .before .before .if2 .taken) (c .before .byte2 .ensures))
-
 add-t13 : tie.Need-add-t13
 add-t13 c = search needs
 
-returns-3 : tie.Need-returns-3
-returns-3 c = rw (ne-eqb _ _ (c .if3 .left)) at (assign-is (c .before .before .before .before .before .before .before .before .before .args .s .now) (c .before .before .before .before .before .before .before .before .before .args .at) (c .before .before .before .before .byte .result) (c .before .byte2 .result) (c .before .before .before .before .byte .ensures) (sym (c .before .before .before .is-pair .ensures) ∙ c .before .before .if2 .taken) (c .before .byte2 .ensures))
+returns : tie.Need-returns
+returns c =
+    let c2 = c .before .before in
+    let c3 = c2 .before in
+    let c4 = c3 .before in
+    let c7 = c4 .before .before .before in
+    let a = c7 .args in
+    rw (eq-eqb _ _ (c .if2 .taken)) at
+    (assign-is (a .s .now) (a .at) (c4 .byte .result) (c .before .byte2 .result) (c4 .byte .ensures) (sym (c3 .is-pair .ensures) ∙ c2 .if1 .taken)
+    (c .before .byte2 .ensures))
+
+add-t11 : tie.Need-add-t11
+add-t11 c = search needs
+
+returns-2 : tie.Need-returns-2
+returns-2 c =
+    let c2 = c .before .before in
+    let c3 = c2 .before in
+    let c4 = c3 .before in
+    let c7 = c4 .before .before .before in
+    let a = c7 .args in
+    rw (ne-eqb _ _ (c .if2 .left)) at
+    (assign-is (a .s .now) (a .at) (c4 .byte .result) (c .before .byte2 .result) (c4 .byte .ensures) (sym (c3 .is-pair .ensures) ∙ c2 .if1 .taken)
+    (c .before .byte2 .ensures))
 
 add-byte-3 : tie.Need-add-byte-3
 add-byte-3 c = search needs
@@ -69,39 +74,59 @@ byte-requires-4 c κs = search needs
 symbol-size-requires : tie.Need-symbol-size-requires
 symbol-size-requires c κs = search needs
 
+returns-3 : tie.Need-returns-3
+unfolding end-of-symbol
+returns-3 c =
+    let c2 = c .before .before in
+    let c3 = c2 .before in
+    let c6 = c3 .before .before .before in
+    rw (
+      ← size-is _ _ _ _ _ _ (c6 .byte .ensures) (c3 .byte3 .ensures) (c2 .byte4 .ensures) (c .before .symbol-size .ensures),
+      eq-eqb _ _ (c .if3 .taken),
+    )
+
+add-t8 : tie.Need-add-t8
+add-t8 c =
+    let c2 = c .before .before in
+    let c3 = c2 .before in
+    let c6 = c3 .before .before .before in
+    let c9 = c6 .before .before .before in
+    let a = c9 .args in
+    omega (
+      arith,
+      size-is (a .s .now) (a .at) (c .before .symbol-size .result) _ _ _ (c6 .byte .ensures) (c3 .byte3 .ensures) (c2 .byte4 .ensures)
+          (c .before .symbol-size .ensures),
+      size-inside (a .s .now) (a .at) (c9 .pre .0),
+    )
+
 returns-4 : tie.Need-returns-4
 unfolding end-of-symbol
-returns-4 c = rw (← size-is _ _ _ _ _ _ (c .before .before .before .before .before .before .byte .ensures) (c .before .before .before .byte3 .ensures) (c .before .before .byte4 .ensures) (c .before .symbol-size .ensures), eq-eqb _ _ (c .if4 .taken))
-
-add-t10 : tie.Need-add-t10
-add-t10 c = omega (arith, size-is (c .before .before .before .before .before .before .before .before .before .before .before .args .s .now) (c .before .before .before .before .before .before .before .before .before .before .before .args .at) (c .before .symbol-size .result) _ _ _ (c .before .before .before .before .before .before .byte .ensures) (c .before .before .before .byte3 .ensures) (c .before .before .byte4 .ensures) (c .before .symbol-size .ensures), size-inside (c .before .before .before .before .before .before .before .before .before .before .before .args .s .now) (c .before .before .before .before .before .before .before .before .before .before .before .args .at) (c .before .before .before .before .before .before .before .before .before .before .before .pre))
-
-returns-5 : tie.Need-returns-5
-unfolding end-of-symbol
-returns-5 c = rw (← size-is _ _ _ _ _ _ (c .before .before .before .before .before .before .byte .ensures) (c .before .before .before .byte3 .ensures) (c .before .before .byte4 .ensures) (c .before .symbol-size .ensures), ne-eqb _ _ (c .if4 .left))
+returns-4 c =
+    let c2 = c .before .before in
+    let c3 = c2 .before in
+    let c6 = c3 .before .before .before in
+    rw
+    (← size-is _ _ _ _ _ _ (c6 .byte .ensures) (c3 .byte3 .ensures) (c2 .byte4 .ensures) (c .before .symbol-size .ensures), ne-eqb _ _ (c .if3 .left))
 
 pub symbol-end-spec : {M : Type 1} → statement M
 symbol-end-spec =
     tie.close
     (tie.spec
     shared-slice-read-b
-    is-lone-requires
-    add-t9
-    returns
     add-byte
     byte-requires
     is-pair-requires
     add-byte-2
     byte-requires-2
-    add-t15
-    returns-2
     add-t13
-    returns-3
+    returns
+    add-t11
+    returns-2
     add-byte-3
     byte-requires-3
     add-byte-4
     byte-requires-4
     symbol-size-requires
-    returns-4
-    add-t10
-    returns-5)
+    returns-3
+    add-t8
+    returns-4)

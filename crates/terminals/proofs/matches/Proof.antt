@@ -1,3 +1,4 @@
+-- What is left to compare from here on decides what all of it does (`Parts`).
 use Rattle.terminals.proofs.matches.Statement.{statement}
 use Rattle.terminals.proofs.matches.Tie as tie
 use Rattle.terminals.proofs.matches.Reads as reads
@@ -29,7 +30,15 @@ element-copy-out-if1 : tie.Need-element-copy-out-if1 Inv-loop μ-loop
 element-copy-out-if1 c = omega arith
 
 returns : tie.Need-returns Inv-loop μ-loop
-returns c = sym (compare-stop (c .before .before .before .before .before .before .args .text .now) (c .before .before .before .before .before .before .args .s .now) (c .before .before .before .before .before .before .args .start) (c .before .before .before .before .before .before .args .n) (c .before .before .before .before .before .before .args .from) (c .before .before .before .before .loop .j) (c .before .before .before .before .before .before .pre .0) (c .before .before .before .before .before .before .pre .1) (c .before .before .before .before .before .before .pre .2) (c .before .before .before .before .before .before .args .fold) (c .before .before .before .loop-test .taken) _ (c .before .before .letter .ensures) (c .if1 .taken)) ∙ c .before .before .before .before .loop .inv .1
+returns c =
+    let c2 = c .before .before in
+    let c3 = c2 .before in
+    let c4 = c3 .before in
+    let c6 = c4 .before .before in
+    sym
+    (compare-stop (c6 .args .text .now) (c6 .args .s .now) (c6 .args .start) (c6 .args .n) (c6 .args .from) (c4 .loop .j) (c6 .pre .0) (c6 .pre .1)
+    (c6 .pre .2) (c6 .args .fold) (c3 .loop-test .taken) _ (c2 .letter .ensures) (c .if1 .taken))
+    ∙ c4 .loop .inv .1
 
 add-j : tie.Need-add-j Inv-loop μ-loop
 add-j c = omega arith
@@ -38,10 +47,25 @@ loop-less : tie.Need-loop-less Inv-loop μ-loop
 loop-less c = omega arith
 
 loop-again : tie.Need-loop-again Inv-loop μ-loop
-loop-again c = (omega arith, sym (compare-more (c .before .before .before .before .before .before .args .text .now) (c .before .before .before .before .before .before .args .s .now) (c .before .before .before .before .before .before .args .start) (c .before .before .before .before .before .before .args .n) (c .before .before .before .before .before .before .args .from) (c .before .before .before .before .loop .j) (c .before .before .before .before .before .before .pre .0) (c .before .before .before .before .before .before .pre .1) (c .before .before .before .before .before .before .pre .2) (c .before .before .before .before .before .before .args .fold) (c .before .before .before .loop-test .taken) _ (c .before .before .letter .ensures) (c .if1 .left)) ∙ c .before .before .before .before .loop .inv .1)
+loop-again c =
+    let c2 = c .before .before in
+    let c3 = c2 .before in
+    let c4 = c3 .before in
+    let c6 = c4 .before .before in (
+      omega arith,
+      sym
+          (compare-more (c6 .args .text .now) (c6 .args .s .now) (c6 .args .start) (c6 .args .n) (c6 .args .from) (c4 .loop .j) (c6 .pre .0) (c6 .pre .1)
+          (c6 .pre .2) (c6 .args .fold) (c3 .loop-test .taken) _ (c2 .letter .ensures) (c .if1 .left))
+          ∙ c4 .loop .inv .1,
+    )
 
 returns-2 : tie.Need-returns-2 Inv-loop μ-loop
-returns-2 c = sym (compare-over (c .before .before .before .args .text .now) (c .before .before .before .args .s .now) (c .before .before .before .args .start) (c .before .before .before .args .n) (c .before .before .before .args .from) (c .before .loop .j) (c .before .before .before .pre .0) (c .before .before .before .pre .1) (c .before .before .before .pre .2) (c .before .before .before .args .fold) (c .loop-test .left)) ∙ c .before .loop .inv .1
+returns-2 c =
+    let c3 = c .before .before .before in
+    sym
+    (compare-over (c3 .args .text .now) (c3 .args .s .now) (c3 .args .start) (c3 .args .n) (c3 .args .from) (c .before .loop .j) (c3 .pre .0)
+    (c3 .pre .1) (c3 .pre .2) (c3 .args .fold) (c .loop-test .left))
+    ∙ c .before .loop .inv .1
 
 pub matches-spec : {M : Type 1} → statement M
 matches-spec =

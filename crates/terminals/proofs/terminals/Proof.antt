@@ -1,3 +1,4 @@
+-- The terminals from here on, over the column as it is, give what all of them give (`Columns`).
 use Rattle.terminals.proofs.terminals.Statement.{statement}
 use Rattle.terminals.proofs.terminals.Tie as tie
 use Rattle.terminals.proofs.terminals.Reads as reads
@@ -12,10 +13,10 @@ use Rattle.terminals.proofs.Columns.{Progress, progress-first, no-kind,
 use native.Mathlib.Omega.{arith}
 
 abbrev Inv-loop : tie.InvT-loop
-Inv-loop src kinds starts lengths out₀ slots froms text i₀ out i = Progress src kinds starts lengths out₀ out i
+Inv-loop src kinds starts lengths out₀ slots offsets text i₀ out i = Progress src kinds starts lengths out₀ out i
 
 abbrev μ-loop : tie.MeasureT-loop
-μ-loop src kinds starts lengths out₀ slots froms text i₀ out i = length kinds - i
+μ-loop src kinds starts lengths out₀ slots offsets text i₀ out i = length kinds - i
 
 loop-holds : tie.Need-loop-holds Inv-loop μ-loop
 loop-holds c = progress-first _ _ _ _ _
@@ -66,7 +67,17 @@ loop-less : tie.Need-loop-less Inv-loop μ-loop
 loop-less c = omega arith
 
 loop-again : tie.Need-loop-again Inv-loop μ-loop
-loop-again c = one-more (c .before .before .before .before .before .before .before .before .before .before .before .before .before .before .before .before .loop .inv) (c .before .before .before .before .before .before .before .before .before .before .before .before .before .before .before .loop-test .taken) (c .before .before .before .before .before .before .before .before .before .before .before .before .before .before .if1 .left) (c .before .before .before .before .before .before .before .before .before .before .before .before .before .if2 .left) (c .before .before .before .before .before .before .before .before .before .before .before .index .ensures) (c .before .before .before .before .before .before .before .before .before .index2 .ensures) (c .before .before .before .terminal .ensures) (c .before .before .put8 .ensures)
+loop-again c =
+    let c2 = c .before .before in
+    let c3 = c2 .before in
+    let c9 = c3 .before .before .before .before .before .before in
+    let c11 = c9 .before .before in
+    let c13 = c11 .before .before in
+    let c14 = c13 .before in
+    let c15 = c14 .before in
+    let c16 = c15 .before in
+    one-more (c16 .loop .inv) (c15 .loop-test .taken) (c14 .if1 .left) (c13 .if2 .left) (c11 .index .ensures) (c9 .index2 .ensures)
+    (c3 .terminal .ensures) (c2 .put8 .ensures)
 
 same-length-3 : tie.Need-same-length-3 Inv-loop μ-loop
 same-length-3 c = c .before .loop .inv .kept

@@ -1,7 +1,7 @@
-use Rattle.terminals.proofs.dense.Statement.{statement}
-use Rattle.terminals.proofs.dense.Tie as tie
-use Rattle.terminals.proofs.dense.Reads as reads
-use Rattle.terminals.proofs.dense.Lts as lts
+use Rattle.terminals.proofs.low_byte.Statement.{statement}
+use Rattle.terminals.proofs.low_byte.Tie as tie
+use Rattle.terminals.proofs.low_byte.Reads as reads
+use Rattle.terminals.proofs.low_byte.Lts as lts
 use mathlib.Core.Path.{refl, sym}
 use borrow.Author.Tests.{ne-eqb}
 use Rattle.express.specs.tokens.Spelling.{same}
@@ -67,10 +67,32 @@ returns-14 c = of-byte _ 63 _ (c .match .keys14) refl
 
 returns-15 : tie.Need-returns-15
 unfolding among same
-returns-15 c = rw (ne-eqb 40 _ (λ e. c .match .rest .0 .0 .0 .0 .0 .0 .0 .0 .0 .0 .0 .0 .0 .1 (sym e)), ne-eqb 41 _ (λ e. c .match .rest .0 .0 .0 .0 .0 .0 .0 .0 .0 .0 .0 .0 .1 (sym e)), ne-eqb 42 _ (λ e. c .match .rest .0 .0 .0 .0 .0 .0 .0 .0 .0 .0 .0 .1 (sym e)), ne-eqb 43 _ (λ e. c .match .rest .0 .0 .0 .0 .0 .0 .0 .0 .0 .0 .1 (sym e)), ne-eqb 44 _ (λ e. c .match .rest .0 .0 .0 .0 .0 .0 .0 .0 .0 .1 (sym e)), ne-eqb 45 _ (λ e. c .match .rest .0 .0 .0 .0 .0 .0 .0 .0 .1 (sym e)), ne-eqb 46 _ (λ e. c .match .rest .0 .0 .0 .0 .0 .0 .0 .1 (sym e)), ne-eqb 47 _ (λ e. c .match .rest .0 .0 .0 .0 .0 .0 .1 (sym e)), ne-eqb 58 _ (λ e. c .match .rest .0 .0 .0 .0 .0 .1 (sym e)), ne-eqb 59 _ (λ e. c .match .rest .0 .0 .0 .0 .1 (sym e)), ne-eqb 60 _ (λ e. c .match .rest .0 .0 .0 .1 (sym e)), ne-eqb 61 _ (λ e. c .match .rest .0 .0 .1 (sym e)), ne-eqb 62 _ (λ e. c .match .rest .0 .1 (sym e)), ne-eqb 63 _ (λ e. c .match .rest .1 (sym e)), ne-eqb 91 (c .before .args .b) (λ e. omega (arith, e, c .before .pre)), ne-eqb 92 (c .before .args .b) (λ e. omega (arith, e, c .before .pre)), ne-eqb 93 (c .before .args .b) (λ e. omega (arith, e, c .before .pre)), ne-eqb 123 (c .before .args .b) (λ e. omega (arith, e, c .before .pre)), ne-eqb 124 (c .before .args .b) (λ e. omega (arith, e, c .before .pre)), ne-eqb 125 (c .before .args .b) (λ e. omega (arith, e, c .before .pre)))
+returns-15 c =
+    rw (
+      ne-eqb 40 _ (λ e. c .match .rest .0 .0 .0 .0 .0 .0 .0 .0 .0 .0 .0 .0 .0 .1 (sym e)),
+      ne-eqb 41 _ (λ e. c .match .rest .0 .0 .0 .0 .0 .0 .0 .0 .0 .0 .0 .0 .1 (sym e)),
+      ne-eqb 42 _ (λ e. c .match .rest .0 .0 .0 .0 .0 .0 .0 .0 .0 .0 .0 .1 (sym e)),
+      ne-eqb 43 _ (λ e. c .match .rest .0 .0 .0 .0 .0 .0 .0 .0 .0 .0 .1 (sym e)),
+      ne-eqb 44 _ (λ e. c .match .rest .0 .0 .0 .0 .0 .0 .0 .0 .0 .1 (sym e)),
+      ne-eqb 45 _ (λ e. c .match .rest .0 .0 .0 .0 .0 .0 .0 .0 .1 (sym e)),
+      ne-eqb 46 _ (λ e. c .match .rest .0 .0 .0 .0 .0 .0 .0 .1 (sym e)),
+      ne-eqb 47 _ (λ e. c .match .rest .0 .0 .0 .0 .0 .0 .1 (sym e)),
+      ne-eqb 58 _ (λ e. c .match .rest .0 .0 .0 .0 .0 .1 (sym e)),
+      ne-eqb 59 _ (λ e. c .match .rest .0 .0 .0 .0 .1 (sym e)),
+      ne-eqb 60 _ (λ e. c .match .rest .0 .0 .0 .1 (sym e)),
+      ne-eqb 61 _ (λ e. c .match .rest .0 .0 .1 (sym e)),
+      ne-eqb 62 _ (λ e. c .match .rest .0 .1 (sym e)),
+      ne-eqb 63 _ (λ e. c .match .rest .1 (sym e)),
+      ne-eqb 91 (c .before .args .b) (λ e. omega (arith, e, c .before .pre)),
+      ne-eqb 92 (c .before .args .b) (λ e. omega (arith, e, c .before .pre)),
+      ne-eqb 93 (c .before .args .b) (λ e. omega (arith, e, c .before .pre)),
+      ne-eqb 123 (c .before .args .b) (λ e. omega (arith, e, c .before .pre)),
+      ne-eqb 124 (c .before .args .b) (λ e. omega (arith, e, c .before .pre)),
+      ne-eqb 125 (c .before .args .b) (λ e. omega (arith, e, c .before .pre)),
+    )
 
-pub dense-spec : {M : Type 1} → statement M
-dense-spec =
+pub low-byte-spec : {M : Type 1} → statement M
+low-byte-spec =
     tie.close
     (tie.spec
     returns

@@ -1,16 +1,17 @@
--- Sets of bytes as bits: a test that is computed for each byte.
-use mathlib.Core.Path.{_≡_, refl}
+-- Sets of bytes: a test that is computed for each byte.
+use mathlib.Core.Path.{_≡_, refl, ap, _∙_}
 use mathlib.Core.Bool.{Bool, true, false, cond, not, _&&_}
 use mathlib.Core.List.{List}
 use Prim.Native.Nat.{ℕ, zero, suc, _<_}
 use native.Mathlib.Omega.{arith}
-use native.Mathlib.Nat.{not-suc-le-zero}
+use native.Mathlib.Nat.{not-suc-le-zero, zero-add}
 use native.Mathlib.Decide.{decLt}
 use lib.ListN.{getD}
 use lib.Dec.{T, eqb, eqb→eq}
 use Rattle.express.specs.tokens.Bytes.{letter, digit}
 use Rattle.express.specs.tokens.Lexis.{lone, token-kind-at}
-use Rattle.scan.specs.Scan.{among-bytes}
+use Rattle.columns.proofs.Laws.{tabulated-at}
+use Rattle.scan.specs.Scan.{underscore, lone-mark, lone-table}
 
 abbrev below : (ℕ → Bool) → ℕ → Bool
 below f zero = true
@@ -28,6 +29,8 @@ at-byte f (suc n) t b h = go (decLt b n) (λ l. at-byte f n (both (f n) (below f
     go (yes l) more = more l
     go (no g) more = let last : n ≡ b = omega (arith, g, h) in rw (← last) (both (f n) (below f n) t .0)
 
+-- ---- the table of the symbols that begin no longer one
+
 abbrev agree : Bool → Bool → Bool
 agree x y = cond x y (not y)
 
@@ -37,16 +40,18 @@ agreed true false t = absurd t
 agreed false true t = absurd t
 agreed false false t = refl
 
--- what is a symbol alone
-abbrev lone-bits : ℕ → Bool
-lone-bits b = among-bytes 12105951775790465024 2882303762456641536 b
+abbrev marked : ℕ → Bool
+marked b = not (eqb (lone-mark b) underscore)
 
-lones-all : T (below (λ b. agree (lone-bits b) (lone b)) 256)
+marks-all : T (below (λ b. agree (marked b) (lone b)) 256)
 unfolding lone
-lones-all = tt
+marks-all = tt
 
-pub lone-is : (b : ℕ) → b < 256 → lone-bits b ≡ lone b
-lone-is b h = agreed (lone-bits b) (lone b) (at-byte (λ x. agree (lone-bits x) (lone x)) 256 lones-all b h)
+pub lone-at : (t : List ℕ) (b i : ℕ) → t ≡ lone-table → i ≡ b → b < 256 → not (eqb (getD t i 0) underscore) ≡ lone b
+unfolding lone-table
+lone-at t b i is at h =
+    let entry : getD t i 0 ≡ lone-mark b = rw (is, at) (tabulated-at lone-mark 0 256 b h ∙ ap lone-mark (zero-add b)) in
+    ap (λ (x : ℕ). not (eqb x underscore)) entry ∙ agreed (marked b) (lone b) (at-byte (λ x. agree (marked x) (lone x)) 256 marks-all b h)
 
 -- a symbol alone is a symbol
 abbrev kind-by : Bool → Bool → Bool → Bool → ℕ → ℕ
