@@ -1,15 +1,17 @@
 -- The search from one vertex: a law for each step.
 use mathlib.Core.Path.{_≡_, refl, sym, _∙_}
-use mathlib.Core.List.{List}
+use mathlib.Core.List.{List, _++_}
 use mathlib.Core.Logic.{_⊎_, inl, inr, by-cases}
 use Prim.Native.Nat.{ℕ, _+_, _-_, _≤_, _<_}
 use native.Mathlib.Omega.{arith}
 use native.Mathlib.Decide.{ℕ-discrete}
-use lib.ListN.{length, getD, set, length-set}
+use lib.ListN.{length, getD, set, take, drop, replicate, length-set}
+use lib.Seq.{length-take-le, take-at, drop-at}
+use Rattle.columns.proofs.Laws.{clear-before}
 use Rattle.relations.specs.Reach.{Reaches, direct, onward}
 use Rattle.relations.proofs.Reach.{reaches-trans}
 use Rattle.graph.specs.Graph.{vertices, Arc}
-use Rattle.graph.specs.Mark.{Markable, Marks, Spread, Expanded}
+use Rattle.graph.specs.Mark.{Markable, Marks, lent, Marked-all, Spread, Expanded}
 use Rattle.graph.proofs.Store.{Put, put}
 use Rattle.graph.proofs.Busy.{busy-zero, busy-le, busy-white, busy-more}
 use Rattle.graph.proofs.Arcs.{arc-target, arc-place}
@@ -212,4 +214,29 @@ module _ {first to mark₀ queue₀ mark queue : List ℕ} {from tail head : ℕ
         sound = λ v h. let b = s .spread .queued v h in let r = s .spread .reached (b .0) (b .1) in let c = b .2 in rw c at r;
         complete = λ v r. v-marked l r;
         else-zero = s .spread .bits;
+      }
+
+-- the first entries were lent on, and came back with the marks, and with zeros
+module _ {first to mark queue : List ℕ} {from : ℕ} (m : Markable first to from mark queue) where
+  pub markable-front : Markable first to from (take (vertices first) mark) (take (vertices first) queue)
+  markable-front =
+      record {
+        graph = m .graph;
+        source = m .source;
+        mark-room = omega (arith, length-take-le (vertices first) mark (m .mark-room));
+        queue-room = omega (arith, length-take-le (vertices first) queue (m .queue-room));
+      }
+
+  pub marked-all :
+      {marks zeros : List ℕ} → length marks ≡ length (take (vertices first) mark) → Marks first to from marks × (zeros ≡ replicate (length (take (vertices first) queue)) 0)
+      → Marked-all first to from (lent mark queue) (lent (marks ++ drop (vertices first) mark) (zeros ++ drop (vertices first) queue))
+  marked-all {marks} {zeros} e h =
+      let n = vertices first in
+      let long : length marks ≡ n = e ∙ length-take-le n mark (m .mark-room) in
+      let front : take n (marks ++ drop n mark) ≡ marks = take-at marks (drop n mark) n long in
+      record {
+        markable = m;
+        marks = rw front (h .0);
+        mark-rest = drop-at marks (drop n mark) n long;
+        queue-is = clear-before 0 n queue zeros (m .queue-room) (h .1);
       }

@@ -58,19 +58,19 @@ mul-mark c = let l = going-low (c .before .before .before .before .before .loop 
 slice-write-mark : tie.Need-slice-write-mark Inv-loop μ-loop
 slice-write-mark c = let l = going-low (c .before .before .before .before .before .loop .inv) (c .before .before .before .before .loop-test .taken) _ (c .before .before .index3 .ensures) in omega (arith, l, c .before .before .before .before .before .loop .inv .spread .markable .mark-room)
 
-cast-queue : tie.Need-cast-queue Inv-loop μ-loop
-cast-queue c = let l = going-low (c .before .before .before .before .before .loop .inv) (c .before .before .before .before .loop-test .taken) _ (c .before .before .index3 .ensures) in omega (arith, l, c .before .before .before .before .before .loop .inv .spread .markable .graph .small)
+number-requires : tie.Need-number-requires Inv-loop μ-loop
+number-requires c κs = search needs
 
 mul-queue : tie.Need-mul-queue Inv-loop μ-loop
-mul-queue c = omega (arith, tail-low (c .before .before .before .before .before .loop .inv .spread), c .before .before .before .before .before .loop .inv .spread .markable .graph .small)
+mul-queue c = omega (arith, tail-low (c .before .before .before .before .before .before .loop .inv .spread), c .before .before .before .before .before .before .loop .inv .spread .markable .graph .small)
 
 slice-write-queue : tie.Need-slice-write-queue Inv-loop μ-loop
 slice-write-queue c =
-    let l = going-low (c .before .before .before .before .before .loop .inv) (c .before .before .before .before .loop-test .taken) _ (c .before .before .index3 .ensures) in
-    omega (arith, tail-room (c .before .before .before .before .before .loop .inv .spread) _ l (c .if1 .taken), c .before .before .before .before .before .loop .inv .spread .markable .queue-room)
+    let l = going-low (c .before .before .before .before .before .before .loop .inv) (c .before .before .before .before .before .loop-test .taken) _ (c .before .before .before .index3 .ensures) in
+    omega (arith, tail-room (c .before .before .before .before .before .before .loop .inv .spread) _ l (c .before .if1 .taken), c .before .before .before .before .before .before .loop .inv .spread .markable .queue-room)
 
 add-t : tie.Need-add-t Inv-loop μ-loop
-add-t c = omega (arith, tail-low (c .before .before .before .before .before .loop .inv .spread), c .before .before .before .before .before .loop .inv .spread .markable .graph .small)
+add-t c = omega (arith, tail-low (c .before .before .before .before .before .before .loop .inv .spread), c .before .before .before .before .before .before .loop .inv .spread .markable .graph .small)
 
 add-e : tie.Need-add-e Inv-loop μ-loop
 add-e c = omega (arith, c .before .before .before .before .loop-test .taken, c .before .before .before .before .before .before .index2 .ensures, c .before .before .before .before .before .before .before .shared-slice-known4 .given (c .before .before .before .before .before .before .before .before .before .before .before .before .before .before .args .u + 1))
@@ -79,7 +79,12 @@ loop-less : tie.Need-loop-less Inv-loop μ-loop
 loop-less c = omega (arith, c .before .before .before .before .loop-test .taken)
 
 loop-again : tie.Need-loop-again Inv-loop μ-loop
-loop-again c = going-step (c .before .before .before .before .before .loop .inv) (c .before .before .before .before .loop-test .taken) _ (c .before .before .index3 .ensures) _ _ _ (⊎-elim (λ w. inl (w .0 .taken, w .1, w .2, w .3)) (λ w. inr (w .0 .left, w .1, w .2, w .3)) (c .if1 .came))
+loop-again c =
+    let here = c .before .before .before .before .before .loop .inv in
+    let l = going-low here (c .before .before .before .before .loop-test .taken) _ (c .before .before .index3 .ensures) in
+    going-step here (c .before .before .before .before .loop-test .taken) _ (c .before .before .index3 .ensures) _ _ _
+    (⊎-elim (λ w. let q = w .1 .ensures (omega (arith, l, here .spread .markable .graph .small)) in inl (w .0 .taken, w .2, rw q at (w .3), w .4))
+    (λ w. inr (w .0 .left, w .1, w .2, w .3)) (c .if1 .came))
 
 same-length : tie.Need-same-length Inv-loop μ-loop
 same-length c = c .before .loop .inv .mark-long
@@ -111,7 +116,7 @@ expand-spec =
     slice-read-if1
     mul-mark
     slice-write-mark
-    cast-queue
+    number-requires
     mul-queue
     slice-write-queue
     add-t
