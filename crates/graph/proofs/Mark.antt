@@ -11,7 +11,7 @@ use Rattle.columns.proofs.Laws.{clear-before}
 use Rattle.relations.specs.Reach.{Reaches, direct, onward}
 use Rattle.relations.proofs.Reach.{reaches-trans}
 use Rattle.graph.specs.Graph.{vertices, Arc}
-use Rattle.graph.specs.Mark.{Markable, Marks, lent, Marked-all, Spread, Expanded}
+use Rattle.graph.specs.Mark.{entries, Markable, Marks, lent, Marked-all, Spread, Expanded}
 use Rattle.graph.proofs.Store.{Put, put}
 use Rattle.graph.proofs.Busy.{busy-zero, busy-le, busy-white, busy-more}
 use Rattle.graph.proofs.Arcs.{arc-target, arc-place}
@@ -28,7 +28,7 @@ pub spread-start : {first to mark queue : List ℕ} {from : ℕ} → Markable fi
 spread-start {first} {to} {mark} {queue} r z =
     record {
       markable = r;
-      counted = busy-zero mark (vertices first) z;
+      counted = busy-zero (entries mark) (vertices first) z;
       bits = λ v. omega (arith, z v);
       low = λ k l. absurd (omega arith);
       reached = λ k l. absurd (omega arith);
@@ -37,10 +37,10 @@ spread-start {first} {to} {mark} {queue} r z =
 
 module _ {first to mark queue : List ℕ} {from t : ℕ} (s : Spread first to from mark queue t) where
   pub tail-low : t ≤ vertices first
-  tail-low = omega (arith, s .counted, busy-le mark (vertices first))
+  tail-low = omega (arith, s .counted, busy-le (entries mark) (vertices first))
 
   pub tail-room : (w : ℕ) → w < vertices first → getD mark w 0 ≡ 0 → t < vertices first
-  tail-room w l h = omega (arith, s .counted, busy-white mark (vertices first) w l h)
+  tail-room w l h = omega (arith, s .counted, busy-white (entries mark) (vertices first) w l h)
 
   spread-add : (w : ℕ) → w < vertices first → getD mark w 0 ≡ 0 → Reaches (Arc first to) from w → Spread first to from (set mark w 1) (set queue t w) (t + 1)
   spread-add w l h r =
@@ -51,7 +51,7 @@ module _ {first to mark queue : List ℕ} {from t : ℕ} (s : Spread first to fr
       let before : (k : ℕ) → k < t → getD (set queue t w) k 0 ≡ getD queue k 0 = λ k g. q .off k (λ e. omega arith) in
       record {
         markable = markable-set (s .markable) (set mark w 1) (set queue t w) (m .long) (q .long);
-        counted = omega (arith, busy-more mark (set mark w 1) (vertices first) w l h (omega (arith, m .at)) (m .off), s .counted);
+        counted = omega (arith, busy-more (entries mark) (entries (set mark w 1)) (vertices first) w l h (omega (arith, m .at)) (m .off), s .counted);
         bits = λ v. by-cases (ℕ-discrete v w) (λ e. rw (e, m .at) (omega arith)) (λ e. rw (m .off v e) (s .bits v));
         low = λ k g. by-cases (ℕ-discrete k t) (λ e. rw (e, q .at) l) (λ e. rw (before k (omega (arith, e))) (s .low k (omega (arith, e))));
         reached = λ k g. by-cases (ℕ-discrete k t) (λ e. rw (e, q .at) r) (λ e. rw (before k (omega (arith, e))) (s .reached k (omega (arith, e))));
