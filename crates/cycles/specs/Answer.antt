@@ -10,8 +10,8 @@ use Rattle.cycles.specs.State.{State, cell, state, needed}
 use Rattle.cycles.specs.Component.{Leads, Finished}
 use Rattle.cycles.specs.declared.Cycle.{Cycle}
 use Rattle.cycles.specs.declared.Cycle.the-variants.{At, Nothing, Malformed, ScratchShort}
-use Rattle.cycles.specs.declared.Order.{Order}
-use Rattle.cycles.specs.declared.Order.the-variants as order
+use Rattle.cycles.specs.declared.Dependencies.{Dependencies}
+use Rattle.cycles.specs.declared.Dependencies.the-variants as dependencies
 use Rattle.cycles.specs.declared.Grouping.{Grouping}
 use Rattle.cycles.specs.declared.Grouping.the-variants as grouping
 
@@ -111,12 +111,12 @@ pub record NoOrder (first to : List ℕ) (r : Reply) (was is : Lent) : Type 0 wh
   pub replies : Replies first to r
   pub kept : is .column ≡ was .column
 
-abbrev pub OrderAnswers : List ℕ → List ℕ → Lent → Lent → Order → Type 0
-OrderAnswers first to was is order.Acyclic = InOrder first to no-cycle was is
-OrderAnswers first to was is (order.Cyclic v) = NoOrder first to (cycle-at v) was is
-OrderAnswers first to was is order.Malformed = NoGraph first to was is
-OrderAnswers first to was is (order.ColumnShort k) = ColumnLacks first to k was is
-OrderAnswers first to was is (order.ScratchShort k) = ScratchLacks first to k was is
+abbrev pub OrderAnswers : List ℕ → List ℕ → Lent → Lent → Dependencies → Type 0
+OrderAnswers first to was is dependencies.Acyclic = InOrder first to no-cycle was is
+OrderAnswers first to was is (dependencies.Cyclic v) = NoOrder first to (cycle-at v) was is
+OrderAnswers first to was is dependencies.Malformed = NoGraph first to was is
+OrderAnswers first to was is (dependencies.ColumnShort k) = ColumnLacks first to k was is
+OrderAnswers first to was is (dependencies.ScratchShort k) = ScratchLacks first to k was is
 
 -- ---- the answers of `components`
 

@@ -16,16 +16,24 @@ use columns::number;
 // Scratch has six numbers for each index: of a vertex its group, its place and its next arc; and by index the stack of open
 // vertices, the path of the search, and the bounds of the groups along it.
 const WIDTH: usize = 6;
+
 const GROUP: usize = 0;
+
 const PLACE: usize = 1;
+
 const NEXT_ARC: usize = 2;
+
 const STACK: usize = 3;
+
 const PATH: usize = 4;
+
 const BOUND: usize = 5;
 
 // The group of a vertex that was not entered, and of one that is open; those of closed vertices come after them.
 const NEW: usize = 0;
+
 const OPEN: usize = 1;
+
 const CLOSED: usize = 2;
 
 // What the search does next.
@@ -63,7 +71,7 @@ pub enum Cycle {
 }
 
 // Whether there is an order, or else the smallest vertex on a cycle.
-pub enum Order {
+pub enum Dependencies {
     Acyclic,
     Cyclic(usize),
     Malformed,
@@ -366,25 +374,30 @@ pub fn least_on_cycle(first: &[u32], to: &[u32], scratch: &mut [u32]) -> Cycle
 }
 
 // The vertices in an order in which each stands after all that it depends on, or the smallest vertex on a cycle.
-pub fn topological_order(first: &[u32], to: &[u32], column: &mut [u32], scratch: &mut [u32]) -> Order
+pub fn topological_order(
+    first: &[u32],
+    to: &[u32],
+    column: &mut [u32],
+    scratch: &mut [u32],
+) -> Dependencies
     ensures { λ r. ⌜ OrderAnswers (now (first .entry)) (now (to .entry)) (lent (now (column .entry)) (now (scratch .entry))) (lent (now (column .exit)) (now (scratch .exit))) r ⌝ }
 {
     if !graph::valid(first, to) {
-        return Order::Malformed;
+        return Dependencies::Malformed;
     }
     let n = first.len() - 1;
     if column.len() < n {
-        return Order::ColumnShort(n);
+        return Dependencies::ColumnShort(n);
     }
     let needed = WIDTH * n;
     if scratch.len() < needed {
-        return Order::ScratchShort(needed);
+        return Dependencies::ScratchShort(needed);
     }
     let v = order_in(first, to, &mut column[..n], &mut scratch[..needed]);
     if v < n {
-        return Order::Cyclic(v);
+        return Dependencies::Cyclic(v);
     }
-    Order::Acyclic
+    Dependencies::Acyclic
 }
 
 // The strongly connected component of each vertex, as the number of a group.

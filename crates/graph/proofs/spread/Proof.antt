@@ -56,9 +56,10 @@ same-length-2 : tie.Need-same-length-2 Inv-loop μ-loop
 same-length-2 c = omega (arith, c .before .before .clear322 .kept .0, c .before .before .before .before .before .loop .inv .queue-long, c .before .before .before .before .before .before .before .before .before .before .expand .kept .1 .1 .1 .1 .1 .0)
 
 returns : tie.Need-returns Inv-loop μ-loop
-returns c =
-    (front-end (c .before .before .before .before .before .loop .inv) (c .before .before .before .before .loop-test .left),
-    all-zeros (c .before .before .before .before .before .loop .queue) (c .before .before .clear322 .ensures) (c .before .before .before .before .before .loop .inv .queue-long ∙ c .before .before .before .before .before .before .before .before .before .before .expand .kept .1 .1 .1 .1 .1 .0))
+returns c = (
+  front-end (c .before .before .before .before .before .loop .inv) (c .before .before .before .before .loop-test .left),
+  all-zeros (c .before .before .before .before .before .loop .queue) (c .before .before .clear322 .ensures) (c .before .before .before .before .before .loop .inv .queue-long ∙ c .before .before .before .before .before .before .before .before .before .before .expand .kept .1 .1 .1 .1 .1 .0),
+)
 
 pub spread-spec : {M : Type 1} → statement M
 spread-spec =
