@@ -68,6 +68,20 @@ extern "C" {
         next: *mut u32,
         next_length: usize,
     ) -> bool;
+    fn woffulent_symbol_of(
+        bytes: *const u8,
+        bytes_length: usize,
+        starts: *const u32,
+        starts_length: usize,
+        lengths: *const u32,
+        lengths_length: usize,
+        heads: *const u32,
+        heads_length: usize,
+        next: *const u32,
+        next_length: usize,
+        word: *const u8,
+        word_length: usize,
+    ) -> usize;
     fn woffulent_build(
         keys: *const u64,
         keys_length: usize,
@@ -212,7 +226,8 @@ pub fn binary(s: &[u8], start: usize, length: usize) -> u64 {
     unsafe { woffulent_binary(s.as_ptr(), s.len(), start, length) }
 }
 
-/// Stores for each token the least one that is spelled alike; whether there was room. The scratch is left with anything.
+/// Stores for each token the least one that is spelled alike; whether there was room. The chains are left for
+/// `symbol_of`.
 pub fn intern(
     bytes: &[u8],
     starts: &[u32],
@@ -238,6 +253,34 @@ pub fn intern(
             next.len(),
         )
     }
+}
+
+/// The least token that is spelled like a word, by the chains that `intern` left.
+pub fn symbol_of(
+    bytes: &[u8],
+    starts: &[u32],
+    lengths: &[u32],
+    heads: &[u32],
+    next: &[u32],
+    word: &[u8],
+) -> Option<usize> {
+    // SAFETY: see the head of this file.
+    entry(unsafe {
+        woffulent_symbol_of(
+            bytes.as_ptr(),
+            bytes.len(),
+            starts.as_ptr(),
+            starts.len(),
+            lengths.as_ptr(),
+            lengths.len(),
+            heads.as_ptr(),
+            heads.len(),
+            next.as_ptr(),
+            next.len(),
+            word.as_ptr(),
+            word.len(),
+        )
+    })
 }
 
 /// Chains the entries of a dictionary by their keys (0 is none); whether there was room.

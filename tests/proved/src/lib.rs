@@ -4,4 +4,4 @@
 mod calls;
 
 pub use calls::{add, div, modulo, multiply, negate, power, subtract};
-pub use calls::{binary, build, components, find, integer, intern, next_of, order, parse, reachable, scan, terminals, Sorted};
+pub use calls::{binary, build, components, find, integer, intern, next_of, order, parse, reachable, scan, symbol_of, terminals, Sorted};
