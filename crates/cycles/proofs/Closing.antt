@@ -8,7 +8,7 @@ use native.Mathlib.Decide.{ℕ-discrete, decLt}
 use lib.ListN.{getD}
 use Rattle.graph.specs.Graph.{Arc}
 use Rattle.graph.specs.Mark.{flag}
-use Rattle.graph.proofs.Busy.{flag-one, busy-agree}
+use Rattle.graph.proofs.Nonzero.{flag-one, nonzero-agree}
 use Rattle.graph.proofs.Arcs.{arc-target, arc-below}
 use Rattle.cycles.specs.State.{State}
 use Rattle.cycles.specs.Component.{Leads, Components}
@@ -234,7 +234,7 @@ module _ {first to : List ℕ} {σ : State} {group′ place′ : ℕ → ℕ} {n
               arith,
               upto,
               S .counted,
-              busy-agree (σ .group) group′ n
+              nonzero-agree (σ .group) group′ n
                   (λ v l.
                   ⊎-elim (λ i. flag-one (group′ v) (omega (arith, in-group v i)) ∙ sym (flag-one (σ .group v) (omega (arith, in-was v i))))
                   (λ o. ap flag (c .group-out v o)) (in-or-out v l)),

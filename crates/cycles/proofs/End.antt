@@ -8,7 +8,7 @@ use native.Mathlib.Decide.{ℕ-discrete, decLt}
 use lib.ListN.{getD}
 use Rattle.relations.specs.Reach.{Reaches, direct, onward}
 use Rattle.graph.specs.Graph.{vertices, Graph, Arc, OnCycle}
-use Rattle.graph.proofs.Busy.{busy-zero, busy-all}
+use Rattle.graph.proofs.Nonzero.{nonzero-none, nonzero-all}
 use Rattle.graph.proofs.Arcs.{arc-source, arc-target, reaches-source}
 use Rattle.cycles.specs.State.{State}
 use Rattle.cycles.specs.Component.{Leads, stays, goes, Finished}
@@ -22,7 +22,7 @@ search-start {σ = σ} {n = n} g q z =
     record {
       graph = g;
       count = q;
-      counted = busy-zero (σ .group) n z;
+      counted = nonzero-none (σ .group) n z;
       root-low = omega arith;
       roots = λ v l. absurd (omega arith);
       opened =
@@ -71,7 +71,7 @@ search-end {first} {to} {σ} {root} {height} {finished = finished} S t =
     let n = vertices first in
     let none : height ≡ 0 = S .line .none (t .none) in
     let seen : (v : ℕ) → v < vertices first → 0 < σ .group v = λ v l. S .roots v (omega (arith, t .last)) in
-    let q : finished ≡ vertices first = omega (arith, S .counted, busy-all (σ .group) (vertices first) seen) in
+    let q : finished ≡ vertices first = omega (arith, S .counted, nonzero-all (σ .group) (vertices first) seen) in
     record {
       components = rw q at (S .components);
       closed =

@@ -7,7 +7,7 @@ use native.Mathlib.Omega.{arith}
 use native.Mathlib.Decide.{ℕ-discrete, decLt}
 use lib.ListN.{getD}
 use Rattle.graph.specs.Graph.{Arc}
-use Rattle.graph.proofs.Busy.{busy-more, busy-white}
+use Rattle.graph.proofs.Nonzero.{nonzero-more, nonzero-fewer}
 use Rattle.cycles.specs.State.{State}
 use Rattle.cycles.specs.Component.{Leads, stays, goes}
 use Rattle.cycles.specs.Search.{Within, Opened, Settled, Passed, Search}
@@ -118,7 +118,7 @@ module _ {first to : List ℕ} {σ σ′ : State} {n root height depth groups fi
       record {
         graph = S .graph;
         count = S .count;
-        counted = omega (arith, busy-more (σ .group) (σ′ .group) n w low (t .new) (omega (arith, g .at)) (g .off), S .counted);
+        counted = omega (arith, nonzero-more (σ .group) (σ′ .group) n w low (t .new) (omega (arith, g .at)) (g .off), S .counted);
         root-low = S .root-low;
         roots = λ v l. omega (arith, g .off v (not-w v (S .roots v l)), S .roots v l);
         opened = opened;
@@ -132,5 +132,6 @@ module _ {first to : List ℕ} {σ σ′ : State} {n root height depth groups fi
       }
 
 -- there is room where a vertex is new
-pub enter-room : {first to : List ℕ} {σ : State} {n root height depth groups finished w : ℕ} → Search first to σ n root height depth groups finished → ToEnter first to σ depth w → height + finished < n
-enter-room {σ = σ} {n = n} {w = w} S t = omega (arith, S .counted, busy-white (σ .group) n w (omega (arith, S .count, t .low)) (t .new))
+pub enter-room : {first to : List ℕ} {σ : State} {n root height depth groups finished w : ℕ} → Search first to σ n root height depth groups finished
+    → ToEnter first to σ depth w → height + finished < n
+enter-room {σ = σ} {n = n} {w = w} S t = omega (arith, S .counted, nonzero-fewer (σ .group) n w (omega (arith, S .count, t .low)) (t .new))

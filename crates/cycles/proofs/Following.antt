@@ -7,7 +7,7 @@ use native.Mathlib.Omega.{arith}
 use native.Mathlib.Decide.{decLt}
 use lib.ListN.{length, getD}
 use Rattle.graph.specs.Graph.{vertices, Arc}
-use Rattle.graph.proofs.Busy.{busy-le}
+use Rattle.graph.proofs.Nonzero.{nonzero-le}
 use Rattle.graph.proofs.Arcs.{arc-place, arc-below}
 use Rattle.cycles.specs.State.{State, state, needed}
 use Rattle.cycles.specs.Search.{start, Search}
@@ -32,7 +32,7 @@ module _ {first to : List ℕ} {σ : State} {n root height depth groups finished
   small = omega (arith, S .count, S .graph .small)
 
   pub open-count : height + finished ≤ n
-  open-count = omega (arith, S .counted, busy-le (σ .group) n)
+  open-count = omega (arith, S .counted, nonzero-le (σ .group) n)
 
   pub path-count : depth ≤ height
   path-count =

@@ -41,7 +41,13 @@ close-fewer :
     → 3 * (n - (from + (m + (s - from)))) + (d - 1) + (b - 1) + (n - root) < 3 * (n - (s + m)) + d + b + (n - root)
 close-fewer n s m d b root from l h k = let e : from + (m + (s - from)) ≡ s + m = omega arith in rw e (omega arith)
 
-pub running-start : {first to s s₁ : List ℕ} → Ready first to s → s₁ ≡ cleared 0 0 s → length s₁ ≡ length s → Running first to s₁ s₁ (record { root = 0; height = 0; depth = 0; groups = 0; finished = 0 })
+pub running-start : {first to s s₁ : List ℕ} → Ready first to s → s₁ ≡ cleared 0 0 s → length s₁ ≡ length s → Running first to s₁ s₁ (record {
+  root = 0;
+  height = 0;
+  depth = 0;
+  groups = 0;
+  finished = 0;
+})
 running-start {first} {to} {s} {s₁} r q e =
     record {
       going = record { search = search-start {σ = state s₁} (r .graph) refl (λ v. zeros s s₁ q (6 * v + 0)); room = e ∙ r .room };

@@ -50,7 +50,8 @@ module _ {first to : List ℕ} (g : Graph first to) {s z : List ℕ} (h : needed
         scratch-is = clear-before 0 (needed (vertices first)) s z h q;
       }
 
-  pub used : (column front : List ℕ) → vertices first ≤ length column → length front ≡ length (take (vertices first) column) → Used first to (vertices first) (lent column s) (lent (front ++ drop (vertices first) column) (z ++ drop (needed (vertices first)) s))
+  pub used : (column front : List ℕ) → vertices first ≤ length column → length front ≡ length (take (vertices first) column) → Used first to (vertices first)
+      (lent column s) (lent (front ++ drop (vertices first) column) (z ++ drop (needed (vertices first)) s))
   used column front l e =
       record {
         graph = g;

@@ -7,7 +7,7 @@ use mathlib.Core.List.{List}
 use Prim.Native.Nat.{ℕ, _+_, _-_, _≤_, _<_}
 use lib.ListN.{length, getD}
 use Rattle.graph.specs.Graph.{vertices, Graph, Arc}
-use Rattle.graph.specs.Mark.{busy}
+use Rattle.graph.specs.Mark.{nonzero}
 use Rattle.cycles.specs.State.{State, state, needed}
 use Rattle.cycles.specs.Component.{Leads, Components}
 use Rattle.cycles.specs.declared.Counts.{Counts}
@@ -51,7 +51,7 @@ pub record Passed (first to : List ℕ) (x : State) (height depth groups : ℕ) 
 pub record Search (first to : List ℕ) (x : State) (n root height depth groups finished : ℕ) : Type 0 where
   pub graph : Graph first to
   pub count : n ≡ vertices first
-  pub counted : busy (x .group) n ≡ height + finished
+  pub counted : nonzero (x .group) n ≡ height + finished
   pub root-low : root ≤ n
   pub roots : (v : ℕ) → v < root → 0 < x .group v
   pub opened : Opened x n height

@@ -16,9 +16,9 @@ flag zero = 0
 flag (suc x) = 1
 
 -- how many of the first n values are not 0
-unfoldable pub busy : (ℕ → ℕ) → ℕ → ℕ
-busy f zero = 0
-busy f (suc n) = flag (f n) + busy f n
+unfoldable pub nonzero : (ℕ → ℕ) → ℕ → ℕ
+nonzero f zero = 0
+nonzero f (suc n) = flag (f n) + nonzero f n
 
 -- the entries of a column, 0 behind them
 abbrev pub entries : List ℕ → ℕ → ℕ
@@ -77,7 +77,7 @@ lent mark queue = record { mark = mark; queue = queue }
 -- the marked vertices are those in the queue, and each is reached
 pub record Spread (first to : List ℕ) (from : ℕ) (mark queue : List ℕ) (tail : ℕ) : Type 0 where
   pub markable : Markable first to from mark queue
-  pub counted : busy (entries mark) (vertices first) ≡ tail
+  pub counted : nonzero (entries mark) (vertices first) ≡ tail
   pub bits : (v : ℕ) → getD mark v 0 ≤ 1
   pub low : (k : ℕ) → k < tail → getD queue k 0 < vertices first
   pub reached : (k : ℕ) → k < tail → Reaches (Arc first to) from (getD queue k 0)

@@ -21,7 +21,7 @@ use Rattle.express.proofs.tokens.Spelling.{same-true, symbol-le, symbol-least, 
 use Rattle.index.specs.Bucket.{bucket-of, hash-from, InBucket}
 use Rattle.index.specs.Room.{done, fits, enough}
 use Rattle.index.specs.Interning.{last-index-below, bucket-at, chained, Links, Chained, Interns, spells, symbol-of-word, SpelledLike, FindsSymbol}
-use Rattle.index.specs.Interning.{word-bucket, wanted, at-link, Along, Lined, Linked, Fills, Readied}
+use Rattle.index.specs.Interning.{word-bucket, wanted, at-link, Along, Lined, Linked, Fills, ReadyToFill}
 use Rattle.index.specs.Dictionary.{among}
 use Rattle.index.specs.declared.dictionary.Found.{Found}
 use Rattle.index.specs.declared.dictionary.Found.the-variants.{At, Nothing}
@@ -101,7 +101,7 @@ module _ (bytes starts lengths : List ℕ) where
     pub is :
         (m : ℕ) → Links bytes starts lengths m next limit → first ≡ last-index-below (chained bytes starts lengths m (word-bucket bytes starts lengths m word)) limit
         → (l ≡ last-index-below (chained bytes starts lengths m (word-bucket bytes starts lengths m word)) below)
-            × (last-index-below (wanted bytes starts lengths m word) below ≡ last-index-below (wanted bytes starts lengths m word) limit)
+        × (last-index-below (wanted bytes starts lengths m word) below ≡ last-index-below (wanted bytes starts lengths m word) limit)
 
   module _ {next word : List ℕ} {limit first : ℕ} where
     pub walk-starts : Lined bytes starts lengths next limit → Walk next word limit first limit first
@@ -156,9 +156,10 @@ module _ (bytes starts lengths : List ℕ) where
               is =
                   λ m K e.
                   let off : want m word (l - 1) ≡ false = untrue (want m word (l - 1)) (λ y. false≢true (sym t ∙ and-snd (on m (home m word) (l - 1)) _ y)) in
-                  let same-bucket : bucket m (l - 1) ≡ home m word = on-bucket m (home m word) (l - 1) (met m K e h) in
-                  (q ∙ K (l - 1) (omega (arith, w .low)) ∙ ap (λ (b : ℕ). last-index-below (on m b) (l - 1)) same-bucket,
-                  sym (at-hand m K e h ∙ ap (λ (z : Bool). cond z (l - 1 + 1) (last-index-below (want m word) (l - 1))) off));
+                  let same-bucket : bucket m (l - 1) ≡ home m word = on-bucket m (home m word) (l - 1) (met m K e h) in (
+                    q ∙ K (l - 1) (omega (arith, w .low)) ∙ ap (λ (b : ℕ). last-index-below (on m b) (l - 1)) same-bucket,
+                    sym (at-hand m K e h ∙ ap (λ (z : Bool). cond z (l - 1 + 1) (last-index-below (want m word) (l - 1))) off),
+                  );
             }
 
       pub walk-ends : l ≤ 0 → Along bytes starts lengths next word limit first Nothing
@@ -282,7 +283,7 @@ module _ (bytes starts lengths : List ℕ) where
     pub links : Links bytes starts lengths (length heads₀) next i
     pub rest : (k : ℕ) → i ≤ k → getD next k 0 ≡ getD next₀ k 0
 
-  pub filling-starts : {symbols heads next : List ℕ} → Readied starts lengths symbols heads next → Filling symbols heads next symbols heads next 0
+  pub filling-starts : {symbols heads next : List ℕ} → ReadyToFill starts lengths symbols heads next → Filling symbols heads next symbols heads next 0
   filling-starts {symbols} {heads} {next} R =
       let rest = and-snd (leb (length starts) (length lengths)) _ (R .room) in
       let p = fits-parts (length starts) (length heads) (length next) (and-snd (leb (length starts) (length symbols)) _ rest) in
@@ -440,12 +441,14 @@ module _ {bytes starts lengths symbols heads next : List ℕ} {b : Bool} (e : b 
         kept = λ _. (refl, refl);
       }
 
-  pub interns-done : {symbols′ heads′ next′ : List ℕ} → not b ≡ false → Fills bytes starts lengths symbols next symbols′ heads′ next′ → Interns bytes starts lengths symbols heads next Done symbols′ heads′ next′
+  pub interns-done : {symbols′ heads′ next′ : List ℕ} → not b ≡ false → Fills bytes starts lengths symbols next symbols′ heads′ next′
+      → Interns bytes starts lengths symbols heads next Done symbols′ heads′ next′
   interns-done t F =
       record { answer = sym (not-false b t) ∙ e; stored = F .is; chains = λ _. F .chains; rest = λ _. F .rest; kept = λ z. absurd (false≢true z) }
 
 -- what a caller has of it: the column begins with the symbols
-pub interned : {bytes starts lengths symbols heads next symbols′ heads′ next′ : List ℕ} {r : Outcome} → Interns bytes starts lengths symbols heads next r symbols′ heads′ next′ → done r ≡ true → take (length starts) symbols′ ≡ symbols-of bytes starts lengths
+pub interned : {bytes starts lengths symbols heads next symbols′ heads′ next′ : List ℕ} {r : Outcome}
+    → Interns bytes starts lengths symbols heads next r symbols′ heads′ next′ → done r ≡ true → take (length starts) symbols′ ≡ symbols-of bytes starts lengths
 interned {bytes} {starts} {lengths} {symbols} {heads} {next} {symbols′} {r = r} I d =
     let every = symbols-of bytes starts lengths in
     let long : length every ≡ length starts = length-all bytes starts lengths in
@@ -455,9 +458,9 @@ interned {bytes} {starts} {lengths} {symbols} {heads} {next} {symbols′} {r = r
     ap (take (length starts)) is ∙ ap (λ (k : ℕ). take k (sets symbols 0 every)) (sym long) ∙ take-rows symbols every (omega arith)
 
 -- cleared heads begin no chain
-pub readied : {starts lengths symbols heads₀ next : List ℕ} (heads : List ℕ) → enough (length starts) (length lengths) (length symbols) (length heads) (length next) ≡ true
-    → heads₀ ≡ cleared 0 0 heads → Readied starts lengths symbols heads₀ next
-readied {starts} {lengths} {symbols} {heads₀} {next} heads r e =
+pub ready-to-fill : {starts lengths symbols heads₀ next : List ℕ} (heads : List ℕ) → enough (length starts) (length lengths) (length symbols) (length heads) (length next) ≡ true
+    → heads₀ ≡ cleared 0 0 heads → ReadyToFill starts lengths symbols heads₀ next
+ready-to-fill {starts} {lengths} {symbols} {heads₀} {next} heads r e =
     record {
       room = ap (λ (n : ℕ). enough (length starts) (length lengths) (length symbols) n (length next)) (ap length e ∙ length-cleared 0 0 heads) ∙ r;
       none = λ b. ap (λ (l : List ℕ). getD l b 0) e ∙ zeros-at heads b;

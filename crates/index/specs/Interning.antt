@@ -115,6 +115,6 @@ module _ (bytes starts lengths : List ℕ) where
     pub rest : (k : ℕ) → length starts ≤ k → getD next′ k 0 ≡ getD next k 0
 
 -- room, and no chain yet
-pub record Readied (starts lengths symbols heads next : List ℕ) : Type 0 where
+pub record ReadyToFill (starts lengths symbols heads next : List ℕ) : Type 0 where
   pub room : enough (length starts) (length lengths) (length symbols) (length heads) (length next) ≡ true
   pub none : (b : ℕ) → getD heads b 0 ≡ 0

@@ -12,8 +12,11 @@ ghost use Rattle.index.specs.Room.{fits};
 // Numbers of 32 bits are below this one; two large odd numbers to multiply by (the first is 2 ^ 32 over the golden ratio), and
 // the bits that are folded between them.
 const WORD: u64 = 4294967296;
+
 const FIRST_FACTOR: u64 = 2654435761;
+
 const SECOND_FACTOR: u64 = 2246822519;
+
 const FOLD: u64 = 32768;
 
 // A link is an entry plus one, of 32 bits: there are fewer entries than this.

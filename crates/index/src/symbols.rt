@@ -7,7 +7,7 @@ ghost use Rattle.express.specs.tokens.Bytes.{lower};
 ghost use Rattle.express.specs.tokens.Spelling.{same, spelling, symbol-of};
 ghost use Rattle.index.specs.Bucket.{InBucket, hash-from};
 ghost use Rattle.index.specs.Room.{enough};
-ghost use Rattle.index.specs.Interning.{Along, Lined, Linked, Fills, Readied, Interns, FindsSymbol};
+ghost use Rattle.index.specs.Interning.{Along, Lined, Linked, Fills, ReadyToFill, Interns, FindsSymbol};
 use crate::Outcome;
 use crate::bucket;
 use crate::dictionary::Found;
@@ -19,6 +19,7 @@ use columns::shorter;
 
 // What makes a capital letter small, and what a hash is multiplied by for each byte.
 const TO_LOWER: u8 = 32;
+
 const MULTIPLIER: u64 = 31;
 
 // A letter in lower case.
@@ -159,7 +160,7 @@ fn fill(
     heads: &mut [u32],
     next: &mut [u32],
 )
-    requires { ⌜ Readied (now starts) (now lengths) (now symbols) (now heads) (now next) ⌝ }
+    requires { ⌜ ReadyToFill (now starts) (now lengths) (now symbols) (now heads) (now next) ⌝ }
     ensures { λ _. ⌜ Fills (now (bytes .entry)) (now (starts .entry)) (now (lengths .entry)) (now (symbols .entry)) (now (next .entry)) (now (symbols .exit)) (now (heads .exit)) (now (next .exit)) ⌝ }
 {
     let mut i = 0;
@@ -198,7 +199,8 @@ pub fn intern(
     heads: &mut [u32],
     next: &mut [u32],
 ) -> Outcome
-    ensures { λ r. ⌜ Interns (now (bytes .entry)) (now (starts .entry)) (now (lengths .entry)) (now (symbols .entry)) (now (heads .entry)) (now (next .entry)) r (now (symbols .exit)) (now (heads .exit)) (now (next .exit)) ⌝ }
+    ensures { λ r. ⌜ Interns (now (bytes .entry)) (now (starts .entry)) (now (lengths .entry)) (now (symbols .entry)) (now (heads .entry)) (now (next .entry)) r
+        (now (symbols .exit)) (now (heads .exit)) (now (next .exit)) ⌝ }
 {
     if !room(
         starts.len(),

@@ -22,10 +22,21 @@ number-requires : tie.Need-number-requires Inv-loop μ-loop
 number-requires c κs = search needs
 
 mul-order : tie.Need-mul-order Inv-loop μ-loop
-mul-order c = omega (arith, arranging-low (c .before .before .before .loop .inv) (c .before .before .loop-test .taken) (c .before .get .ensures), c .before .before .before .before .before .before .pre .small)
+mul-order c =
+    omega (
+      arith,
+      arranging-low (c .before .before .before .loop .inv) (c .before .before .loop-test .taken) (c .before .get .ensures),
+      c .before .before .before .before .before .before .pre .small,
+    )
 
 slice-write-order : tie.Need-slice-write-order Inv-loop μ-loop
-slice-write-order c = omega (arith, arranging-low (c .before .before .before .loop .inv) (c .before .before .loop-test .taken) (c .before .get .ensures), c .before .before .before .before .before .before .pre .order-room, c .before .before .before .loop .inv .long)
+slice-write-order c =
+    omega (
+      arith,
+      arranging-low (c .before .before .before .loop .inv) (c .before .before .loop-test .taken) (c .before .get .ensures),
+      c .before .before .before .before .before .before .pre .order-room,
+      c .before .before .before .loop .inv .long,
+    )
 
 add-v : tie.Need-add-v Inv-loop μ-loop
 add-v c = omega (arith, c .before .before .loop-test .taken, c .before .before .before .before .before .before .pre .small)
@@ -34,7 +45,9 @@ loop-less : tie.Need-loop-less Inv-loop μ-loop
 loop-less c = omega (arith, c .before .before .loop-test .taken)
 
 loop-again : tie.Need-loop-again Inv-loop μ-loop
-loop-again c = let q = c .number .ensures (omega (arith, c .before .before .loop-test .taken, c .before .before .before .before .before .before .pre .small)) in rw q (arranging-step (c .before .before .before .loop .inv) (c .before .before .loop-test .taken) (c .before .get .ensures))
+loop-again c =
+    let q = c .number .ensures (omega (arith, c .before .before .loop-test .taken, c .before .before .before .before .before .before .pre .small)) in rw q
+    (arranging-step (c .before .before .before .loop .inv) (c .before .before .loop-test .taken) (c .before .get .ensures))
 
 same-length : tie.Need-same-length Inv-loop μ-loop
 same-length c = c .before .loop .inv .long

@@ -23,7 +23,11 @@ add-put : tie.Need-add-put Inv-loop μ-loop
 add-put c = omega (arith, c .before .before .before .before .loop .inv .closable .small)
 
 put-requires : tie.Need-put-requires Inv-loop μ-loop
-put-requires c κs = (omega (arith, closes-room (c .before .before .before .before .loop .inv) (c .before .before .before .loop-test .taken) (c .before .get .ensures)), omega (arith, c .before .before .before .before .loop .inv .closable .small))
+put-requires c κs = (
+  omega (arith, closes-room (c .before .before .before .before .loop .inv) (c .before .before .before .loop-test .taken) (c .before .get .ensures)),
+  omega
+      (arith, c .before .before .before .before .loop .inv .closable .small),
+)
 
 sub-put : tie.Need-sub-put Inv-loop μ-loop
 sub-put c = c .before .before .before .before .before .before .before .before .loop .inv .low
@@ -32,16 +36,37 @@ add-put-2 : tie.Need-add-put-2 Inv-loop μ-loop
 add-put-2 c = omega (arith, c .before .before .before .before .before .before .before .loop-test .taken, c .before .before .before .before .before .before .before .before .loop .inv .closable .small)
 
 put-requires-2 : tie.Need-put-requires-2 Inv-loop μ-loop
-put-requires-2 c κs = (omega (arith, closes-room (c .before .before .before .before .before .before .before .before .loop .inv) (c .before .before .before .before .before .before .before .loop-test .taken) (c .before .before .before .before .before .get .ensures), c .before .before .before .put .kept .0), omega (arith, c .before .before .before .before .before .before .before .loop-test .taken, c .before .before .before .before .before .before .before .before .loop .inv .closable .small))
+put-requires-2 c κs = (
+  omega (
+    arith,
+    closes-room (c .before .before .before .before .before .before .before .before .loop .inv)
+        (c .before .before .before .before .before .before .before .loop-test .taken) (c .before .before .before .before .before .get .ensures),
+    c .before .before .before .put .kept .0,
+  ),
+  omega (
+    arith,
+    c .before .before .before .before .before .before .before .loop-test .taken,
+    c .before .before .before .before .before .before .before .before .loop .inv .closable .small,
+  ),
+)
 
 add-i : tie.Need-add-i Inv-loop μ-loop
-add-i c = omega (arith, c .before .before .before .before .before .before .before .before .before .before .loop-test .taken, c .before .before .before .before .before .before .before .before .before .before .before .loop .inv .closable .small)
+add-i c =
+    omega (
+      arith,
+      c .before .before .before .before .before .before .before .before .before .before .loop-test .taken,
+      c .before .before .before .before .before .before .before .before .before .before .before .loop .inv .closable .small,
+    )
 
 loop-less : tie.Need-loop-less Inv-loop μ-loop
 loop-less c = omega (arith, c .before .before .before .before .before .before .before .before .before .before .loop-test .taken)
 
 loop-again : tie.Need-loop-again Inv-loop μ-loop
-loop-again c = closes-step (c .before .before .before .before .before .before .before .before .before .before .before .loop .inv) (c .before .before .before .before .before .before .before .before .before .before .loop-test .taken) (c .before .before .before .before .before .before .before .before .get .ensures) (c .before .before .before .before .before .before .put .ensures) (c .before .before .put2 .ensures)
+loop-again c =
+    closes-step (c .before .before .before .before .before .before .before .before .before .before .before .loop .inv)
+    (c .before .before .before .before .before .before .before .before .before .before .loop-test .taken)
+    (c .before .before .before .before .before .before .before .before .get .ensures) (c .before .before .before .before .before .before .put .ensures)
+    (c .before .before .put2 .ensures)
 
 same-length : tie.Need-same-length Inv-loop μ-loop
 same-length c = c .before .loop .inv .closed .long

@@ -40,7 +40,12 @@ slice-aggregate-groups-in-2 : tie.Need-slice-aggregate-groups-in-2
 slice-aggregate-groups-in-2 c = sym (length-take-le _ (c .before .before .before .before .before .before .before .before .before .before .args .scratch .now) (c .before .before .if3 .left))
 
 groups-in-requires : tie.Need-groups-in-requires
-groups-in-requires c κs = (ready (c .before .before .before .before .before .before .before .before .before .before .args .scratch .now) (tells-pass (c .before .before .before .before .before .valid .ensures) (c .before .before .before .before .if1 .left)) (c .before .before .if3 .left), length-take-le _ (c .before .before .before .before .before .before .before .before .before .before .args .column .now) (c .before .before .before .if2 .left))
+groups-in-requires c κs = (
+  ready (c .before .before .before .before .before .before .before .before .before .before .args .scratch .now) (tells-pass
+      (c .before .before .before .before .before .valid .ensures) (c .before .before .before .before .if1 .left)) (c .before .before .if3 .left),
+  length-take-le _ (c .before .before .before .before .before .before .before .before .before .before .args .column .now)
+      (c .before .before .before .if2 .left),
+)
 
 same-length : tie.Need-same-length
 same-length c = search needs
@@ -51,8 +56,21 @@ same-length-2 c = search needs
 returns-4 : tie.Need-returns-4
 returns-4 c =
     record {
-      used = used (tells-pass (c .before .before .before .before .before .before .before .before .before .before .valid .ensures) (c .before .before .before .before .before .before .before .before .before .if1 .left)) (c .before .before .before .before .before .before .before .if3 .left) (c .before .before .before .before .groups-in .ensures .zeros) (c .before .before .before .before .before .before .before .before .before .before .before .before .before .before .before .args .column .now) (c .before .before .before .before .groups-in .last .1 .1 .0) (c .before .before .before .before .before .before .before .before .if2 .left) (c .before .before .before .before .groups-in .kept .1 .1 .0);
-      groups = groups-front (c .before .before .before .before .groups-in .last .1 .1 .0) _ (c .before .before .before .before .groups-in .kept .1 .1 .0 ∙ length-take-le _ (c .before .before .before .before .before .before .before .before .before .before .before .before .before .before .before .args .column .now) (c .before .before .before .before .before .before .before .before .if2 .left)) (tells-pass (c .before .before .before .before .before .before .before .before .before .before .valid .ensures) (c .before .before .before .before .before .before .before .before .before .if1 .left)) (c .before .before .before .before .groups-in .ensures .groups);
+      used =
+          used (tells-pass (c .before .before .before .before .before .before .before .before .before .before .valid .ensures)
+          (c .before .before .before .before .before .before .before .before .before .if1 .left))
+          (c .before .before .before .before .before .before .before .if3 .left) (c .before .before .before .before .groups-in .ensures .zeros)
+          (c .before .before .before .before .before .before .before .before .before .before .before .before .before .before .before .args .column .now)
+          (c .before .before .before .before .groups-in .last .1 .1 .0) (c .before .before .before .before .before .before .before .before .if2 .left)
+          (c .before .before .before .before .groups-in .kept .1 .1 .0);
+      groups =
+          groups-front (c .before .before .before .before .groups-in .last .1 .1 .0) _ (c .before .before .before .before .groups-in .kept .1 .1 .0 ∙
+          length-take-le _
+          (c .before .before .before .before .before .before .before .before .before .before .before .before .before .before .before .args .column .now)
+          (c .before .before .before .before .before .before .before .before .if2 .left)) (tells-pass
+          (c .before .before .before .before .before .before .before .before .before .before .valid .ensures)
+          (c .before .before .before .before .before .before .before .before .before .if1 .left))
+          (c .before .before .before .before .groups-in .ensures .groups);
     }
 
 pub components-spec : {M : Type 1} → statement M

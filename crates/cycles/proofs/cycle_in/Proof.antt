@@ -20,7 +20,13 @@ same-length : tie.Need-same-length
 same-length c = c .before .before .clear32 .kept .0 ∙ c .before .before .before .before .before .before .before .before .search .kept .1 .1 .0
 
 returns : tie.Need-returns
-returns c = record { found = found (c .before .before .before .before .before .before .before .before .before .before .before .before .before .pre .graph) (c .before .before .before .before .before .before .before .before .search .ensures) (c .before .before .before .before .least .ensures); zeros = all-zeros (c .before .before .before .before .before .before .before .before .search .last .1 .1 .0) (c .before .before .clear32 .ensures) (c .before .before .before .before .before .before .before .before .search .kept .1 .1 .0) }
+returns c =
+    record {
+      found = found (c .before .before .before .before .before .before .before .before .before .before .before .before .before .pre .graph)
+          (c .before .before .before .before .before .before .before .before .search .ensures) (c .before .before .before .before .least .ensures);
+      zeros = all-zeros (c .before .before .before .before .before .before .before .before .search .last .1 .1 .0) (c .before .before .clear32 .ensures)
+          (c .before .before .before .before .before .before .before .before .search .kept .1 .1 .0);
+    }
 
 pub cycle-in-spec : {M : Type 1} → statement M
 cycle-in-spec =

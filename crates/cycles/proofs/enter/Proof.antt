@@ -20,7 +20,20 @@ index-requires : tie.Need-index-requires
 index-requires c κs = search needs
 
 put-requires-3 : tie.Need-put-requires-3
-put-requires-3 c κs = (omega (arith, c .before .before .before .before .before .before .before .before .before .before .before .before .before .pre .room, c .before .before .before .before .before .before .before .before .before .put .kept .0, c .before .before .before .before .before .put2 .kept .0), omega (arith, c .index .ensures, c .before .shared-slice-known2 .given (c .before .before .before .before .before .before .before .before .before .before .before .before .before .args .w)))
+put-requires-3 c κs = (
+  omega (
+    arith,
+    c .before .before .before .before .before .before .before .before .before .before .before .before .before .pre .room,
+    c .before .before .before .before .before .before .before .before .before .put .kept .0,
+    c .before .before .before .before .before .put2 .kept .0,
+  ),
+  omega (
+    arith,
+    c .index .ensures,
+    c .before .shared-slice-known2 .given
+        (c .before .before .before .before .before .before .before .before .before .before .before .before .before .args .w),
+  ),
+)
 
 put-requires-4 : tie.Need-put-requires-4
 put-requires-4 c κs = search needs
@@ -35,7 +48,22 @@ same-length : tie.Need-same-length
 same-length c = search needs
 
 returns : tie.Need-returns
-returns c = rw (c .before .before .put6 .ensures, c .before .before .before .before .before .before .put5 .ensures, c .before .before .before .before .before .before .before .before .before .before .put4 .ensures, c .before .before .before .before .before .before .before .before .before .before .before .before .before .before .put3 .ensures, c .before .before .before .before .before .before .before .before .before .before .before .before .before .before .before .index .ensures, c .before .before .before .before .before .before .before .before .before .before .before .before .before .before .before .before .before .before .before .before .put2 .ensures, c .before .before .before .before .before .before .before .before .before .before .before .before .before .before .before .before .before .before .before .before .before .before .before .before .put .ensures)
+returns c =
+    let c6 = c .before .before .before .before .before .before in
+    let c10 = c6 .before .before .before .before in
+    let c14 = c10 .before .before .before .before in
+    let c15 = c14 .before in
+    let c20 = c15 .before .before .before .before .before in
+    let c24 = c20 .before .before .before .before in
+    rw (
+      c .before .before .put6 .ensures,
+      c6 .put5 .ensures,
+      c10 .put4 .ensures,
+      c14 .put3 .ensures,
+      c15 .index .ensures,
+      c20 .put2 .ensures,
+      c24 .put .ensures,
+    )
 
 pub enter-spec : {M : Type 1} → statement M
 enter-spec =

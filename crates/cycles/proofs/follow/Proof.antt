@@ -27,7 +27,15 @@ add-t13 : tie.Need-add-t13
 add-t13 c = search needs
 
 returns-2 : tie.Need-returns-2
-returns-2 c = (refl, refl, follows-closed (c .before .before .before .before .before .before .before .args .to .now) (state (c .before .before .before .before .before .before .before .args .s .now)) (c .before .before .before .before .before .before .before .args .groups) (c .before .before .before .before .before .before .before .args .e) (c .before .before .before .index .result) 0 (c .before .before .before .index .ensures) (λ z. c .before .if1 .left (c .before .before .get .ensures ∙ z)) (λ z. c .if2 .taken (c .before .before .get .ensures ∙ z)))
+returns-2 c = (
+  refl,
+  refl,
+  follows-closed (c .before .before .before .before .before .before .before .args .to .now) (state
+      (c .before .before .before .before .before .before .before .args .s .now)) (c .before .before .before .before .before .before .before .args .groups)
+      (c .before .before .before .before .before .before .before .args .e) (c .before .before .before .index .result) 0
+      (c .before .before .before .index .ensures) (λ z. c .before .if1 .left (c .before .before .get .ensures ∙ z)) (λ z. c .if2 .taken
+      (c .before .before .get .ensures ∙ z)),
+)
 
 sub-get : tie.Need-sub-get
 sub-get c = search needs
@@ -43,16 +51,42 @@ get-requires-4 c κs = search needs
 
 returns-3 : tie.Need-returns-3
 returns-3 c =
-    let k : cell (c .before .before .before .before .before .before .before .before .before .before .before .args .s .now) 1 (c .before .before .before .before .before .before .before .index .result) < cell (c .before .before .before .before .before .before .before .before .before .before .before .args .s .now) 4 (c .before .before .before .get2 .result) = omega (arith, c .before .before .get3 .ensures, c .before .get4 .ensures, c .if3 .taken) in
-    follows-join (c .before .before .before .before .before .before .before .before .before .before .before .args .to .now) (state (c .before .before .before .before .before .before .before .before .before .before .before .args .s .now)) (c .before .before .before .before .before .before .before .before .before .before .before .args .groups) (c .before .before .before .before .before .before .before .before .before .before .before .args .e) (c .before .before .before .before .before .before .before .index .result) (c .before .before .before .get2 .result) (c .before .before .before .before .before .before .before .index .ensures) (c .before .before .before .get2 .ensures) (sym (c .before .before .before .before .before .before .get .ensures) ∙ c .before .before .before .before .if2 .left) k
+    let k : cell (c .before .before .before .before .before .before .before .before .before .before .before .args .s .now) 1
+    (c .before .before .before .before .before .before .before .index .result) < cell
+    (c .before .before .before .before .before .before .before .before .before .before .before .args .s .now) 4
+    (c .before .before .before .get2 .result) = omega (arith, c .before .before .get3 .ensures, c .before .get4 .ensures, c .if3 .taken) in
+    follows-join (c .before .before .before .before .before .before .before .before .before .before .before .args .to .now) (state
+    (c .before .before .before .before .before .before .before .before .before .before .before .args .s .now))
+    (c .before .before .before .before .before .before .before .before .before .before .before .args .groups)
+    (c .before .before .before .before .before .before .before .before .before .before .before .args .e)
+    (c .before .before .before .before .before .before .before .index .result) (c .before .before .before .get2 .result)
+    (c .before .before .before .before .before .before .before .index .ensures) (c .before .before .before .get2 .ensures) (sym
+    (c .before .before .before .before .before .before .get .ensures) ∙ c .before .before .before .before .if2 .left) k
 
 add-t9 : tie.Need-add-t9
 add-t9 c = search needs
 
 returns-4 : tie.Need-returns-4
 returns-4 c =
-    let k : cell (c .before .before .before .before .before .before .before .before .before .before .before .args .s .now) 4 (c .before .before .before .get2 .result) ≤ cell (c .before .before .before .before .before .before .before .before .before .before .before .args .s .now) 1 (c .before .before .before .before .before .before .before .index .result) = omega (arith, c .before .before .get3 .ensures, c .before .get4 .ensures, c .if3 .left) in
-    (refl, refl, follows-open (c .before .before .before .before .before .before .before .before .before .before .before .args .to .now) (state (c .before .before .before .before .before .before .before .before .before .before .before .args .s .now)) (c .before .before .before .before .before .before .before .before .before .before .before .args .groups) (c .before .before .before .before .before .before .before .before .before .before .before .args .e) (c .before .before .before .before .before .before .before .index .result) (c .before .before .before .get2 .result) (c .before .before .before .before .before .before .before .index .ensures) (c .before .before .before .get2 .ensures) (sym (c .before .before .before .before .before .before .get .ensures) ∙ c .before .before .before .before .if2 .left) k)
+    let k : cell (c .before .before .before .before .before .before .before .before .before .before .before .args .s .now) 4
+    (c .before .before .before .get2 .result) ≤ cell
+    (c .before .before .before .before .before .before .before .before .before .before .before .args .s .now) 1
+    (c .before .before .before .before .before .before .before .index .result) = omega (
+      arith,
+      c .before .before .get3 .ensures,
+      c .before .get4 .ensures,
+      c .if3 .left,
+    ) in (
+      refl,
+      refl,
+      follows-open (c .before .before .before .before .before .before .before .before .before .before .before .args .to .now) (state
+          (c .before .before .before .before .before .before .before .before .before .before .before .args .s .now))
+          (c .before .before .before .before .before .before .before .before .before .before .before .args .groups)
+          (c .before .before .before .before .before .before .before .before .before .before .before .args .e)
+          (c .before .before .before .before .before .before .before .index .result) (c .before .before .before .get2 .result)
+          (c .before .before .before .before .before .before .before .index .ensures) (c .before .before .before .get2 .ensures) (sym
+          (c .before .before .before .before .before .before .get .ensures) ∙ c .before .before .before .before .if2 .left) k,
+    )
 
 pub follow-spec : {M : Type 1} → statement M
 follow-spec =

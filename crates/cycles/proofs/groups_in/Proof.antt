@@ -15,7 +15,10 @@ sub-number-groups : tie.Need-sub-number-groups
 sub-number-groups c = omega (arith, c .before .before .before .before .before .before .before .before .before .before .pre .0 .graph .some)
 
 number-groups-requires : tie.Need-number-groups-requires
-number-groups-requires c κs = numbered (c .before .before .before .before .before .before .before .before .before .before .args .group .now) (ready-after (c .before .before .before .before .before .before .before .before .before .before .pre .0) (c .before .before .before .before .search .kept .1 .1 .0)) (c .before .before .before .before .search .ensures) (c .before .before .before .before .before .before .before .before .before .before .pre .1)
+number-groups-requires c κs =
+    numbered (c .before .before .before .before .before .before .before .before .before .before .args .group .now) (ready-after
+    (c .before .before .before .before .before .before .before .before .before .before .pre .0) (c .before .before .before .before .search .kept .1 .1 .0))
+    (c .before .before .before .before .search .ensures) (c .before .before .before .before .before .before .before .before .before .before .pre .1)
 
 clear32-requires : tie.Need-clear32-requires
 clear32-requires c κs = search needs
@@ -27,7 +30,16 @@ same-length-2 : tie.Need-same-length-2
 same-length-2 c = c .before .before .clear32 .kept .0 ∙ c .before .before .before .before .before .before .before .before .before .before .before .search .kept .1 .1 .0
 
 returns : tie.Need-returns
-returns c = record { groups = groups-are (c .before .before .before .before .before .before .before .before .before .before .before .before .before .before .before .before .before .pre .0 .graph) (c .before .before .before .before .before .before .before .before .before .before .before .search .ensures) (c .before .before .before .before .before .before .number-groups .ensures); zeros = all-zeros (c .before .before .before .before .before .before .before .before .before .before .before .search .last .1 .1 .0) (c .before .before .clear32 .ensures) (c .before .before .before .before .before .before .before .before .before .before .before .search .kept .1 .1 .0) }
+returns c =
+    record {
+      groups = groups-are
+          (c .before .before .before .before .before .before .before .before .before .before .before .before .before .before .before .before .before .pre .0 .graph)
+          (c .before .before .before .before .before .before .before .before .before .before .before .search .ensures)
+          (c .before .before .before .before .before .before .number-groups .ensures);
+      zeros = all-zeros
+          (c .before .before .before .before .before .before .before .before .before .before .before .search .last .1 .1 .0) (c .before .before .clear32 .ensures)
+          (c .before .before .before .before .before .before .before .before .before .before .before .search .kept .1 .1 .0);
+    }
 
 pub groups-in-spec : {M : Type 1} → statement M
 groups-in-spec =

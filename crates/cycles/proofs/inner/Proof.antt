@@ -41,7 +41,11 @@ index-requires-2 : tie.Need-index-requires-2 Inv-loop μ-loop
 index-requires-2 c κs = search needs
 
 loop-holds : tie.Need-loop-holds Inv-loop μ-loop
-loop-holds c = (c .before .before .before .before .get .ensures, looking-start (c .before .before .before .before .before .before .before .before .pre .0) (c .before .before .before .before .before .before .before .before .pre .1) (c .before .before .index .ensures) (c .index2 .ensures))
+loop-holds c = (
+  c .before .before .before .before .get .ensures,
+  looking-start (c .before .before .before .before .before .before .before .before .pre .0)
+      (c .before .before .before .before .before .before .before .before .pre .1) (c .before .before .index .ensures) (c .index2 .ensures),
+)
 
 mul-index-3 : tie.Need-mul-index-3 Inv-loop μ-loop
 mul-index-3 c = let h = looking-place (c .before .loop .inv .1) (c .loop-test .taken) in search needs
@@ -53,10 +57,17 @@ index-requires-3 : tie.Need-index-requires-3 Inv-loop μ-loop
 index-requires-3 c κs = search needs
 
 get-requires-2 : tie.Need-get-requires-2 Inv-loop μ-loop
-get-requires-2 c κs = omega (arith, looking-low (c .before .before .before .loop .inv .1) (c .before .before .loop-test .taken) (c .index3 .ensures), c .before .before .before .before .before .before .before .before .before .before .before .before .pre .0 .room)
+get-requires-2 c κs =
+    omega (
+      arith,
+      looking-low (c .before .before .before .loop .inv .1) (c .before .before .loop-test .taken) (c .index3 .ensures),
+      c .before .before .before .before .before .before .before .before .before .before .before .before .pre .0 .room,
+    )
 
 returns : tie.Need-returns Inv-loop μ-loop
-returns c = tells-yes refl (looking-hit (c .before .before .before .before .before .loop .inv .1) (c .before .before .before .before .loop-test .taken) (c .before .before .index3 .ensures) (sym (c .before .get2 .ensures) ∙ c .if1 .taken ∙ c .before .before .before .before .before .loop .inv .0))
+returns c =
+    tells-yes refl (looking-hit (c .before .before .before .before .before .loop .inv .1) (c .before .before .before .before .loop-test .taken)
+    (c .before .before .index3 .ensures) (sym (c .before .get2 .ensures) ∙ c .if1 .taken ∙ c .before .before .before .before .before .loop .inv .0))
 
 add-e : tie.Need-add-e Inv-loop μ-loop
 add-e c = search needs
@@ -65,7 +76,12 @@ loop-less : tie.Need-loop-less Inv-loop μ-loop
 loop-less c = omega (arith, c .before .before .before .before .loop-test .taken)
 
 loop-again : tie.Need-loop-again Inv-loop μ-loop
-loop-again c = (c .before .before .before .before .before .loop .inv .0, looking-step (c .before .before .before .before .before .loop .inv .1) (c .before .before .before .before .loop-test .taken) (c .before .before .index3 .ensures) (λ z. c .if1 .left (c .before .get2 .ensures ∙ z ∙ sym (c .before .before .before .before .before .loop .inv .0))))
+loop-again c = (
+  c .before .before .before .before .before .loop .inv .0,
+  looking-step (c .before .before .before .before .before .loop .inv .1)
+      (c .before .before .before .before .loop-test .taken) (c .before .before .index3 .ensures) (λ z. c .if1 .left (c .before .get2 .ensures ∙ z ∙ sym
+      (c .before .before .before .before .before .loop .inv .0))),
+)
 
 returns-2 : tie.Need-returns-2 Inv-loop μ-loop
 returns-2 c = tells-no refl (looking-end (c .before .loop .inv .1) (c .loop-test .left))

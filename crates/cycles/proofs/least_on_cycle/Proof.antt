@@ -31,19 +31,34 @@ slice-aggregate-cycle-in : tie.Need-slice-aggregate-cycle-in
 slice-aggregate-cycle-in c = sym (length-take-le _ (c .before .before .before .before .before .before .before .args .scratch .now) (c .before .if2 .left))
 
 cycle-in-requires : tie.Need-cycle-in-requires
-cycle-in-requires c κs = ready (c .before .before .before .before .before .before .before .args .scratch .now) (tells-pass (c .before .before .before .valid .ensures) (c .before .before .if1 .left)) (c .before .if2 .left)
+cycle-in-requires c κs =
+    ready (c .before .before .before .before .before .before .before .args .scratch .now) (tells-pass (c .before .before .before .valid .ensures)
+    (c .before .before .if1 .left)) (c .before .if2 .left)
 
 same-length : tie.Need-same-length
 same-length c = search needs
 
 returns-3 : tie.Need-returns-3
-returns-3 c = record { used = used-scratch (tells-pass (c .before .before .before .before .before .before .before .valid .ensures) (c .before .before .before .before .before .before .if1 .left)) (c .before .before .before .before .before .if2 .left) (c .before .before .before .cycle-in .ensures .zeros); replies = replies-cycle (c .before .before .before .cycle-in .ensures .found .cycle (c .if3 .taken)) }
+returns-3 c =
+    record {
+      used = used-scratch (tells-pass (c .before .before .before .before .before .before .before .valid .ensures)
+          (c .before .before .before .before .before .before .if1 .left)) (c .before .before .before .before .before .if2 .left)
+          (c .before .before .before .cycle-in .ensures .zeros);
+      replies = replies-cycle (c .before .before .before .cycle-in .ensures .found .cycle
+          (c .if3 .taken));
+    }
 
 same-length-2 : tie.Need-same-length-2
 same-length-2 c = search needs
 
 returns-4 : tie.Need-returns-4
-returns-4 c = record { used = used-scratch (tells-pass (c .before .before .before .before .before .before .before .valid .ensures) (c .before .before .before .before .before .before .if1 .left)) (c .before .before .before .before .before .if2 .left) (c .before .before .before .cycle-in .ensures .zeros); replies = replies-none (c .before .before .before .cycle-in .ensures .found .none (c .if3 .left)) }
+returns-4 c =
+    record {
+      used = used-scratch (tells-pass (c .before .before .before .before .before .before .before .valid .ensures)
+          (c .before .before .before .before .before .before .if1 .left)) (c .before .before .before .before .before .if2 .left)
+          (c .before .before .before .cycle-in .ensures .zeros);
+      replies = replies-none (c .before .before .before .cycle-in .ensures .found .none (c .if3 .left));
+    }
 
 pub least-on-cycle-spec : {M : Type 1} → statement M
 least-on-cycle-spec =

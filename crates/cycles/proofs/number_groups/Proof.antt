@@ -37,7 +37,15 @@ loop-less : tie.Need-loop-less Inv-loop μ-loop
 loop-less c = omega (arith, c .before .before .loop-test .taken)
 
 loop-again : tie.Need-loop-again Inv-loop μ-loop
-loop-again c = let q = c .number .ensures (omega (arith, c .before .get .ensures, c .before .before .before .before .before .before .pre .low _ (c .before .before .loop-test .taken), c .before .before .before .before .before .before .pre .small)) in numbering-step (c .before .before .before .loop .inv) (c .before .before .loop-test .taken) (rw q (omega (arith, c .before .get .ensures)))
+loop-again c =
+    let q = c .number .ensures (omega (
+      arith,
+      c .before .get .ensures,
+      c .before .before .before .before .before .before .pre .low _
+          (c .before .before .loop-test .taken),
+      c .before .before .before .before .before .before .pre .small,
+    )) in numbering-step
+    (c .before .before .before .loop .inv) (c .before .before .loop-test .taken) (rw q (omega (arith, c .before .get .ensures)))
 
 same-length : tie.Need-same-length Inv-loop μ-loop
 same-length c = c .before .loop .inv .long

@@ -27,14 +27,25 @@ same-length c = c .before .before .clear32 .kept .0 ∙ c .before .before .befor
 returns : tie.Need-returns
 returns c =
     record {
-      found = found (c .before .before .before .before .before .before .before .before .before .before .before .before .before .before .before .pre .0 .graph) (c .before .before .before .before .before .before .before .before .before .search .ensures) (c .before .before .before .before .before .least .ensures);
+      found =
+          found (c .before .before .before .before .before .before .before .before .before .before .before .before .before .before .before .pre .0 .graph)
+          (c .before .before .before .before .before .before .before .before .before .search .ensures)
+          (c .before .before .before .before .before .least .ensures);
       kept = λ _. refl;
       ordered = λ l. absurd (omega (arith, c .before .before .before .before .if1 .taken));
-      zeros = all-zeros (c .before .before .before .before .before .before .before .before .before .search .last .1 .1 .0) (c .before .before .clear32 .ensures) (c .before .before .before .before .before .before .before .before .before .search .kept .1 .1 .0);
+      zeros =
+          all-zeros (c .before .before .before .before .before .before .before .before .before .search .last .1 .1 .0) (c .before .before .clear32 .ensures)
+          (c .before .before .before .before .before .before .before .before .before .search .kept .1 .1 .0);
     }
 
 arrange-requires : tie.Need-arrange-requires
-arrange-requires c κs = arrangeable (c .before .before .before .before .before .before .before .before .before .before .before .before .before .args .order .now) (ready-after (c .before .before .before .before .before .before .before .before .before .before .before .before .before .pre .0) (c .before .before .before .before .before .before .before .search .kept .1 .1 .0)) (placed (c .before .before .before .before .before .before .before .before .before .before .before .before .before .pre .0 .graph) (c .before .before .before .before .before .before .before .search .ensures) (c .before .before .before .least .ensures) (c .before .before .if1 .left)) (c .before .before .before .before .before .before .before .before .before .before .before .before .before .pre .1)
+arrange-requires c κs =
+    arrangeable (c .before .before .before .before .before .before .before .before .before .before .before .before .before .args .order .now) (ready-after
+    (c .before .before .before .before .before .before .before .before .before .before .before .before .before .pre .0)
+    (c .before .before .before .before .before .before .before .search .kept .1 .1 .0)) (placed
+    (c .before .before .before .before .before .before .before .before .before .before .before .before .before .pre .0 .graph)
+    (c .before .before .before .before .before .before .before .search .ensures) (c .before .before .before .least .ensures) (c .before .before .if1 .left))
+    (c .before .before .before .before .before .before .before .before .before .before .before .before .before .pre .1)
 
 clear32-requires-2 : tie.Need-clear32-requires-2
 clear32-requires-2 c κs = search needs
@@ -47,11 +58,27 @@ same-length-3 c = c .before .before .clear322 .kept .0 ∙ c .before .before .be
 
 returns-2 : tie.Need-returns-2
 returns-2 c =
+    let c6 = c .before .before .before .before .before .before in
+    let c9 = c6 .before .before .before in
+    let c10 = c9 .before in
+    let c14 = c10 .before .before .before .before in
+    let c20 = c14 .before .before .before .before .before .before in
     record {
-      found = record { within = omega arith; cycle = λ l. absurd (omega arith); none = λ _. found (c .before .before .before .before .before .before .before .before .before .before .before .before .before .before .before .before .before .before .before .before .pre .0 .graph) (c .before .before .before .before .before .before .before .before .before .before .before .before .before .before .search .ensures) (c .before .before .before .before .before .before .before .before .before .before .least .ensures) .none (c .before .before .before .before .before .before .before .before .before .if1 .left) };
+      found =
+          record {
+            within = omega arith;
+            cycle = λ l. absurd (omega arith);
+            none = λ _. found
+                (c20 .pre .0 .graph) (c14 .search .ensures) (c10 .least .ensures) .none (c9 .if1 .left);
+          };
       kept = λ l. absurd (omega arith);
-      ordered = λ _. ordered (placed (c .before .before .before .before .before .before .before .before .before .before .before .before .before .before .before .before .before .before .before .before .pre .0 .graph) (c .before .before .before .before .before .before .before .before .before .before .before .before .before .before .search .ensures) (c .before .before .before .before .before .before .before .before .before .before .least .ensures) (c .before .before .before .before .before .before .before .before .before .if1 .left)) (c .before .before .before .before .before .before .arrange .ensures);
-      zeros = all-zeros (c .before .before .before .before .before .before .before .before .before .before .before .before .before .before .search .last .1 .1 .0) (c .before .before .clear322 .ensures) (c .before .before .before .before .before .before .before .before .before .before .before .before .before .before .search .kept .1 .1 .0);
+      ordered =
+          λ _. ordered (placed
+          (c20 .pre .0 .graph) (c14 .search .ensures) (c10 .least .ensures) (c9 .if1 .left)) (c6 .arrange .ensures);
+      zeros =
+          all-zeros (c14 .search .last .1 .1 .0)
+          (c .before .before .clear322 .ensures)
+          (c14 .search .kept .1 .1 .0);
     }
 
 pub order-in-spec : {M : Type 1} → statement M

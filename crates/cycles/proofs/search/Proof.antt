@@ -23,10 +23,17 @@ next-requires : tie.Need-next-requires Inv-loop μ-loop
 next-requires c κs = c .before .loop .inv .going
 
 store-requires : tie.Need-store-requires Inv-loop μ-loop
-store-requires c κs = storable (c .before .before .before .loop .inv .going) (λ i. omega (arith, c .before .before .before .before .before .before .before .before .before .before .shared-slice-known .given i)) (c .before .next .result) (c .before .next .ensures)
+store-requires c κs =
+    storable (c .before .before .before .loop .inv .going) (λ i. omega (
+      arith,
+      c .before .before .before .before .before .before .before .before .before .before .shared-slice-known .given i,
+    )) (c .before .next .result)
+    (c .before .next .ensures)
 
 counted-requires : tie.Need-counted-requires Inv-loop μ-loop
-counted-requires c κs = countable (c .before .before .before .before .before .before .loop .inv .going) (c .before .before .before .before .next .result) (c .before .before .before .before .next .ensures)
+counted-requires c κs =
+    countable (c .before .before .before .before .before .before .loop .inv .going) (c .before .before .before .before .next .result)
+    (c .before .before .before .before .next .ensures)
 
 enum-known-then : tie.Need-enum-known-then Inv-loop μ-loop
 enum-known-then c = search needs
@@ -35,16 +42,38 @@ enum-told : tie.Need-enum-told Inv-loop μ-loop
 enum-told c = search needs
 
 same-length : tie.Need-same-length Inv-loop μ-loop
-same-length c = c .before .before .before .before .before .store .kept .1 .0 ∙ c .before .before .before .before .before .before .before .before .before .loop .inv .long ∙ c .before .before .before .before .before .before .before .before .before .before .before .before .clear32 .kept .0
+same-length c =
+    c .before .before .before .before .before .store .kept .1 .0 ∙ c .before .before .before .before .before .before .before .before .before .loop .inv .long ∙
+    c .before .before .before .before .before .before .before .before .before .before .before .before .clear32 .kept .0
 
 returns : tie.Need-returns Inv-loop μ-loop
-returns c = running-end (c .before .before .before .before .before .before .before .before .before .loop .inv .going) (c .before .before .before .before .before .store .last .1 .0) (c .before .before .before .before .before .before .before .next .result) (c .before .before .before .before .before .before .before .next .ensures) (cc (c .before .before .counted .ensures, c .enum-told .given .1)) (c .before .before .before .before .before .store .ensures)
+returns c =
+    running-end (c .before .before .before .before .before .before .before .before .before .loop .inv .going)
+    (c .before .before .before .before .before .store .last .1 .0) (c .before .before .before .before .before .before .before .next .result)
+    (c .before .before .before .before .before .before .before .next .ensures) (cc (c .before .before .counted .ensures, c .enum-told .given .1))
+    (c .before .before .before .before .before .store .ensures)
 
 loop-less : tie.Need-loop-less Inv-loop μ-loop
-loop-less c = less (c .before .before .before .before .before .before .before .before .before .before .loop .inv) (c .before .before .before .before .before .before .store .last .1 .0) (c .before .before .before .before .before .before .before .before .next .result) (c .before .before .before .before .before .before .before .before .next .ensures) (cc (c .before .before .before .counted .ensures, c .before .then .given .1)) (c .before .before .before .before .before .before .store .ensures) (λ i. omega (arith, c .before .before .before .before .before .before .before .before .before .before .before .before .before .before .before .before .before .shared-slice-known .given i))
+loop-less c =
+    less (c .before .before .before .before .before .before .before .before .before .before .loop .inv)
+    (c .before .before .before .before .before .before .store .last .1 .0) (c .before .before .before .before .before .before .before .before .next .result)
+    (c .before .before .before .before .before .before .before .before .next .ensures) (cc (
+      c .before .before .before .counted .ensures,
+      c .before .then .given .1,
+    )) (c .before .before .before .before .before .before .store .ensures) (λ i. omega (
+      arith,
+      c .before .before .before .before .before .before .before .before .before .before .before .before .before .before .before .before .before .shared-slice-known .given i,
+    ))
 
 loop-again : tie.Need-loop-again Inv-loop μ-loop
-loop-again c = running-on (c .before .before .before .before .before .before .before .before .before .before .loop .inv) (c .before .before .before .before .before .before .store .last .1 .0) (c .before .before .before .before .before .before .before .before .next .result) (c .before .before .before .before .before .before .before .before .next .ensures) (cc (c .before .before .before .counted .ensures, c .before .then .given .1)) (c .before .before .before .before .before .before .store .ensures) (c .before .before .before .before .before .before .store .kept .1 .0)
+loop-again c =
+    running-on (c .before .before .before .before .before .before .before .before .before .before .loop .inv)
+    (c .before .before .before .before .before .before .store .last .1 .0) (c .before .before .before .before .before .before .before .before .next .result)
+    (c .before .before .before .before .before .before .before .before .next .ensures) (cc (
+      c .before .before .before .counted .ensures,
+      c .before .then .given .1,
+    )) (c .before .before .before .before .before .before .store .ensures)
+    (c .before .before .before .before .before .before .store .kept .1 .0)
 
 pub search-spec : {M : Type 1} → statement M
 search-spec =

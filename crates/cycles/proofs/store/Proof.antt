@@ -41,7 +41,9 @@ returns-3 : tie.Need-returns-3
 returns-3 c = rw (c .before .before .before .before .before .step3 .given .1) (c .before .before .close .ensures)
 
 returns-4 : tie.Need-returns-4
-returns-4 c = unwritten (c .before .before .before .args .first .now) (c .before .before .before .args .s .now) (c .before .before .before .args .c) (c .before .before .before .args .step) (c .match .keys4)
+returns-4 c =
+    unwritten (c .before .before .before .args .first .now) (c .before .before .before .args .s .now) (c .before .before .before .args .c)
+    (c .before .before .before .args .step) (c .match .keys4)
 
 pub store-spec : {M : Type 1} → statement M
 store-spec =

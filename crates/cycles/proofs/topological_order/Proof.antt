@@ -41,7 +41,12 @@ slice-aggregate-order-in-2 : tie.Need-slice-aggregate-order-in-2
 slice-aggregate-order-in-2 c = sym (length-take-le _ (c .before .before .before .before .before .before .before .before .before .before .args .scratch .now) (c .before .before .if3 .left))
 
 order-in-requires : tie.Need-order-in-requires
-order-in-requires c κs = (ready (c .before .before .before .before .before .before .before .before .before .before .args .scratch .now) (tells-pass (c .before .before .before .before .before .valid .ensures) (c .before .before .before .before .if1 .left)) (c .before .before .if3 .left), length-take-le _ (c .before .before .before .before .before .before .before .before .before .before .args .column .now) (c .before .before .before .if2 .left))
+order-in-requires c κs = (
+  ready (c .before .before .before .before .before .before .before .before .before .before .args .scratch .now) (tells-pass
+      (c .before .before .before .before .before .valid .ensures) (c .before .before .before .before .if1 .left)) (c .before .before .if3 .left),
+  length-take-le _ (c .before .before .before .before .before .before .before .before .before .before .args .column .now)
+      (c .before .before .before .if2 .left),
+)
 
 same-length : tie.Need-same-length
 same-length c = search needs
@@ -51,10 +56,22 @@ same-length-2 c = search needs
 
 returns-4 : tie.Need-returns-4
 returns-4 c =
+    let c8 = c .before .before .before .before .before .before .before .before in
+    let c9 = c8 .before in
+    let c10 = c9 .before in
+    let c11 = c10 .before in
+    let c16 = c11 .before .before .before .before .before in
     record {
-      used = used (tells-pass (c .before .before .before .before .before .before .before .before .before .before .before .valid .ensures) (c .before .before .before .before .before .before .before .before .before .before .if1 .left)) (c .before .before .before .before .before .before .before .before .if3 .left) (c .before .before .before .before .before .order-in .ensures .zeros) (c .before .before .before .before .before .before .before .before .before .before .before .before .before .before .before .before .args .column .now) (c .before .before .before .before .before .order-in .last .1 .1 .0) (c .before .before .before .before .before .before .before .before .before .if2 .left) (c .before .before .before .before .before .order-in .kept .1 .1 .0);
+      used =
+          used (tells-pass (c11 .valid .ensures)
+          (c10 .if1 .left))
+          (c8 .if3 .left) (c .before .before .before .before .before .order-in .ensures .zeros)
+          (c16 .args .column .now) (c .before .before .before .before .before .order-in .last .1 .1 .0) (c9 .if2 .left) (c .before .before .before .before .before .order-in .kept .1 .1 .0);
       replies = replies-cycle (c .before .before .before .before .before .order-in .ensures .found .cycle (c .if4 .taken));
-      kept = kept-front (vertices (c .before .before .before .before .before .before .before .before .before .before .before .before .before .before .before .before .args .first .now)) (c .before .before .before .before .before .before .before .before .before .before .before .before .before .before .before .before .args .column .now) (c .before .before .before .before .before .order-in .last .1 .1 .0) (c .before .before .before .before .before .order-in .ensures .kept (c .if4 .taken));
+      kept =
+          kept-front (vertices
+          (c16 .args .first .now)) (c16 .args .column .now) (c .before .before .before .before .before .order-in .last .1 .1 .0)
+          (c .before .before .before .before .before .order-in .ensures .kept (c .if4 .taken));
     }
 
 same-length-3 : tie.Need-same-length-3
@@ -65,10 +82,22 @@ same-length-4 c = search needs
 
 returns-5 : tie.Need-returns-5
 returns-5 c =
+    let c8 = c .before .before .before .before .before .before .before .before in
+    let c9 = c8 .before in
+    let c10 = c9 .before in
+    let c11 = c10 .before in
+    let c16 = c11 .before .before .before .before .before in
     record {
-      used = used (tells-pass (c .before .before .before .before .before .before .before .before .before .before .before .valid .ensures) (c .before .before .before .before .before .before .before .before .before .before .if1 .left)) (c .before .before .before .before .before .before .before .before .if3 .left) (c .before .before .before .before .before .order-in .ensures .zeros) (c .before .before .before .before .before .before .before .before .before .before .before .before .before .before .before .before .args .column .now) (c .before .before .before .before .before .order-in .last .1 .1 .0) (c .before .before .before .before .before .before .before .before .before .if2 .left) (c .before .before .before .before .before .order-in .kept .1 .1 .0);
+      used =
+          used (tells-pass (c11 .valid .ensures)
+          (c10 .if1 .left))
+          (c8 .if3 .left) (c .before .before .before .before .before .order-in .ensures .zeros)
+          (c16 .args .column .now) (c .before .before .before .before .before .order-in .last .1 .1 .0) (c9 .if2 .left) (c .before .before .before .before .before .order-in .kept .1 .1 .0);
       replies = replies-none (c .before .before .before .before .before .order-in .ensures .found .none (c .if4 .left));
-      ordered = ordered-front (c .before .before .before .before .before .order-in .last .1 .1 .0) _ (c .before .before .before .before .before .order-in .kept .1 .1 .0 ∙ length-take-le _ (c .before .before .before .before .before .before .before .before .before .before .before .before .before .before .before .before .args .column .now) (c .before .before .before .before .before .before .before .before .before .if2 .left)) (c .before .before .before .before .before .order-in .ensures .ordered (c .if4 .left));
+      ordered =
+          ordered-front (c .before .before .before .before .before .order-in .last .1 .1 .0) _
+          (c .before .before .before .before .before .order-in .kept .1 .1 .0 ∙ length-take-le _
+          (c16 .args .column .now) (c9 .if2 .left)) (c .before .before .before .before .before .order-in .ensures .ordered (c .if4 .left));
     }
 
 pub topological-order-spec : {M : Type 1} → statement M

@@ -35,10 +35,19 @@ index-requires-2 : tie.Need-index-requires-2 Inv-loop μ-loop
 index-requires-2 c κs = search needs
 
 loop-holds : tie.Need-loop-holds Inv-loop μ-loop
-loop-holds c = going-start (c .before .before .before .before .before .before .before .before .pre .0) (c .before .before .before .before .before .before .before .before .pre .1) (c .before .before .index .ensures) (c .index2 .ensures)
+loop-holds c =
+    going-start (c .before .before .before .before .before .before .before .before .pre .0)
+    (c .before .before .before .before .before .before .before .before .pre .1) (c .before .before .index .ensures) (c .index2 .ensures)
 
 mul-index-3 : tie.Need-mul-index-3 Inv-loop μ-loop
-mul-index-3 c = omega (arith, c .loop-test .taken, c .before .before .index2 .ensures, c .before .before .before .shared-slice-known4 .given (c .before .before .before .before .before .before .before .before .before .before .args .u + 1))
+mul-index-3 c =
+    omega (
+      arith,
+      c .loop-test .taken,
+      c .before .before .index2 .ensures,
+      c .before .before .before .shared-slice-known4 .given
+          (c .before .before .before .before .before .before .before .before .before .before .args .u + 1),
+    )
 
 shared-slice-read-index-3 : tie.Need-shared-slice-read-index-3 Inv-loop μ-loop
 shared-slice-read-index-3 c = going-place (c .before .before .loop .inv) (c .before .loop-test .taken)
@@ -47,33 +56,60 @@ index-requires-3 : tie.Need-index-requires-3 Inv-loop μ-loop
 index-requires-3 c κs = search needs
 
 mul-if1 : tie.Need-mul-if1 Inv-loop μ-loop
-mul-if1 c = let l = going-low (c .before .before .before .loop .inv) (c .before .before .loop-test .taken) _ (c .index3 .ensures) in omega (arith, l, c .before .before .before .loop .inv .spread .markable .graph .small)
+mul-if1 c =
+    let l = going-low (c .before .before .before .loop .inv) (c .before .before .loop-test .taken) _ (c .index3 .ensures) in omega (
+      arith,
+      l,
+      c .before .before .before .loop .inv .spread .markable .graph .small,
+    )
 
 slice-read-if1 : tie.Need-slice-read-if1 Inv-loop μ-loop
-slice-read-if1 c = let l = going-low (c .before .before .before .before .loop .inv) (c .before .before .before .loop-test .taken) _ (c .before .index3 .ensures) in omega (arith, l, c .before .before .before .before .loop .inv .spread .markable .mark-room)
+slice-read-if1 c =
+    let l = going-low (c .before .before .before .before .loop .inv) (c .before .before .before .loop-test .taken) _ (c .before .index3 .ensures) in omega
+    (arith, l, c .before .before .before .before .loop .inv .spread .markable .mark-room)
 
 mul-mark : tie.Need-mul-mark Inv-loop μ-loop
-mul-mark c = let l = going-low (c .before .before .before .before .before .loop .inv) (c .before .before .before .before .loop-test .taken) _ (c .before .before .index3 .ensures) in omega (arith, l, c .before .before .before .before .before .loop .inv .spread .markable .graph .small)
+mul-mark c =
+    let l = going-low (c .before .before .before .before .before .loop .inv) (c .before .before .before .before .loop-test .taken) _
+    (c .before .before .index3 .ensures) in omega (arith, l, c .before .before .before .before .before .loop .inv .spread .markable .graph .small)
 
 slice-write-mark : tie.Need-slice-write-mark Inv-loop μ-loop
-slice-write-mark c = let l = going-low (c .before .before .before .before .before .loop .inv) (c .before .before .before .before .loop-test .taken) _ (c .before .before .index3 .ensures) in omega (arith, l, c .before .before .before .before .before .loop .inv .spread .markable .mark-room)
+slice-write-mark c =
+    let l = going-low (c .before .before .before .before .before .loop .inv) (c .before .before .before .before .loop-test .taken) _
+    (c .before .before .index3 .ensures) in omega (arith, l, c .before .before .before .before .before .loop .inv .spread .markable .mark-room)
 
 number-requires : tie.Need-number-requires Inv-loop μ-loop
 number-requires c κs = search needs
 
 mul-queue : tie.Need-mul-queue Inv-loop μ-loop
-mul-queue c = omega (arith, tail-low (c .before .before .before .before .before .before .loop .inv .spread), c .before .before .before .before .before .before .loop .inv .spread .markable .graph .small)
+mul-queue c =
+    omega (
+      arith,
+      tail-low (c .before .before .before .before .before .before .loop .inv .spread),
+      c .before .before .before .before .before .before .loop .inv .spread .markable .graph .small,
+    )
 
 slice-write-queue : tie.Need-slice-write-queue Inv-loop μ-loop
 slice-write-queue c =
     let l = going-low (c .before .before .before .before .before .before .loop .inv) (c .before .before .before .before .before .loop-test .taken) _ (c .before .before .before .index3 .ensures) in
-    omega (arith, tail-room (c .before .before .before .before .before .before .loop .inv .spread) _ l (c .before .if1 .taken), c .before .before .before .before .before .before .loop .inv .spread .markable .queue-room)
+    omega (
+      arith,
+      tail-room (c .before .before .before .before .before .before .loop .inv .spread) _ l (c .before .if1 .taken),
+      c .before .before .before .before .before .before .loop .inv .spread .markable .queue-room,
+    )
 
 add-t : tie.Need-add-t Inv-loop μ-loop
 add-t c = omega (arith, tail-low (c .before .before .before .before .before .before .loop .inv .spread), c .before .before .before .before .before .before .loop .inv .spread .markable .graph .small)
 
 add-e : tie.Need-add-e Inv-loop μ-loop
-add-e c = omega (arith, c .before .before .before .before .loop-test .taken, c .before .before .before .before .before .before .index2 .ensures, c .before .before .before .before .before .before .before .shared-slice-known4 .given (c .before .before .before .before .before .before .before .before .before .before .before .before .before .before .args .u + 1))
+add-e c =
+    omega (
+      arith,
+      c .before .before .before .before .loop-test .taken,
+      c .before .before .before .before .before .before .index2 .ensures,
+      c .before .before .before .before .before .before .before .shared-slice-known4 .given
+          (c .before .before .before .before .before .before .before .before .before .before .before .before .before .before .args .u + 1),
+    )
 
 loop-less : tie.Need-loop-less Inv-loop μ-loop
 loop-less c = omega (arith, c .before .before .before .before .loop-test .taken)

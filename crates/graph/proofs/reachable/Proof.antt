@@ -11,7 +11,11 @@ use mathlib.Core.Path.{refl, sym}
 use lib.Seq.{length-take-le}
 use native.Mathlib.Omega.{arith}
 
-room : (l : tie.Else3) → Markable (l .before .before .before .before .before .before .before .before .before .args .first .now) (l .before .before .before .before .before .before .before .before .before .args .to .now) (l .before .before .before .before .before .before .before .before .before .args .from) (l .before .before .before .before .before .before .before .before .before .args .mark .now) (l .before .before .before .before .before .before .before .before .before .args .queue .now)
+room : (l : tie.Else3) → Markable (l .before .before .before .before .before .before .before .before .before .args .first .now)
+    (l .before .before .before .before .before .before .before .before .before .args .to .now)
+    (l .before .before .before .before .before .before .before .before .before .args .from)
+    (l .before .before .before .before .before .before .before .before .before .args .mark .now)
+    (l .before .before .before .before .before .before .before .before .before .args .queue .now)
 room l =
     record {
       graph = tells-pass (l .before .before .before .before .valid .ensures) (l .before .before .before .if1 .left);
@@ -36,7 +40,17 @@ shorter-requires : tie.Need-shorter-requires
 shorter-requires c κs = search needs
 
 returns-3 : tie.Need-returns-3
-returns-3 c = record { graph = tells-pass (c .before .before .before .before .valid .ensures) (c .before .before .before .if1 .left); source = omega (arith, c .before .before .if2 .left); short = omega (arith, c .before .shorter .ensures, c .if3 .taken); needs = refl; kept = refl }
+returns-3 c =
+    record {
+      graph = tells-pass (c .before .before .before .before .valid .ensures) (c .before .before .before .if1 .left);
+      source = omega (
+        arith,
+        c .before .before .if2 .left,
+      );
+      short = omega (arith, c .before .shorter .ensures, c .if3 .taken);
+      needs = refl;
+      kept = refl;
+    }
 
 slice-relend-prefix-spread : tie.Need-slice-relend-prefix-spread
 slice-relend-prefix-spread c = omega (arith, c .before .shorter .ensures, c .if3 .left)
@@ -60,7 +74,9 @@ same-length-2 : tie.Need-same-length-2
 same-length-2 c = search needs
 
 returns-4 : tie.Need-returns-4
-returns-4 c = marked-all (room (c .before .before .before .before .before .before .before)) (c .before .before .before .before .spread .kept .1 .1 .1 .0) (c .before .before .before .before .spread .ensures)
+returns-4 c =
+    marked-all (room (c .before .before .before .before .before .before .before)) (c .before .before .before .before .spread .kept .1 .1 .1 .0)
+    (c .before .before .before .before .spread .ensures)
 
 pub reachable-spec : {M : Type 1} → statement M
 reachable-spec =

@@ -37,13 +37,25 @@ mul-symbols : tie.Need-mul-symbols Inv-loop μ-loop
 mul-symbols c = search needs
 
 slice-write-symbols : tie.Need-slice-write-symbols Inv-loop μ-loop
-slice-write-symbols c = omega (arith, c .before .before .before .before .before .before .loop .inv .fits, c .before .before .before .before .before .before .loop .inv .symbols-long, c .before .before .before .before .before .loop-test .taken)
+slice-write-symbols c =
+    omega (
+      arith,
+      c .before .before .before .before .before .before .loop .inv .fits,
+      c .before .before .before .before .before .before .loop .inv .symbols-long,
+      c .before .before .before .before .before .loop-test .taken,
+    )
 
 mul-next : tie.Need-mul-next Inv-loop μ-loop
 mul-next c = search needs
 
 slice-write-next : tie.Need-slice-write-next Inv-loop μ-loop
-slice-write-next c = omega (arith, c .before .before .before .before .before .before .loop .inv .room, c .before .before .before .before .before .before .loop .inv .next-long, c .before .before .before .before .before .loop-test .taken)
+slice-write-next c =
+    omega (
+      arith,
+      c .before .before .before .before .before .before .loop .inv .room,
+      c .before .before .before .before .before .before .loop .inv .next-long,
+      c .before .before .before .before .before .loop-test .taken,
+    )
 
 add-number : tie.Need-add-number Inv-loop μ-loop
 add-number c = omega (arith, c .before .before .before .before .before .before .before .loop .inv .small, c .before .before .before .before .before .before .loop-test .taken)

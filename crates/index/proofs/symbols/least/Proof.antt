@@ -36,10 +36,30 @@ enum-told : tie.Need-enum-told
 enum-told c = search needs
 
 returns : tie.Need-returns
-returns c = least-none _ _ _ (c .before .before .before .before .before .before .before .before .before .before .before .pre) (take (c .before .before .before .before .before .end .result - c .before .before .before .before .before .before .begin .result) (drop (c .before .before .before .before .before .before .begin .result) (c .before .before .before .before .before .before .before .before .before .before .before .args .bytes .now))) (part-spelling (c .before .before .before .before .before .before .before .before .before .before .before .args .bytes .now) (c .before .before .before .before .before .before .before .before .before .before .before .args .starts .now) (c .before .before .before .before .before .before .before .before .before .before .before .args .lengths .now) (c .before .before .before .before .before .before .before .before .before .before .before .args .i) _ _ (c .before .before .before .before .before .before .begin .ensures) (c .before .before .before .before .before .end .ensures)) (c .before .before .before .index .ensures) (c .before .before .along .ensures) (c .enum-told .given .1)
+returns c =
+    least-none _ _ _ (c .before .before .before .before .before .before .before .before .before .before .before .pre) (take
+    (c .before .before .before .before .before .end .result - c .before .before .before .before .before .before .begin .result) (drop
+    (c .before .before .before .before .before .before .begin .result)
+    (c .before .before .before .before .before .before .before .before .before .before .before .args .bytes .now))) (part-spelling
+    (c .before .before .before .before .before .before .before .before .before .before .before .args .bytes .now)
+    (c .before .before .before .before .before .before .before .before .before .before .before .args .starts .now)
+    (c .before .before .before .before .before .before .before .before .before .before .before .args .lengths .now)
+    (c .before .before .before .before .before .before .before .before .before .before .before .args .i) _ _
+    (c .before .before .before .before .before .before .begin .ensures) (c .before .before .before .before .before .end .ensures))
+    (c .before .before .before .index .ensures) (c .before .before .along .ensures) (c .enum-told .given .1)
 
 returns-2 : tie.Need-returns-2
-returns-2 c = least-at _ _ _ (c .before .before .before .before .before .before .before .before .before .before .before .before .pre) (take (c .before .before .before .before .before .before .end .result - c .before .before .before .before .before .before .before .begin .result) (drop (c .before .before .before .before .before .before .before .begin .result) (c .before .before .before .before .before .before .before .before .before .before .before .before .args .bytes .now))) (part-spelling (c .before .before .before .before .before .before .before .before .before .before .before .before .args .bytes .now) (c .before .before .before .before .before .before .before .before .before .before .before .before .args .starts .now) (c .before .before .before .before .before .before .before .before .before .before .before .before .args .lengths .now) (c .before .before .before .before .before .before .before .before .before .before .before .before .args .i) _ _ (c .before .before .before .before .before .before .before .begin .ensures) (c .before .before .before .before .before .before .end .ensures)) (c .before .before .before .before .index .ensures) (c .before .before .before .along .ensures) (c .before .found .given .1)
+returns-2 c =
+    least-at _ _ _ (c .before .before .before .before .before .before .before .before .before .before .before .before .pre) (take
+    (c .before .before .before .before .before .before .end .result - c .before .before .before .before .before .before .before .begin .result) (drop
+    (c .before .before .before .before .before .before .before .begin .result)
+    (c .before .before .before .before .before .before .before .before .before .before .before .before .args .bytes .now))) (part-spelling
+    (c .before .before .before .before .before .before .before .before .before .before .before .before .args .bytes .now)
+    (c .before .before .before .before .before .before .before .before .before .before .before .before .args .starts .now)
+    (c .before .before .before .before .before .before .before .before .before .before .before .before .args .lengths .now)
+    (c .before .before .before .before .before .before .before .before .before .before .before .before .args .i) _ _
+    (c .before .before .before .before .before .before .before .begin .ensures) (c .before .before .before .before .before .before .end .ensures))
+    (c .before .before .before .before .index .ensures) (c .before .before .before .along .ensures) (c .before .found .given .1)
 
 pub least-spec : {M : Type 1} → statement M
 least-spec =

@@ -32,10 +32,35 @@ index-requires : tie.Need-index-requires
 index-requires c κs = search needs
 
 along-requires : tie.Need-along-requires
-along-requires c κs = record { started = omega (arith, c .before .before .before .shorter .ensures, c .before .before .shorter2 .ensures); sized = omega (arith, c .before .before .before .shorter .ensures, c .before .before .shorter2 .ensures); linked = omega (arith, c .before .before .before .shorter .ensures, c .before .before .shorter2 .ensures) }
+along-requires c κs =
+    record {
+      started = omega (arith, c .before .before .before .shorter .ensures, c .before .before .shorter2 .ensures);
+      sized = omega (
+        arith,
+        c .before .before .before .shorter .ensures,
+        c .before .before .shorter2 .ensures,
+      );
+      linked = omega (
+        arith,
+        c .before .before .before .shorter .ensures,
+        c .before .before .shorter2 .ensures,
+      );
+    }
 
 returns-2 : tie.Need-returns-2
-returns-2 c = finds-symbol _ _ _ (c .along .result) (in-bucket (c .before .before .before .before .before .bucket .ensures) (c .before .before .before .before .before .before .hash .ensures)) (omega (arith, c .before .before .before .before .shorter .ensures, c .before .before .before .shorter2 .ensures)) (λ a b. omega (arith, a, b, c .before .before .before .before .shorter .ensures, c .before .before .before .shorter2 .ensures)) (c .before .index .ensures) (c .along .ensures)
+returns-2 c =
+    finds-symbol _ _ _ (c .along .result) (in-bucket (c .before .before .before .before .before .bucket .ensures)
+    (c .before .before .before .before .before .before .hash .ensures)) (omega (
+      arith,
+      c .before .before .before .before .shorter .ensures,
+      c .before .before .before .shorter2 .ensures,
+    )) (λ a b. omega (
+      arith,
+      a,
+      b,
+      c .before .before .before .before .shorter .ensures,
+      c .before .before .before .shorter2 .ensures,
+    )) (c .before .index .ensures) (c .along .ensures)
 
 pub symbol-of-spec : {M : Type 1} → statement M
 symbol-of-spec =
