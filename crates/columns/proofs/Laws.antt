@@ -6,8 +6,8 @@ use native.Mathlib.Omega.{arith}
 use native.Mathlib.Numerals.{add-one}
 use native.Mathlib.Nat.{add-zero, zero-add}
 use lib.ListN.{length, take, drop, set, getD, replicate, length-set, length-append, length-take, length-drop, length-replicate}
-use lib.Seq.{sets, length-sets, sets-eq, take-all, take-at, take-take, take-suc-set, append-snoc, set-out, getD-set-same, getD-set-other, getD-take}
-use Rattle.columns.specs.Column.{cleared, padded, tabulated}
+use lib.Seq.{length-take-le, sets, length-sets, sets-eq, take-all, take-at, take-take, take-suc-set, append-snoc, set-out, getD-set-same, getD-set-other, getD-take}
+use Rattle.columns.specs.Column.{cleared, cleared-before, padded, tabulated}
 
 module _ {A : Type 0} where
   -- ---- stores in a row
@@ -67,6 +67,10 @@ module _ {A : Type 0} where
   -- all of it
   pub clear-all : (z : A) (c : List A) → cleared z 0 c ≡ replicate (length c) z
   clear-all z c = let all : length c - 0 ≡ length c = omega arith in rw all
+
+  -- the first n entries were lent, and came back as zeros
+  pub clear-before : (z : A) (n : ℕ) (c front : List A) → n ≤ length c → front ≡ replicate (length (take n c)) z → front ++ drop n c ≡ cleared-before z n c
+  clear-before z n c front h e = let all : length (take n c) ≡ n = length-take-le n c h in rw (e, all)
 
   -- a column whose first n entries are the values is, cleared from n on, the values and zeros
   pub clear-front : (z : A) (n : ℕ) (c vs : List A) → take n c ≡ vs → cleared z n c ≡ padded z (length c) vs

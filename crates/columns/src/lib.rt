@@ -1,6 +1,6 @@
 // Lent columns: a number stored as far as it fits, zeros from an index on, and the cast of an index.
 ghost use mathlib.Core.Path.{_≡_};
-ghost use Prim.Native.Nat.{min, _-_, _≤_};
+ghost use Prim.Native.Nat.{min, _-_, _≤_, _<_};
 ghost use lib.IntN.{pos};
 ghost use lib.ListN.{set};
 ghost use Rattle.columns.specs.Column.{cleared};
@@ -10,6 +10,13 @@ pub fn index(x: u32) -> usize
     ensures { λ r. ⌜ r ≡ x ⌝ }
 {
     x as usize
+}
+
+// An index, or a count, as a 32-bit number: itself, where it fits.
+pub fn number(x: usize) -> u32
+    ensures { λ r. ⌜ (x < 4294967296 → r ≡ x) ⌝ }
+{
+    (x % 4294967296) as u32
 }
 
 // A byte as an index, of a table of 256 entries.

@@ -1,4 +1,4 @@
--- For the callers: the answer of `order` as a sorted list of the vertices.
+-- For the callers: the answer of `topological_order` as a sorted list of the vertices.
 use mathlib.Core.Path.{_≡_, refl, sym, ap}
 use mathlib.Core.List.{List, [], _∷_, List·Memᴰ, List·Memᴰ·head, List·Memᴰ·tail, List·Memᴰ·cases-cons, List·Memᴰ·not-nil, Memᴰ·cast}
 use mathlib.Core.Logic.{⊎-elim, by-cases}

@@ -1,88 +1,81 @@
 -- The choice of a step: what is read is there, and what was read means the step.
-use mathlib.Core.Path.{_≡_, refl, sym, ap, _∙_}
+use mathlib.Core.Path.{_≡_, refl, sym, ap, subst, _∙_}
 use mathlib.Core.List.{List}
 use mathlib.Core.Logic.{_⊎_, inl, inr, by-cases}
 use Prim.Native.Nat.{ℕ, zero, suc, _+_, _-_, _≤_, _<_}
 use native.Mathlib.Omega.{arith}
 use native.Mathlib.Decide.{decLt}
-use lib.ListN.{getD}
+use lib.ListN.{length, getD}
 use Rattle.graph.specs.Graph.{vertices, Arc}
-use Rattle.graph.proofs.Busy.{busy-le}
+use Rattle.graph.proofs.Nonzero.{nonzero-le}
 use Rattle.graph.proofs.Arcs.{arc-place, arc-below}
+use Rattle.cycles.specs.State.{State, state, needed}
 use Rattle.cycles.specs.Search.{start, Search}
-use Rattle.cycles.specs.Step.{top, ToLeave, ToClose, Followable, Followed, Chosen}
+use Rattle.cycles.specs.Step.{top, Settles, ToLeave, ToClose, Followable, Followed, Chosen}
 use Rattle.cycles.specs.declared.Step.{Step}
 use Rattle.cycles.specs.declared.Step.the-variants.{Done, Skip, Enter, Join, Pass, Leave, Close}
 
 -- arc e is the next one of v, the end of the path
-pub record Next (first at stack path : List ℕ) (d v e : ℕ) : Type 0 where
-  pub some : 0 < d
-  pub vertex : v ≡ top stack path d
-  pub arc : e ≡ getD at v 0
+pub record Next (first : List ℕ) (σ : State) (depth v e : ℕ) : Type 0 where
+  pub some : 0 < depth
+  pub vertex : v ≡ top σ depth
+  pub arc : e ≡ σ .next-arc v
   pub more : e < getD first (v + 1) 0
 
 -- an element of a rising list is no smaller than its index
-at-least : (l : List ℕ) (n : ℕ) → ((j k : ℕ) → j < k → k < n → getD l j 0 < getD l k 0) → (k : ℕ) → k < n → k ≤ getD l k 0
+at-least : (l : ℕ → ℕ) (n : ℕ) → ((j k : ℕ) → j < k → k < n → l j < l k) → (k : ℕ) → k < n → k ≤ l k
 at-least l n rise zero h = omega arith
 at-least l n rise (suc k) h = omega (arith, at-least l n rise k (omega arith), rise k (suc k) (omega arith) h)
 
-module _ {first to group place at stack path bound : List ℕ} {n root s d b m : ℕ} (S : Search first to group place at stack path bound n root s d b m) where
+module _ {first to : List ℕ} {σ : State} {n root height depth groups finished : ℕ} (S : Search first to σ n root height depth groups finished) where
   pub small : n ≤ 65536
   small = omega (arith, S .count, S .graph .small)
 
-  pub open-count : s + m ≤ n
-  open-count = omega (arith, S .counted, busy-le group n)
+  pub open-count : height + finished ≤ n
+  open-count = omega (arith, S .counted, nonzero-le (σ .group) n)
 
-  pub path-count : d ≤ s
+  pub path-count : depth ≤ height
   path-count =
-      by-cases (decLt 0 d) (λ h. omega (arith, at-least path d (S .line .rise) (d - 1) (omega arith), S .line .low (d - 1) (omega arith)))
+      by-cases (decLt 0 depth) (λ h. omega (arith, at-least (σ .path) depth (S .line .rise) (depth - 1) (omega arith), S .line .low (depth - 1) (omega arith)))
       (λ h. omega (arith, h))
 
-  pub bound-count : b ≤ d
+  pub bound-count : groups ≤ depth
   bound-count =
-      by-cases (decLt 0 b) (λ h. omega (arith, at-least bound b (S .line .bound-rise) (b - 1) (omega arith), S .line .bound-low (b - 1) (omega arith)))
+      by-cases (decLt 0 groups) (λ h. omega (arith, at-least (σ .bound) groups (S .line .bound-rise) (groups - 1) (omega arith), S .line .bound-low (groups - 1) (omega arith)))
       (λ h. omega (arith, h))
 
-  module _ (some : 0 < d) where
-    pub end-place : getD path (d - 1) 0 < s
-    end-place = S .line .low (d - 1) (omega arith)
+  module _ (some : 0 < depth) where
+    pub end-place : σ .path (depth - 1) < height
+    end-place = S .line .low (depth - 1) (omega arith)
 
-    pub top-low : top stack path d < n
-    top-low = S .opened .low (getD path (d - 1) 0) end-place
+    pub top-low : top σ depth < n
+    top-low = S .opened .low (σ .path (depth - 1)) end-place
 
-    pub bound-place : getD bound (b - 1) 0 < d
-    bound-place = S .line .bound-low (b - 1) (omega (arith, S .line .bound-some some))
+    pub bound-place : σ .bound (groups - 1) < depth
+    bound-place = S .line .bound-low (groups - 1) (omega (arith, S .line .bound-some some))
 
-  next-low : {v e : ℕ} → Next first at stack path d v e → getD first v 0 ≤ e
+  next-low : {v e : ℕ} → Next first σ depth v e → getD first v 0 ≤ e
   next-low {v} {e} t =
       let q = t .vertex in
-      let low : getD first v 0 ≤ getD at v 0 = rw q (S .passed .low (getD path (d - 1) 0) (end-place (t .some))) in
+      let low : getD first v 0 ≤ σ .next-arc v = rw q (S .passed .low (σ .path (depth - 1)) (end-place (t .some))) in
       omega (arith, t .arc)
 
-  next-arc : {v e : ℕ} → Next first at stack path d v e → Arc first to v (getD to e 0)
-  next-arc {v} {e} t = record { place = e; from = next-low t; upto = t .more; target = refl }
+  its-arc : {v e : ℕ} → Next first σ depth v e → Arc first to v (getD to e 0)
+  its-arc {v} {e} t = record { place = e; from = next-low t; upto = t .more; target = refl }
 
-  pub followable : {v e : ℕ} → Next first at stack path d v e → getD first (v + 1) 0 < 4294967296 → Followable to group place path bound b e
-  followable {v} {e} t h =
-      let lv : v < vertices first = omega (arith, S .count, t .vertex, top-low (t .some)) in
-      let lw = arc-below (S .graph) v e lv (next-low t) (t .more) in
-      let R = S .room in
-      record {
-        arc-low = arc-place (S .graph) v e lv (t .more);
-        arc-small = omega (arith, t .more);
-        small = omega (arith, S .graph .small);
-        group-low = omega (arith, S .count, R .group-room);
-        place-low = omega (arith, S .count, R .place-room);
-        some = S .line .bound-some (t .some);
-        few = omega (arith, bound-count, path-count, open-count, small);
-        bound-low = omega (arith, bound-count, path-count, open-count, R .bound-room);
-        path-low = omega (arith, bound-place (t .some), path-count, open-count, R .path-room);
-        path-small = omega (arith, bound-place (t .some), path-count, open-count, small);
-      }
+  -- v is a vertex, and so is the target of its arc
+  next-vertex : {v e : ℕ} → Next first σ depth v e → v < vertices first
+  next-vertex t = omega (arith, S .count, t .vertex, top-low (t .some))
 
-  pub followed : {v e : ℕ} → Next first at stack path d v e → (r : Step) → Followed to group place path bound b v e r → Chosen first to group place at stack path bound root d b r
+  pub next-place : {v e : ℕ} → Next first σ depth v e → e < length to
+  next-place {v} {e} t = arc-place (S .graph) v e (next-vertex t) (t .more)
+
+  pub next-target : {v e : ℕ} → Next first σ depth v e → getD to e 0 < n
+  next-target {v} {e} t = omega (arith, S .count, arc-below (S .graph) v e (next-vertex t) (next-low t) (t .more))
+
+  pub followed : {v e : ℕ} → Next first σ depth v e → (r : Step) → Followed to σ groups v e r → Chosen first to σ root depth groups r
   followed {v} {e} t (Enter w) f =
-      let a = next-arc t in
+      let a = its-arc t in
       let q = t .vertex in
       let lv : v < vertices first = omega (arith, S .count, q, top-low (t .some)) in
       record {
@@ -92,10 +85,10 @@ module _ {first to group place at stack path bound : List ℕ} {n root s d b m :
       }
   followed {v} {e} t Join f =
       let q = t .vertex in
-      record { some = t .some; target = getD to e 0; arc = rw (← q) (next-arc t); opened = f .0; back = f .1 }
+      record { some = t .some; target = getD to e 0; arc = rw (← q) (its-arc t); opened = f .0; back = f .1 }
   followed {v} {e} t (Pass u g) f =
       let q = f .0 in
-      let z : getD at u 0 ≡ e = ap (λ (x : ℕ). getD at x 0) q ∙ sym (t .arc) in
+      let z : σ .next-arc u ≡ e = ap (λ (x : ℕ). σ .next-arc x) q ∙ sym (t .arc) in
       record {
         some = t .some;
         vertex = q ∙ t .vertex;
@@ -108,41 +101,54 @@ module _ {first to group place at stack path bound : List ℕ} {n root s d b m :
   followed t Leave f = absurd f
   followed t (Close from) f = absurd f
 
--- what is read of an arc
-module _ (to group place path bound : List ℕ) (b e w last : ℕ) (q : w ≡ getD to e 0) where
-  pub follows-join : last ≡ getD bound (b - 1) 0 → getD group w 0 ≡ 1 → getD place w 0 < getD path last 0 → (getD group (getD to e 0) 0 ≡ 1) × (getD place (getD to e 0) 0 < start path bound (b - 1))
-  follows-join r h k = rw (← q, ← r) (h, k)
+pub followable :
+    {first to s : List ℕ} {n root height depth groups finished v e : ℕ} → Search first to (state s) n root height depth groups finished → length s ≡ needed n
+    → Next first (state s) depth v e → Followable to s groups e
+followable {first} {to} {s} {n} {groups = groups} S room t =
+    let some = S .line .bound-some (t .some) in
+    record {
+      arc-low = next-place S t;
+      target-low = omega (arith, next-target S t, room);
+      some = some;
+      bound-low = omega (arith, bound-count S, path-count S, open-count S, room);
+      path-low = omega (arith, bound-place S (t .some), path-count S, open-count S, room);
+    }
 
-  pub follows-closed : (getD group w 0 ≡ 0 → ⊥) → (getD group w 0 ≡ 1 → ⊥) → (2 ≤ getD group (getD to e 0) 0) ⊎ ((getD group (getD to e 0) 0 ≡ 1) × (start path bound (b - 1) ≤ getD place (getD to e 0) 0))
+-- what is read of an arc
+module _ (to : List ℕ) (σ : State) (groups e w last : ℕ) (q : w ≡ getD to e 0) where
+  pub follows-join : last ≡ σ .bound (groups - 1) → σ .group w ≡ 1 → σ .place w < σ .path last → (σ .group (getD to e 0) ≡ 1) × (σ .place (getD to e 0) < start σ (groups - 1))
+  follows-join r h k = subst (λ (x : ℕ). (σ .group x ≡ 1) × (σ .place x < start σ (groups - 1))) q (h, subst (λ (y : ℕ). σ .place w < σ .path y) r k)
+
+  pub follows-closed : (σ .group w ≡ 0 → ⊥) → (σ .group w ≡ 1 → ⊥) → Settles σ groups (getD to e 0)
   follows-closed h k = inl (rw (← q) (omega (arith, h, k)))
 
-  pub follows-open : last ≡ getD bound (b - 1) 0 → getD group w 0 ≡ 1 → getD path last 0 ≤ getD place w 0 → (2 ≤ getD group (getD to e 0) 0) ⊎ ((getD group (getD to e 0) 0 ≡ 1) × (start path bound (b - 1) ≤ getD place (getD to e 0) 0))
-  follows-open r h k = inr (rw (← q, ← r) (h, k))
+  pub follows-open : last ≡ σ .bound (groups - 1) → σ .group w ≡ 1 → σ .path last ≤ σ .place w → Settles σ groups (getD to e 0)
+  follows-open r h k = inr (subst (λ (x : ℕ). (σ .group x ≡ 1) × (start σ (groups - 1) ≤ σ .place x)) q (h, subst (λ (y : ℕ). σ .path y ≤ σ .place w) r k))
 
 -- what is read at the end of the path
-module _ {first to group place at stack path bound : List ℕ} {n root s d b m : ℕ} (S : Search first to group place at stack path bound n root s d b m)
-    (h : d ≡ 0 → ⊥) {p : ℕ} (q : p ≡ getD path (d - 1) 0) where
-  some : 0 < d
+module _ {first to : List ℕ} {σ : State} {n root height depth groups finished : ℕ} (S : Search first to σ n root height depth groups finished)
+    (h : depth ≡ 0 → ⊥) {p : ℕ} (q : p ≡ σ .path (depth - 1)) where
+  some : 0 < depth
   some = omega (arith, h)
 
-  pub read-place : p < s
+  pub read-place : p < height
   read-place = omega (arith, q, end-place S some)
 
-  module _ {v : ℕ} (r : v ≡ getD stack p 0) where
-    is-top : v ≡ top stack path d
-    is-top = r ∙ ap (λ (k : ℕ). getD stack k 0) q
+  module _ {v : ℕ} (r : v ≡ σ .stack p) where
+    is-top : v ≡ top σ depth
+    is-top = r ∙ ap (λ (k : ℕ). σ .stack k) q
 
     pub read-vertex : v < n
     read-vertex = omega (arith, is-top, top-low S some)
 
-    pub read-next : {e : ℕ} → e ≡ getD at v 0 → e < getD first (v + 1) 0 → Next first at stack path d v e
+    pub read-next : {e : ℕ} → e ≡ σ .next-arc v → e < getD first (v + 1) 0 → Next first σ depth v e
     read-next a l = record { some = some; vertex = is-top; arc = a; more = l }
 
-    spent : getD first (v + 1) 0 ≤ getD at v 0 → getD first (top stack path d + 1) 0 ≤ getD at (top stack path d) 0
+    spent : getD first (v + 1) 0 ≤ σ .next-arc v → getD first (top σ depth + 1) 0 ≤ σ .next-arc (top σ depth)
     spent l = let z = is-top in rw (← z) l
 
-    pub read-leave : getD first (v + 1) 0 ≤ getD at v 0 → {k : ℕ} → k ≡ getD bound (b - 1) 0 → (k ≡ d - 1 → ⊥) → ToLeave first at stack path bound d b
+    pub read-leave : getD first (v + 1) 0 ≤ σ .next-arc v → {k : ℕ} → k ≡ σ .bound (groups - 1) → (k ≡ depth - 1 → ⊥) → ToLeave first σ depth groups
     read-leave l e n = record { some = some; spent = spent l; inside = λ z. n (e ∙ z) }
 
-    pub read-close : getD first (v + 1) 0 ≤ getD at v 0 → {k : ℕ} → k ≡ getD bound (b - 1) 0 → k ≡ d - 1 → ToClose first at stack path bound d b p
+    pub read-close : getD first (v + 1) 0 ≤ σ .next-arc v → {k : ℕ} → k ≡ σ .bound (groups - 1) → k ≡ depth - 1 → ToClose first σ depth groups p
     read-close l e z = record { some = some; spent = spent l; starts = sym e ∙ z; place = q }

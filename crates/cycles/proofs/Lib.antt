@@ -1,3 +1,4 @@
+pub mod Cell
 pub mod Line
 pub mod Keep
 pub mod Entering
@@ -5,9 +6,9 @@ pub mod Turn
 pub mod Closing
 pub mod End
 pub mod Following
-pub mod Shutting
+pub mod ClosingLoop
 pub mod Storing
 pub mod Running
 pub mod Scan
-pub mod Tested
+pub mod Use
 pub mod Caller

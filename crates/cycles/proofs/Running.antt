@@ -1,55 +1,57 @@
--- The search as the code runs it: a law for each step, then by the step that was chosen.
+-- The search as the code runs it: by the step that was chosen.
 use mathlib.Core.Path.{_≡_, refl, sym, ap, subst, _∙_}
 use mathlib.Core.List.{List}
 use Prim.Native.Nat.{ℕ, _+_, _*_, _-_, _≤_, _<_}
 use native.Mathlib.Omega.{arith}
-use lib.ListN.{length, getD, set}
+use lib.ListN.{length, getD, length-set}
+use Rattle.columns.specs.Column.{cleared}
 use Rattle.graph.specs.Graph.{vertices}
-use Rattle.graph.proofs.Store.{Put, put}
-use Rattle.cycles.specs.Component.{Grouped}
-use Rattle.cycles.specs.Search.{Search, Ready}
-use Rattle.cycles.specs.Step.{top, Going, ToEnter, ToPass, ToClose, Chosen, Enterable, Entered, Closable, Shut, Countable, moved, after, Storable, Stored, Same}
+use Rattle.graph.proofs.Store.{zeros}
+use Rattle.cycles.specs.State.{State, cell, store, state, needed}
+use Rattle.cycles.specs.Component.{Finished}
+use Rattle.cycles.specs.Search.{Search, Going, Ready}
+use Rattle.cycles.specs.Step.{top, ToEnter, ToPass, ToClose, Chosen, Enterable, Closable, Closed, Countable, moved, after, entered, Storable, Stored}
 use Rattle.cycles.specs.declared.Step.{Step}
 use Rattle.cycles.specs.declared.Step.the-variants.{Done, Skip, Enter, Join, Pass, Leave, Close}
 use Rattle.cycles.specs.declared.Counts.{Counts}
 use Rattle.cycles.specs.declared.After.the-variants.{Over, On}
+use Rattle.cycles.proofs.Cell.{Put, Puts, cell-put, state-arcs, state-closing, closed-by, entered-long, entered-puts}
 use Rattle.cycles.proofs.Entering.{search-enter, enter-room}
 use Rattle.cycles.proofs.Turn.{search-skip, search-join, search-pass, search-leave}
 use Rattle.cycles.proofs.Closing.{search-close}
 use Rattle.cycles.proofs.End.{search-start, search-end}
 use Rattle.cycles.proofs.Following.{small, open-count, path-count, bound-count, top-low}
 
-pub record Running (first to group₀ place₀ at₀ stack₀ path₀ bound₀ group place at stack path bound : List ℕ) (c : Counts) : Type 0 where
-  pub search : Search first to group place at stack path bound (vertices first) (c .root) (c .s) (c .d) (c .b) (c .m)
-  pub group-long : length group ≡ length group₀
-  pub place-long : length place ≡ length place₀
-  pub at-long : length at ≡ length at₀
-  pub stack-long : length stack ≡ length stack₀
-  pub path-long : length path ≡ length path₀
-  pub bound-long : length bound ≡ length bound₀
+pub record Running (first to s₀ s : List ℕ) (c : Counts) : Type 0 where
+  pub going : Going first to s c
+  pub long : length s ≡ length s₀
 
 -- what is left to do: it falls with each step
-abbrev pub left : List ℕ → List ℕ → List ℕ → List ℕ → Counts → ℕ
-left first at stack path c =
-    (3 * (vertices first - (c .s + c .m)) + c .d + c .b + (vertices first - c .root)) * 8589934592 + (4294967296 - getD at (top stack path (c .d)) 0)
+abbrev pub left : List ℕ → State → Counts → ℕ
+left first σ c =
+    (3 * (vertices first - (c .height + c .finished)) + c .depth + c .groups + (vertices first - c .root)) * 8589934592
+    + (4294967296 - σ .next-arc (top σ (c .depth)))
 
 -- the first part counts for more
 fall : (a b x y : ℕ) → a < b → a * 8589934592 + (4294967296 - y) < b * 8589934592 + (4294967296 - x)
 fall a b x y h = omega arith
 
-close-fewer : (n s m d b root from : ℕ) → from < s → 0 < d → 0 < b → 3 * (n - (from + (m + (s - from)))) + (d - 1) + (b - 1) + (n - root) < 3 * (n - (s + m)) + d + b + (n - root)
+close-fewer :
+    (n s m d b root from : ℕ) → from < s → 0 < d → 0 < b
+    → 3 * (n - (from + (m + (s - from)))) + (d - 1) + (b - 1) + (n - root) < 3 * (n - (s + m)) + d + b + (n - root)
 close-fewer n s m d b root from l h k = let e : from + (m + (s - from)) ≡ s + m = omega arith in rw e (omega arith)
 
-pub running-start : {first to group place at stack path bound : List ℕ} → Ready first to group place at stack path bound → Running first to group place at stack path bound group place at stack path bound (record { root = 0; s = 0; d = 0; b = 0; m = 0 })
-running-start r =
+pub running-start : {first to s s₁ : List ℕ} → Ready first to s → s₁ ≡ cleared 0 0 s → length s₁ ≡ length s → Running first to s₁ s₁ (record {
+  root = 0;
+  height = 0;
+  depth = 0;
+  groups = 0;
+  finished = 0;
+})
+running-start {first} {to} {s} {s₁} r q e =
     record {
-      search = search-start (r .graph) refl (r .room) (r .zeros);
-      group-long = refl;
-      place-long = refl;
-      at-long = refl;
-      stack-long = refl;
-      path-long = refl;
-      bound-long = refl;
+      going = record { search = search-start {σ = state s₁} (r .graph) refl (λ v. zeros s s₁ q (6 * v + 0)); room = e ∙ r .room };
+      long = refl;
     }
 
 on-over : {t : Counts} → On t ≡ Over → ⊥
@@ -64,172 +66,130 @@ on-moved (Pass v e) c t q = cc
 on-moved Leave c t q = cc
 on-moved (Close from) c t q = cc
 
-kept :
-    {first to group₀ place₀ at₀ stack₀ path₀ bound₀ group place at stack path bound group′ place′ at′ stack′ path′ bound′ : List ℕ} {c : Counts}
-    → Same group place at stack path bound group′ place′ at′ stack′ path′ bound′
-    → Running first to group₀ place₀ at₀ stack₀ path₀ bound₀ group place at stack path bound c
-    → Running first to group₀ place₀ at₀ stack₀ path₀ bound₀ group′ place′ at′ stack′ path′ bound′ c
-kept w R = rw (w .group-is, w .place-is, w .at-is, w .stack-is, w .path-is, w .bound-is) R
+module _ {first to s : List ℕ} {c : Counts} (G : Going first to s c) where
+  S : Search first to (state s) (vertices first) (c .root) (c .height) (c .depth) (c .groups) (c .finished)
+  S = G .search
 
-put-is : (l l′ : List ℕ) (i x : ℕ) → l′ ≡ set l i x → i < length l → Put l l′ i x
-put-is l l′ i x q h = subst (λ (z : List ℕ). Put l z i x) (sym q) (put l i x h)
-
-module _ {first to group₀ place₀ at₀ stack₀ path₀ bound₀ group place at stack path bound : List ℕ} {c : Counts}
-    (R : Running first to group₀ place₀ at₀ stack₀ path₀ bound₀ group place at stack path bound c) where
-  S : Search first to group place at stack path bound (vertices first) (c .root) (c .s) (c .d) (c .b) (c .m)
-  S = R .search
-
-  pub going : Going first to group place at stack path bound (c .root) (c .d) (c .b)
-  going = record { n = vertices first; s = c .s; m = c .m; search = R .search }
-
-  -- s, d, b, m and the root are small
-  s-low : c .s + c .m ≤ 65536
-  s-low = omega (arith, open-count S, small S)
-
-  d-low : c .d ≤ 65536
-  d-low = omega (arith, path-count S, s-low)
-
-  b-low : c .b ≤ 65536
-  b-low = omega (arith, bound-count S, d-low)
+  -- the counts and the root are small
+  few : c .height + c .finished ≤ vertices first
+  few = open-count S
 
   end-small : vertices first ≤ 65536
   end-small = S .graph .small
 
-  -- the columns stay
-  still : (t : Counts) → Search first to group place at stack path bound (vertices first) (t .root) (t .s) (t .d) (t .b) (t .m) → Running first to group₀ place₀ at₀ stack₀ path₀ bound₀ group place at stack path bound t
-  still t z =
-      record {
-        search = z;
-        group-long = R .group-long;
-        place-long = R .place-long;
-        at-long = R .at-long;
-        stack-long = R .stack-long;
-        path-long = R .path-long;
-        bound-long = R .bound-long;
-      }
+  d-low : c .depth ≤ c .height
+  d-low = path-count S
 
-  enterable : {w : ℕ} → ToEnter first to group stack path (c .d) w → Enterable first w (c .s) (c .d) (c .b)
+  b-low : c .groups ≤ c .depth
+  b-low = bound-count S
+
+  enterable : {w : ℕ} → ToEnter first to (state s) (c .depth) w → Enterable first s w c
   enterable t =
-      record { low = omega (arith, t .low); small = omega (arith, t .low, end-small); open-small = omega (arith, s-low); path-small = d-low; bound-small = b-low }
-
-  running-enter :
-      {w : ℕ} {group′ place′ at′ stack′ path′ bound′ : List ℕ} → ToEnter first to group stack path (c .d) w
-      → Entered first group place at stack path bound group′ place′ at′ stack′ path′ bound′ w (c .s) (c .d) (c .b)
-      → Running first to group₀ place₀ at₀ stack₀ path₀ bound₀ group′ place′ at′ stack′ path′ bound′ (moved (Enter w) c)
-  running-enter {w} {group′} {place′} {at′} {stack′} {path′} {bound′} t e =
       let more = enter-room S t in
-      let M = S .room in
-      let g = put-is group group′ w 1 (e .group-is) (omega (arith, M .group-room, t .low)) in
-      let p = put-is place place′ w (c .s) (e .place-is) (omega (arith, M .place-room, t .low)) in
-      let a = put-is at at′ w (getD first w 0) (e .at-is) (omega (arith, M .at-room, t .low)) in
-      let o = put-is stack stack′ (c .s) w (e .stack-is) (omega (arith, M .stack-room, more)) in
-      let x = put-is path path′ (c .d) (c .s) (e .path-is) (omega (arith, M .path-room, more, path-count S)) in
-      let y = put-is bound bound′ (c .b) (c .d) (e .bound-is) (omega (arith, M .bound-room, more, path-count S, bound-count S)) in
       record {
-        search = search-enter S t g p a o x y;
-        group-long = g .long ∙ R .group-long;
-        place-long = p .long ∙ R .place-long;
-        at-long = a .long ∙ R .at-long;
-        stack-long = o .long ∙ R .stack-long;
-        path-long = x .long ∙ R .path-long;
-        bound-long = y .long ∙ R .bound-long;
+        low = omega (arith, t .low);
+        room = omega (arith, t .low, G .room);
+        stack-room = omega (arith, more, G .room);
+        path-room = omega (arith, more, d-low, G .room);
+        bound-room = omega (arith, more, d-low, b-low, G .room);
+        small = omega (arith, G .room, end-small);
       }
 
-  module _ {v e : ℕ} (t : ToPass first to group place at stack path bound (c .d) (c .b) v e) where
-    pass-put : Put at (set at v e) v e
-    pass-put = put at v e (omega (arith, S .room .at-room, t .vertex, top-low S (t .some)))
+  going-enter : {w : ℕ} → ToEnter first to (state s) (c .depth) w → Going first to (entered first s w c) (moved (Enter w) c)
+  going-enter {w} t =
+      let P = entered-puts first s w c (enterable t) in
+      record {
+        search = search-enter S t (P .in-group) (P .in-place) (P .in-arcs) (P .in-stack) (P .in-path) (P .in-bound);
+        room = entered-long first s w c ∙ G .room;
+      }
+
+  module _ {v e : ℕ} (t : ToPass first to (state s) (c .depth) (c .groups) v e) where
+    pass-vertex : v < vertices first
+    pass-vertex = omega (arith, t .vertex, top-low S (t .some))
+
+    pass-put : Put (cell s 2) (cell (store s 2 v e) 2) v e
+    pass-put = cell-put s 2 v e (omega (arith, pass-vertex, G .room))
+
+    going-pass : Going first to (store s 2 v e) c
+    going-pass =
+        record {
+          search =
+              subst (λ (σ : State). Search first to σ (vertices first) (c .root) (c .height) (c .depth) (c .groups) (c .finished)) (sym (state-arcs s v e))
+              (search-pass S t pass-put);
+          room = length-set s (6 * v + 2) e ∙ G .room;
+        }
 
     -- the next arc of the end of the path is one further on
-    pass-next : getD (set at v e) (top stack path (c .d)) 0 ≡ getD at (top stack path (c .d)) 0 + 1
-    pass-next = let y = t .vertex in rw (← y) (pass-put .at ∙ t .next)
+    pass-next : state (store s 2 v e) .next-arc (top (state (store s 2 v e)) (c .depth)) ≡ state s .next-arc (top (state s) (c .depth)) + 1
+    pass-next =
+        let stays : top (state (store s 2 v e)) (c .depth) ≡ top (state s) (c .depth) = ap (λ (σ : State). top σ (c .depth)) (state-arcs s v e) in
+        ap (cell (store s 2 v e) 2) (stays ∙ sym (t .vertex)) ∙ pass-put .at ∙ t .next ∙ ap (λ (x : ℕ). cell s 2 x + 1) (t .vertex)
 
-    pass-upto : getD at (top stack path (c .d)) 0 < getD first (top stack path (c .d) + 1) 0
-    pass-upto = let y = t .vertex in rw (← y) (t .more)
+    pass-upto : state s .next-arc (top (state s) (c .depth)) < getD first (top (state s) (c .depth) + 1) 0
+    pass-upto = subst (λ (x : ℕ). cell s 2 x < getD first (x + 1) 0) (t .vertex) (t .more)
 
-    running-pass : Running first to group₀ place₀ at₀ stack₀ path₀ bound₀ group place (set at v e) stack path bound c
-    running-pass =
-        record {
-          search = search-pass S t pass-put;
-          group-long = R .group-long;
-          place-long = R .place-long;
-          at-long = pass-put .long ∙ R .at-long;
-          stack-long = R .stack-long;
-          path-long = R .path-long;
-          bound-long = R .bound-long;
-        }
+  module _ {from : ℕ} (t : ToClose first (state s) (c .depth) (c .groups) from) where
+    close-upto : from < c .height
+    close-upto = omega (arith, t .place, S .line .low (c .depth - 1) (omega (arith, t .some)))
 
-  module _ {from : ℕ} (t : ToClose first at stack path bound (c .d) (c .b) from) where
-    close-upto : from < c .s
-    close-upto = omega (arith, t .place, S .line .low (c .d - 1) (omega (arith, t .some)))
-
-    close-some : 0 < c .b
+    close-some : 0 < c .groups
     close-some = S .line .bound-some (t .some)
 
-    closable : Closable group place stack from (c .s) (c .m)
+    closable : Closable s from (c .height) (c .finished)
     closable =
         let up = close-upto in
-        let low : (i : ℕ) → i < c .s → getD stack i 0 < vertices first = λ i l. S .opened .low i l in
         record {
-          stack-room = omega (arith, open-count S, S .room .stack-room);
-          small = omega (arith, s-low);
+          stack-room = omega (arith, few, G .room);
+          small = omega (arith, few, end-small);
           upto = omega arith;
-          group-room = λ i f l. omega (arith, low i l, S .room .group-room);
-          place-room = λ i f l. omega (arith, low i l, S .room .place-room);
-          low = λ i f l. omega (arith, low i l, end-small);
-          once = λ i j f l g k e. sym (S .opened .back i l) ∙ ap (λ (x : ℕ). getD place x 0) e ∙ S .opened .back j k;
+          room = λ i f l. omega (arith, S .opened .low i l, G .room);
+          once = λ i j f l g k e. sym (S .opened .back i l) ∙ ap (cell s 1) e ∙ S .opened .back j k;
         }
 
-    running-close : {group′ place′ : List ℕ} → Shut group place stack group′ place′ from (c .s) (c .m) → Running first to group₀ place₀ at₀ stack₀ path₀ bound₀ group′ place′ at stack path bound (moved (Close from) c)
-    running-close z =
+    going-close : {s′ : List ℕ} → Closed s s′ from (c .height) (c .finished) → Going first to s′ (moved (Close from) c)
+    going-close z =
         record {
-          search = search-close S t z;
-          group-long = z .group-long ∙ R .group-long;
-          place-long = z .place-long ∙ R .place-long;
-          at-long = R .at-long;
-          stack-long = R .stack-long;
-          path-long = R .path-long;
-          bound-long = R .bound-long;
+          search =
+              subst (λ (σ : State). Search first to σ (vertices first) (c .root) from (c .depth - 1) (c .groups - 1) (c .finished + (c .height - from))) (sym (state-closing z))
+              (search-close S t (closed-by z));
+          room = z .long ∙ G .room;
         }
 
   -- ---- by the step that was chosen
 
-  pub countable : (r : Step) → Chosen first to group place at stack path bound (c .root) (c .d) (c .b) r → Countable r c
+  pub countable : (r : Step) → Chosen first to (state s) (c .root) (c .depth) (c .groups) r → Countable r c
   countable Done h = tt
   countable Skip h = omega (arith, h .low, end-small)
-  countable (Enter w) h = (omega (arith, s-low), d-low, b-low)
+  countable (Enter w) h = (omega (arith, few, end-small), omega (arith, d-low, few, end-small), omega (arith, b-low, d-low, few, end-small))
   countable Join h = S .line .bound-some (h .some)
   countable (Pass v e) h = tt
   countable Leave h = h .some
-  countable (Close from) h = (omega (arith, close-upto h), omega (arith, s-low), h .some, close-some h)
+  countable (Close from) h = (omega (arith, close-upto h), omega (arith, few, end-small), h .some, close-some h)
 
-  pub storable : (r : Step) → Chosen first to group place at stack path bound (c .root) (c .d) (c .b) r → Storable first group place stack r c
-  storable Done h = tt
-  storable Skip h = tt
-  storable (Enter w) h = enterable h
-  storable Join h = tt
-  storable (Pass v e) h = tt
-  storable Leave h = tt
-  storable (Close from) h = closable h
+  module _ (small-arcs : (i : ℕ) → getD first i 0 < 4294967296) where
+    pub storable : (r : Step) → Chosen first to (state s) (c .root) (c .depth) (c .groups) r → Storable first s r c
+    storable Done h = tt
+    storable Skip h = tt
+    storable (Enter w) h = enterable h
+    storable Join h = tt
+    storable (Pass v e) h = (omega (arith, pass-vertex h, G .room), omega (arith, h .next, h .more, small-arcs (v + 1)))
+    storable Leave h = tt
+    storable (Close from) h = closable h
 
-  module _ (group′ place′ at′ stack′ path′ bound′ : List ℕ) where
+  module _ (s′ : List ℕ) where
     turned :
-        (r : Step) → Chosen first to group place at stack path bound (c .root) (c .d) (c .b) r
-        → Stored first group place at stack path bound group′ place′ at′ stack′ path′ bound′ r c
-        → Running first to group₀ place₀ at₀ stack₀ path₀ bound₀ group′ place′ at′ stack′ path′ bound′ (moved r c)
-    turned Done h w = kept w R
-    turned Skip h w = kept w (still _ (search-skip S h))
-    turned (Enter x) h w = running-enter h w
-    turned Join h w = kept w (still _ (search-join S h))
-    turned (Pass v e) h w = kept w (running-pass h)
-    turned Leave h w = kept w (still _ (search-leave S h))
-    turned (Close from) h w = kept (w .1) (running-close h (w .0))
+        (r : Step) → Chosen first to (state s) (c .root) (c .depth) (c .groups) r → Stored first s s′ r c → Going first to s′ (moved r c)
+    turned Done h w = rw w G
+    turned Skip h w = rw w (record { search = search-skip S h; room = G .room })
+    turned (Enter v) h w = rw w (going-enter h)
+    turned Join h w = rw w (record { search = search-join S h; room = G .room })
+    turned (Pass v e) h w = rw w (going-pass h)
+    turned Leave h w = rw w (record { search = search-leave S h; room = G .room })
+    turned (Close from) h w = going-close h w
 
     pub running-end :
-        (r : Step) → Chosen first to group place at stack path bound (c .root) (c .d) (c .b) r
-        → after r c ≡ Over
-        → Stored first group place at stack path bound group′ place′ at′ stack′ path′ bound′ r c
-        → Grouped first to group′ place′ (vertices first)
-    running-end Done h q w = rw (w .group-is, w .place-is) (search-end S h)
+        (r : Step) → Chosen first to (state s) (c .root) (c .depth) (c .groups) r → after r c ≡ Over → Stored first s s′ r c → Finished first to (state s′)
+    running-end Done h q w = rw w (search-end S h)
     running-end Skip h q w = absurd (on-over q)
     running-end (Enter x) h q w = absurd (on-over q)
     running-end Join h q w = absurd (on-over q)
@@ -239,23 +199,23 @@ module _ {first to group₀ place₀ at₀ stack₀ path₀ bound₀ group place
 
     fewer :
         (r : Step) (t : Counts) → ((i : ℕ) → getD first i 0 < 4294967296)
-        → Chosen first to group place at stack path bound (c .root) (c .d) (c .b) r
+        → Chosen first to (state s) (c .root) (c .depth) (c .groups) r
         → after r c ≡ On t
-        → Stored first group place at stack path bound group′ place′ at′ stack′ path′ bound′ r c
-        → left first at′ stack′ path′ (moved r c) < left first at stack path c
+        → Stored first s s′ r c
+        → left first (state s′) (moved r c) < left first (state s) c
     fewer Done t k h q w = absurd (on-over (sym q))
     fewer Skip t k h q w = fall _ _ _ _ (omega (arith, h .low))
     fewer (Enter x) t k h q w = fall _ _ _ _ (omega (arith, enter-room S h))
     fewer Join t k h q w = fall _ _ _ _ (omega (arith, S .line .bound-some (h .some)))
-    fewer (Pass v e) t k h q w =
-        rw (w .at-is, w .stack-is, w .path-is) (omega (arith, pass-next h, pass-upto h, k (top stack path (c .d) + 1)))
+    fewer (Pass v e) t k h q w = rw w (omega (arith, pass-next h, pass-upto h, k (top (state s) (c .depth) + 1)))
     fewer Leave t k h q w = fall _ _ _ _ (omega (arith, h .some))
-    fewer (Close from) t k h q w = fall _ _ _ _ (close-fewer (vertices first) (c .s) (c .m) (c .d) (c .b) (c .root) from (close-upto h) (h .some) (close-some h))
+    fewer (Close from) t k h q w =
+        fall _ _ _ _ (close-fewer (vertices first) (c .height) (c .finished) (c .depth) (c .groups) (c .root) from (close-upto h) (h .some) (close-some h))
 
-    module _ (r : Step) {t : Counts} (h : Chosen first to group place at stack path bound (c .root) (c .d) (c .b) r) (q : after r c ≡ On t)
-        (w : Stored first group place at stack path bound group′ place′ at′ stack′ path′ bound′ r c) where
-      pub running-on : Running first to group₀ place₀ at₀ stack₀ path₀ bound₀ group′ place′ at′ stack′ path′ bound′ t
-      running-on = rw (on-moved r c t q) (turned r h w)
+module _ {first to s₀ s : List ℕ} {c : Counts} (R : Running first to s₀ s c) (s′ : List ℕ) (r : Step) {t : Counts}
+    (h : Chosen first to (state s) (c .root) (c .depth) (c .groups) r) (q : after r c ≡ On t) (w : Stored first s s′ r c) where
+  pub running-on : length s′ ≡ length s → Running first to s₀ s′ t
+  running-on e = record { going = rw (on-moved r c t q) (turned (R .going) s′ r h w); long = e ∙ R .long }
 
-      pub less : ((i : ℕ) → getD first i 0 < 4294967296) → left first at′ stack′ path′ t < left first at stack path c
-      less k = rw (on-moved r c t q) (fewer r t k h q w)
+  pub less : ((i : ℕ) → getD first i 0 < 4294967296) → left first (state s′) t < left first (state s) c
+  less k = rw (on-moved r c t q) (fewer (R .going) s′ r t k h q w)

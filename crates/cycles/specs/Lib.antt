@@ -1,3 +1,4 @@
+pub mod State
 pub mod Component
 pub mod Search
 pub mod Step

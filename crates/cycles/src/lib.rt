@@ -1,13 +1,40 @@
-// Strongly connected components, and with them the smallest vertex on a cycle and the order of dependencies.
+// Strongly connected components, and with them the smallest vertex on a cycle and an order of dependencies.
 ghost use mathlib.Core.Path.{_≡_};
-ghost use mathlib.Core.Bool.{true, false};
-ghost use Prim.Native.Nat.{_+_, _-_, _<_};
-ghost use lib.ListN.{length};
+ghost use mathlib.Core.List.{[]};
+ghost use Prim.Native.Nat.{ℕ, _+_, _*_, _-_, _<_};
+ghost use lib.ListN.{length, getD, set};
 ghost use Rattle.graph.specs.Graph.{vertices, Tells};
-ghost use Rattle.cycles.specs.Component.{Grouped};
-ghost use Rattle.cycles.specs.Search.{Ready};
-ghost use Rattle.cycles.specs.Answer.{Inner, Smallest, Fits, Solved, Bounded, Shortest, Arrangeable, Arranged, CycleAnswers, OrderAnswers};
-ghost use Rattle.cycles.specs.Step.{Going, Chosen, Followable, Followed, Enterable, Entered, Closable, Shut, Countable, after, Storable, Stored};
+ghost use Rattle.cycles.specs.State.{cell, state};
+ghost use Rattle.cycles.specs.Component.{Finished};
+ghost use Rattle.cycles.specs.Search.{Ready, Going};
+ghost use Rattle.cycles.specs.Step.{Chosen, Followable, Followed, Enterable, entered, Closable, Closed, Countable, after, Storable, Stored};
+ghost use Rattle.cycles.specs.Answer.{lent, CycleAnswers, OrderAnswers, GroupAnswers, Inner, Smallest, FoundIn, OrderedIn, GroupedIn, Arrangeable, Arranged, Numbered};
+use columns::clear32;
+use columns::index;
+use columns::number;
+
+// Scratch has six numbers for each index: of a vertex its group, its place and its next arc; and by index the stack of open
+// vertices, the path of the search, and the bounds of the groups along it.
+const WIDTH: usize = 6;
+
+const GROUP: usize = 0;
+
+const PLACE: usize = 1;
+
+const NEXT_ARC: usize = 2;
+
+const STACK: usize = 3;
+
+const PATH: usize = 4;
+
+const BOUND: usize = 5;
+
+// The group of a vertex that was not entered, and of one that is open; those of closed vertices come after them.
+const NEW: usize = 0;
+
+const OPEN: usize = 1;
+
+const CLOSED: usize = 2;
 
 // What the search does next.
 enum Step {
@@ -15,7 +42,7 @@ enum Step {
     Skip,
     Enter(usize),
     Join,
-    Pass(usize, u32),
+    Pass(usize, usize),
     Leave,
     Close(usize),
 }
@@ -23,10 +50,10 @@ enum Step {
 // How far the search is: the root to try, the open vertices, those on the path, the groups along it, the closed vertices.
 struct Counts {
     root: usize,
-    s: usize,
-    d: usize,
-    b: usize,
-    m: usize,
+    height: usize,
+    depth: usize,
+    groups: usize,
+    finished: usize,
 }
 
 // The search is over, or goes on.
@@ -35,120 +62,119 @@ enum After {
     On(Counts),
 }
 
+// The smallest vertex on a cycle. Scratch that is too short is told the entries that it needs.
 pub enum Cycle {
     At(usize),
     Nothing,
     Malformed,
+    ScratchShort(usize),
 }
 
-pub enum Sorted {
+// Whether there is an order, or else the smallest vertex on a cycle.
+pub enum Dependencies {
     Acyclic,
     Cyclic(usize),
     Malformed,
+    ColumnShort(usize),
+    ScratchShort(usize),
+}
+
+pub enum Grouping {
+    Grouped,
+    Malformed,
+    ColumnShort(usize),
+    ScratchShort(usize),
+}
+
+// One of the six numbers of an index.
+fn get(s: &[u32], column: usize, i: usize) -> usize
+    requires { ⌜ 6 * i + column < length (now s) ⌝ }
+    ensures { λ r. ⌜ r ≡ cell (now (s .entry)) column i ⌝ }
+{
+    index(s[WIDTH * i + column])
+}
+
+fn put(s: &mut [u32], column: usize, i: usize, value: usize)
+    requires { ⌜ (6 * i + column < length (now s)) × (value < 4294967296) ⌝ }
+    ensures { λ _. ⌜ now (s .exit) ≡ set (now (s .entry)) (6 * i + column) value ⌝ }
+{
+    s[WIDTH * i + column] = number(value);
 }
 
 // Where arc e of vertex v leads: to a new vertex, back to an earlier group, or nowhere new.
-fn follow(
-    to: &[u32],
-    group: &[u32],
-    place: &[u32],
-    path: &[u32],
-    bound: &[u32],
-    b: usize,
-    v: usize,
-    e: u32,
-) -> Step
-    requires { ⌜ Followable (now to) (now group) (now place) (now path) (now bound) b e ⌝ }
-    ensures { λ r. ⌜ Followed (now (to .entry)) (now (group .entry)) (now (place .entry)) (now (path .entry)) (now (bound .entry)) b v e r ⌝ }
+fn follow(to: &[u32], s: &[u32], groups: usize, v: usize, e: usize) -> Step
+    requires { ⌜ Followable (now to) (now s) groups e ⌝ }
+    ensures { λ r. ⌜ Followed (now (to .entry)) (state (now (s .entry))) groups v e r ⌝ }
 {
-    let w = columns::index(to[columns::index(e)]);
-    let g = group[w];
-    if g == 0 {
+    let w = index(to[e]);
+    let group = get(s, GROUP, w);
+    if group == NEW {
         return Step::Enter(w);
     }
-    if g != 1 {
+    if group != OPEN {
         return Step::Pass(v, e + 1);
     }
-    let last = columns::index(bound[b - 1]);
-    if place[w] < path[last] {
+    let last = get(s, BOUND, groups - 1);
+    if get(s, PLACE, w) < get(s, PATH, last) {
         return Step::Join;
     }
     Step::Pass(v, e + 1)
 }
 
-// The next step, from the root to try, the length of the path and the number of groups along it.
-fn next(
-    first: &[u32],
-    to: &[u32],
-    group: &[u32],
-    place: &[u32],
-    at: &[u32],
-    stack: &[u32],
-    path: &[u32],
-    bound: &[u32],
-    root: usize,
-    d: usize,
-    b: usize,
-) -> Step
-    requires { ⌜ Going (now first) (now to) (now group) (now place) (now at) (now stack) (now path) (now bound) root d b ⌝ }
-    ensures { λ r. ⌜ Chosen (now (first .entry)) (now (to .entry)) (now (group .entry)) (now (place .entry)) (now (at .entry)) (now (stack .entry)) (now (path .entry)) (now (bound .entry)) root d b r ⌝ }
+// The next step.
+fn next(first: &[u32], to: &[u32], s: &[u32], c: Counts) -> Step
+    requires { ⌜ Going (now first) (now to) (now s) c ⌝ }
+    ensures { λ r. ⌜ Chosen (now (first .entry)) (now (to .entry)) (state (now (s .entry))) (c .root) (c .depth) (c .groups) r ⌝ }
 {
-    if d == 0 {
+    let depth = c.depth;
+    if depth == 0 {
+        let root = c.root;
         if first.len() - 1 <= root {
             return Step::Done;
         }
-        if group[root] == 0 {
+        if get(s, GROUP, root) == NEW {
             return Step::Enter(root);
         }
         return Step::Skip;
     }
-    let p = columns::index(path[d - 1]);
-    let v = columns::index(stack[p]);
-    let e = at[v];
-    if e < first[v + 1] {
-        return follow(to, group, place, path, bound, b, v, e);
+    let p = get(s, PATH, depth - 1);
+    let v = get(s, STACK, p);
+    let e = get(s, NEXT_ARC, v);
+    let groups = c.groups;
+    if e < index(first[v + 1]) {
+        return follow(to, s, groups, v, e);
     }
-    if columns::index(bound[b - 1]) == d - 1 {
+    if get(s, BOUND, groups - 1) == depth - 1 {
         return Step::Close(p);
     }
     Step::Leave
 }
 
 // Vertex w becomes the end of the path, and a group of its own.
-fn enter(
-    first: &[u32],
-    group: &mut [u32],
-    place: &mut [u32],
-    at: &mut [u32],
-    stack: &mut [u32],
-    path: &mut [u32],
-    bound: &mut [u32],
-    w: usize,
-    s: usize,
-    d: usize,
-    b: usize,
-)
-    requires { ⌜ Enterable (now first) w s d b ⌝ }
-    ensures { λ _. ⌜ Entered (now (first .entry)) (now (group .entry)) (now (place .entry)) (now (at .entry)) (now (stack .entry)) (now (path .entry)) (now (bound .entry)) (now (group .exit)) (now (place .exit)) (now (at .exit)) (now (stack .exit)) (now (path .exit)) (now (bound .exit)) w s d b ⌝ }
+fn enter(first: &[u32], s: &mut [u32], w: usize, c: Counts)
+    requires { ⌜ Enterable (now first) (now s) w c ⌝ }
+    ensures { λ _. ⌜ now (s .exit) ≡ entered (now (first .entry)) (now (s .entry)) w c ⌝ }
 {
-    columns::put32(group, w, 1);
-    columns::put32(place, w, s as u32);
-    columns::put32(at, w, first[w]);
-    columns::put32(stack, s, w as u32);
-    columns::put32(path, d, s as u32);
-    columns::put32(bound, b, d as u32);
+    let height = c.height;
+    let depth = c.depth;
+    put(s, GROUP, w, OPEN);
+    put(s, PLACE, w, height);
+    put(s, NEXT_ARC, w, index(first[w]));
+    put(s, STACK, height, w);
+    put(s, PATH, depth, height);
+    put(s, BOUND, c.groups, depth);
 }
 
-// The open vertices from a place on are closed: they are a component, and have the next places, from m on.
-fn close(group: &mut [u32], place: &mut [u32], stack: &[u32], from: usize, s: usize, m: usize)
-    requires { ⌜ Closable (now group) (now place) (now stack) from s m ⌝ }
-    ensures { λ _. ⌜ Shut (now (group .entry)) (now (place .entry)) (now (stack .entry)) (now (group .exit)) (now (place .exit)) from s m ⌝ }
+// The open vertices from a place on are closed: they are a component, and have the next places.
+fn close(s: &mut [u32], from: usize, height: usize, finished: usize)
+    requires { ⌜ Closable (now s) from height finished ⌝ }
+    ensures { λ _. ⌜ Closed (now (s .entry)) (now (s .exit)) from height finished ⌝ }
 {
     let mut i = from;
-    while i < s {
-        let v = columns::index(stack[i]);
-        group[v] = m as u32 + 2;
-        place[v] = (m + (i - from)) as u32;
+    while i < height {
+        let v = get(s, STACK, i);
+        put(s, GROUP, v, finished + CLOSED);
+        put(s, PLACE, v, finished + (i - from));
         i += 1;
     }
 }
@@ -166,89 +192,65 @@ fn counted(step: Step, c: Counts) -> After
             After::On(t)
         }
         Step::Enter(_) => {
-            t.s += 1;
-            t.d += 1;
-            t.b += 1;
+            t.height += 1;
+            t.depth += 1;
+            t.groups += 1;
             After::On(t)
         }
         Step::Join => {
-            t.b -= 1;
+            t.groups -= 1;
             After::On(t)
         }
         Step::Pass(_, _) => After::On(t),
         Step::Leave => {
-            t.d -= 1;
+            t.depth -= 1;
             After::On(t)
         }
         Step::Close(from) => {
-            t.m += t.s - from;
-            t.s = from;
-            t.d -= 1;
-            t.b -= 1;
+            t.finished += t.height - from;
+            t.height = from;
+            t.depth -= 1;
+            t.groups -= 1;
             After::On(t)
         }
     }
 }
 
 // What a step writes.
-fn store(
-    first: &[u32],
-    group: &mut [u32],
-    place: &mut [u32],
-    at: &mut [u32],
-    stack: &mut [u32],
-    path: &mut [u32],
-    bound: &mut [u32],
-    step: Step,
-    c: Counts,
-)
-    requires { ⌜ Storable (now first) (now group) (now place) (now stack) step c ⌝ }
-    ensures { λ _. ⌜ Stored (now (first .entry)) (now (group .entry)) (now (place .entry)) (now (at .entry)) (now (stack .entry)) (now (path .entry)) (now (bound .entry)) (now (group .exit)) (now (place .exit)) (now (at .exit)) (now (stack .exit)) (now (path .exit)) (now (bound .exit)) step c ⌝ }
+fn store(first: &[u32], s: &mut [u32], step: Step, c: Counts)
+    requires { ⌜ Storable (now first) (now s) step c ⌝ }
+    ensures { λ _. ⌜ Stored (now (first .entry)) (now (s .entry)) (now (s .exit)) step c ⌝ }
 {
-    let s = c.s;
-    let d = c.d;
-    let b = c.b;
     match step {
         Step::Enter(w) => {
-            enter(first, group, place, at, stack, path, bound, w, s, d, b);
+            enter(first, s, w, c);
         }
         Step::Pass(v, e) => {
-            columns::put32(at, v, e);
+            put(s, NEXT_ARC, v, e);
         }
         Step::Close(from) => {
-            close(group, place, stack, from, s, c.m);
+            close(s, from, c.height, c.finished);
         }
         Step::Done | Step::Skip | Step::Join | Step::Leave => {}
     }
 }
 
 // Every vertex has the number of its component, and its place.
-fn search(
-    first: &[u32],
-    to: &[u32],
-    group: &mut [u32],
-    place: &mut [u32],
-    at: &mut [u32],
-    stack: &mut [u32],
-    path: &mut [u32],
-    bound: &mut [u32],
-)
-    requires { ⌜ Ready (now first) (now to) (now group) (now place) (now at) (now stack) (now path) (now bound) ⌝ }
-    ensures { λ _. ⌜ Grouped (now (first .entry)) (now (to .entry)) (now (group .exit)) (now (place .exit)) (vertices (now (first .entry))) ⌝ }
+fn search(first: &[u32], to: &[u32], s: &mut [u32])
+    requires { ⌜ Ready (now first) (now to) (now s) ⌝ }
+    ensures { λ _. ⌜ Finished (now (first .entry)) (now (to .entry)) (state (now (s .exit))) ⌝ }
 {
+    clear32(s, 0);
     let mut c = Counts {
         root: 0,
-        s: 0,
-        d: 0,
-        b: 0,
-        m: 0,
+        height: 0,
+        depth: 0,
+        groups: 0,
+        finished: 0,
     };
     loop {
-        let root = c.root;
-        let d = c.d;
-        let b = c.b;
-        let step = next(first, to, group, place, at, stack, path, bound, root, d, b);
-        store(first, group, place, at, stack, path, bound, step, c);
+        let step = next(first, to, s, c);
+        store(first, s, step, c);
         let After::On(then) = counted(step, c) else {
             return;
         };
@@ -257,17 +259,15 @@ fn search(
 }
 
 // Has vertex v an arc into its own group?
-fn inner(first: &[u32], to: &[u32], group: &[u32], v: usize) -> bool
-    requires { ⌜ Bounded (now first) (now to) (length (now group)) ⌝ }
-    requires { ⌜ v < vertices (now first) ⌝ }
-    ensures { λ r. ⌜ Tells (Inner (now (first .entry)) (now (to .entry)) (now (group .entry)) v) r ⌝ }
+fn inner(first: &[u32], to: &[u32], s: &[u32], v: usize) -> bool
+    requires { ⌜ Ready (now first) (now to) (now s) × (v < vertices (now first)) ⌝ }
+    ensures { λ r. ⌜ Tells (Inner (now (first .entry)) (now (to .entry)) (state (now (s .entry))) v) r ⌝ }
 {
-    let own = group[v];
-    let mut e = columns::index(first[v]);
-    let end = columns::index(first[v + 1]);
+    let own = get(s, GROUP, v);
+    let mut e = index(first[v]);
+    let end = index(first[v + 1]);
     while e < end {
-        let w = columns::index(to[e]);
-        if group[w] == own {
+        if get(s, GROUP, index(to[e])) == own {
             return true;
         }
         e += 1;
@@ -276,14 +276,14 @@ fn inner(first: &[u32], to: &[u32], group: &[u32], v: usize) -> bool
 }
 
 // The smallest vertex that has one; the number of vertices where none has.
-fn least(first: &[u32], to: &[u32], group: &[u32]) -> usize
-    requires { ⌜ Bounded (now first) (now to) (length (now group)) ⌝ }
-    ensures { λ r. ⌜ Smallest (Inner (now (first .entry)) (now (to .entry)) (now (group .entry))) (vertices (now (first .entry))) r ⌝ }
+fn least(first: &[u32], to: &[u32], s: &[u32]) -> usize
+    requires { ⌜ Ready (now first) (now to) (now s) ⌝ }
+    ensures { λ r. ⌜ Smallest (Inner (now (first .entry)) (now (to .entry)) (state (now (s .entry)))) (vertices (now (first .entry))) r ⌝ }
 {
     let n = first.len() - 1;
     let mut v = 0;
     while v < n {
-        if inner(first, to, group, v) {
+        if inner(first, to, s, v) {
             return v;
         }
         v += 1;
@@ -291,118 +291,130 @@ fn least(first: &[u32], to: &[u32], group: &[u32]) -> usize
     n
 }
 
-// The smallest vertex on a cycle; the number of vertices where there is no cycle.
-fn solve(
-    first: &[u32],
-    to: &[u32],
-    group: &mut [u32],
-    place: &mut [u32],
-    at: &mut [u32],
-    stack: &mut [u32],
-    path: &mut [u32],
-    bound: &mut [u32],
-) -> usize
-    requires { ⌜ Fits (now first) (now to) (now group) (now place) (now at) (now stack) (now path) (now bound) ⌝ }
-    ensures { λ r. ⌜ Solved (now (first .entry)) (now (to .entry)) (now (place .exit)) r ⌝ }
+// Puts each vertex at its place.
+fn arrange(order: &mut [u32], s: &[u32], n: usize)
+    requires { ⌜ Arrangeable (now order) (now s) n ⌝ }
+    ensures { λ _. ⌜ Arranged (now (s .entry)) (now (order .exit)) n ⌝ }
 {
-    columns::clear32(group, 0);
-    search(first, to, group, place, at, stack, path, bound);
-    least(first, to, group)
-}
-
-fn shortest(a: usize, b: usize, c: usize, d: usize, e: usize, f: usize) -> usize
-    ensures { λ r. ⌜ Shortest a b c d e f r ⌝ }
-{
-    let left = columns::shorter(a, columns::shorter(b, c));
-    let right = columns::shorter(d, columns::shorter(e, f));
-    columns::shorter(left, right)
-}
-
-// Are the two columns a graph for which there is room?
-fn fits(first: &[u32], to: &[u32], room: usize) -> bool
-    ensures { λ r. ⌜ Tells (Bounded (now (first .entry)) (now (to .entry)) room) r ⌝ }
-{
-    if !graph::valid(first, to) {
-        return false;
+    let mut v = 0;
+    while v < n {
+        let k = get(s, PLACE, v);
+        order[k] = number(v);
+        v += 1;
     }
-    first.len() - 1 <= room
+}
+
+// Puts down the group of each vertex: the number of closed groups starts at 0.
+fn number_groups(group: &mut [u32], s: &[u32], n: usize)
+    requires { ⌜ Numbered (now group) (now s) n ⌝ }
+    ensures { λ _. ⌜ ((v : ℕ) → v < n → getD (now (group .exit)) v 0 ≡ cell (now (s .entry)) 0 v - 2) ⌝ }
+{
+    let mut v = 0;
+    while v < n {
+        group[v] = number(get(s, GROUP, v) - CLOSED);
+        v += 1;
+    }
+}
+
+// The smallest vertex on a cycle, or the number of vertices; scratch is left with zeros.
+fn cycle_in(first: &[u32], to: &[u32], s: &mut [u32]) -> usize
+    requires { ⌜ Ready (now first) (now to) (now s) ⌝ }
+    ensures { λ r. ⌜ FoundIn (now (first .entry)) (now (to .entry)) (now (s .entry)) (now (s .exit)) r ⌝ }
+{
+    search(first, to, s);
+    let v = least(first, to, s);
+    clear32(s, 0);
+    v
+}
+
+// The same, and the order, where there is no cycle.
+fn order_in(first: &[u32], to: &[u32], order: &mut [u32], s: &mut [u32]) -> usize
+    requires { ⌜ Ready (now first) (now to) (now s) × (length (now order) ≡ vertices (now first)) ⌝ }
+    ensures { λ r. ⌜ OrderedIn (now (first .entry)) (now (to .entry)) (now (order .entry)) (now (s .entry)) (now (order .exit)) (now (s .exit)) r ⌝ }
+{
+    search(first, to, s);
+    let n = first.len() - 1;
+    let v = least(first, to, s);
+    if v < n {
+        clear32(s, 0);
+        return v;
+    }
+    arrange(order, s, n);
+    clear32(s, 0);
+    n
+}
+
+// The group of each vertex; scratch is left with zeros.
+fn groups_in(first: &[u32], to: &[u32], group: &mut [u32], s: &mut [u32])
+    requires { ⌜ Ready (now first) (now to) (now s) × (length (now group) ≡ vertices (now first)) ⌝ }
+    ensures { λ _. ⌜ GroupedIn (now (first .entry)) (now (to .entry)) (now (s .entry)) (now (group .exit)) (now (s .exit)) ⌝ }
+{
+    search(first, to, s);
+    number_groups(group, s, first.len() - 1);
+    clear32(s, 0);
 }
 
 // The smallest vertex that lies on a cycle.
-pub fn least_on_cycle(
-    first: &[u32],
-    to: &[u32],
-    group: &mut [u32],
-    place: &mut [u32],
-    at: &mut [u32],
-    stack: &mut [u32],
-    path: &mut [u32],
-    bound: &mut [u32],
-) -> Cycle
-    ensures { λ r. ⌜ CycleAnswers (now (first .entry)) (now (to .entry)) (now (group .entry)) (now (place .entry)) (now (at .entry)) (now (stack .entry)) (now (path .entry)) (now (bound .entry)) (now (group .exit)) (now (place .exit)) (now (at .exit)) (now (stack .exit)) (now (path .exit)) (now (bound .exit)) r ⌝ }
+pub fn least_on_cycle(first: &[u32], to: &[u32], scratch: &mut [u32]) -> Cycle
+    ensures { λ r. ⌜ CycleAnswers (now (first .entry)) (now (to .entry)) (lent [] (now (scratch .entry))) (lent [] (now (scratch .exit))) r ⌝ }
 {
-    let room = shortest(
-        group.len(),
-        place.len(),
-        at.len(),
-        stack.len(),
-        path.len(),
-        bound.len(),
-    );
-    if !fits(first, to, room) {
+    if !graph::valid(first, to) {
         return Cycle::Malformed;
     }
     let n = first.len() - 1;
-    let v = solve(first, to, group, place, at, stack, path, bound);
+    let needed = WIDTH * n;
+    if scratch.len() < needed {
+        return Cycle::ScratchShort(needed);
+    }
+    let v = cycle_in(first, to, &mut scratch[..needed]);
     if v < n {
         return Cycle::At(v);
     }
     Cycle::Nothing
 }
 
-// Puts each vertex at its place.
-fn arrange(order: &mut [u32], place: &[u32], n: usize)
-    requires { ⌜ Arrangeable (now order) (now place) n ⌝ }
-    ensures { λ _. ⌜ Arranged (now (order .entry)) (now (place .entry)) (now (order .exit)) n ⌝ }
-{
-    let mut v = 0;
-    while v < n {
-        let k = columns::index(place[v]);
-        order[k] = v as u32;
-        v += 1;
-    }
-}
-
 // The vertices in an order in which each stands after all that it depends on, or the smallest vertex on a cycle.
-pub fn order(
+pub fn topological_order(
     first: &[u32],
     to: &[u32],
-    order: &mut [u32],
-    group: &mut [u32],
-    place: &mut [u32],
-    at: &mut [u32],
-    stack: &mut [u32],
-    path: &mut [u32],
-    bound: &mut [u32],
-) -> Sorted
-    ensures { λ r. ⌜ OrderAnswers (now (first .entry)) (now (to .entry)) (now (order .entry)) (now (group .entry)) (now (place .entry)) (now (at .entry)) (now (stack .entry)) (now (path .entry)) (now (bound .entry)) (now (order .exit)) (now (group .exit)) (now (place .exit)) (now (at .exit)) (now (stack .exit)) (now (path .exit)) (now (bound .exit)) r ⌝ }
+    column: &mut [u32],
+    scratch: &mut [u32],
+) -> Dependencies
+    ensures { λ r. ⌜ OrderAnswers (now (first .entry)) (now (to .entry)) (lent (now (column .entry)) (now (scratch .entry))) (lent (now (column .exit)) (now (scratch .exit))) r ⌝ }
 {
-    let scratch = shortest(
-        group.len(),
-        place.len(),
-        at.len(),
-        stack.len(),
-        path.len(),
-        bound.len(),
-    );
-    if !fits(first, to, columns::shorter(order.len(), scratch)) {
-        return Sorted::Malformed;
+    if !graph::valid(first, to) {
+        return Dependencies::Malformed;
     }
     let n = first.len() - 1;
-    let v = solve(first, to, group, place, at, stack, path, bound);
-    if v < n {
-        return Sorted::Cyclic(v);
+    if column.len() < n {
+        return Dependencies::ColumnShort(n);
     }
-    arrange(order, place, n);
-    Sorted::Acyclic
+    let needed = WIDTH * n;
+    if scratch.len() < needed {
+        return Dependencies::ScratchShort(needed);
+    }
+    let v = order_in(first, to, &mut column[..n], &mut scratch[..needed]);
+    if v < n {
+        return Dependencies::Cyclic(v);
+    }
+    Dependencies::Acyclic
+}
+
+// The strongly connected component of each vertex, as the number of a group.
+pub fn components(first: &[u32], to: &[u32], column: &mut [u32], scratch: &mut [u32]) -> Grouping
+    ensures { λ r. ⌜ GroupAnswers (now (first .entry)) (now (to .entry)) (lent (now (column .entry)) (now (scratch .entry))) (lent (now (column .exit)) (now (scratch .exit))) r ⌝ }
+{
+    if !graph::valid(first, to) {
+        return Grouping::Malformed;
+    }
+    let n = first.len() - 1;
+    if column.len() < n {
+        return Grouping::ColumnShort(n);
+    }
+    let needed = WIDTH * n;
+    if scratch.len() < needed {
+        return Grouping::ScratchShort(needed);
+    }
+    groups_in(first, to, &mut column[..n], &mut scratch[..needed]);
+    Grouping::Grouped
 }

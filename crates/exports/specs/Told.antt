@@ -6,8 +6,10 @@ use Rattle.index.specs.declared.dictionary.Found.{Found}
 use Rattle.index.specs.declared.dictionary.Found.the-variants.{At, Nothing}
 use Rattle.graph.specs.declared.Marking.{Marking}
 use Rattle.graph.specs.declared.Marking.the-variants as marking
-use Rattle.cycles.specs.declared.Sorted.{Sorted}
-use Rattle.cycles.specs.declared.Sorted.the-variants as sorted
+use Rattle.cycles.specs.declared.Dependencies.{Dependencies}
+use Rattle.cycles.specs.declared.Dependencies.the-variants as dependencies
+use Rattle.cycles.specs.declared.Grouping.{Grouping}
+use Rattle.cycles.specs.declared.Grouping.the-variants as grouping
 
 -- r tells of an answer that keeps the promise
 pub record Told {A R : Type 0} (code : A → R) (Promise : A → Type 0) (r : R) : Type 0 where
@@ -23,9 +25,18 @@ entry Nothing = 18446744073709551615
 abbrev pub marked : Marking → Bool
 marked marking.Marked = true
 marked marking.Malformed = false
+marked (marking.Short needed) = false
 
--- the smallest vertex on a cycle; the two greatest numbers of 64 bits, which are none
-abbrev pub vertex : Sorted → ℕ
-vertex (sorted.Cyclic v) = v
-vertex sorted.Acyclic = 18446744073709551614
-vertex sorted.Malformed = 18446744073709551615
+-- the smallest vertex on a cycle; the three greatest numbers of 64 bits, which are none
+abbrev pub vertex : Dependencies → ℕ
+vertex (dependencies.Cyclic v) = v
+vertex (dependencies.ColumnShort k) = 18446744073709551613
+vertex (dependencies.ScratchShort k) = 18446744073709551613
+vertex dependencies.Acyclic = 18446744073709551614
+vertex dependencies.Malformed = 18446744073709551615
+
+abbrev pub grouped : Grouping → Bool
+grouped grouping.Grouped = true
+grouped grouping.Malformed = false
+grouped (grouping.ColumnShort k) = false
+grouped (grouping.ScratchShort k) = false

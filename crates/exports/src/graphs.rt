@@ -1,9 +1,11 @@
-// Orders of dependencies, and what is reached.
+// Orders of dependencies, components, and what is reached.
 ghost use mathlib.Core.Path.{_≡_};
 ghost use Rattle.graph.specs.Mark.{Answers};
-ghost use Rattle.cycles.specs.Answer.{OrderAnswers};
-ghost use Rattle.exports.specs.Told.{Told, marked, vertex};
-use cycles::Sorted;
+ghost use Rattle.graph.specs.Mark as graph-marks;
+ghost use Rattle.cycles.specs.Answer.{lent, OrderAnswers, GroupAnswers};
+ghost use Rattle.exports.specs.Told.{Told, marked, vertex, grouped};
+use cycles::Dependencies;
+use cycles::Grouping;
 use graph::Marking;
 
 fn is_marked(marking: Marking) -> bool
@@ -12,16 +14,30 @@ fn is_marked(marking: Marking) -> bool
     match marking {
         Marking::Marked => true,
         Marking::Malformed => false,
+        Marking::Short(_) => false,
     }
 }
 
-fn vertex_of(sorted: Sorted) -> usize
-    ensures { λ r. ⌜ r ≡ vertex sorted ⌝ }
+fn vertex_of(dependencies: Dependencies) -> usize
+    ensures { λ r. ⌜ r ≡ vertex dependencies ⌝ }
 {
-    match sorted {
-        Sorted::Cyclic(v) => v,
-        Sorted::Acyclic => 18446744073709551614,
-        Sorted::Malformed => 18446744073709551615,
+    match dependencies {
+        Dependencies::Cyclic(v) => v,
+        Dependencies::ColumnShort(_) => 18446744073709551613,
+        Dependencies::ScratchShort(_) => 18446744073709551613,
+        Dependencies::Acyclic => 18446744073709551614,
+        Dependencies::Malformed => 18446744073709551615,
+    }
+}
+
+fn is_grouped(grouping: Grouping) -> bool
+    ensures { λ r. ⌜ r ≡ grouped grouping ⌝ }
+{
+    match grouping {
+        Grouping::Grouped => true,
+        Grouping::Malformed => false,
+        Grouping::ColumnShort(_) => false,
+        Grouping::ScratchShort(_) => false,
     }
 }
 
@@ -33,7 +49,7 @@ pub extern "C" fn woffulent_reachable(
     mark: &mut [u32],
     queue: &mut [u32],
 ) -> bool
-    ensures { λ r. ⌜ Told marked (Answers (now (first .entry)) (now (to .entry)) from (now (mark .entry)) (now (queue .entry)) (now (mark .exit)) (now (queue .exit))) r ⌝ }
+    ensures { λ r. ⌜ Told marked (Answers (now (first .entry)) (now (to .entry)) from (graph-marks.lent (now (mark .entry)) (now (queue .entry))) (graph-marks.lent (now (mark .exit)) (now (queue .exit)))) r ⌝ }
 {
     is_marked(graph::reachable(first, to, from, mark, queue))
 }
@@ -42,15 +58,22 @@ pub extern "C" fn woffulent_reachable(
 pub extern "C" fn woffulent_order(
     first: &[u32],
     to: &[u32],
-    order: &mut [u32],
-    group: &mut [u32],
-    place: &mut [u32],
-    at: &mut [u32],
-    stack: &mut [u32],
-    path: &mut [u32],
-    bound: &mut [u32],
+    column: &mut [u32],
+    scratch: &mut [u32],
 ) -> usize
-    ensures { λ r. ⌜ Told vertex (OrderAnswers (now (first .entry)) (now (to .entry)) (now (order .entry)) (now (group .entry)) (now (place .entry)) (now (at .entry)) (now (stack .entry)) (now (path .entry)) (now (bound .entry)) (now (order .exit)) (now (group .exit)) (now (place .exit)) (now (at .exit)) (now (stack .exit)) (now (path .exit)) (now (bound .exit))) r ⌝ }
+    ensures { λ r. ⌜ Told vertex (OrderAnswers (now (first .entry)) (now (to .entry)) (lent (now (column .entry)) (now (scratch .entry))) (lent (now (column .exit)) (now (scratch .exit)))) r ⌝ }
 {
-    vertex_of(cycles::order(first, to, order, group, place, at, stack, path, bound))
+    vertex_of(cycles::topological_order(first, to, column, scratch))
+}
+
+#[no_mangle]
+pub extern "C" fn woffulent_components(
+    first: &[u32],
+    to: &[u32],
+    column: &mut [u32],
+    scratch: &mut [u32],
+) -> bool
+    ensures { λ r. ⌜ Told grouped (GroupAnswers (now (first .entry)) (now (to .entry)) (lent (now (column .entry)) (now (scratch .entry))) (lent (now (column .exit)) (now (scratch .exit)))) r ⌝ }
+{
+    is_grouped(cycles::components(first, to, column, scratch))
 }

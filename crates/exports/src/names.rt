@@ -1,7 +1,7 @@
 // Interning, and the dictionary over keys.
 ghost use mathlib.Core.Path.{_≡_};
 ghost use Rattle.index.specs.Room.{done};
-ghost use Rattle.index.specs.Interning.{Interns};
+ghost use Rattle.index.specs.Interning.{Interns, FindsSymbol};
 ghost use Rattle.index.specs.Dictionary.{Builds, Finds, Continues};
 ghost use Rattle.exports.specs.Told.{Told, entry};
 use index::Outcome;
@@ -34,9 +34,23 @@ pub extern "C" fn woffulent_intern(
     heads: &mut [u32],
     next: &mut [u32],
 ) -> bool
-    ensures { λ r. ⌜ Told done (λ o. Interns (now (bytes .entry)) (now (starts .entry)) (now (lengths .entry)) (now (symbols .entry)) (now (heads .entry)) (now (next .entry)) o (now (symbols .exit))) r ⌝ }
+    ensures { λ r. ⌜ Told done (λ o. Interns (now (bytes .entry)) (now (starts .entry)) (now (lengths .entry)) (now (symbols .entry)) (now (heads .entry)) (now (next .entry)) o (now (symbols .exit)) (now (heads .exit)) (now (next .exit))) r ⌝ }
 {
     is_done(index::symbols::intern(bytes, starts, lengths, symbols, heads, next))
+}
+
+#[no_mangle]
+pub extern "C" fn woffulent_symbol_of(
+    bytes: &[u8],
+    starts: &[u32],
+    lengths: &[u32],
+    heads: &[u32],
+    next: &[u32],
+    word: &[u8],
+) -> usize
+    ensures { λ r. ⌜ Told entry (FindsSymbol (now (bytes .entry)) (now (starts .entry)) (now (lengths .entry)) (now (heads .entry)) (now (next .entry)) (now (word .entry))) r ⌝ }
+{
+    entry_of(index::symbols::symbol_of(bytes, starts, lengths, heads, next, word))
 }
 
 #[no_mangle]

@@ -1,5 +1,5 @@
 pub mod Store
-pub mod Busy
+pub mod Nonzero
 pub mod Arcs
 pub mod Test
 pub mod Mark

@@ -1,20 +1,23 @@
 -- The search from one vertex: a law for each step.
 use mathlib.Core.Path.{_≡_, refl, sym, _∙_}
-use mathlib.Core.List.{List}
+use mathlib.Core.List.{List, _++_}
 use mathlib.Core.Logic.{_⊎_, inl, inr, by-cases}
 use Prim.Native.Nat.{ℕ, _+_, _-_, _≤_, _<_}
 use native.Mathlib.Omega.{arith}
 use native.Mathlib.Decide.{ℕ-discrete}
-use lib.ListN.{length, getD, set, length-set}
+use lib.ListN.{length, getD, set, take, drop, replicate, length-set}
+use lib.Seq.{length-take-le, take-at, drop-at}
+use Rattle.columns.proofs.Laws.{clear-before}
 use Rattle.relations.specs.Reach.{Reaches, direct, onward}
 use Rattle.relations.proofs.Reach.{reaches-trans}
 use Rattle.graph.specs.Graph.{vertices, Arc}
-use Rattle.graph.specs.Mark.{Markable, Marks, Spread, Expanded}
+use Rattle.graph.specs.Mark.{entries, Markable, Marks, lent, Marked-all, Spread, Expanded}
 use Rattle.graph.proofs.Store.{Put, put}
-use Rattle.graph.proofs.Busy.{busy-zero, busy-le, busy-white, busy-more}
+use Rattle.graph.proofs.Nonzero.{nonzero-none, nonzero-le, nonzero-fewer, nonzero-more}
 use Rattle.graph.proofs.Arcs.{arc-target, arc-place}
 
-pub markable-set : {first to mark queue : List ℕ} {from : ℕ} → Markable first to from mark queue → (mark′ queue′ : List ℕ) → length mark′ ≡ length mark → length queue′ ≡ length queue → Markable first to from mark′ queue′
+pub markable-set : {first to mark queue : List ℕ} {from : ℕ} → Markable first to from mark queue → (mark′ queue′ : List ℕ) → length mark′ ≡ length mark
+    → length queue′ ≡ length queue → Markable first to from mark′ queue′
 markable-set r mark′ queue′ p q =
     record { graph = r .graph; source = r .source; mark-room = omega (arith, r .mark-room); queue-room = omega (arith, r .queue-room) }
 
@@ -26,7 +29,7 @@ pub spread-start : {first to mark queue : List ℕ} {from : ℕ} → Markable fi
 spread-start {first} {to} {mark} {queue} r z =
     record {
       markable = r;
-      counted = busy-zero mark (vertices first) z;
+      counted = nonzero-none (entries mark) (vertices first) z;
       bits = λ v. omega (arith, z v);
       low = λ k l. absurd (omega arith);
       reached = λ k l. absurd (omega arith);
@@ -35,10 +38,10 @@ spread-start {first} {to} {mark} {queue} r z =
 
 module _ {first to mark queue : List ℕ} {from t : ℕ} (s : Spread first to from mark queue t) where
   pub tail-low : t ≤ vertices first
-  tail-low = omega (arith, s .counted, busy-le mark (vertices first))
+  tail-low = omega (arith, s .counted, nonzero-le (entries mark) (vertices first))
 
   pub tail-room : (w : ℕ) → w < vertices first → getD mark w 0 ≡ 0 → t < vertices first
-  tail-room w l h = omega (arith, s .counted, busy-white mark (vertices first) w l h)
+  tail-room w l h = omega (arith, s .counted, nonzero-fewer (entries mark) (vertices first) w l h)
 
   spread-add : (w : ℕ) → w < vertices first → getD mark w 0 ≡ 0 → Reaches (Arc first to) from w → Spread first to from (set mark w 1) (set queue t w) (t + 1)
   spread-add w l h r =
@@ -49,7 +52,7 @@ module _ {first to mark queue : List ℕ} {from t : ℕ} (s : Spread first to fr
       let before : (k : ℕ) → k < t → getD (set queue t w) k 0 ≡ getD queue k 0 = λ k g. q .off k (λ e. omega arith) in
       record {
         markable = markable-set (s .markable) (set mark w 1) (set queue t w) (m .long) (q .long);
-        counted = omega (arith, busy-more mark (set mark w 1) (vertices first) w l h (omega (arith, m .at)) (m .off), s .counted);
+        counted = omega (arith, nonzero-more (entries mark) (entries (set mark w 1)) (vertices first) w l h (omega (arith, m .at)) (m .off), s .counted);
         bits = λ v. by-cases (ℕ-discrete v w) (λ e. rw (e, m .at) (omega arith)) (λ e. rw (m .off v e) (s .bits v));
         low = λ k g. by-cases (ℕ-discrete k t) (λ e. rw (e, q .at) l) (λ e. rw (before k (omega (arith, e))) (s .low k (omega (arith, e))));
         reached = λ k g. by-cases (ℕ-discrete k t) (λ e. rw (e, q .at) r) (λ e. rw (before k (omega (arith, e))) (s .reached k (omega (arith, e))));
@@ -76,7 +79,9 @@ pub record Going (first to : List ℕ) (from u : ℕ) (mark₀ queue₀ : List �
   pub mark-long : length mark ≡ length mark₀
   pub queue-long : length queue ≡ length queue₀
 
-pub going-start : {first to mark queue : List ℕ} {from u tail e end : ℕ} → Spread first to from mark queue tail → (u < vertices first) × ((w : ℕ) → Arc first to u w → Reaches (Arc first to) from w) → e ≡ getD first u 0 → end ≡ getD first (u + 1) 0 → Going first to from u mark queue tail end mark queue e tail
+pub going-start : {first to mark queue : List ℕ} {from u tail e end : ℕ} → Spread first to from mark queue tail → (u < vertices first) × ((w : ℕ)
+    → Arc first to u w → Reaches (Arc first to) from w) → e ≡ getD first u 0 → end ≡ getD first (u + 1) 0
+    → Going first to from u mark queue tail end mark queue e tail
 going-start {first} {u = u} s h p q =
     record {
       ask = h .1;
@@ -143,11 +148,14 @@ module _ {first to mark₀ queue₀ mark queue : List ℕ} {from u tail end e t 
         queue-long = length-set queue t w ∙ s .queue-long;
       }
 
-  pub going-step : (w : ℕ) → w ≡ getD to e 0 → (mark′ queue′ : List ℕ) (t′ : ℕ) → ((getD mark w 0 ≡ 0) × (mark′ ≡ set mark w 1) × (queue′ ≡ set queue t w) × (t′ ≡ t + 1)) ⊎ ((getD mark w 0 ≡ 0 → ⊥) × (mark′ ≡ mark) × (queue′ ≡ queue) × (t′ ≡ t)) → Going first to from u mark₀ queue₀ tail end mark′ queue′ (e + 1) t′
+  pub going-step : (w : ℕ) → w ≡ getD to e 0 → (mark′ queue′ : List ℕ) (t′ : ℕ) → ((getD mark w 0 ≡ 0) × (mark′ ≡ set mark w 1) × (queue′ ≡ set queue t w) ×
+      (t′ ≡ t + 1)) ⊎ ((getD mark w 0 ≡ 0 → ⊥) × (mark′ ≡ mark) × (queue′ ≡ queue) × (t′ ≡ t)) → Going first to from u mark₀ queue₀ tail end mark′ queue′
+      (e + 1) t′
   going-step w q mark′ queue′ t′ (inl c) = rw (c .1, c .2, c .3) (going-new w q (c .0))
   going-step w q mark′ queue′ t′ (inr c) = rw (c .1, c .2, c .3) (going-old w q (c .0))
 
-pub going-end : {first to mark₀ queue₀ mark queue : List ℕ} {from u tail end e t : ℕ} → Going first to from u mark₀ queue₀ tail end mark queue e t → end ≤ e → Expanded first to from u mark₀ queue₀ tail mark queue t
+pub going-end : {first to mark₀ queue₀ mark queue : List ℕ} {from u tail end e t : ℕ} → Going first to from u mark₀ queue₀ tail end mark queue e t → end ≤ e
+    → Expanded first to from u mark₀ queue₀ tail mark queue t
 going-end {mark = mark} s l =
     record {
       spread = s .spread;
@@ -177,7 +185,9 @@ module _ {first to mark₀ queue₀ mark queue : List ℕ} {from tail head : ℕ
       let r′ : Reaches (Arc first to) from u = rw (← q) at r in
       (rw q (s .spread .low head l), λ w e. reaches-trans r′ (direct e))
 
-  pub front-step : {mark′ queue′ : List ℕ} {tail′ : ℕ} (u : ℕ) → head < tail → u ≡ getD queue head 0 → Expanded first to from u mark queue tail mark′ queue′ tail′ → length mark′ ≡ length mark → length queue′ ≡ length queue → Front first to from mark₀ queue₀ mark′ queue′ tail′ (head + 1)
+  pub front-step : {mark′ queue′ : List ℕ} {tail′ : ℕ} (u : ℕ) → head < tail → u ≡ getD queue head 0
+      → Expanded first to from u mark queue tail mark′ queue′ tail′ → length mark′ ≡ length mark → length queue′ ≡ length queue
+      → Front first to from mark₀ queue₀ mark′ queue′ tail′ (head + 1)
   front-step u l q x a b =
       record {
         spread = x .spread;
@@ -212,4 +222,29 @@ module _ {first to mark₀ queue₀ mark queue : List ℕ} {from tail head : ℕ
         sound = λ v h. let b = s .spread .queued v h in let r = s .spread .reached (b .0) (b .1) in let c = b .2 in rw c at r;
         complete = λ v r. v-marked l r;
         else-zero = s .spread .bits;
+      }
+
+-- the first entries were lent on, and came back with the marks, and with zeros
+module _ {first to mark queue : List ℕ} {from : ℕ} (m : Markable first to from mark queue) where
+  pub markable-front : Markable first to from (take (vertices first) mark) (take (vertices first) queue)
+  markable-front =
+      record {
+        graph = m .graph;
+        source = m .source;
+        mark-room = omega (arith, length-take-le (vertices first) mark (m .mark-room));
+        queue-room = omega (arith, length-take-le (vertices first) queue (m .queue-room));
+      }
+
+  pub marked-all :
+      {marks zeros : List ℕ} → length marks ≡ length (take (vertices first) mark) → Marks first to from marks × (zeros ≡ replicate (length (take (vertices first) queue)) 0)
+      → Marked-all first to from (lent mark queue) (lent (marks ++ drop (vertices first) mark) (zeros ++ drop (vertices first) queue))
+  marked-all {marks} {zeros} e h =
+      let n = vertices first in
+      let long : length marks ≡ n = e ∙ length-take-le n mark (m .mark-room) in
+      let front : take n (marks ++ drop n mark) ≡ marks = take-at marks (drop n mark) n long in
+      record {
+        markable = m;
+        marks = rw front (h .0);
+        mark-rest = drop-at marks (drop n mark) n long;
+        queue-is = clear-before 0 n queue zeros (m .queue-room) (h .1);
       }

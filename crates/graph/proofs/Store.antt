@@ -28,3 +28,6 @@ replicate-zero (suc n) (suc k) = replicate-zero n k
 
 pub zeros : (l l′ : List ℕ) → l′ ≡ cleared 0 0 l → (k : ℕ) → getD l′ k 0 ≡ 0
 zeros l l′ q k = ap (λ (x : List ℕ). getD x k 0) (q ∙ clear-all 0 l) ∙ replicate-zero (length l) k
+
+pub all-zeros : (l : List ℕ) {l′ : List ℕ} {n : ℕ} → l′ ≡ cleared 0 0 l → length l ≡ n → l′ ≡ replicate n 0
+all-zeros l q e = q ∙ clear-all 0 l ∙ ap (λ (k : ℕ). replicate k 0) e

@@ -24,7 +24,8 @@ pub tells-pass : {P : Type 0} {r : Bool} → Tells P r → not r ≡ false → P
 tells-pass {r = r} t e = t .yes (not-false r e)
 
 -- one place more
-pub rising-more : (first : List ℕ) (v : ℕ) → ((k : ℕ) → k < v → getD first k 0 ≤ getD first (k + 1) 0) → getD first v 0 ≤ getD first (v + 1) 0 → (k : ℕ) → k < v + 1 → getD first k 0 ≤ getD first (k + 1) 0
+pub rising-more : (first : List ℕ) (v : ℕ) → ((k : ℕ) → k < v → getD first k 0 ≤ getD first (k + 1) 0) → getD first v 0 ≤ getD first (v + 1) 0 → (k : ℕ)
+    → k < v + 1 → getD first k 0 ≤ getD first (k + 1) 0
 rising-more first v s h k g = by-cases (ℕ-discrete k v) (λ e. rw e h) (λ e. s k (omega (arith, e)))
 
 pub inside-more : (to : List ℕ) (from e n x : ℕ) → ((k : ℕ) → from ≤ k → k < e → getD to k 0 < n) → x ≡ getD to e 0 → x < n → (k : ℕ) → from ≤ k → k < e + 1 → getD to k 0 < n

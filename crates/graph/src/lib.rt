@@ -2,14 +2,16 @@
 ghost use mathlib.Core.Path.{_≡_};
 ghost use mathlib.Core.Bool.{true, false};
 ghost use Prim.Native.Nat.{ℕ, _+_, _-_, _≤_, _<_};
-ghost use lib.ListN.{length, getD};
+ghost use lib.ListN.{length, getD, replicate};
 ghost use Rattle.relations.specs.Reach.{Reaches};
 ghost use Rattle.graph.specs.Graph.{vertices, Graph, Arc, Tells};
-ghost use Rattle.graph.specs.Mark.{Markable, Marks, Answers, Spread, Expanded};
+ghost use Rattle.graph.specs.Mark.{Markable, Marks, lent, Answers, Spread, Expanded};
 
+// Whether all that is reached is marked; a queue or a column of marks that is too short is told the entries that it needs.
 pub enum Marking {
     Marked,
     Malformed,
+    Short(usize),
 }
 
 // Do the offsets never fall? (There are n + 1 of them.)
@@ -85,7 +87,7 @@ fn expand(
         let w = columns::index(to[e]);
         if mark[w] == 0 {
             mark[w] = 1;
-            queue[t] = w as u32;
+            queue[t] = columns::number(w);
             t += 1;
         }
         e += 1;
@@ -93,10 +95,10 @@ fn expand(
     t
 }
 
-// Marks all that is reached, where there is room.
+// Marks all that is reached, where there is room; the queue is left with zeros.
 fn spread(first: &[u32], to: &[u32], from: usize, mark: &mut [u32], queue: &mut [u32])
     requires { ⌜ Markable (now first) (now to) from (now mark) (now queue) ⌝ }
-    ensures { λ _. ⌜ Marks (now (first .entry)) (now (to .entry)) from (now (mark .exit)) ⌝ }
+    ensures { λ _. ⌜ Marks (now (first .entry)) (now (to .entry)) from (now (mark .exit)) × (now (queue .exit) ≡ replicate (length (now (queue .entry))) 0) ⌝ }
 {
     columns::clear32(mark, 0);
     let mut tail = expand(first, to, from, from, mark, queue, 0);
@@ -106,6 +108,7 @@ fn spread(first: &[u32], to: &[u32], from: usize, mark: &mut [u32], queue: &mut 
         tail = expand(first, to, from, u, mark, queue, tail);
         head += 1;
     }
+    columns::clear32(queue, 0);
 }
 
 // Marks all that a vertex reaches over one or more arcs.
@@ -116,7 +119,7 @@ pub fn reachable(
     mark: &mut [u32],
     queue: &mut [u32],
 ) -> Marking
-    ensures { λ r. ⌜ Answers (now (first .entry)) (now (to .entry)) from (now (mark .entry)) (now (queue .entry)) (now (mark .exit)) (now (queue .exit)) r ⌝ }
+    ensures { λ r. ⌜ Answers (now (first .entry)) (now (to .entry)) from (lent (now (mark .entry)) (now (queue .entry))) (lent (now (mark .exit)) (now (queue .exit))) r ⌝ }
 {
     if !valid(first, to) {
         return Marking::Malformed;
@@ -126,8 +129,8 @@ pub fn reachable(
         return Marking::Malformed;
     }
     if columns::shorter(mark.len(), queue.len()) < n {
-        return Marking::Malformed;
+        return Marking::Short(n);
     }
-    spread(first, to, from, mark, queue);
+    spread(first, to, from, &mut mark[..n], &mut queue[..n]);
     Marking::Marked
 }

@@ -7,6 +7,7 @@ use Prim.Native.Nat.{ℕ, _+_, _-_, _≤_, _<_, min}
 use native.Mathlib.Omega.{arith}
 use native.Mathlib.Decide.{ℕ-discrete, decLt}
 use lib.Dec.{eqb, leb, ltb}
+use lib.Seq.{getD-set-other}
 use lib.ListN.{length, getD, set, replicate, length-set, length-replicate, getD-replicate, List·getD-eq-default}
 use borrow.Author.Tests.{eqb-true, eqb-false, eq-eqb, ne-eqb, lt-ltb, le-ltb, ltb-true, leb-true, not-true, not-false}
 use Rattle.columns.specs.Column.{cleared}
@@ -297,6 +298,7 @@ pub record Building (keys heads₀ next₀ heads next : List ℕ) (i : ℕ) : Ty
   pub head : (b : ℕ) → b < length heads₀ → getD heads b 0 ≡ link keys (length heads₀) b i
   pub goes : (j : ℕ) → i ≤ j → j < length keys → 0 < getD keys j 0
       → getD next j 0 ≡ link keys (length heads₀) (bucket-of (length heads₀) (getD keys j 0)) (j + 1)
+  pub rest : (j : ℕ) → getD keys j 0 ≡ 0 → getD next j 0 ≡ getD next₀ j 0
 
 pub building-starts : {keys heads₀ next : List ℕ} (heads : List ℕ) → fits (length keys) (length heads) (length next) ≡ true → heads₀ ≡ cleared 0 0 heads
     → Building keys heads₀ next heads₀ next (length keys)
@@ -312,6 +314,7 @@ building-starts {keys} {heads₀} {next} heads f e =
       next-long = refl;
       head = λ b h. ap (λ (l : List ℕ). getD l b 0) e ∙ zeros-at heads b ∙ sym (link-end keys (length heads₀) b);
       goes = λ j a b. absurd (omega arith);
+      rest = λ j z. refl;
     }
 
 module _ {keys heads₀ next₀ heads next : List ℕ} {i : ℕ} (w : Building keys heads₀ next₀ heads next i) (up : 0 < i) where
@@ -338,6 +341,7 @@ module _ {keys heads₀ next₀ heads next : List ℕ} {i : ℕ} (w : Building k
             ∙ ap (λ (t : Bool). cond t (i - 1 + 1) (link keys m b (i - 1 + 1))) (falls-none keys m b (i - 1) e)
             ∙ ap (link keys m b) down);
         goes = λ j a b k. by-cases (ℕ-discrete j (i - 1)) (λ q. absurd (omega (arith, k, ap (λ (x : ℕ). getD keys x 0) q, e))) (λ q. w .goes j (omega (arith, q)) b k);
+        rest = w .rest;
       }
 
   -- an entry with a key: it comes before what its bucket has
@@ -375,6 +379,7 @@ module _ {keys heads₀ next₀ heads next : List ℕ} {i : ℕ} (w : Building k
             ∙ ap (λ (x : ℕ). link keys m x i) (e ∙ ap (λ (x : ℕ). bucket-of m (getD keys x 0)) (sym q))
             ∙ ap (link keys m (bucket-of m (getD keys j 0))) (sym up′))
             (λ q. w .goes j (omega (arith, q)) h k′);
+        rest = λ j z. getD-set-other next (i - 1) j (getD heads b 0) 0 (λ q. omega (arith, k, z, ap (λ (x : ℕ). getD keys x 0) q)) ∙ w .rest j z;
       }
 
 pub built : {keys heads₀ next₀ heads next : List ℕ} {i : ℕ} → Building keys heads₀ next₀ heads next i → i ≤ 0 → Indexed keys heads next
@@ -392,11 +397,13 @@ built {keys} {heads₀} {next₀} {heads} {next} {i} w z =
 
 pub builds-short : {keys heads next : List ℕ} {b : Bool} → not b ≡ true → b ≡ fits (length keys) (length heads) (length next) → Builds keys heads next Short heads next
 builds-short {b = b} t e =
-    record { answer = sym (not-true b t) ∙ e; indexed = λ f. absurd (false≢true f); kept = λ _. (refl, refl) }
+    record { answer = sym (not-true b t) ∙ e; indexed = λ f. absurd (false≢true f); rest = λ f. absurd (false≢true f); kept = λ _. (refl, refl) }
 
-pub builds-done : {keys heads next heads′ next′ : List ℕ} {b : Bool} → not b ≡ false → b ≡ fits (length keys) (length heads) (length next) → Indexed keys heads′ next′ → Builds keys heads next Done heads′ next′
-builds-done {b = b} t e I =
-    record { answer = sym (not-false b t) ∙ e; indexed = λ _. I; kept = λ f. absurd (false≢true f) }
+pub builds-done :
+    {keys heads next heads′ next′ : List ℕ} {b : Bool} → not b ≡ false → b ≡ fits (length keys) (length heads) (length next) → Indexed keys heads′ next′
+    → ((i : ℕ) → getD keys i 0 ≡ 0 → getD next′ i 0 ≡ getD next i 0) → Builds keys heads next Done heads′ next′
+builds-done {b = b} t e I z =
+    record { answer = sym (not-false b t) ∙ e; indexed = λ _. I; rest = λ _. z; kept = λ f. absurd (false≢true f) }
 
 -- ---- the answers of `find` and `next_of`
 

@@ -47,10 +47,12 @@ pub record Indexed (keys heads next : List ℕ) : Type 0 where
 
 -- ---- contracts
 
--- done exactly where there is room; else nothing changes
+-- done exactly where there is room: then heads and next hold the chains, and an entry that has no key, as what is behind the keys, has the
+-- link that it had; else nothing changes
 pub record Builds (keys heads next : List ℕ) (r : Outcome) (heads′ next′ : List ℕ) : Type 0 where
   pub answer : done r ≡ fits (length keys) (length heads) (length next)
   pub indexed : done r ≡ true → Indexed keys heads′ next′
+  pub rest : done r ≡ true → (i : ℕ) → getD keys i 0 ≡ 0 → getD next′ i 0 ≡ getD next i 0
   pub kept : not (done r) ≡ true → (heads′ ≡ heads) × (next′ ≡ next)
 
 -- an entry that is given lies in the keys, from an index on, and has the key

@@ -1,23 +1,21 @@
--- Interning: the symbol of a token is the least token that is spelled alike (`symbol-of` of express, specs/Spelling).
+-- Interning: an interned spelling is called a symbol here; its number is the least token that is spelled so (`symbol-of` of express).
+-- (Elsewhere a symbol is a token of punctuation.)
 use mathlib.Core.Path.{_≡_}
-use mathlib.Core.Bool.{Bool, true, cond, _&&_}
-use mathlib.Core.List.{List}
+use mathlib.Core.Bool.{Bool, true, cond, _&&_, not}
+use mathlib.Core.List.{List, map}
 use Prim.Native.Nat.{ℕ, zero, suc, _≤_, _<_}
 use lib.Dec.{eqb}
 use lib.ListN.{length, getD}
 use lib.Seq.{sets}
-use Rattle.express.specs.tokens.Spelling.{spelling, symbol-of, symbols-of}
+use Rattle.relations.specs.Select.{first-from}
+use Rattle.express.specs.tokens.Bytes.{lower}
+use Rattle.express.specs.tokens.Spelling.{same, spelling, symbol-of, symbols-of}
 use Rattle.index.specs.Bucket.{bucket-of, hash-from}
 use Rattle.index.specs.Room.{done, enough}
+use Rattle.index.specs.Dictionary.{among}
 use Rattle.index.specs.declared.Outcome.{Outcome}
-
--- done exactly where there is room, each token's symbol then stands in the column; else it stays as it was. A token that lies outside the
--- bytes, or reaches past them, is spelled by those of its bytes that are there.
-pub record Interns (bytes starts lengths symbols heads next : List ℕ) (r : Outcome) (symbols′ : List ℕ) : Type 0 where
-  pub answer : done r ≡ enough (length starts) (length lengths) (length symbols) (length heads) (length next)
-  pub stored : symbols′ ≡ cond (done r) (sets symbols 0 (symbols-of bytes starts lengths)) symbols
-
--- ---- what the inner functions go by
+use Rattle.index.specs.declared.dictionary.Found.{Found}
+use Rattle.index.specs.declared.dictionary.Found.the-variants.{At, Nothing}
 
 -- the last number below i that passes the test, as a link: one more, or 0 where none does
 unfoldable pub last-index-below : (ℕ → Bool) → ℕ → ℕ
@@ -32,6 +30,76 @@ module _ (bytes starts lengths : List ℕ) where
   unfoldable pub chained : ℕ → ℕ → ℕ → Bool
   chained buckets b j = eqb (symbol-of bytes starts lengths j) j && eqb (bucket-at buckets j) b
 
+  -- the links of the first n tokens: from each to the one before it on the chain of its bucket
+  abbrev pub Links : ℕ → List ℕ → ℕ → Type 0
+  Links buckets next n = (k : ℕ) → k < n → getD next k 0 ≡ last-index-below (chained buckets (bucket-at buckets k)) k
+
+  -- heads and next hold the chains of all tokens: a bucket's head is the last of its chain
+  pub record Chained (heads next : List ℕ) : Type 0 where
+    pub some : 0 < length heads
+    pub sized : length starts ≤ length lengths
+    pub room : length starts ≤ length next
+    pub head : (b : ℕ) → b < length heads → getD heads b 0 ≡ last-index-below (chained (length heads) b) (length starts)
+    pub links : Links (length heads) next (length starts)
+
+  -- ---- contracts
+
+  -- done exactly where there is room: each token's symbol then stands in the column, heads and next hold the chains, and what is behind the
+  -- tokens stays; else all stays as it was. A token that lies outside the bytes, or reaches past them, is spelled by those of its bytes
+  -- that are there.
+  pub record Interns (symbols heads next : List ℕ) (r : Outcome) (symbols′ heads′ next′ : List ℕ) : Type 0 where
+    pub answer : done r ≡ enough (length starts) (length lengths) (length symbols) (length heads) (length next)
+    pub stored : symbols′ ≡ cond (done r) (sets symbols 0 (symbols-of bytes starts lengths)) symbols
+    pub chains : done r ≡ true → Chained heads′ next′
+    pub rest : done r ≡ true → (k : ℕ) → length starts ≤ k → getD next′ k 0 ≡ getD next k 0
+    pub kept : not (done r) ≡ true → (heads′ ≡ heads) × (next′ ≡ next)
+
+  -- token j is spelled like a word, which may stand in other bytes
+  abbrev pub spells : List ℕ → ℕ → Bool
+  spells word j = same (spelling bytes starts lengths j) (map lower word)
+
+  -- the symbol of a word: the least token that is spelled like it, if there is one
+  unfoldable pub symbol-of-word : List ℕ → Found
+  symbol-of-word word = among (length starts) (first-from (spells word) 0 (length starts))
+
+  -- a token below a limit, spelled like the word
+  abbrev pub SpelledLike : List ℕ → ℕ → Found → Type 0
+  SpelledLike word limit (At i) = (i < limit) × (spells word i ≡ true)
+  SpelledLike word limit Nothing = Unit {0}
+
+  -- the symbol of the word, where heads and next are as `intern` leaves them; whatever they hold, the call ends, and a token that it gives is
+  -- spelled like the word
+  pub record FindsSymbol (heads next word : List ℕ) (r : Found) : Type 0 where
+    pub holds : SpelledLike word (length starts) r
+    pub is : Chained heads next → r ≡ symbol-of-word word
+
+  -- ---- what the inner functions go by
+
+  abbrev pub word-bucket : ℕ → List ℕ → ℕ
+  word-bucket buckets word = bucket-of buckets (hash-from 0 (map lower word))
+
+  -- token j is the first of its spelling, and spelled like the word
+  abbrev pub wanted : ℕ → List ℕ → ℕ → Bool
+  wanted buckets word j = chained buckets (word-bucket buckets word) j && spells word j
+
+  -- where a link leads
+  abbrev pub at-link : ℕ → Found
+  at-link zero = Nothing
+  at-link (suc k) = At k
+
+  -- the token on a chain that is spelled like the word
+  pub record Along (next word : List ℕ) (limit first : ℕ) (r : Found) : Type 0 where
+    pub holds : SpelledLike word limit r
+    pub is :
+        (buckets : ℕ) → Links buckets next limit → first ≡ last-index-below (chained buckets (word-bucket buckets word)) limit
+        → r ≡ at-link (last-index-below (wanted buckets word) limit)
+
+  -- so many tokens have their starts, lengths and links
+  pub record Lined (next : List ℕ) (limit : ℕ) : Type 0 where
+    pub started : limit ≤ length starts
+    pub sized : limit ≤ length lengths
+    pub linked : limit ≤ length next
+
   -- the chain of token i's bucket, as it is before token i is entered: the later token first
   pub record Linked (next : List ℕ) (head i : ℕ) : Type 0 where
     pub buckets : ℕ
@@ -39,12 +107,14 @@ module _ (bytes starts lengths : List ℕ) where
     pub sized : length starts ≤ length lengths
     pub room : length starts ≤ length next
     pub heads : head ≡ last-index-below (chained buckets (bucket-at buckets i)) i
-    pub links : (k : ℕ) → k < i → getD next k 0 ≡ last-index-below (chained buckets (bucket-at buckets k)) k
+    pub links : Links buckets next i
 
-  pub record Fills (symbols symbols′ : List ℕ) : Type 0 where
+  pub record Fills (symbols next symbols′ heads′ next′ : List ℕ) : Type 0 where
     pub is : symbols′ ≡ sets symbols 0 (symbols-of bytes starts lengths)
+    pub chains : Chained heads′ next′
+    pub rest : (k : ℕ) → length starts ≤ k → getD next′ k 0 ≡ getD next k 0
 
 -- room, and no chain yet
-pub record Readied (starts lengths symbols heads next : List ℕ) : Type 0 where
+pub record ReadyToFill (starts lengths symbols heads next : List ℕ) : Type 0 where
   pub room : enough (length starts) (length lengths) (length symbols) (length heads) (length next) ≡ true
   pub none : (b : ℕ) → getD heads b 0 ≡ 0

@@ -2,10 +2,10 @@
 ghost use Rattle.index.specs.Dictionary.{Builds, Finds, Continues, Walks};
 use crate::Outcome;
 use crate::bucket;
-use crate::number;
 use crate::scratch;
 use columns::clear32;
 use columns::index;
+use columns::number;
 
 // An entry, by its index.
 pub enum Found {

@@ -9,6 +9,19 @@ ghost use Prim.Native.Nat.{_<_};
 ghost use Rattle.index.specs.Bucket.{mixed, InBucket};
 ghost use Rattle.index.specs.Room.{fits};
 
+// Numbers of 32 bits are below this one; two large odd numbers to multiply by (the first is 2 ^ 32 over the golden ratio), and
+// the bits that are folded between them.
+const WORD: u64 = 4294967296;
+
+const FIRST_FACTOR: u64 = 2654435761;
+
+const SECOND_FACTOR: u64 = 2246822519;
+
+const FOLD: u64 = 32768;
+
+// A link is an entry plus one, of 32 bits: there are fewer entries than this.
+const ENTRIES: usize = 4294967295;
+
 // Whether the scratch and the columns had room for the work.
 pub enum Outcome {
     Done,
@@ -25,23 +38,15 @@ fn scratch(count: usize, heads: usize, next: usize) -> bool
     if next < count {
         return false;
     }
-    count < 4294967295
-}
-
-// An entry, or a link, as it is stored.
-fn number(x: usize) -> u32
-    requires { ⌜ x < 4294967296 ⌝ }
-    ensures { λ r. ⌜ r ≡ x ⌝ }
-{
-    x as u32
+    count < ENTRIES
 }
 
 // A number of 32 bits, in each of which all of x has a say.
 fn mix(x: u64) -> u64
     ensures { λ r. ⌜ r ≡ mixed x ⌝ }
 {
-    let once = (x % 4294967296 + x / 4294967296) % 4294967296 * 2654435761 % 4294967296;
-    (once + once / 32768) % 4294967296 * 2246822519 % 4294967296
+    let once = (x % WORD + x / WORD) % WORD * FIRST_FACTOR % WORD;
+    (once + once / FOLD) % WORD * SECOND_FACTOR % WORD
 }
 
 // The bucket that a number falls into.

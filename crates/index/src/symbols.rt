@@ -7,26 +7,32 @@ ghost use Rattle.express.specs.tokens.Bytes.{lower};
 ghost use Rattle.express.specs.tokens.Spelling.{same, spelling, symbol-of};
 ghost use Rattle.index.specs.Bucket.{InBucket, hash-from};
 ghost use Rattle.index.specs.Room.{enough};
-ghost use Rattle.index.specs.Interning.{Linked, Fills, Readied, Interns};
+ghost use Rattle.index.specs.Interning.{Along, Lined, Linked, Fills, ReadyToFill, Interns, FindsSymbol};
 use crate::Outcome;
 use crate::bucket;
-use crate::number;
+use crate::dictionary::Found;
 use crate::scratch;
 use columns::clear32;
 use columns::index;
+use columns::number;
 use columns::shorter;
+
+// What makes a capital letter small, and what a hash is multiplied by for each byte.
+const TO_LOWER: u8 = 32;
+
+const MULTIPLIER: u64 = 31;
 
 // A letter in lower case.
 fn lower_case(b: u8) -> u8
     ensures { λ r. ⌜ r ≡ lower b ⌝ }
 {
-    if b < 65 {
+    if b < b'A' {
         return b;
     }
-    if 90 < b {
+    if b'Z' < b {
         return b;
     }
-    b + 32
+    b + TO_LOWER
 }
 
 fn wide(b: u8) -> u64
@@ -42,7 +48,7 @@ fn hash(word: &[u8]) -> u64
     let mut h: u64 = 0;
     let mut i = 0;
     while i < word.len() {
-        h = (h * 31 + wide(lower_case(word[i]))) % 4294967296;
+        h = (h * MULTIPLIER + wide(lower_case(word[i]))) % crate::WORD;
         i += 1;
     }
     h
@@ -100,6 +106,35 @@ fn spelled(bytes: &[u8], starts: &[u32], lengths: &[u32], k: usize, word: &[u8])
     alike(&bytes[from..to], word)
 }
 
+// The token on a chain that is spelled like a word; links that do not fall, or lead past the limit, end the chain.
+fn along(
+    bytes: &[u8],
+    starts: &[u32],
+    lengths: &[u32],
+    next: &[u32],
+    word: &[u8],
+    limit: usize,
+    first: usize,
+) -> Found
+    requires { ⌜ Lined (now bytes) (now starts) (now lengths) (now next) limit ⌝ }
+    ensures { λ r. ⌜ Along (now (bytes .entry)) (now (starts .entry)) (now (lengths .entry)) (now (next .entry)) (now (word .entry)) limit first r ⌝ }
+{
+    let mut below = limit;
+    let mut link = first;
+    while 0 < link {
+        let k = link - 1;
+        if below <= k {
+            return Found::Nothing;
+        }
+        if spelled(bytes, starts, lengths, k, word) {
+            return Found::At(k);
+        }
+        below = k;
+        link = index(next[k]);
+    }
+    Found::Nothing
+}
+
 // The least token that is spelled like token i, among those on its bucket's chain; i, where there is none.
 fn least(bytes: &[u8], starts: &[u32], lengths: &[u32], next: &[u32], head: u32, i: usize) -> usize
     requires { ⌜ Linked (now bytes) (now starts) (now lengths) (now next) head i ⌝ }
@@ -108,15 +143,11 @@ fn least(bytes: &[u8], starts: &[u32], lengths: &[u32], next: &[u32], head: u32,
     let from = begin(bytes, starts, i);
     let to = end(bytes, starts, lengths, i);
     let word = &bytes[from..to];
-    let mut link = index(head);
-    while 0 < link {
-        let k = link - 1;
-        if spelled(bytes, starts, lengths, k, word) {
-            return k;
-        }
-        link = index(next[k]);
-    }
-    i
+    let found = along(bytes, starts, lengths, next, word, i, index(head));
+    let Found::At(k) = found else {
+        return i;
+    };
+    k
 }
 
 // The symbol of each token, in text order. Only the first token of a spelling goes on a chain, so that a chain is as
@@ -129,8 +160,8 @@ fn fill(
     heads: &mut [u32],
     next: &mut [u32],
 )
-    requires { ⌜ Readied (now starts) (now lengths) (now symbols) (now heads) (now next) ⌝ }
-    ensures { λ _. ⌜ Fills (now (bytes .entry)) (now (starts .entry)) (now (lengths .entry)) (now (symbols .entry)) (now (symbols .exit)) ⌝ }
+    requires { ⌜ ReadyToFill (now starts) (now lengths) (now symbols) (now heads) (now next) ⌝ }
+    ensures { λ _. ⌜ Fills (now (bytes .entry)) (now (starts .entry)) (now (lengths .entry)) (now (symbols .entry)) (now (next .entry)) (now (symbols .exit)) (now (heads .exit)) (now (next .exit)) ⌝ }
 {
     let mut i = 0;
     while i < starts.len() {
@@ -159,7 +190,7 @@ fn room(starts: usize, lengths: usize, symbols: usize, heads: usize, next: usize
     scratch(starts, heads, next)
 }
 
-// Stores each token's symbol. What `heads` and `next` then hold is left free.
+// Stores each token's symbol, and leaves the chains in `heads` and `next`, for `symbol_of`.
 pub fn intern(
     bytes: &[u8],
     starts: &[u32],
@@ -168,7 +199,8 @@ pub fn intern(
     heads: &mut [u32],
     next: &mut [u32],
 ) -> Outcome
-    ensures { λ r. ⌜ Interns (now (bytes .entry)) (now (starts .entry)) (now (lengths .entry)) (now (symbols .entry)) (now (heads .entry)) (now (next .entry)) r (now (symbols .exit)) ⌝ }
+    ensures { λ r. ⌜ Interns (now (bytes .entry)) (now (starts .entry)) (now (lengths .entry)) (now (symbols .entry)) (now (heads .entry)) (now (next .entry)) r
+        (now (symbols .exit)) (now (heads .exit)) (now (next .exit)) ⌝ }
 {
     if !room(
         starts.len(),
@@ -182,4 +214,23 @@ pub fn intern(
     clear32(heads, 0);
     fill(bytes, starts, lengths, symbols, heads, next);
     Outcome::Done
+}
+
+// The symbol of a word, by the chains that `intern` left: the least token that is spelled like it.
+pub fn symbol_of(
+    bytes: &[u8],
+    starts: &[u32],
+    lengths: &[u32],
+    heads: &[u32],
+    next: &[u32],
+    word: &[u8],
+) -> Found
+    ensures { λ r. ⌜ FindsSymbol (now (bytes .entry)) (now (starts .entry)) (now (lengths .entry)) (now (heads .entry)) (now (next .entry)) (now (word .entry)) r ⌝ }
+{
+    if heads.len() == 0 {
+        return Found::Nothing;
+    }
+    let b = bucket(hash(word), heads.len());
+    let limit = shorter(starts.len(), shorter(lengths.len(), next.len()));
+    along(bytes, starts, lengths, next, word, limit, index(heads[b]))
 }

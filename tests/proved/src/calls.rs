@@ -78,6 +78,20 @@ extern "C" {
         next: *mut u32,
         next_length: usize,
     ) -> bool;
+    fn woffulent_symbol_of(
+        bytes: *const u8,
+        bytes_length: usize,
+        starts: *const u32,
+        starts_length: usize,
+        lengths: *const u32,
+        lengths_length: usize,
+        heads: *const u32,
+        heads_length: usize,
+        next: *const u32,
+        next_length: usize,
+        word: *const u8,
+        word_length: usize,
+    ) -> usize;
     fn woffulent_build(
         keys: *const u64,
         keys_length: usize,
@@ -118,21 +132,21 @@ extern "C" {
         first_length: usize,
         to: *const u32,
         to_length: usize,
-        order: *mut u32,
-        order_length: usize,
-        group: *mut u32,
-        group_length: usize,
-        place: *mut u32,
-        place_length: usize,
-        at: *mut u32,
-        at_length: usize,
-        stack: *mut u32,
-        stack_length: usize,
-        path: *mut u32,
-        path_length: usize,
-        bound: *mut u32,
-        bound_length: usize,
+        column: *mut u32,
+        column_length: usize,
+        scratch: *mut u32,
+        scratch_length: usize,
     ) -> usize;
+    fn woffulent_components(
+        first: *const u32,
+        first_length: usize,
+        to: *const u32,
+        to_length: usize,
+        column: *mut u32,
+        column_length: usize,
+        scratch: *mut u32,
+        scratch_length: usize,
+    ) -> bool;
 }
 
 /// A reply and the number beside it, as the reference gives them.
@@ -234,7 +248,8 @@ pub fn binary(s: &[u8], start: usize, length: usize) -> u64 {
     unsafe { woffulent_binary(s.as_ptr(), s.len(), start, length) }
 }
 
-/// Stores for each token the least one that is spelled alike; whether there was room. The scratch is left with anything.
+/// Stores for each token the least one that is spelled alike; whether there was room. The chains are left for
+/// `symbol_of`.
 pub fn intern(
     bytes: &[u8],
     starts: &[u32],
@@ -260,6 +275,34 @@ pub fn intern(
             next.len(),
         )
     }
+}
+
+/// The least token that is spelled like a word, by the chains that `intern` left.
+pub fn symbol_of(
+    bytes: &[u8],
+    starts: &[u32],
+    lengths: &[u32],
+    heads: &[u32],
+    next: &[u32],
+    word: &[u8],
+) -> Option<usize> {
+    // SAFETY: see the head of this file.
+    entry(unsafe {
+        woffulent_symbol_of(
+            bytes.as_ptr(),
+            bytes.len(),
+            starts.as_ptr(),
+            starts.len(),
+            lengths.as_ptr(),
+            lengths.len(),
+            heads.as_ptr(),
+            heads.len(),
+            next.as_ptr(),
+            next.len(),
+            word.as_ptr(),
+            word.len(),
+        )
+    })
 }
 
 /// Chains the entries of a dictionary by their keys (0 is none); whether there was room.
@@ -314,11 +357,12 @@ pub enum Sorted {
     /// The smallest vertex on a cycle.
     Cyclic(usize),
     Malformed,
+    /// The column or scratch is too short.
+    Short,
 }
 
 /// The vertices in an order in which each stands after all that it has arcs to.
-pub fn order(first: &[u32], to: &[u32], order: &mut [u32], scratch: [&mut [u32]; 6]) -> Sorted {
-    let [group, place, at, stack, path, bound] = scratch;
+pub fn order(first: &[u32], to: &[u32], column: &mut [u32], scratch: &mut [u32]) -> Sorted {
     // SAFETY: see the head of this file.
     let vertex = unsafe {
         woffulent_order(
@@ -326,26 +370,34 @@ pub fn order(first: &[u32], to: &[u32], order: &mut [u32], scratch: [&mut [u32];
             first.len(),
             to.as_ptr(),
             to.len(),
-            order.as_mut_ptr(),
-            order.len(),
-            group.as_mut_ptr(),
-            group.len(),
-            place.as_mut_ptr(),
-            place.len(),
-            at.as_mut_ptr(),
-            at.len(),
-            stack.as_mut_ptr(),
-            stack.len(),
-            path.as_mut_ptr(),
-            path.len(),
-            bound.as_mut_ptr(),
-            bound.len(),
+            column.as_mut_ptr(),
+            column.len(),
+            scratch.as_mut_ptr(),
+            scratch.len(),
         )
     };
     match usize::MAX - vertex {
         0 => Sorted::Malformed,
         1 => Sorted::Acyclic,
+        2 => Sorted::Short,
         _ => Sorted::Cyclic(vertex),
+    }
+}
+
+/// The group of each vertex, one for those that reach each other; false where the columns are no graph with room.
+pub fn components(first: &[u32], to: &[u32], column: &mut [u32], scratch: &mut [u32]) -> bool {
+    // SAFETY: see the head of this file.
+    unsafe {
+        woffulent_components(
+            first.as_ptr(),
+            first.len(),
+            to.as_ptr(),
+            to.len(),
+            column.as_mut_ptr(),
+            column.len(),
+            scratch.as_mut_ptr(),
+            scratch.len(),
+        )
     }
 }
 

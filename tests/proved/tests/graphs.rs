@@ -1,7 +1,7 @@
 //! The proved orders and marks on small random graphs, against all paths; and on graphs that are none.
 
 use compare::random::Rng;
-use proved::{order, reachable, Sorted};
+use proved::{components, order, reachable, Sorted};
 
 const GRAPHS: u64 = 20_000;
 /// What columns and scratch hold before a call.
@@ -55,13 +55,17 @@ impl Graph {
     }
 }
 
-/// The answer, and what stands in a column of so many entries; the scratch has as many each as it is given.
+/// The answer, and what stands in a column of so many entries; the scratch is what so many vertices need, and more.
 fn ordered(graph: &Graph, lent: usize, scratch: usize) -> (Sorted, Vec<u32>) {
     let mut column = vec![BEFORE; lent];
-    let mut room: [Vec<u32>; 6] = std::array::from_fn(|_| vec![BEFORE; scratch]);
-    let sorted = order(&graph.first, &graph.to, &mut column, room.each_mut().map(Vec::as_mut_slice));
-    if sorted == Sorted::Malformed {
-        assert!(room.iter().flatten().all(|&entry| entry == BEFORE), "{graph:?}");
+    let mut room = vec![BEFORE; 6 * scratch];
+    let sorted = order(&graph.first, &graph.to, &mut column, &mut room);
+    if matches!(sorted, Sorted::Malformed | Sorted::Short) {
+        assert!(room.iter().all(|&entry| entry == BEFORE), "{graph:?}");
+    } else {
+        let used = 6 * graph.vertices();
+        assert!(room[..used].iter().all(|&entry| entry == 0), "{graph:?}");
+        assert!(room[used..].iter().all(|&entry| entry == BEFORE), "{graph:?}");
     }
     (sorted, column)
 }
@@ -72,7 +76,7 @@ fn vertices_stand_after_what_they_need_or_the_smallest_on_a_cycle_is_given() {
     for seed in 0..GRAPHS {
         let graph = Graph::random(&mut Rng::new(seed));
         let (vertices, reached) = (graph.vertices(), graph.reached());
-        let (sorted, column) = ordered(&graph, vertices + 1, vertices);
+        let (sorted, column) = ordered(&graph, vertices + 1, vertices + 1);
         match (0..vertices).find(|&vertex| reached[vertex][vertex]) {
             Some(vertex) => {
                 assert_eq!(sorted, Sorted::Cyclic(vertex), "{graph:?}");
@@ -90,11 +94,34 @@ fn vertices_stand_after_what_they_need_or_the_smallest_on_a_cycle_is_given() {
             }
         }
         if vertices > 0 {
-            assert_eq!(ordered(&graph, vertices - 1, vertices).0, Sorted::Malformed);
-            assert_eq!(ordered(&graph, vertices, vertices - 1).0, Sorted::Malformed);
+            assert_eq!(ordered(&graph, vertices - 1, vertices).0, Sorted::Short);
+            assert_eq!(ordered(&graph, vertices, vertices - 1).0, Sorted::Short);
         }
     }
     assert!((GRAPHS / 5..GRAPHS / 5 * 4).contains(&cyclic), "{cyclic} graphs with a cycle");
+}
+
+#[test]
+fn vertices_that_reach_each_other_have_one_group() {
+    for seed in 0..GRAPHS {
+        let graph = Graph::random(&mut Rng::new(seed));
+        let (vertices, reached) = (graph.vertices(), graph.reached());
+        let (mut group, mut scratch) = (vec![BEFORE; vertices + 1], vec![BEFORE; 6 * vertices + 1]);
+        assert!(components(&graph.first, &graph.to, &mut group, &mut scratch));
+        assert_eq!((group.pop(), scratch.pop()), (Some(BEFORE), Some(BEFORE)));
+        assert!(scratch.iter().all(|&entry| entry == 0), "{graph:?}");
+        for v in 0..vertices {
+            for w in 0..vertices {
+                let mutual = v == w || (reached[v][w] && reached[w][v]);
+                assert_eq!(group[v] == group[w], mutual, "{v} and {w} of {graph:?}");
+                assert!(!reached[v][w] || group[w] <= group[v], "{v} to {w} of {graph:?}");
+            }
+        }
+        if vertices > 0 {
+            assert!(!components(&graph.first, &graph.to, &mut group[1..], &mut scratch));
+            assert!(!components(&graph.first, &graph.to, &mut group, &mut scratch[1..]));
+        }
+    }
 }
 
 #[test]
@@ -103,8 +130,10 @@ fn what_a_vertex_reaches_is_marked() {
         let graph = Graph::random(&mut Rng::new(seed));
         let vertices = graph.vertices();
         for (from, reached) in graph.reached().into_iter().enumerate() {
-            let (mut mark, mut queue) = (vec![BEFORE; vertices], vec![BEFORE; vertices]);
+            let (mut mark, mut queue) = (vec![BEFORE; vertices + 1], vec![BEFORE; vertices + 1]);
             assert!(reachable(&graph.first, &graph.to, from, &mut mark, &mut queue));
+            assert_eq!((mark.pop(), queue.pop()), (Some(BEFORE), Some(BEFORE)));
+            assert!(queue.iter().all(|&entry| entry == 0), "{from} of {graph:?}");
             assert_eq!(mark, reached.into_iter().map(u32::from).collect::<Vec<_>>(), "{from} of {graph:?}");
             mark.fill(BEFORE);
             queue.fill(BEFORE);

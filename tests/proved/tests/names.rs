@@ -2,7 +2,7 @@
 
 use compare::cases;
 use compare::random::{self, Rng};
-use proved::{build, find, intern, next_of};
+use proved::{build, find, intern, next_of, symbol_of};
 use reference::{symbols, terminals, tokens, TokenRow};
 use std::collections::HashMap;
 
@@ -32,10 +32,17 @@ fn hold(bytes: &[u8], buckets: usize) {
     let starts: Vec<u32> = rows.iter().map(|row| row.start).collect();
     let lengths: Vec<u32> = rows.iter().map(|row| row.length).collect();
     let (mut symbols, mut heads, mut next) =
-        (vec![BEFORE; rows.len() + 1], vec![BEFORE; buckets], vec![BEFORE; rows.len()]);
+        (vec![BEFORE; rows.len() + 1], vec![BEFORE; buckets], vec![BEFORE; rows.len() + 1]);
     assert!(intern(bytes, &starts, &lengths, &mut symbols, &mut heads, &mut next));
-    assert_eq!(symbols.pop(), Some(BEFORE));
+    assert_eq!((symbols.pop(), next.pop()), (Some(BEFORE), Some(BEFORE)));
     assert_eq!(symbols, least(bytes, &rows), "{buckets} buckets: {}", bytes.escape_ascii());
+    for (token, row) in rows.iter().enumerate() {
+        let word = tokens::text(bytes, row).to_ascii_uppercase();
+        let found = symbol_of(bytes, &starts, &lengths, &heads, &next, &word);
+        assert_eq!(found, Some(symbols[token] as usize), "token {token}: {}", bytes.escape_ascii());
+    }
+    let other = symbol_of(bytes, &starts, &lengths, &heads, &next, b"no such w\xc3\xb6rd");
+    assert_eq!(other, None);
     for (token, first) in least_by_reference(bytes, &rows) {
         assert_eq!(symbols[token], first, "token {token}: {}", bytes.escape_ascii());
     }
@@ -95,6 +102,30 @@ fn any_columns_are_interned_or_refused() {
         let stored = if done { starts_lent } else { 0 };
         assert_eq!(symbols[..stored], expected[..stored]);
         assert!(symbols[stored..].iter().all(|&symbol| symbol == BEFORE));
+        assert!(next[stored.min(next_lent)..].iter().all(|&link| link == BEFORE));
+        assert!(done || heads.iter().all(|&head| head == BEFORE));
+    }
+}
+
+/// With anything in heads and next a search ends, and a token that it gives is spelled like the word.
+#[test]
+fn any_chains_of_symbols_are_searched() {
+    let bytes = b"ab AB a b";
+    let (starts, lengths) = ([0, 3, 6, 8], [2, 2, 1, 1]);
+    for seed in 0..DICTIONARIES {
+        let mut rng = Rng::new(seed);
+        let column = |rng: &mut Rng| -> Vec<u32> {
+            let length = rng.below(7);
+            (0..length).map(|_| if rng.below(9) == 0 { u32::MAX } else { rng.below(6) as u32 }).collect()
+        };
+        let (heads, next) = (column(&mut rng), column(&mut rng));
+        let (starts, lengths) = (&starts[..rng.below(5)], &lengths[..rng.below(5)]);
+        for word in [&b"Ab"[..], b"A", b"c", b""] {
+            if let Some(token) = symbol_of(bytes, starts, lengths, &heads, &next, word) {
+                let (start, length) = (starts[token] as usize, lengths[token] as usize);
+                assert!(bytes[start..start + length].eq_ignore_ascii_case(word));
+            }
+        }
     }
 }
 

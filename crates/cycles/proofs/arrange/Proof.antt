@@ -1,4 +1,4 @@
--- `cycles::arrange` meets its contract. Assumes nothing.
+-- `cycles::arrange` meets its contract: by the laws of `Arranging`. Assumes nothing.
 use Rattle.cycles.proofs.arrange.Statement.{statement}
 use Rattle.cycles.proofs.arrange.Tie as tie
 use borrow.Author.Needs.{needs}
@@ -7,31 +7,36 @@ use Prim.Native.Nat.{_-_}
 use native.Mathlib.Omega.{arith}
 
 abbrev Inv-loop : tie.InvT-loop
-Inv-loop order₀ place n v₀ order v = Arranging order₀ place n order v
+Inv-loop order₀ s n v₀ order v = Arranging order₀ s n order v
 
 abbrev μ-loop : tie.MeasureT-loop
-μ-loop order₀ place n v₀ order v = n - v
+μ-loop order₀ s n v₀ order v = n - v
 
 loop-holds : tie.Need-loop-holds Inv-loop μ-loop
 loop-holds c = arranging-start (c .before .before .pre)
 
-mul-index : tie.Need-mul-index Inv-loop μ-loop
-mul-index c = omega (arith, c .loop-test .taken, c .before .before .before .before .pre .small)
+get-requires : tie.Need-get-requires Inv-loop μ-loop
+get-requires c κs = omega (arith, c .loop-test .taken, c .before .before .before .before .pre .scratch-room)
 
-shared-slice-read-index : tie.Need-shared-slice-read-index Inv-loop μ-loop
-shared-slice-read-index c = omega (arith, c .before .loop-test .taken, c .before .before .before .before .before .pre .place-room)
-
-index-requires : tie.Need-index-requires Inv-loop μ-loop
-index-requires c κs = search needs
-
-cast-order : tie.Need-cast-order Inv-loop μ-loop
-cast-order c = omega (arith, c .before .before .loop-test .taken, c .before .before .before .before .before .before .pre .small)
+number-requires : tie.Need-number-requires Inv-loop μ-loop
+number-requires c κs = search needs
 
 mul-order : tie.Need-mul-order Inv-loop μ-loop
-mul-order c = omega (arith, arranging-low (c .before .before .before .loop .inv) (c .before .before .loop-test .taken) (c .index .ensures), c .before .before .before .before .before .before .pre .small)
+mul-order c =
+    omega (
+      arith,
+      arranging-low (c .before .before .before .loop .inv) (c .before .before .loop-test .taken) (c .before .get .ensures),
+      c .before .before .before .before .before .before .pre .small,
+    )
 
 slice-write-order : tie.Need-slice-write-order Inv-loop μ-loop
-slice-write-order c = omega (arith, arranging-low (c .before .before .before .loop .inv) (c .before .before .loop-test .taken) (c .index .ensures), c .before .before .before .before .before .before .pre .order-room, c .before .before .before .loop .inv .long)
+slice-write-order c =
+    omega (
+      arith,
+      arranging-low (c .before .before .before .loop .inv) (c .before .before .loop-test .taken) (c .before .get .ensures),
+      c .before .before .before .before .before .before .pre .order-room,
+      c .before .before .before .loop .inv .long,
+    )
 
 add-v : tie.Need-add-v Inv-loop μ-loop
 add-v c = omega (arith, c .before .before .loop-test .taken, c .before .before .before .before .before .before .pre .small)
@@ -40,7 +45,9 @@ loop-less : tie.Need-loop-less Inv-loop μ-loop
 loop-less c = omega (arith, c .before .before .loop-test .taken)
 
 loop-again : tie.Need-loop-again Inv-loop μ-loop
-loop-again c = arranging-step (c .before .before .before .loop .inv) (c .before .before .loop-test .taken) (c .index .ensures)
+loop-again c =
+    let q = c .number .ensures (omega (arith, c .before .before .loop-test .taken, c .before .before .before .before .before .before .pre .small)) in rw q
+    (arranging-step (c .before .before .before .loop .inv) (c .before .before .loop-test .taken) (c .before .get .ensures))
 
 same-length : tie.Need-same-length Inv-loop μ-loop
 same-length c = c .before .loop .inv .long
@@ -55,10 +62,8 @@ arrange-spec =
     Inv-loop
     μ-loop
     loop-holds
-    mul-index
-    shared-slice-read-index
-    index-requires
-    cast-order
+    get-requires
+    number-requires
     mul-order
     slice-write-order
     add-v

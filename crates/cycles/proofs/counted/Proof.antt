@@ -1,4 +1,4 @@
--- `cycles::counted` meets its contract. Assumes nothing.
+-- `cycles::counted` meets its contract: by cases of the step. Assumes nothing.
 use borrow.Author.Needs.{needs}
 use Rattle.cycles.proofs.counted.Statement.{statement}
 use Rattle.cycles.proofs.counted.Tie as tie

@@ -1,25 +1,23 @@
--- `cycles::inner` meets its contract. Assumes nothing.
+-- `cycles::inner` meets its contract: by the laws of `Looking`. Assumes nothing.
 use Rattle.cycles.proofs.inner.Statement.{statement}
 use Rattle.cycles.proofs.inner.Tie as tie
 use borrow.Author.Needs.{needs}
 use Rattle.graph.proofs.Test.{tells-no, tells-yes}
 use Rattle.cycles.proofs.Scan.{Looking, looking-start, looking-place, looking-low, looking-hit, looking-step, looking-end}
+use Rattle.cycles.specs.State.{cell}
 use lib.ListN.{getD}
 use Prim.Native.Nat.{_+_, _-_}
-use mathlib.Core.Path.{_≡_, refl}
+use mathlib.Core.Path.{_≡_, refl, sym, _∙_}
 use native.Mathlib.Omega.{arith}
 
 abbrev Inv-loop : tie.InvT-loop
-Inv-loop first to group v own e₀ end e = (own ≡ getD group v 0) × Looking first to group v end e
+Inv-loop first to s v own e₀ end e = (own ≡ cell s 0 v) × Looking first to s v end e
 
 abbrev μ-loop : tie.MeasureT-loop
-μ-loop first to group v own e₀ end e = end - e
+μ-loop first to s v own e₀ end e = end - e
 
-mul-own : tie.Need-mul-own Inv-loop μ-loop
-mul-own c = omega (arith, c .before .before .before .pre .1, c .before .before .before .pre .0 .graph .small)
-
-shared-slice-read-own : tie.Need-shared-slice-read-own Inv-loop μ-loop
-shared-slice-read-own c = omega (arith, c .before .before .before .before .pre .1, c .before .before .before .before .pre .0 .enough)
+get-requires : tie.Need-get-requires Inv-loop μ-loop
+get-requires c κs = omega (arith, c .before .before .before .pre .1, c .before .before .before .pre .0 .room)
 
 mul-index : tie.Need-mul-index Inv-loop μ-loop
 mul-index c = omega (arith, c .before .before .before .before .pre .1, c .before .before .before .before .pre .0 .graph .small)
@@ -43,10 +41,14 @@ index-requires-2 : tie.Need-index-requires-2 Inv-loop μ-loop
 index-requires-2 c κs = search needs
 
 loop-holds : tie.Need-loop-holds Inv-loop μ-loop
-loop-holds c = (refl, looking-start (c .before .before .before .before .before .before .before .before .pre .0) (c .before .before .before .before .before .before .before .before .pre .1) (c .before .before .index .ensures) (c .index2 .ensures))
+loop-holds c = (
+  c .before .before .before .before .get .ensures,
+  looking-start (c .before .before .before .before .before .before .before .before .pre .0)
+      (c .before .before .before .before .before .before .before .before .pre .1) (c .before .before .index .ensures) (c .index2 .ensures),
+)
 
 mul-index-3 : tie.Need-mul-index-3 Inv-loop μ-loop
-mul-index-3 c = omega (arith, c .loop-test .taken, c .before .before .index2 .ensures, c .before .before .before .shared-slice-known6 .given (c .before .before .before .before .before .before .before .before .before .before .args .v + 1))
+mul-index-3 c = let h = looking-place (c .before .loop .inv .1) (c .loop-test .taken) in search needs
 
 shared-slice-read-index-3 : tie.Need-shared-slice-read-index-3 Inv-loop μ-loop
 shared-slice-read-index-3 c = looking-place (c .before .before .loop .inv .1) (c .before .loop-test .taken)
@@ -54,23 +56,32 @@ shared-slice-read-index-3 c = looking-place (c .before .before .loop .inv .1) (c
 index-requires-3 : tie.Need-index-requires-3 Inv-loop μ-loop
 index-requires-3 c κs = search needs
 
-mul-if1 : tie.Need-mul-if1 Inv-loop μ-loop
-mul-if1 c = omega (arith, looking-low (c .before .before .before .loop .inv .1) (c .before .before .loop-test .taken) (c .index3 .ensures), c .before .before .before .before .before .before .before .before .before .before .before .before .pre .0 .graph .small)
-
-shared-slice-read-if1 : tie.Need-shared-slice-read-if1 Inv-loop μ-loop
-shared-slice-read-if1 c = omega (arith, looking-low (c .before .before .before .before .loop .inv .1) (c .before .before .before .loop-test .taken) (c .before .index3 .ensures), c .before .before .before .before .before .before .before .before .before .before .before .before .before .pre .0 .enough)
+get-requires-2 : tie.Need-get-requires-2 Inv-loop μ-loop
+get-requires-2 c κs =
+    omega (
+      arith,
+      looking-low (c .before .before .before .loop .inv .1) (c .before .before .loop-test .taken) (c .index3 .ensures),
+      c .before .before .before .before .before .before .before .before .before .before .before .before .pre .0 .room,
+    )
 
 returns : tie.Need-returns Inv-loop μ-loop
-returns c = tells-yes refl (looking-hit (c .before .before .before .before .before .loop .inv .1) (c .before .before .before .before .loop-test .taken) (c .before .before .index3 .ensures) (c .if1 .taken))
+returns c =
+    tells-yes refl (looking-hit (c .before .before .before .before .before .loop .inv .1) (c .before .before .before .before .loop-test .taken)
+    (c .before .before .index3 .ensures) (sym (c .before .get2 .ensures) ∙ c .if1 .taken ∙ c .before .before .before .before .before .loop .inv .0))
 
 add-e : tie.Need-add-e Inv-loop μ-loop
-add-e c = omega (arith, c .before .before .before .before .loop-test .taken, c .before .before .before .before .before .before .index2 .ensures, c .before .before .before .before .before .before .before .shared-slice-known6 .given (c .before .before .before .before .before .before .before .before .before .before .before .before .before .before .args .v + 1))
+add-e c = search needs
 
 loop-less : tie.Need-loop-less Inv-loop μ-loop
 loop-less c = omega (arith, c .before .before .before .before .loop-test .taken)
 
 loop-again : tie.Need-loop-again Inv-loop μ-loop
-loop-again c = (refl, looking-step (c .before .before .before .before .before .loop .inv .1) (c .before .before .before .before .loop-test .taken) (c .before .before .index3 .ensures) (c .if1 .left))
+loop-again c = (
+  c .before .before .before .before .before .loop .inv .0,
+  looking-step (c .before .before .before .before .before .loop .inv .1)
+      (c .before .before .before .before .loop-test .taken) (c .before .before .index3 .ensures) (λ z. c .if1 .left (c .before .get2 .ensures ∙ z ∙ sym
+      (c .before .before .before .before .before .loop .inv .0))),
+)
 
 returns-2 : tie.Need-returns-2 Inv-loop μ-loop
 returns-2 c = tells-no refl (looking-end (c .before .loop .inv .1) (c .loop-test .left))
@@ -81,8 +92,7 @@ inner-spec =
     (tie.spec
     Inv-loop
     μ-loop
-    mul-own
-    shared-slice-read-own
+    get-requires
     mul-index
     shared-slice-read-index
     index-requires
@@ -94,8 +104,7 @@ inner-spec =
     mul-index-3
     shared-slice-read-index-3
     index-requires-3
-    mul-if1
-    shared-slice-read-if1
+    get-requires-2
     returns
     add-e
     loop-less

@@ -1,16 +1,18 @@
--- `cycles::least` meets its contract. Assumes nothing.
+-- `cycles::least` meets its contract: none before had one. Assumes nothing.
 use Rattle.cycles.proofs.least.Statement.{statement}
 use Rattle.cycles.proofs.least.Tie as tie
+use borrow.Author.Needs.{needs}
+use Rattle.cycles.specs.State.{state}
 use Rattle.cycles.specs.Answer.{Inner}
 use borrow.Author.Count.{below-more}
 use Prim.Native.Nat.{ℕ, _-_, _≤_, _<_}
 use native.Mathlib.Omega.{arith}
 
 abbrev Inv-loop : tie.InvT-loop
-Inv-loop first to group n v₀ v = (v ≤ n) × ((k : ℕ) → k < v → Inner first to group k → ⊥)
+Inv-loop first to s n v₀ v = (v ≤ n) × ((k : ℕ) → k < v → Inner first to (state s) k → ⊥)
 
 abbrev μ-loop : tie.MeasureT-loop
-μ-loop first to group n v₀ v = n - v
+μ-loop first to s n v₀ v = n - v
 
 sub-n : tie.Need-sub-n Inv-loop μ-loop
 sub-n c = omega (arith, c .before .before .before .pre .graph .some)

@@ -35,10 +35,19 @@ index-requires-2 : tie.Need-index-requires-2 Inv-loop μ-loop
 index-requires-2 c κs = search needs
 
 loop-holds : tie.Need-loop-holds Inv-loop μ-loop
-loop-holds c = going-start (c .before .before .before .before .before .before .before .before .pre .0) (c .before .before .before .before .before .before .before .before .pre .1) (c .before .before .index .ensures) (c .index2 .ensures)
+loop-holds c =
+    going-start (c .before .before .before .before .before .before .before .before .pre .0)
+    (c .before .before .before .before .before .before .before .before .pre .1) (c .before .before .index .ensures) (c .index2 .ensures)
 
 mul-index-3 : tie.Need-mul-index-3 Inv-loop μ-loop
-mul-index-3 c = omega (arith, c .loop-test .taken, c .before .before .index2 .ensures, c .before .before .before .shared-slice-known4 .given (c .before .before .before .before .before .before .before .before .before .before .args .u + 1))
+mul-index-3 c =
+    omega (
+      arith,
+      c .loop-test .taken,
+      c .before .before .index2 .ensures,
+      c .before .before .before .shared-slice-known4 .given
+          (c .before .before .before .before .before .before .before .before .before .before .args .u + 1),
+    )
 
 shared-slice-read-index-3 : tie.Need-shared-slice-read-index-3 Inv-loop μ-loop
 shared-slice-read-index-3 c = going-place (c .before .before .loop .inv) (c .before .loop-test .taken)
@@ -47,39 +56,71 @@ index-requires-3 : tie.Need-index-requires-3 Inv-loop μ-loop
 index-requires-3 c κs = search needs
 
 mul-if1 : tie.Need-mul-if1 Inv-loop μ-loop
-mul-if1 c = let l = going-low (c .before .before .before .loop .inv) (c .before .before .loop-test .taken) _ (c .index3 .ensures) in omega (arith, l, c .before .before .before .loop .inv .spread .markable .graph .small)
+mul-if1 c =
+    let l = going-low (c .before .before .before .loop .inv) (c .before .before .loop-test .taken) _ (c .index3 .ensures) in omega (
+      arith,
+      l,
+      c .before .before .before .loop .inv .spread .markable .graph .small,
+    )
 
 slice-read-if1 : tie.Need-slice-read-if1 Inv-loop μ-loop
-slice-read-if1 c = let l = going-low (c .before .before .before .before .loop .inv) (c .before .before .before .loop-test .taken) _ (c .before .index3 .ensures) in omega (arith, l, c .before .before .before .before .loop .inv .spread .markable .mark-room)
+slice-read-if1 c =
+    let l = going-low (c .before .before .before .before .loop .inv) (c .before .before .before .loop-test .taken) _ (c .before .index3 .ensures) in omega
+    (arith, l, c .before .before .before .before .loop .inv .spread .markable .mark-room)
 
 mul-mark : tie.Need-mul-mark Inv-loop μ-loop
-mul-mark c = let l = going-low (c .before .before .before .before .before .loop .inv) (c .before .before .before .before .loop-test .taken) _ (c .before .before .index3 .ensures) in omega (arith, l, c .before .before .before .before .before .loop .inv .spread .markable .graph .small)
+mul-mark c =
+    let l = going-low (c .before .before .before .before .before .loop .inv) (c .before .before .before .before .loop-test .taken) _
+    (c .before .before .index3 .ensures) in omega (arith, l, c .before .before .before .before .before .loop .inv .spread .markable .graph .small)
 
 slice-write-mark : tie.Need-slice-write-mark Inv-loop μ-loop
-slice-write-mark c = let l = going-low (c .before .before .before .before .before .loop .inv) (c .before .before .before .before .loop-test .taken) _ (c .before .before .index3 .ensures) in omega (arith, l, c .before .before .before .before .before .loop .inv .spread .markable .mark-room)
+slice-write-mark c =
+    let l = going-low (c .before .before .before .before .before .loop .inv) (c .before .before .before .before .loop-test .taken) _
+    (c .before .before .index3 .ensures) in omega (arith, l, c .before .before .before .before .before .loop .inv .spread .markable .mark-room)
 
-cast-queue : tie.Need-cast-queue Inv-loop μ-loop
-cast-queue c = let l = going-low (c .before .before .before .before .before .loop .inv) (c .before .before .before .before .loop-test .taken) _ (c .before .before .index3 .ensures) in omega (arith, l, c .before .before .before .before .before .loop .inv .spread .markable .graph .small)
+number-requires : tie.Need-number-requires Inv-loop μ-loop
+number-requires c κs = search needs
 
 mul-queue : tie.Need-mul-queue Inv-loop μ-loop
-mul-queue c = omega (arith, tail-low (c .before .before .before .before .before .loop .inv .spread), c .before .before .before .before .before .loop .inv .spread .markable .graph .small)
+mul-queue c =
+    omega (
+      arith,
+      tail-low (c .before .before .before .before .before .before .loop .inv .spread),
+      c .before .before .before .before .before .before .loop .inv .spread .markable .graph .small,
+    )
 
 slice-write-queue : tie.Need-slice-write-queue Inv-loop μ-loop
 slice-write-queue c =
-    let l = going-low (c .before .before .before .before .before .loop .inv) (c .before .before .before .before .loop-test .taken) _ (c .before .before .index3 .ensures) in
-    omega (arith, tail-room (c .before .before .before .before .before .loop .inv .spread) _ l (c .if1 .taken), c .before .before .before .before .before .loop .inv .spread .markable .queue-room)
+    let l = going-low (c .before .before .before .before .before .before .loop .inv) (c .before .before .before .before .before .loop-test .taken) _ (c .before .before .before .index3 .ensures) in
+    omega (
+      arith,
+      tail-room (c .before .before .before .before .before .before .loop .inv .spread) _ l (c .before .if1 .taken),
+      c .before .before .before .before .before .before .loop .inv .spread .markable .queue-room,
+    )
 
 add-t : tie.Need-add-t Inv-loop μ-loop
-add-t c = omega (arith, tail-low (c .before .before .before .before .before .loop .inv .spread), c .before .before .before .before .before .loop .inv .spread .markable .graph .small)
+add-t c = omega (arith, tail-low (c .before .before .before .before .before .before .loop .inv .spread), c .before .before .before .before .before .before .loop .inv .spread .markable .graph .small)
 
 add-e : tie.Need-add-e Inv-loop μ-loop
-add-e c = omega (arith, c .before .before .before .before .loop-test .taken, c .before .before .before .before .before .before .index2 .ensures, c .before .before .before .before .before .before .before .shared-slice-known4 .given (c .before .before .before .before .before .before .before .before .before .before .before .before .before .before .args .u + 1))
+add-e c =
+    omega (
+      arith,
+      c .before .before .before .before .loop-test .taken,
+      c .before .before .before .before .before .before .index2 .ensures,
+      c .before .before .before .before .before .before .before .shared-slice-known4 .given
+          (c .before .before .before .before .before .before .before .before .before .before .before .before .before .before .args .u + 1),
+    )
 
 loop-less : tie.Need-loop-less Inv-loop μ-loop
 loop-less c = omega (arith, c .before .before .before .before .loop-test .taken)
 
 loop-again : tie.Need-loop-again Inv-loop μ-loop
-loop-again c = going-step (c .before .before .before .before .before .loop .inv) (c .before .before .before .before .loop-test .taken) _ (c .before .before .index3 .ensures) _ _ _ (⊎-elim (λ w. inl (w .0 .taken, w .1, w .2, w .3)) (λ w. inr (w .0 .left, w .1, w .2, w .3)) (c .if1 .came))
+loop-again c =
+    let here = c .before .before .before .before .before .loop .inv in
+    let l = going-low here (c .before .before .before .before .loop-test .taken) _ (c .before .before .index3 .ensures) in
+    going-step here (c .before .before .before .before .loop-test .taken) _ (c .before .before .index3 .ensures) _ _ _
+    (⊎-elim (λ w. let q = w .1 .ensures (omega (arith, l, here .spread .markable .graph .small)) in inl (w .0 .taken, w .2, rw q at (w .3), w .4))
+    (λ w. inr (w .0 .left, w .1, w .2, w .3)) (c .if1 .came))
 
 same-length : tie.Need-same-length Inv-loop μ-loop
 same-length c = c .before .loop .inv .mark-long
@@ -111,7 +152,7 @@ expand-spec =
     slice-read-if1
     mul-mark
     slice-write-mark
-    cast-queue
+    number-requires
     mul-queue
     slice-write-queue
     add-t

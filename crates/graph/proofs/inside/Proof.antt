@@ -27,7 +27,14 @@ index-requires : tie.Need-index-requires Inv-loop μ-loop
 index-requires c κs = search needs
 
 returns : tie.Need-returns Inv-loop μ-loop
-returns c = tells-no refl (λ h. omega (arith, h (c .before .before .before .before .loop .e) (c .before .before .before .before .loop .inv .0) (c .before .before .before .loop-test .taken), c .before .index .ensures, c .if1 .taken))
+returns c =
+    tells-no refl (λ h. omega (
+      arith,
+      h (c .before .before .before .before .loop .e) (c .before .before .before .before .loop .inv .0)
+          (c .before .before .before .loop-test .taken),
+      c .before .index .ensures,
+      c .if1 .taken,
+    ))
 
 add-e : tie.Need-add-e Inv-loop μ-loop
 add-e c = omega arith
@@ -36,7 +43,15 @@ loop-less : tie.Need-loop-less Inv-loop μ-loop
 loop-less c = omega arith
 
 loop-again : tie.Need-loop-again Inv-loop μ-loop
-loop-again c = (omega arith, inside-more (c .before .before .before .before .before .before .args .to .now) (c .before .before .before .before .before .before .args .from) (c .before .before .before .before .loop .e) (c .before .before .before .before .before .before .args .n) _ (c .before .before .before .before .loop .inv .1) (c .before .index .ensures) (omega (arith, c .if1 .left)))
+loop-again c = (
+  omega arith,
+  inside-more (c .before .before .before .before .before .before .args .to .now)
+      (c .before .before .before .before .before .before .args .from) (c .before .before .before .before .loop .e)
+      (c .before .before .before .before .before .before .args .n) _ (c .before .before .before .before .loop .inv .1) (c .before .index .ensures) (omega (
+        arith,
+        c .if1 .left,
+      )),
+)
 
 returns-2 : tie.Need-returns-2 Inv-loop μ-loop
 returns-2 c = tells-yes refl (λ k f l. c .before .loop .inv .1 k f (omega arith))

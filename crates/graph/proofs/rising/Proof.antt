@@ -41,7 +41,11 @@ loop-less : tie.Need-loop-less Inv-loop μ-loop
 loop-less c = omega arith
 
 loop-again : tie.Need-loop-again Inv-loop μ-loop
-loop-again c = (omega arith, rising-more (c .before .before .before .before .before .args .first .now) (c .before .before .before .before .loop .v) (c .before .before .before .before .loop .inv .1) (omega (arith, c .if1 .left)))
+loop-again c = (
+  omega arith,
+  rising-more (c .before .before .before .before .before .args .first .now) (c .before .before .before .before .loop .v)
+      (c .before .before .before .before .loop .inv .1) (omega (arith, c .if1 .left)),
+)
 
 returns-2 : tie.Need-returns-2 Inv-loop μ-loop
 returns-2 c = tells-yes refl (λ k l. c .before .loop .inv .1 k (omega arith))

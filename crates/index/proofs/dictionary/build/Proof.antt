@@ -24,7 +24,10 @@ clear32-requires : tie.Need-clear32-requires Inv-loop μ-loop
 clear32-requires c κs = search needs
 
 loop-holds : tie.Need-loop-holds Inv-loop μ-loop
-loop-holds c = building-starts (c .before .before .before .before .before .before .before .before .before .args .heads .now) (sym (c .before .before .before .before .before .scratch .ensures) ∙ not-false _ (c .before .before .before .before .if1 .left)) (c .before .before .clear32 .ensures)
+loop-holds c =
+    building-starts (c .before .before .before .before .before .before .before .before .before .args .heads .now) (sym
+    (c .before .before .before .before .before .scratch .ensures) ∙ not-false _ (c .before .before .before .before .if1 .left))
+    (c .before .before .clear32 .ensures)
 
 sub-i : tie.Need-sub-i Inv-loop μ-loop
 sub-i c = search needs
@@ -48,13 +51,19 @@ mul-next-2 : tie.Need-mul-next-2 Inv-loop μ-loop
 mul-next-2 c = search needs
 
 slice-write-next : tie.Need-slice-write-next Inv-loop μ-loop
-slice-write-next c = omega (arith, c .before .before .before .before .before .loop .inv .within, c .before .before .before .before .before .loop .inv .room, c .before .before .before .before .before .loop .inv .next-long)
+slice-write-next c =
+    omega (
+      arith,
+      c .before .before .before .before .before .loop .inv .within,
+      c .before .before .before .before .before .loop .inv .room,
+      c .before .before .before .before .before .loop .inv .next-long,
+    )
 
 add-number : tie.Need-add-number Inv-loop μ-loop
 add-number c = omega (arith, c .before .before .before .before .before .loop .inv .within, c .before .before .before .before .before .loop .inv .small)
 
 number-requires : tie.Need-number-requires Inv-loop μ-loop
-number-requires c κs = omega (arith, c .before .before .before .before .before .loop .inv .within, c .before .before .before .before .before .loop .inv .small)
+number-requires c κs = search needs
 
 mul-heads : tie.Need-mul-heads Inv-loop μ-loop
 mul-heads c = search needs
@@ -66,7 +75,13 @@ loop-less : tie.Need-loop-less Inv-loop μ-loop
 loop-less c = omega (arith, c .before .before .before .before .before .loop-test .taken)
 
 loop-again : tie.Need-loop-again Inv-loop μ-loop
-loop-again c = building-enters (c .before .before .before .before .before .before .loop .inv) (c .before .before .before .before .before .loop-test .taken) _ _ (omega arith) (c .before .before .bucket .ensures) (c .number .ensures)
+loop-again c =
+    building-enters (c .before .before .before .before .before .before .loop .inv) (c .before .before .before .before .before .loop-test .taken) _ _
+    (omega arith) (c .before .before .bucket .ensures) (c .number .ensures (omega (
+      arith,
+      c .before .before .before .before .before .before .loop .inv .within,
+      c .before .before .before .before .before .before .loop .inv .small,
+    )))
 
 loop-less-2 : tie.Need-loop-less-2 Inv-loop μ-loop
 loop-less-2 c = omega (arith, c .before .before .loop-test .taken)
@@ -81,7 +96,9 @@ same-length-2 : tie.Need-same-length-2 Inv-loop μ-loop
 same-length-2 c = c .before .loop .inv .next-long
 
 returns-2 : tie.Need-returns-2 Inv-loop μ-loop
-returns-2 c = builds-done (c .before .before .before .before .before .before .if1 .left) (c .before .before .before .before .before .before .before .scratch .ensures) (built (c .before .loop .inv) (c .loop-test .left))
+returns-2 c =
+    builds-done (c .before .before .before .before .before .before .if1 .left) (c .before .before .before .before .before .before .before .scratch .ensures)
+    (built (c .before .loop .inv) (c .loop-test .left)) (c .before .loop .inv .rest)
 
 pub build-spec : {M : Type 1} → statement M
 build-spec =

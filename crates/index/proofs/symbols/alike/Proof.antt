@@ -35,7 +35,11 @@ lower-case-requires-2 : tie.Need-lower-case-requires-2 Inv-loop μ-loop
 lower-case-requires-2 c κs = search needs
 
 returns-2 : tie.Need-returns-2 Inv-loop μ-loop
-returns-2 c = sym (differ-at (c .before .before .before .before .before .before .before .before .before .before .args .a .now) (c .before .before .before .before .before .before .before .before .before .before .args .b .now) (c .before .before .before .before .before .before .loop .i) (λ e. c .if2 .taken (c .before .before .before .lower-case .ensures ∙ e ∙ sym (c .before .lower-case2 .ensures))))
+returns-2 c =
+    sym (differ-at (c .before .before .before .before .before .before .before .before .before .before .args .a .now)
+    (c .before .before .before .before .before .before .before .before .before .before .args .b .now)
+    (c .before .before .before .before .before .before .loop .i) (λ e. c .if2 .taken (c .before .before .before .lower-case .ensures ∙ e ∙ sym
+    (c .before .lower-case2 .ensures))))
 
 add-i : tie.Need-add-i Inv-loop μ-loop
 add-i c = search needs
@@ -44,10 +48,17 @@ loop-less : tie.Need-loop-less Inv-loop μ-loop
 loop-less c = search needs
 
 loop-again : tie.Need-loop-again Inv-loop μ-loop
-loop-again c = (search needs, search needs, below-more _ _ (c .before .before .before .before .before .before .loop .inv .2) (sym (c .before .before .before .lower-case .ensures) ∙ c .if2 .left ∙ c .before .lower-case2 .ensures))
+loop-again c = (
+  search needs,
+  search needs,
+  below-more _ _ (c .before .before .before .before .before .before .loop .inv .2) (sym
+      (c .before .before .before .lower-case .ensures) ∙ c .if2 .left ∙ c .before .lower-case2 .ensures),
+)
 
 returns-3 : tie.Need-returns-3 Inv-loop μ-loop
-returns-3 c = sym (agree (c .before .before .before .before .before .args .a .now) (c .before .before .before .before .before .args .b .now) (search needs) (λ k l. c .before .loop .inv .2 k (omega (arith, c .loop-test .left, l))))
+returns-3 c =
+    sym (agree (c .before .before .before .before .before .args .a .now) (c .before .before .before .before .before .args .b .now) (search needs)
+    (λ k l. c .before .loop .inv .2 k (omega (arith, c .loop-test .left, l))))
 
 pub alike-spec : {M : Type 1} → statement M
 alike-spec =

@@ -23,7 +23,14 @@ index-requires-2 : tie.Need-index-requires-2
 index-requires-2 c κs = search needs
 
 add-shorter : tie.Need-add-shorter
-add-shorter c = omega (arith, c .before .before .before .shared-slice-known4 .given (c .before .before .before .before .before .before .before .args .i), c .before .shared-slice-known5 .given (c .before .before .before .before .before .before .before .args .i), c .before .before .index .ensures, c .index2 .ensures)
+add-shorter c =
+    omega (
+      arith,
+      c .before .before .before .shared-slice-known4 .given (c .before .before .before .before .before .before .before .args .i),
+      c .before .shared-slice-known5 .given (c .before .before .before .before .before .before .before .args .i),
+      c .before .before .index .ensures,
+      c .index2 .ensures,
+    )
 
 shorter-requires : tie.Need-shorter-requires
 shorter-requires c κs = search needs

@@ -31,25 +31,37 @@ least-requires : tie.Need-least-requires Inv-loop μ-loop
 least-requires c κs = linked _ _ _ (c .before .before .before .before .loop .inv) _ (c .before .before .before .loop-test .taken) (c .before .before .token-bucket .ensures)
 
 number-requires : tie.Need-number-requires Inv-loop μ-loop
-number-requires c κs = let s = c .before .before .before .before .before .before .before .before .before .before .before .before in omega (arith, c .least .ensures, symbol-le (s .args .bytes .now) (s .args .starts .now) (s .args .lengths .now) (c .before .before .before .before .before .loop .i), c .before .before .before .before .before .loop .inv .small, c .before .before .before .before .loop-test .taken)
+number-requires c κs = search needs
 
 mul-symbols : tie.Need-mul-symbols Inv-loop μ-loop
 mul-symbols c = search needs
 
 slice-write-symbols : tie.Need-slice-write-symbols Inv-loop μ-loop
-slice-write-symbols c = omega (arith, c .before .before .before .before .before .before .loop .inv .fits, c .before .before .before .before .before .before .loop .inv .symbols-long, c .before .before .before .before .before .loop-test .taken)
+slice-write-symbols c =
+    omega (
+      arith,
+      c .before .before .before .before .before .before .loop .inv .fits,
+      c .before .before .before .before .before .before .loop .inv .symbols-long,
+      c .before .before .before .before .before .loop-test .taken,
+    )
 
 mul-next : tie.Need-mul-next Inv-loop μ-loop
 mul-next c = search needs
 
 slice-write-next : tie.Need-slice-write-next Inv-loop μ-loop
-slice-write-next c = omega (arith, c .before .before .before .before .before .before .loop .inv .room, c .before .before .before .before .before .before .loop .inv .next-long, c .before .before .before .before .before .loop-test .taken)
+slice-write-next c =
+    omega (
+      arith,
+      c .before .before .before .before .before .before .loop .inv .room,
+      c .before .before .before .before .before .before .loop .inv .next-long,
+      c .before .before .before .before .before .loop-test .taken,
+    )
 
 add-number : tie.Need-add-number Inv-loop μ-loop
 add-number c = omega (arith, c .before .before .before .before .before .before .before .loop .inv .small, c .before .before .before .before .before .before .loop-test .taken)
 
 number-requires-2 : tie.Need-number-requires-2 Inv-loop μ-loop
-number-requires-2 c κs = omega (arith, c .before .before .before .before .before .before .before .loop .inv .small, c .before .before .before .before .before .before .loop-test .taken)
+number-requires-2 c κs = search needs
 
 mul-heads : tie.Need-mul-heads Inv-loop μ-loop
 mul-heads c = search needs
@@ -65,9 +77,15 @@ loop-less c = omega (arith, c .before .before .before .before .before .before .l
 
 loop-again : tie.Need-loop-again Inv-loop μ-loop
 loop-again c =
+    let s = c .before .before .before .before .before .before .before .before .before .before .before .before .before .before in
+    let here = c .before .before .before .before .before .before .before .loop .inv in
+    let l = c .before .before .before .before .before .before .loop-test .taken in
+    let low = symbol-le (s .args .bytes .now) (s .args .starts .now) (s .args .lengths .now) (c .before .before .before .before .before .before .before .loop .i) in
+    let small = c .before .number .ensures (omega (arith, c .before .before .least .ensures, low, here .small, l)) in
+    let B = c .before .before .before .before .before .token-bucket .ensures in
     ⊎-elim
-    (λ w. filling-adds _ _ _ (c .before .before .before .before .before .before .before .loop .inv) (c .before .before .before .before .before .before .loop-test .taken) _ _ _ (c .before .before .before .before .before .token-bucket .ensures) (c .before .before .least .ensures) (c .before .number .ensures) _ (w .0 .taken) (w .1 .ensures) (w .2))
-    (λ w. filling-repeats _ _ _ (c .before .before .before .before .before .before .before .loop .inv) (c .before .before .before .before .before .before .loop-test .taken) _ _ _ (c .before .before .before .before .before .token-bucket .ensures) (c .before .before .least .ensures) (c .before .number .ensures) (w .0 .left) (w .1)) (c .if1 .came)
+    (λ w. filling-adds _ _ _ here l _ _ _ B (c .before .before .least .ensures) small _ (w .0 .taken) (w .1 .ensures (omega (arith, here .small, l))) (w .2))
+    (λ w. filling-repeats _ _ _ here l _ _ _ B (c .before .before .least .ensures) small (w .0 .left) (w .1)) (c .if1 .came)
 
 same-length : tie.Need-same-length Inv-loop μ-loop
 same-length c = c .before .loop .inv .symbols-long

@@ -28,7 +28,10 @@ alike-requires : tie.Need-alike-requires
 alike-requires c κs = search needs
 
 returns : tie.Need-returns
-returns c = let s = c .before .before .before .before .before .before .before .before in c .alike .ensures ∙ ap (λ (xs : List ℕ). same xs (map lower (s .args .word .now))) (part-spelling (s .args .bytes .now) (s .args .starts .now) (s .args .lengths .now) (s .args .k) _ _ (c .before .before .before .begin .ensures) (c .before .before .end .ensures))
+returns c =
+    let s = c .before .before .before .before .before .before .before .before in c .alike .ensures ∙ ap (λ (xs : List ℕ). same xs (map lower
+    (s .args .word .now))) (part-spelling (s .args .bytes .now) (s .args .starts .now) (s .args .lengths .now) (s .args .k) _ _
+    (c .before .before .before .begin .ensures) (c .before .before .end .ensures))
 
 pub spelled-spec : {M : Type 1} → statement M
 spelled-spec =

@@ -29,7 +29,10 @@ bucket-requires : tie.Need-bucket-requires
 bucket-requires c κs = search needs
 
 returns : tie.Need-returns
-returns c = let s = c .before .before .before .before .before .before .before .before in in-bucket (c .bucket .ensures) (c .before .hash .ensures ∙ ap (hash-from 0) (part-spelling (s .args .bytes .now) (s .args .starts .now) (s .args .lengths .now) (s .args .i) _ _ (c .before .before .before .before .begin .ensures) (c .before .before .before .end .ensures)))
+returns c =
+    let s = c .before .before .before .before .before .before .before .before in in-bucket (c .bucket .ensures) (c .before .hash .ensures ∙ ap (hash-from 0)
+    (part-spelling (s .args .bytes .now) (s .args .starts .now) (s .args .lengths .now) (s .args .i) _ _ (c .before .before .before .before .begin .ensures)
+    (c .before .before .before .end .ensures)))
 
 pub token-bucket-spec : {M : Type 1} → statement M
 token-bucket-spec =
