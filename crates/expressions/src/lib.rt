@@ -1,4 +1,4 @@
-// Expressions by recursive descent: terminal codes to rows of nodes, each row packed into one word.
+// Expressions by recursive descent: terminals to rows of nodes, each row packed into one word.
 ghost use mathlib.Core.Bool.{true, _&&_, cond};
 ghost use mathlib.Core.List.{[], _∷_};
 ghost use mathlib.Core.Path.{_≡_};
@@ -12,6 +12,8 @@ ghost use Rattle.express.specs.syntax.Syntax.{opening, closing};
 ghost use Rattle.expressions.specs.Reading.{word, atom-label, Ready, Sound, Reads, Expects, Leaves, Compares, Noded, Combined, Counts};
 ghost use Rattle.expressions.specs.Parsing.{most, Parsing};
 ghost use Rattle.expressions.specs.Outcome.{steps as stepList, deep-or-end, end-of, judged, Judging, answered, kind-in, role-in, token-in, size-in, Unpacked, count, Settles};
+use codes::labels;
+use codes::replies;
 use columns::put8;
 use columns::put32;
 use columns::shorter;
@@ -23,21 +25,30 @@ pub enum Read {
 }
 
 // The terminal at a place, and 0 past the end.
-pub fn token(codes: &[u8], at: usize) -> u8
-    ensures { λ r. ⌜ r ≡ getD (now (codes .entry)) at 0 ⌝ }
+pub fn token(terminals: &[u8], at: usize) -> u8
+    ensures { λ r. ⌜ r ≡ getD (now (terminals .entry)) at 0 ⌝ }
 {
-    if at < codes.len() {
-        return codes[at];
+    if at < terminals.len() {
+        return terminals[at];
     }
     0
 }
 
-// A row: kind and role, naming token and size in one word.
+// A row in one word: kind and role in 16 bits, then its naming token and its size in 20 each.
+const TOKEN_UNIT: u64 = 65536;
+
+const SIZE_UNIT: u64 = TOKEN_UNIT * PLACES;
+
+const PLACES: u64 = 1048576;
+
+// A list of terminals that is read has no more than a file has bytes.
+pub const MOST: usize = 65536;
+
 pub fn packed(label: u64, token: usize, size: usize) -> u64
     requires { ⌜ (label < 65536) × (token < 1048576) × (size < 1048576) ⌝ }
     ensures { λ r. ⌜ r ≡ word label token size ⌝ }
 {
-    label + 65536 * (token as u64) + 68719476736 * (size as u64)
+    label + TOKEN_UNIT * (token as u64) + SIZE_UNIT * (size as u64)
 }
 
 // Stores a row; past the table's end nothing changes.
@@ -50,28 +61,28 @@ pub fn put(rows: &mut [u64], at: usize, row: u64)
 }
 
 // A token of one terminal.
-pub fn expect(codes: &[u8], before: Read, code: u8) -> Read
-    requires { ⌜ (Sound (now codes) before) × (0 < code) ⌝ }
-    ensures { λ r. ⌜ Expects (now (codes .entry)) (code ∷ []) before r ⌝ }
+pub fn expect(terminals: &[u8], before: Read, code: u8) -> Read
+    requires { ⌜ (Sound (now terminals) before) × (0 < code) ⌝ }
+    ensures { λ r. ⌜ Expects (now (terminals .entry)) (code ∷ []) before r ⌝ }
 {
     let Read::At(p, n) = before else {
         return before;
     };
-    if token(codes, p) == code {
+    if token(terminals, p) == code {
         return Read::At(p + 1, n);
     }
     Read::Refused(p)
 }
 
 // An identifier that leaves a row with nothing below it.
-pub fn leaf(codes: &[u8], rows: &mut [u64], before: Read, label: u64) -> Read
-    requires { ⌜ (Sound (now codes) before) × (label < 65536) ⌝ }
-    ensures { λ r. ⌜ Leaves (now (codes .entry)) label before r (now (rows .entry)) (now (rows .exit)) ⌝ }
+pub fn leaf(terminals: &[u8], rows: &mut [u64], before: Read, label: u64) -> Read
+    requires { ⌜ (Sound (now terminals) before) × (label < 65536) ⌝ }
+    ensures { λ r. ⌜ Leaves (now (terminals .entry)) label before r (now (rows .entry)) (now (rows .exit)) ⌝ }
 {
     let Read::At(p, n) = before else {
         return before;
     };
-    if token(codes, p) == 1 {
+    if token(terminals, p) == codes::IDENTIFIER {
         put(rows, n, packed(label, p, 1));
         return Read::At(p + 1, n + 1);
     }
@@ -105,8 +116,12 @@ pub fn is_relation(c: u8) -> bool
     ensures { λ r. ⌜ r ≡ mem c relations ⌝ }
 {
     match c {
-        14 | 17 | 26 | 28 | 33 => true,
-        18 | 27 | 34 => true,
+        codes::EQUAL
+        | codes::LESS
+        | codes::LESS_EQUAL
+        | codes::GREATER_EQUAL
+        | codes::INSTANCE_EQUAL => true,
+        codes::GREATER | codes::UNEQUAL | codes::INSTANCE_UNEQUAL => true,
         _ => false,
     }
 }
@@ -115,8 +130,8 @@ pub fn is_addition(c: u8) -> bool
     ensures { λ r. ⌜ r ≡ mem c additions ⌝ }
 {
     match c {
-        12 | 113 | 153 => true,
-        13 => true,
+        codes::PLUS | codes::OR | codes::XOR => true,
+        codes::MINUS => true,
         _ => false,
     }
 }
@@ -125,7 +140,7 @@ pub fn is_multiplication(c: u8) -> bool
     ensures { λ r. ⌜ r ≡ mem c multiplications ⌝ }
 {
     match c {
-        11 | 16 | 40 | 58 | 104 => true,
+        codes::TIMES | codes::SLASH | codes::AND | codes::DIV | codes::MOD => true,
         _ => false,
     }
 }
@@ -134,8 +149,8 @@ pub fn is_sign(c: u8) -> bool
     ensures { λ r. ⌜ r ≡ mem c signs ⌝ }
 {
     match c {
-        12 | 106 => true,
-        13 => true,
+        codes::PLUS | codes::NOT => true,
+        codes::MINUS => true,
         _ => false,
     }
 }
@@ -144,7 +159,7 @@ pub fn is_comparison(c: u8) -> bool
     ensures { λ r. ⌜ r ≡ mem c comparisons ⌝ }
 {
     match c {
-        17 | 26 => true,
+        codes::LESS | codes::LESS_EQUAL => true,
         _ => false,
     }
 }
@@ -154,30 +169,30 @@ pub fn atom_label(c: u8) -> u64
     ensures { λ r. ⌜ r ≡ atom-label c ⌝ }
 {
     match c {
-        2 => 1,
-        5 => 2,
-        80 | 139 | 143 => 3,
-        6 => 4,
-        3 | 54 | 115 => 5,
-        4 => 5,
-        1 => 262,
-        127 => 8,
+        codes::INTEGER_LITERAL => labels::INTEGER,
+        codes::BINARY_LITERAL => labels::BINARY,
+        codes::FALSE | codes::TRUE | codes::UNKNOWN => labels::LOGICAL,
+        codes::QUESTION => labels::INDETERMINATE,
+        codes::REAL_LITERAL | codes::CONST_E | codes::PI => labels::OTHER,
+        codes::STRING_LITERAL => labels::OTHER,
+        codes::IDENTIFIER => labels::NAME_IN_EXPRESSION,
+        codes::SELF => labels::SELF_REFERENCE,
         _ => 0,
     }
 }
 
 // expression = sum [ relation sum ]
-pub fn expression(codes: &[u8], rows: &mut [u64], p: usize, n: usize) -> Read
-    requires { ⌜ Ready (now codes) p n ⌝ }
-    ensures { λ r. ⌜ Reads expression (now (codes .entry)) p n r (now (rows .entry)) (now (rows .exit)) ⌝ }
+pub fn expression(terminals: &[u8], rows: &mut [u64], p: usize, n: usize) -> Read
+    requires { ⌜ Ready (now terminals) p n ⌝ }
+    ensures { λ r. ⌜ Reads expression (now (terminals .entry)) p n r (now (rows .entry)) (now (rows .exit)) ⌝ }
 {
-    let left = sum(codes, rows, p, n);
+    let left = sum(terminals, rows, p, n);
     let Read::At(q, m) = left else {
         return left;
     };
-    if is_relation(token(codes, q)) {
-        let right = sum(codes, rows, q + 1, m);
-        return node(rows, right, n, 10, q);
+    if is_relation(token(terminals, q)) {
+        let right = sum(terminals, rows, q + 1, m);
+        return node(rows, right, n, labels::TWO_OPERAND, q);
     }
     left
 }
@@ -191,24 +206,24 @@ fn combined(rows: &mut [u64], p: usize, q: usize, n: usize, m: usize) -> usize
     if q == p {
         return m;
     }
-    put(rows, m, packed(10, q - 1, span(n, m)));
+    put(rows, m, packed(labels::TWO_OPERAND, q - 1, span(n, m)));
     m + 1
 }
 
 // sum = term { ( '+' | '-' | OR | XOR ) term }
-fn sum(codes: &[u8], rows: &mut [u64], p: usize, n: usize) -> Read
-    requires { ⌜ Ready (now codes) p n ⌝ }
-    ensures { λ r. ⌜ Reads sum (now (codes .entry)) p n r (now (rows .entry)) (now (rows .exit)) ⌝ }
+fn sum(terminals: &[u8], rows: &mut [u64], p: usize, n: usize) -> Read
+    requires { ⌜ Ready (now terminals) p n ⌝ }
+    ensures { λ r. ⌜ Reads sum (now (terminals .entry)) p n r (now (rows .entry)) (now (rows .exit)) ⌝ }
 {
     let mut q = p;
     let mut m = n;
     loop {
-        let right = term(codes, rows, q, m);
+        let right = term(terminals, rows, q, m);
         let Read::At(q2, m2) = right else {
             return right;
         };
         m = combined(rows, p, q, n, m2);
-        if !is_addition(token(codes, q2)) {
+        if !is_addition(token(terminals, q2)) {
             return Read::At(q2, m);
         }
         q = q2 + 1;
@@ -216,19 +231,19 @@ fn sum(codes: &[u8], rows: &mut [u64], p: usize, n: usize) -> Read
 }
 
 // term = factor { ( '*' | '/' | DIV | MOD | AND ) factor }
-fn term(codes: &[u8], rows: &mut [u64], p: usize, n: usize) -> Read
-    requires { ⌜ Ready (now codes) p n ⌝ }
-    ensures { λ r. ⌜ Reads term (now (codes .entry)) p n r (now (rows .entry)) (now (rows .exit)) ⌝ }
+fn term(terminals: &[u8], rows: &mut [u64], p: usize, n: usize) -> Read
+    requires { ⌜ Ready (now terminals) p n ⌝ }
+    ensures { λ r. ⌜ Reads term (now (terminals .entry)) p n r (now (rows .entry)) (now (rows .exit)) ⌝ }
 {
     let mut q = p;
     let mut m = n;
     loop {
-        let right = factor(codes, rows, q, m);
+        let right = factor(terminals, rows, q, m);
         let Read::At(q2, m2) = right else {
             return right;
         };
         m = combined(rows, p, q, n, m2);
-        if !is_multiplication(token(codes, q2)) {
+        if !is_multiplication(token(terminals, q2)) {
             return Read::At(q2, m);
         }
         q = q2 + 1;
@@ -236,14 +251,14 @@ fn term(codes: &[u8], rows: &mut [u64], p: usize, n: usize) -> Read
 }
 
 // factor = operand [ '**' operand ]
-fn factor(codes: &[u8], rows: &mut [u64], p: usize, n: usize) -> Read
-    requires { ⌜ Ready (now codes) p n ⌝ }
-    ensures { λ r. ⌜ Reads factor (now (codes .entry)) p n r (now (rows .entry)) (now (rows .exit)) ⌝ }
+fn factor(terminals: &[u8], rows: &mut [u64], p: usize, n: usize) -> Read
+    requires { ⌜ Ready (now terminals) p n ⌝ }
+    ensures { λ r. ⌜ Reads factor (now (terminals .entry)) p n r (now (rows .entry)) (now (rows .exit)) ⌝ }
 {
     let mut q = p;
     let mut m = n;
     loop {
-        let right = operand(codes, rows, q, m);
+        let right = operand(terminals, rows, q, m);
         let Read::At(q2, m2) = right else {
             return right;
         };
@@ -251,7 +266,7 @@ fn factor(codes: &[u8], rows: &mut [u64], p: usize, n: usize) -> Read
         if q > p {
             return Read::At(q2, m);
         }
-        if token(codes, q2) != 32 {
+        if token(terminals, q2) != codes::POWER {
             return Read::At(q2, m);
         }
         q = q2 + 1;
@@ -259,59 +274,59 @@ fn factor(codes: &[u8], rows: &mut [u64], p: usize, n: usize) -> Read
 }
 
 // operand = id '.' id | interval | [ '+' | '-' | NOT ] atom
-fn operand(codes: &[u8], rows: &mut [u64], p: usize, n: usize) -> Read
-    requires { ⌜ Ready (now codes) p n ⌝ }
-    ensures { λ r. ⌜ Reads operand (now (codes .entry)) p n r (now (rows .entry)) (now (rows .exit)) ⌝ }
+fn operand(terminals: &[u8], rows: &mut [u64], p: usize, n: usize) -> Read
+    requires { ⌜ Ready (now terminals) p n ⌝ }
+    ensures { λ r. ⌜ Reads operand (now (terminals .entry)) p n r (now (rows .entry)) (now (rows .exit)) ⌝ }
 {
-    let c = token(codes, p);
-    if is_qualified(codes, p) {
-        return leaf(codes, rows, Read::At(p + 2, n), 7);
+    let c = token(terminals, p);
+    if is_qualified(terminals, p) {
+        return leaf(terminals, rows, Read::At(p + 2, n), labels::QUALIFIED_ITEM);
     }
-    if c == 21 {
-        return interval(codes, rows, p, n);
+    if c == codes::LBRACE {
+        return interval(terminals, rows, p, n);
     }
     if is_sign(c) {
-        return signed(codes, rows, p, n);
+        return signed(terminals, rows, p, n);
     }
-    atom(codes, rows, p, n)
+    atom(terminals, rows, p, n)
 }
 
 // a sign, which is there, and an atom: no power and no type.item
-fn signed(codes: &[u8], rows: &mut [u64], p: usize, n: usize) -> Read
-    requires { ⌜ (Ready (now codes) p n) × (mem (getD (now codes) p 0) signs ≡ true) ⌝ }
-    ensures { λ r. ⌜ Reads operand (now (codes .entry)) p n r (now (rows .entry)) (now (rows .exit)) ⌝ }
+fn signed(terminals: &[u8], rows: &mut [u64], p: usize, n: usize) -> Read
+    requires { ⌜ (Ready (now terminals) p n) × (mem (getD (now terminals) p 0) signs ≡ true) ⌝ }
+    ensures { λ r. ⌜ Reads operand (now (terminals .entry)) p n r (now (rows .entry)) (now (rows .exit)) ⌝ }
 {
-    let inner = atom(codes, rows, p + 1, n);
+    let inner = atom(terminals, rows, p + 1, n);
     let Read::At(q, m) = inner else {
         return inner;
     };
-    put(rows, m, packed(9, p, span(n, m)));
+    put(rows, m, packed(labels::UNARY, p, span(n, m)));
     Read::At(q, m + 1)
 }
 
 // id '.' stands here.
-fn is_qualified(codes: &[u8], p: usize) -> bool
+fn is_qualified(terminals: &[u8], p: usize) -> bool
     requires { ⌜ p ≤ 65536 ⌝ }
-    ensures { λ r. ⌜ r ≡ (mem (getD (now (codes .entry)) p 0) identifier && mem (getD (now (codes .entry)) (p + 1) 0) dot) ⌝ }
+    ensures { λ r. ⌜ r ≡ (mem (getD (now (terminals .entry)) p 0) identifier && mem (getD (now (terminals .entry)) (p + 1) 0) dot) ⌝ }
 {
-    if token(codes, p) == 1 {
-        return token(codes, p + 1) == 7;
+    if token(terminals, p) == codes::IDENTIFIER {
+        return token(terminals, p + 1) == codes::DOT;
     }
     false
 }
 
 // atom = '(' expression ')' | a literal, a name or SELF
-fn atom(codes: &[u8], rows: &mut [u64], p: usize, n: usize) -> Read
-    requires { ⌜ Ready (now codes) p n ⌝ }
-    ensures { λ r. ⌜ Reads atom (now (codes .entry)) p n r (now (rows .entry)) (now (rows .exit)) ⌝ }
+fn atom(terminals: &[u8], rows: &mut [u64], p: usize, n: usize) -> Read
+    requires { ⌜ Ready (now terminals) p n ⌝ }
+    ensures { λ r. ⌜ Reads atom (now (terminals .entry)) p n r (now (rows .entry)) (now (rows .exit)) ⌝ }
 {
-    let c = token(codes, p);
-    if c == 24 {
-        let inner = expression(codes, rows, p + 1, n);
+    let c = token(terminals, p);
+    if c == codes::LPAREN {
+        let inner = expression(terminals, rows, p + 1, n);
         let Read::At(q, m) = inner else {
             return inner;
         };
-        if token(codes, q) == 25 {
+        if token(terminals, q) == codes::RPAREN {
             return Read::At(q + 1, m);
         }
         return Read::Refused(q);
@@ -325,31 +340,31 @@ fn atom(codes: &[u8], rows: &mut [u64], p: usize, n: usize) -> Read
 }
 
 // interval = '{' sum cmp sum cmp sum '}', of which the brace is there
-fn interval(codes: &[u8], rows: &mut [u64], p: usize, n: usize) -> Read
-    requires { ⌜ (Ready (now codes) p n) × (getD (now codes) p 0 ≡ 21) ⌝ }
-    ensures { λ r. ⌜ Reads interval (now (codes .entry)) p n r (now (rows .entry)) (now (rows .exit)) ⌝ }
+fn interval(terminals: &[u8], rows: &mut [u64], p: usize, n: usize) -> Read
+    requires { ⌜ (Ready (now terminals) p n) × (getD (now terminals) p 0 ≡ 21) ⌝ }
+    ensures { λ r. ⌜ Reads interval (now (terminals .entry)) p n r (now (rows .entry)) (now (rows .exit)) ⌝ }
 {
-    let low = sum(codes, rows, p + 1, n);
+    let low = sum(terminals, rows, p + 1, n);
     let Read::At(q, m) = low else {
         return low;
     };
-    let item = compared(codes, rows, q, m);
+    let item = compared(terminals, rows, q, m);
     let Read::At(q2, m2) = item else {
         return item;
     };
-    let high = compared(codes, rows, q2, m2);
-    let closed = expect(codes, high, 22);
-    node(rows, closed, n, 11, p)
+    let high = compared(terminals, rows, q2, m2);
+    let closed = expect(terminals, high, codes::RBRACE);
+    node(rows, closed, n, labels::INTERVAL, p)
 }
 
 // cmp sum
-fn compared(codes: &[u8], rows: &mut [u64], p: usize, n: usize) -> Read
-    requires { ⌜ Ready (now codes) p n ⌝ }
-    ensures { λ r. ⌜ Compares (now (codes .entry)) p n r (now (rows .entry)) (now (rows .exit)) ⌝ }
+fn compared(terminals: &[u8], rows: &mut [u64], p: usize, n: usize) -> Read
+    requires { ⌜ Ready (now terminals) p n ⌝ }
+    ensures { λ r. ⌜ Compares (now (terminals .entry)) p n r (now (rows .entry)) (now (rows .exit)) ⌝ }
 {
-    if is_comparison(token(codes, p)) {
-        put(rows, n, packed(12, p, 1));
-        return sum(codes, rows, p + 1, n + 1);
+    if is_comparison(token(terminals, p)) {
+        put(rows, n, packed(labels::INTERVAL_OPERATOR, p, 1));
+        return sum(terminals, rows, p + 1, n + 1);
     }
     Read::Refused(p)
 }
@@ -395,15 +410,15 @@ fn nested(steps: &[u8; 256], depth: usize, c: u8) -> usize
 }
 
 // The first token that opens a parenthesis or an interval while 64 are open; the length where there is none.
-pub fn first_deep(codes: &[u8]) -> usize
-    ensures { λ r. ⌜ r ≡ deep-or-end (now (codes .entry)) ⌝ }
+pub fn first_deep(terminals: &[u8]) -> usize
+    ensures { λ r. ⌜ r ≡ deep-or-end (now (terminals .entry)) ⌝ }
 {
     // A constant array is built anew wherever it is named: once here, and lent from here on.
     let steps = STEPS;
     let mut depth: usize = 0;
     let mut i: usize = 0;
-    while i < codes.len() {
-        depth = nested(&steps, depth, codes[i]);
+    while i < terminals.len() {
+        depth = nested(&steps, depth, terminals[i]);
         if depth > 64 {
             return i;
         }
@@ -446,13 +461,13 @@ pub fn judged(read: Read, deep: usize, end: usize) -> Judgement
 }
 
 // One whole expression, its rows in words.
-fn whole(codes: &[u8], words: &mut [u64]) -> Judgement
-    requires { ⌜ length (now codes) ≤ most ⌝ }
-    ensures { λ r. ⌜ Judging expression (now (codes .entry)) r (now (words .entry)) (now (words .exit)) ⌝ }
+fn whole(terminals: &[u8], words: &mut [u64]) -> Judgement
+    requires { ⌜ length (now terminals) ≤ most ⌝ }
+    ensures { λ r. ⌜ Judging expression (now (terminals .entry)) r (now (words .entry)) (now (words .exit)) ⌝ }
 {
-    let deep = first_deep(codes);
-    let end = end_of(deep, codes.len());
-    let read = expression(&codes[..end], words, 0, 0);
+    let deep = first_deep(terminals);
+    let end = end_of(deep, terminals.len());
+    let read = expression(&terminals[..end], words, 0, 0);
     judged(read, deep, end)
 }
 
@@ -472,13 +487,13 @@ fn role_of(w: u64) -> u32
 fn token_of(w: u64) -> u32
     ensures { λ r. ⌜ r ≡ token-in w ⌝ }
 {
-    (w / 65536 % 1048576) as u32
+    (w / TOKEN_UNIT % PLACES) as u32
 }
 
 fn size_of(w: u64) -> u32
     ensures { λ r. ⌜ r ≡ size-in w ⌝ }
 {
-    (w / 68719476736 % 1048576) as u32
+    (w / SIZE_UNIT % PLACES) as u32
 }
 
 // The first n words, laid out in columns as far as they fit.
@@ -526,8 +541,8 @@ fn answered(judgement: Judgement, room: usize) -> Parsed
             }
             Parsed::Short(n)
         }
-        Judgement::Unexpected(j) => Parsed::Refused(4, j),
-        Judgement::TooDeep(k) => Parsed::Refused(5, k),
+        Judgement::Unexpected(j) => Parsed::Refused(replies::UNEXPECTED, j),
+        Judgement::TooDeep(k) => Parsed::Refused(replies::TOO_DEEP, k),
     }
 }
 
@@ -558,81 +573,81 @@ pub fn settle(
 // The answer, by way of scratch with room for a word for each token: nodes never outnumber tokens.
 fn parse_in(
     words: &mut [u64],
-    codes: &[u8],
+    terminals: &[u8],
     kinds: &mut [u8],
     tokens: &mut [u32],
     sizes: &mut [u32],
     roles: &mut [u32],
 ) -> Parsed
-    requires { ⌜ (length (now codes) ≤ most) × (length (now codes) ≤ length (now words)) ⌝ }
-    ensures { λ r. ⌜ Parsing expression (now (codes .entry)) r (now (kinds .entry)) (now (tokens .entry)) (now (sizes .entry)) (now (roles .entry)) (now (kinds .exit)) (now (tokens .exit)) (now (sizes .exit)) (now (roles .exit)) ⌝ }
+    requires { ⌜ (length (now terminals) ≤ most) × (length (now terminals) ≤ length (now words)) ⌝ }
+    ensures { λ r. ⌜ Parsing expression (now (terminals .entry)) r (now (kinds .entry)) (now (tokens .entry)) (now (sizes .entry)) (now (roles .entry)) (now (kinds .exit)) (now (tokens .exit)) (now (sizes .exit)) (now (roles .exit)) ⌝ }
 {
-    let judgement = whole(codes, words);
+    let judgement = whole(terminals, words);
     settle(judgement, words, kinds, tokens, sizes, roles)
 }
 
 // Scratch comes in three sizes: a short list clears little, and 24,576 words hold the nodes of nearly every file of 64 KiB. Each has a function of
 // its own, so that the stack has room for one of them alone.
 fn parse_small(
-    codes: &[u8],
+    terminals: &[u8],
     kinds: &mut [u8],
     tokens: &mut [u32],
     sizes: &mut [u32],
     roles: &mut [u32],
 ) -> Parsed
-    requires { ⌜ length (now codes) ≤ 1024 ⌝ }
-    ensures { λ r. ⌜ Parsing expression (now (codes .entry)) r (now (kinds .entry)) (now (tokens .entry)) (now (sizes .entry)) (now (roles .entry)) (now (kinds .exit)) (now (tokens .exit)) (now (sizes .exit)) (now (roles .exit)) ⌝ }
+    requires { ⌜ length (now terminals) ≤ 1024 ⌝ }
+    ensures { λ r. ⌜ Parsing expression (now (terminals .entry)) r (now (kinds .entry)) (now (tokens .entry)) (now (sizes .entry)) (now (roles .entry)) (now (kinds .exit)) (now (tokens .exit)) (now (sizes .exit)) (now (roles .exit)) ⌝ }
 {
     let mut words = [0u64; 1024];
-    parse_in(&mut words, codes, kinds, tokens, sizes, roles)
+    parse_in(&mut words, terminals, kinds, tokens, sizes, roles)
 }
 
 fn parse_middle(
-    codes: &[u8],
+    terminals: &[u8],
     kinds: &mut [u8],
     tokens: &mut [u32],
     sizes: &mut [u32],
     roles: &mut [u32],
 ) -> Parsed
-    requires { ⌜ length (now codes) ≤ 24576 ⌝ }
-    ensures { λ r. ⌜ Parsing expression (now (codes .entry)) r (now (kinds .entry)) (now (tokens .entry)) (now (sizes .entry)) (now (roles .entry)) (now (kinds .exit)) (now (tokens .exit)) (now (sizes .exit)) (now (roles .exit)) ⌝ }
+    requires { ⌜ length (now terminals) ≤ 24576 ⌝ }
+    ensures { λ r. ⌜ Parsing expression (now (terminals .entry)) r (now (kinds .entry)) (now (tokens .entry)) (now (sizes .entry)) (now (roles .entry)) (now (kinds .exit)) (now (tokens .exit)) (now (sizes .exit)) (now (roles .exit)) ⌝ }
 {
     let mut words = [0u64; 24576];
-    parse_in(&mut words, codes, kinds, tokens, sizes, roles)
+    parse_in(&mut words, terminals, kinds, tokens, sizes, roles)
 }
 
 fn parse_large(
-    codes: &[u8],
+    terminals: &[u8],
     kinds: &mut [u8],
     tokens: &mut [u32],
     sizes: &mut [u32],
     roles: &mut [u32],
 ) -> Parsed
-    requires { ⌜ length (now codes) ≤ 65536 ⌝ }
-    ensures { λ r. ⌜ Parsing expression (now (codes .entry)) r (now (kinds .entry)) (now (tokens .entry)) (now (sizes .entry)) (now (roles .entry)) (now (kinds .exit)) (now (tokens .exit)) (now (sizes .exit)) (now (roles .exit)) ⌝ }
+    requires { ⌜ length (now terminals) ≤ 65536 ⌝ }
+    ensures { λ r. ⌜ Parsing expression (now (terminals .entry)) r (now (kinds .entry)) (now (tokens .entry)) (now (sizes .entry)) (now (roles .entry)) (now (kinds .exit)) (now (tokens .exit)) (now (sizes .exit)) (now (roles .exit)) ⌝ }
 {
     let mut words = [0u64; 65536];
-    parse_in(&mut words, codes, kinds, tokens, sizes, roles)
+    parse_in(&mut words, terminals, kinds, tokens, sizes, roles)
 }
 
 // One whole expression by itself.
 pub fn parse_expression(
-    codes: &[u8],
+    terminals: &[u8],
     kinds: &mut [u8],
     tokens: &mut [u32],
     sizes: &mut [u32],
     roles: &mut [u32],
 ) -> Parsed
-    ensures { λ r. ⌜ Parsing expression (now (codes .entry)) r (now (kinds .entry)) (now (tokens .entry)) (now (sizes .entry)) (now (roles .entry)) (now (kinds .exit)) (now (tokens .exit)) (now (sizes .exit)) (now (roles .exit)) ⌝ }
+    ensures { λ r. ⌜ Parsing expression (now (terminals .entry)) r (now (kinds .entry)) (now (tokens .entry)) (now (sizes .entry)) (now (roles .entry)) (now (kinds .exit)) (now (tokens .exit)) (now (sizes .exit)) (now (roles .exit)) ⌝ }
 {
-    if codes.len() > 65536 {
+    if terminals.len() > MOST {
         return Parsed::Long;
     }
-    if codes.len() > 24576 {
-        return parse_large(codes, kinds, tokens, sizes, roles);
+    if terminals.len() > 24576 {
+        return parse_large(terminals, kinds, tokens, sizes, roles);
     }
-    if codes.len() > 1024 {
-        return parse_middle(codes, kinds, tokens, sizes, roles);
+    if terminals.len() > 1024 {
+        return parse_middle(terminals, kinds, tokens, sizes, roles);
     }
-    parse_small(codes, kinds, tokens, sizes, roles)
+    parse_small(terminals, kinds, tokens, sizes, roles)
 }

@@ -35,10 +35,10 @@ token-requires : tie.Need-token-requires
 token-requires c κs = search needs
 
 add-t18 : tie.Need-add-t18
-add-t18 c = omega (arith, (ready-at (c .before .before .before .before .before .before .before .before .before .before .before .before .before .args .codes .now) (c .before .before .before .before .before .before .expect .result) (c .before .before .before .before .before .before .expect .ensures .sound) (c .before .before .before .before .colon .given .1)) .small, (ready-at (c .before .before .before .before .before .before .before .before .before .before .before .before .before .args .codes .now) (c .before .before .before .before .before .before .expect .result) (c .before .before .before .before .before .before .expect .ensures .sound) (c .before .before .before .before .colon .given .1)) .within)
+add-t18 c = omega (arith, (ready-at (c .before .before .before .before .before .before .before .before .before .before .before .before .before .args .terminals .now) (c .before .before .before .before .before .before .expect .result) (c .before .before .before .before .before .before .expect .ensures .sound) (c .before .before .before .before .colon .given .1)) .small, (ready-at (c .before .before .before .before .before .before .before .before .before .before .before .before .before .args .terminals .now) (c .before .before .before .before .before .before .expect .result) (c .before .before .before .before .before .before .expect .ensures .sound) (c .before .before .before .before .colon .given .1)) .within)
 
 base-requires : tie.Need-base-requires
-base-requires c κs = (onward (ready-at (c .before .before .before .before .before .before .before .before .before .before .before .before .before .args .codes .now) (c .before .before .before .before .before .before .expect .result) (c .before .before .before .before .before .before .expect .ensures .sound) (c .before .before .before .before .colon .given .1)) (one-inside (c .before .before .before .before .before .before .before .before .before .before .before .before .before .args .codes .now) (c .before .before .before .before .colon .given .0 .0) (c .before .before .token .result) 112 (c .before .before .token .ensures) (c .before .if1 .taken) (omega arith)), omega arith)
+base-requires c κs = (onward (ready-at (c .before .before .before .before .before .before .before .before .before .before .before .before .before .args .terminals .now) (c .before .before .before .before .before .before .expect .result) (c .before .before .before .before .before .before .expect .ensures .sound) (c .before .before .before .before .colon .given .1)) (one-inside (c .before .before .before .before .before .before .before .before .before .before .before .before .before .args .terminals .now) (c .before .before .before .before .colon .given .0 .0) (c .before .before .token .result) 112 (c .before .before .token .ensures) (c .before .if1 .taken) (omega arith)), omega arith)
 
 closed-requires : tie.Need-closed-requires
 closed-requires c κs = search needs
@@ -47,10 +47,10 @@ same-length-2 : tie.Need-same-length-2
 same-length-2 c = search needs
 
 returns-2 : tie.Need-returns-2
-returns-2 c = attributes-optional (c .before .before .before .before .before .before .before .before .before .before .before .before .before .before .before .before .before .before .before .before .pre) (c .before .before .before .before .before .before .before .before .before .before .before .before .before .before .before .before .names .ensures) (c .before .before .before .before .before .before .before .before .before .before .before .before .before .expect .ensures) (c .before .before .before .before .before .before .before .before .before .before .before .colon .given .1) (seen-one (c .before .before .before .before .before .before .before .before .before .before .before .before .before .before .before .before .before .before .before .before .args .codes .now) (c .before .before .before .before .before .before .before .before .before .before .before .colon .given .0 .0) 112 (c .before .before .before .before .before .before .before .before .before .token .ensures) (c .before .before .before .before .before .before .before .before .if1 .taken)) (onward (ready-at (c .before .before .before .before .before .before .before .before .before .before .before .before .before .before .before .before .before .before .before .before .args .codes .now) (c .before .before .before .before .before .before .before .before .before .before .before .before .before .expect .result) (c .before .before .before .before .before .before .before .before .before .before .before .before .before .expect .ensures .sound) (c .before .before .before .before .before .before .before .before .before .before .before .colon .given .1)) (one-inside (c .before .before .before .before .before .before .before .before .before .before .before .before .before .before .before .before .before .before .before .before .args .codes .now) (c .before .before .before .before .before .before .before .before .before .before .before .colon .given .0 .0) (c .before .before .before .before .before .before .before .before .before .token .result) 112 (c .before .before .before .before .before .before .before .before .before .token .ensures) (c .before .before .before .before .before .before .before .before .if1 .taken) (omega arith))) (c .before .before .before .before .before .before .base .ensures) (c .before .before .closed .ensures)
+returns-2 c = attributes-optional (c .before .before .before .before .before .before .before .before .before .before .before .before .before .before .before .before .before .before .before .before .pre) (c .before .before .before .before .before .before .before .before .before .before .before .before .before .before .before .before .names .ensures) (c .before .before .before .before .before .before .before .before .before .before .before .before .before .expect .ensures) (c .before .before .before .before .before .before .before .before .before .before .before .colon .given .1) (seen-one (c .before .before .before .before .before .before .before .before .before .before .before .before .before .before .before .before .before .before .before .before .args .terminals .now) (c .before .before .before .before .before .before .before .before .before .before .before .colon .given .0 .0) 112 (c .before .before .before .before .before .before .before .before .before .token .ensures) (c .before .before .before .before .before .before .before .before .if1 .taken)) (onward (ready-at (c .before .before .before .before .before .before .before .before .before .before .before .before .before .before .before .before .before .before .before .before .args .terminals .now) (c .before .before .before .before .before .before .before .before .before .before .before .before .before .expect .result) (c .before .before .before .before .before .before .before .before .before .before .before .before .before .expect .ensures .sound) (c .before .before .before .before .before .before .before .before .before .before .before .colon .given .1)) (one-inside (c .before .before .before .before .before .before .before .before .before .before .before .before .before .before .before .before .before .before .before .before .args .terminals .now) (c .before .before .before .before .before .before .before .before .before .before .before .colon .given .0 .0) (c .before .before .before .before .before .before .before .before .before .token .result) 112 (c .before .before .before .before .before .before .before .before .before .token .ensures) (c .before .before .before .before .before .before .before .before .if1 .taken) (omega arith))) (c .before .before .before .before .before .before .base .ensures) (c .before .before .closed .ensures)
 
 base-requires-2 : tie.Need-base-requires-2
-base-requires-2 c κs = ((ready-at (c .before .before .before .before .before .before .before .before .before .before .before .before .before .args .codes .now) (c .before .before .before .before .before .before .expect .result) (c .before .before .before .before .before .before .expect .ensures .sound) (c .before .before .before .before .colon .given .1)), omega arith)
+base-requires-2 c κs = ((ready-at (c .before .before .before .before .before .before .before .before .before .before .before .before .before .args .terminals .now) (c .before .before .before .before .before .before .expect .result) (c .before .before .before .before .before .before .expect .ensures .sound) (c .before .before .before .before .colon .given .1)), omega arith)
 
 closed-requires-2 : tie.Need-closed-requires-2
 closed-requires-2 c κs = search needs
@@ -59,7 +59,7 @@ same-length-3 : tie.Need-same-length-3
 same-length-3 c = search needs
 
 returns-3 : tie.Need-returns-3
-returns-3 c = attributes-plain (c .before .before .before .before .before .before .before .before .before .before .before .before .before .before .before .before .before .before .before .before .pre) (c .before .before .before .before .before .before .before .before .before .before .before .before .before .before .before .before .names .ensures) (c .before .before .before .before .before .before .before .before .before .before .before .before .before .expect .ensures) (c .before .before .before .before .before .before .before .before .before .before .before .colon .given .1) (seen-other (c .before .before .before .before .before .before .before .before .before .before .before .before .before .before .before .before .before .before .before .before .args .codes .now) (c .before .before .before .before .before .before .before .before .before .before .before .colon .given .0 .0) 112 (c .before .before .before .before .before .before .before .before .before .token .ensures) (c .before .before .before .before .before .before .before .before .if1 .left)) (ready-at (c .before .before .before .before .before .before .before .before .before .before .before .before .before .before .before .before .before .before .before .before .args .codes .now) (c .before .before .before .before .before .before .before .before .before .before .before .before .before .expect .result) (c .before .before .before .before .before .before .before .before .before .before .before .before .before .expect .ensures .sound) (c .before .before .before .before .before .before .before .before .before .before .before .colon .given .1)) (c .before .before .before .before .before .before .base2 .ensures) (c .before .before .closed2 .ensures)
+returns-3 c = attributes-plain (c .before .before .before .before .before .before .before .before .before .before .before .before .before .before .before .before .before .before .before .before .pre) (c .before .before .before .before .before .before .before .before .before .before .before .before .before .before .before .before .names .ensures) (c .before .before .before .before .before .before .before .before .before .before .before .before .before .expect .ensures) (c .before .before .before .before .before .before .before .before .before .before .before .colon .given .1) (seen-other (c .before .before .before .before .before .before .before .before .before .before .before .before .before .before .before .before .before .before .before .before .args .terminals .now) (c .before .before .before .before .before .before .before .before .before .before .before .colon .given .0 .0) 112 (c .before .before .before .before .before .before .before .before .before .token .ensures) (c .before .before .before .before .before .before .before .before .if1 .left)) (ready-at (c .before .before .before .before .before .before .before .before .before .before .before .before .before .before .before .before .before .before .before .before .args .terminals .now) (c .before .before .before .before .before .before .before .before .before .before .before .before .before .expect .result) (c .before .before .before .before .before .before .before .before .before .before .before .before .before .expect .ensures .sound) (c .before .before .before .before .before .before .before .before .before .before .before .colon .given .1)) (c .before .before .before .before .before .before .base2 .ensures) (c .before .before .closed2 .ensures)
 
 pub attributes-spec : {M : Type 1} → statement M
 attributes-spec =

@@ -12,13 +12,13 @@ expect-requires : tie.Need-expect-requires
 expect-requires c κs = search needs
 
 node-requires : tie.Need-node-requires
-node-requires c κs = (counts-sound (c .before .before .before .before .args .codes .now) (c .before .expect .result) (c .before .expect .ensures .sound), c .before .before .before .before .pre .1, c .before .before .before .before .pre .2)
+node-requires c κs = (counts-sound (c .before .before .before .before .args .terminals .now) (c .before .expect .result) (c .before .expect .ensures .sound), c .before .before .before .before .pre .1, c .before .before .before .before .pre .2)
 
 same-length : tie.Need-same-length
 same-length c = search needs
 
 returns : tie.Need-returns
-returns c = closes (c .before .before .before .before .before .before .before .args .first) (c .before .before .before .before .before .before .before .args .label) (c .before .before .before .before .before .before .before .args .name) (c .before .before .before .before .before .before .before .args .codes .now) (c .before .before .before .before .before .before .before .args .before) (c .before .before .node .result) (c .before .before .before .before .expect .result) _ _ (c .before .before .before .before .before .before .before .pre .1) (c .before .before .before .before .before .before .before .pre .2) (c .before .before .before .before .expect .ensures) (c .before .before .node .ensures)
+returns c = closes (c .before .before .before .before .before .before .before .args .first) (c .before .before .before .before .before .before .before .args .label) (c .before .before .before .before .before .before .before .args .name) (c .before .before .before .before .before .before .before .args .terminals .now) (c .before .before .before .before .before .before .before .args .before) (c .before .before .node .result) (c .before .before .before .before .expect .result) _ _ (c .before .before .before .before .before .before .before .pre .1) (c .before .before .before .before .before .before .before .pre .2) (c .before .before .before .before .expect .ensures) (c .before .before .node .ensures)
 
 pub closed-spec : {M : Type 1} → statement M
 closed-spec = tie.close (tie.spec expect-requires node-requires same-length returns)

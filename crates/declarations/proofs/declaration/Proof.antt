@@ -19,7 +19,7 @@ same-length : tie.Need-same-length
 same-length c = search needs
 
 returns : tie.Need-returns
-returns c = declared-type (seen-one (c .before .before .before .before .before .before .before .before .args .codes .now) (c .before .before .before .before .before .before .before .before .args .p) 140 (c .before .before .before .before .before .token .ensures) (c .before .before .before .before .if1 .taken)) (c .before .before .type-declaration .ensures)
+returns c = declared-type (seen-one (c .before .before .before .before .before .before .before .before .args .terminals .now) (c .before .before .before .before .before .before .before .before .args .p) 140 (c .before .before .before .before .before .token .ensures) (c .before .before .before .before .if1 .taken)) (c .before .before .type-declaration .ensures)
 
 entity-requires : tie.Need-entity-requires
 entity-requires c κs = search needs
@@ -28,7 +28,7 @@ same-length-2 : tie.Need-same-length-2
 same-length-2 c = search needs
 
 returns-2 : tie.Need-returns-2
-returns-2 c = declared-entity (seen-other (c .before .before .before .before .before .before .before .before .args .codes .now) (c .before .before .before .before .before .before .before .before .args .p) 140 (c .before .before .before .before .before .token .ensures) (c .before .before .before .before .if1 .left)) (c .before .before .entity .ensures)
+returns-2 c = declared-entity (seen-other (c .before .before .before .before .before .before .before .before .args .terminals .now) (c .before .before .before .before .before .before .before .before .args .p) 140 (c .before .before .before .before .before .token .ensures) (c .before .before .before .before .if1 .left)) (c .before .before .entity .ensures)
 
 pub declaration-spec : {M : Type 1} → statement M
 declaration-spec =

@@ -13,7 +13,7 @@ schemas-requires : tie.Need-schemas-requires
 schemas-requires c κs = search needs
 
 node-requires : tie.Need-node-requires
-node-requires c κs = (counts-sound (c .before .before .before .before .before .before .before .args .codes .now) (c .before .before .before .schemas .result) (c .before .before .before .schemas .ensures .sound), omega arith, omega arith)
+node-requires c κs = (counts-sound (c .before .before .before .before .before .before .before .args .terminals .now) (c .before .before .before .schemas .result) (c .before .before .before .schemas .ensures .sound), omega arith, omega arith)
 
 same-length : tie.Need-same-length
 same-length c = search needs

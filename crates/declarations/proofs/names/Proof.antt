@@ -40,7 +40,7 @@ returns : tie.Need-returns Inv-loop μ-loop
 returns c = list-refused (leaf-goes (c .before .before .before .before .before .before .before .before .pre .1) (c .before .before .before .before .before .before .before .before .pre .0) (c .before .before .before .before .leaf .ensures)) (c .enum-told .given .1)
 
 loop-holds : tie.Need-loop-holds Inv-loop μ-loop
-loop-holds c = (refl, ready-at (c .before .before .before .before .before .before .before .before .before .args .codes .now) (c .before .before .before .before .before .leaf .result) (c .before .before .before .before .before .leaf .ensures .sound) (c .before .first .given .1), loops-begin)
+loop-holds c = (refl, ready-at (c .before .before .before .before .before .before .before .before .before .args .terminals .now) (c .before .before .before .before .before .leaf .result) (c .before .before .before .before .before .leaf .ensures .sound) (c .before .first .given .1), loops-begin)
 
 token-requires : tie.Need-token-requires Inv-loop μ-loop
 token-requires c κs = search needs
@@ -49,7 +49,7 @@ add-t17 : tie.Need-add-t17 Inv-loop μ-loop
 add-t17 c = search needs
 
 leaf-requires-2 : tie.Need-leaf-requires-2 Inv-loop μ-loop
-leaf-requires-2 c κs = (onward (c .before .before .before .loop .inv .1) (one-inside (c .before .before .before .before .before .before .before .before .before .before .before .before .before .args .codes .now) (c .before .before .before .loop .q) (c .before .before .token .result) 8 (c .before .before .token .ensures) (c .before .if1 .taken) (omega arith)), c .before .before .before .before .before .before .before .before .before .before .before .before .before .pre .1)
+leaf-requires-2 c κs = (onward (c .before .before .before .loop .inv .1) (one-inside (c .before .before .before .before .before .before .before .before .before .before .before .before .before .args .terminals .now) (c .before .before .before .loop .q) (c .before .before .token .result) 8 (c .before .before .token .ensures) (c .before .if1 .taken) (omega arith)), c .before .before .before .before .before .before .before .before .before .before .before .before .before .pre .1)
 
 enum-known-next : tie.Need-enum-known-next Inv-loop μ-loop
 enum-known-next c = search needs
@@ -61,19 +61,19 @@ same-length-2 : tie.Need-same-length-2 Inv-loop μ-loop
 same-length-2 c = search needs
 
 returns-2 : tie.Need-returns-2 Inv-loop μ-loop
-returns-2 c = list-then (leaf-goes (c .before .before .before .before .before .before .before .before .before .before .before .before .before .before .before .before .before .before .pre .1) (c .before .before .before .before .before .before .before .before .before .before .before .before .before .before .before .before .before .before .pre .0) (c .before .before .before .before .before .before .before .before .before .before .before .before .before .before .leaf .ensures)) (c .before .before .before .before .before .before .before .before .before .before .first .given .1) (many-refused (loops-turn (c .before .before .before .before .before .before .before .before .loop .inv .2) (names-ok (c .before .before .before .before .before .before .before .before .before .before .before .before .before .before .before .before .before .before .args .label)) (c .before .before .before .before .before .before .before .before .loop .inv .1) (seen-one (c .before .before .before .before .before .before .before .before .before .before .before .before .before .before .before .before .before .before .args .codes .now) (c .before .before .before .before .before .before .before .before .loop .q) 8 (c .before .before .before .before .before .before .before .token .ensures) (c .before .before .before .before .before .before .if1 .taken)) (comma-goes (c .before .before .before .before .before .before .before .before .before .before .before .before .before .before .before .before .before .before .pre .1) (onward (c .before .before .before .before .before .before .before .before .loop .inv .1) (one-inside (c .before .before .before .before .before .before .before .before .before .before .before .before .before .before .before .before .before .before .args .codes .now) (c .before .before .before .before .before .before .before .before .loop .q) (c .before .before .before .before .before .before .before .token .result) 8 (c .before .before .before .before .before .before .before .token .ensures) (c .before .before .before .before .before .before .if1 .taken) (omega arith))) (seen-one (c .before .before .before .before .before .before .before .before .before .before .before .before .before .before .before .before .before .before .args .codes .now) (c .before .before .before .before .before .before .before .before .loop .q) 8 (c .before .before .before .before .before .before .before .token .ensures) (c .before .before .before .before .before .before .if1 .taken)) (c .before .before .before .before .leaf2 .ensures))) (c .enum-told2 .given .1))
+returns-2 c = list-then (leaf-goes (c .before .before .before .before .before .before .before .before .before .before .before .before .before .before .before .before .before .before .pre .1) (c .before .before .before .before .before .before .before .before .before .before .before .before .before .before .before .before .before .before .pre .0) (c .before .before .before .before .before .before .before .before .before .before .before .before .before .before .leaf .ensures)) (c .before .before .before .before .before .before .before .before .before .before .first .given .1) (many-refused (loops-turn (c .before .before .before .before .before .before .before .before .loop .inv .2) (names-ok (c .before .before .before .before .before .before .before .before .before .before .before .before .before .before .before .before .before .before .args .label)) (c .before .before .before .before .before .before .before .before .loop .inv .1) (seen-one (c .before .before .before .before .before .before .before .before .before .before .before .before .before .before .before .before .before .before .args .terminals .now) (c .before .before .before .before .before .before .before .before .loop .q) 8 (c .before .before .before .before .before .before .before .token .ensures) (c .before .before .before .before .before .before .if1 .taken)) (comma-goes (c .before .before .before .before .before .before .before .before .before .before .before .before .before .before .before .before .before .before .pre .1) (onward (c .before .before .before .before .before .before .before .before .loop .inv .1) (one-inside (c .before .before .before .before .before .before .before .before .before .before .before .before .before .before .before .before .before .before .args .terminals .now) (c .before .before .before .before .before .before .before .before .loop .q) (c .before .before .before .before .before .before .before .token .result) 8 (c .before .before .before .before .before .before .before .token .ensures) (c .before .before .before .before .before .before .if1 .taken) (omega arith))) (seen-one (c .before .before .before .before .before .before .before .before .before .before .before .before .before .before .before .before .before .before .args .terminals .now) (c .before .before .before .before .before .before .before .before .loop .q) 8 (c .before .before .before .before .before .before .before .token .ensures) (c .before .before .before .before .before .before .if1 .taken)) (c .before .before .before .before .leaf2 .ensures))) (c .enum-told2 .given .1))
 
 loop-less : tie.Need-loop-less Inv-loop μ-loop
-loop-less c = omega (arith, leaf-onward (c .before .before .before .before .before .leaf2 .ensures) (c .before .next .given .1), (ready-at (c .before .before .before .before .before .before .before .before .before .before .before .before .before .before .before .before .before .before .before .args .codes .now) (c .before .before .before .before .before .leaf2 .result) (c .before .before .before .before .before .leaf2 .ensures .sound) (c .before .next .given .1)) .within)
+loop-less c = omega (arith, leaf-onward (c .before .before .before .before .before .leaf2 .ensures) (c .before .next .given .1), (ready-at (c .before .before .before .before .before .before .before .before .before .before .before .before .before .before .before .before .before .before .before .args .terminals .now) (c .before .before .before .before .before .leaf2 .result) (c .before .before .before .before .before .leaf2 .ensures .sound) (c .before .next .given .1)) .within)
 
 loop-again : tie.Need-loop-again Inv-loop μ-loop
-loop-again c = (search needs, ready-at (c .before .before .before .before .before .before .before .before .before .before .before .before .before .before .before .before .before .before .before .args .codes .now) (c .before .before .before .before .before .leaf2 .result) (c .before .before .before .before .before .leaf2 .ensures .sound) (c .before .next .given .1), loops-at (c .before .next .given .1) (loops-turn (c .before .before .before .before .before .before .before .before .before .loop .inv .2) (names-ok (c .before .before .before .before .before .before .before .before .before .before .before .before .before .before .before .before .before .before .before .args .label)) (c .before .before .before .before .before .before .before .before .before .loop .inv .1) (seen-one (c .before .before .before .before .before .before .before .before .before .before .before .before .before .before .before .before .before .before .before .args .codes .now) (c .before .before .before .before .before .before .before .before .before .loop .q) 8 (c .before .before .before .before .before .before .before .before .token .ensures) (c .before .before .before .before .before .before .before .if1 .taken)) (comma-goes (c .before .before .before .before .before .before .before .before .before .before .before .before .before .before .before .before .before .before .before .pre .1) (onward (c .before .before .before .before .before .before .before .before .before .loop .inv .1) (one-inside (c .before .before .before .before .before .before .before .before .before .before .before .before .before .before .before .before .before .before .before .args .codes .now) (c .before .before .before .before .before .before .before .before .before .loop .q) (c .before .before .before .before .before .before .before .before .token .result) 8 (c .before .before .before .before .before .before .before .before .token .ensures) (c .before .before .before .before .before .before .before .if1 .taken) (omega arith))) (seen-one (c .before .before .before .before .before .before .before .before .before .before .before .before .before .before .before .before .before .before .before .args .codes .now) (c .before .before .before .before .before .before .before .before .before .loop .q) 8 (c .before .before .before .before .before .before .before .before .token .ensures) (c .before .before .before .before .before .before .before .if1 .taken)) (c .before .before .before .before .before .leaf2 .ensures))))
+loop-again c = (search needs, ready-at (c .before .before .before .before .before .before .before .before .before .before .before .before .before .before .before .before .before .before .before .args .terminals .now) (c .before .before .before .before .before .leaf2 .result) (c .before .before .before .before .before .leaf2 .ensures .sound) (c .before .next .given .1), loops-at (c .before .next .given .1) (loops-turn (c .before .before .before .before .before .before .before .before .before .loop .inv .2) (names-ok (c .before .before .before .before .before .before .before .before .before .before .before .before .before .before .before .before .before .before .before .args .label)) (c .before .before .before .before .before .before .before .before .before .loop .inv .1) (seen-one (c .before .before .before .before .before .before .before .before .before .before .before .before .before .before .before .before .before .before .before .args .terminals .now) (c .before .before .before .before .before .before .before .before .before .loop .q) 8 (c .before .before .before .before .before .before .before .before .token .ensures) (c .before .before .before .before .before .before .before .if1 .taken)) (comma-goes (c .before .before .before .before .before .before .before .before .before .before .before .before .before .before .before .before .before .before .before .pre .1) (onward (c .before .before .before .before .before .before .before .before .before .loop .inv .1) (one-inside (c .before .before .before .before .before .before .before .before .before .before .before .before .before .before .before .before .before .before .before .args .terminals .now) (c .before .before .before .before .before .before .before .before .before .loop .q) (c .before .before .before .before .before .before .before .before .token .result) 8 (c .before .before .before .before .before .before .before .before .token .ensures) (c .before .before .before .before .before .before .before .if1 .taken) (omega arith))) (seen-one (c .before .before .before .before .before .before .before .before .before .before .before .before .before .before .before .before .before .before .before .args .terminals .now) (c .before .before .before .before .before .before .before .before .before .loop .q) 8 (c .before .before .before .before .before .before .before .before .token .ensures) (c .before .before .before .before .before .before .before .if1 .taken)) (c .before .before .before .before .before .leaf2 .ensures))))
 
 same-length-3 : tie.Need-same-length-3 Inv-loop μ-loop
 same-length-3 c = search needs
 
 returns-3 : tie.Need-returns-3 Inv-loop μ-loop
-returns-3 c = list-then (leaf-goes (c .before .before .before .before .before .before .before .before .before .before .before .before .pre .1) (c .before .before .before .before .before .before .before .before .before .before .before .before .pre .0) (c .before .before .before .before .before .before .before .before .leaf .ensures)) (c .before .before .before .before .first .given .1) (many-ends (c .before .before .loop .inv .2) (names-ok (c .before .before .before .before .before .before .before .before .before .before .before .before .args .label)) (c .before .before .loop .inv .1) (seen-other (c .before .before .before .before .before .before .before .before .before .before .before .before .args .codes .now) (c .before .before .loop .q) 8 (c .before .token .ensures) (c .if1 .left)))
+returns-3 c = list-then (leaf-goes (c .before .before .before .before .before .before .before .before .before .before .before .before .pre .1) (c .before .before .before .before .before .before .before .before .before .before .before .before .pre .0) (c .before .before .before .before .before .before .before .before .leaf .ensures)) (c .before .before .before .before .first .given .1) (many-ends (c .before .before .loop .inv .2) (names-ok (c .before .before .before .before .before .before .before .before .before .before .before .before .args .label)) (c .before .before .loop .inv .1) (seen-other (c .before .before .before .before .before .before .before .before .before .before .before .before .args .terminals .now) (c .before .before .loop .q) 8 (c .before .token .ensures) (c .if1 .left)))
 
 pub names-spec : {M : Type 1} → statement M
 names-spec =

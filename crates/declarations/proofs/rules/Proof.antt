@@ -28,19 +28,19 @@ token-requires : tie.Need-token-requires
 token-requires c κs = search needs
 
 returns-2 : tie.Need-returns-2
-returns-2 c = steps-at (c .before .before .before .before .before .before .before .args .before) (c .before .before .before .before2 .given .1) (opt-absent (ready-at (c .before .before .before .before .before .before .before .args .codes .now) (c .before .before .before .before .before .before .before .args .before) (c .before .before .before .before .before .before .before .pre) (c .before .before .before .before2 .given .1)) (seen-other (c .before .before .before .before .before .before .before .args .codes .now) (c .before .before .before .before2 .given .0 .0) 151 (c .before .token .ensures) (c .if1 .taken)))
+returns-2 c = steps-at (c .before .before .before .before .before .before .before .args .before) (c .before .before .before .before2 .given .1) (opt-absent (ready-at (c .before .before .before .before .before .before .before .args .terminals .now) (c .before .before .before .before .before .before .before .args .before) (c .before .before .before .before .before .before .before .pre) (c .before .before .before .before2 .given .1)) (seen-other (c .before .before .before .before .before .before .before .args .terminals .now) (c .before .before .before .before2 .given .0 .0) 151 (c .before .token .ensures) (c .if1 .taken)))
 
 add-rule-list : tie.Need-add-rule-list
-add-rule-list c = omega (arith, (ready-at (c .before .before .before .before .before .before .before .before .args .codes .now) (c .before .before .before .before .before .before .before .before .args .before) (c .before .before .before .before .before .before .before .before .pre) (c .before .before .before .before .before2 .given .1)) .small, (ready-at (c .before .before .before .before .before .before .before .before .args .codes .now) (c .before .before .before .before .before .before .before .before .args .before) (c .before .before .before .before .before .before .before .before .pre) (c .before .before .before .before .before2 .given .1)) .within)
+add-rule-list c = omega (arith, (ready-at (c .before .before .before .before .before .before .before .before .args .terminals .now) (c .before .before .before .before .before .before .before .before .args .before) (c .before .before .before .before .before .before .before .before .pre) (c .before .before .before .before .before2 .given .1)) .small, (ready-at (c .before .before .before .before .before .before .before .before .args .terminals .now) (c .before .before .before .before .before .before .before .before .args .before) (c .before .before .before .before .before .before .before .before .pre) (c .before .before .before .before .before2 .given .1)) .within)
 
 rule-list-requires : tie.Need-rule-list-requires
-rule-list-requires c κs = (onward (ready-at (c .before .before .before .before .before .before .before .before .args .codes .now) (c .before .before .before .before .before .before .before .before .args .before) (c .before .before .before .before .before .before .before .before .pre) (c .before .before .before .before .before2 .given .1)) (one-inside (c .before .before .before .before .before .before .before .before .args .codes .now) (c .before .before .before .before .before2 .given .0 .0) (c .before .before .token .result) 151 (c .before .before .token .ensures) (c .before .if1 .left) (omega arith)))
+rule-list-requires c κs = (onward (ready-at (c .before .before .before .before .before .before .before .before .args .terminals .now) (c .before .before .before .before .before .before .before .before .args .before) (c .before .before .before .before .before .before .before .before .pre) (c .before .before .before .before .before2 .given .1)) (one-inside (c .before .before .before .before .before .before .before .before .args .terminals .now) (c .before .before .before .before .before2 .given .0 .0) (c .before .before .token .result) 151 (c .before .before .token .ensures) (c .before .if1 .left) (omega arith)))
 
 same-length : tie.Need-same-length
 same-length c = search needs
 
 returns-3 : tie.Need-returns-3
-returns-3 c = steps-at (c .before .before .before .before .before .before .before .before .before .before .before .args .before) (c .before .before .before .before .before .before .before .before2 .given .1) (opt-present (seen-one (c .before .before .before .before .before .before .before .before .before .before .before .args .codes .now) (c .before .before .before .before .before .before .before .before2 .given .0 .0) 151 (c .before .before .before .before .before .token .ensures) (c .before .before .before .before .if1 .left)) (c .before .before .rule-list .ensures .sound) (reads-goes (where-reads (ready-at (c .before .before .before .before .before .before .before .before .before .before .before .args .codes .now) (c .before .before .before .before .before .before .before .before .before .before .before .args .before) (c .before .before .before .before .before .before .before .before .before .before .before .pre) (c .before .before .before .before .before .before .before .before2 .given .1)) (seen-one (c .before .before .before .before .before .before .before .before .before .before .before .args .codes .now) (c .before .before .before .before .before .before .before .before2 .given .0 .0) 151 (c .before .before .before .before .before .token .ensures) (c .before .before .before .before .if1 .left)) (c .before .before .rule-list .ensures))))
+returns-3 c = steps-at (c .before .before .before .before .before .before .before .before .before .before .before .args .before) (c .before .before .before .before .before .before .before .before2 .given .1) (opt-present (seen-one (c .before .before .before .before .before .before .before .before .before .before .before .args .terminals .now) (c .before .before .before .before .before .before .before .before2 .given .0 .0) 151 (c .before .before .before .before .before .token .ensures) (c .before .before .before .before .if1 .left)) (c .before .before .rule-list .ensures .sound) (reads-goes (where-reads (ready-at (c .before .before .before .before .before .before .before .before .before .before .before .args .terminals .now) (c .before .before .before .before .before .before .before .before .before .before .before .args .before) (c .before .before .before .before .before .before .before .before .before .before .before .pre) (c .before .before .before .before .before .before .before .before2 .given .1)) (seen-one (c .before .before .before .before .before .before .before .before .before .before .before .args .terminals .now) (c .before .before .before .before .before .before .before .before2 .given .0 .0) 151 (c .before .before .before .before .before .token .ensures) (c .before .before .before .before .if1 .left)) (c .before .before .rule-list .ensures))))
 
 pub rules-spec : {M : Type 1} → statement M
 rules-spec =

@@ -30,13 +30,13 @@ token-requires : tie.Need-token-requires
 token-requires c κs = search needs
 
 returns-2 : tie.Need-returns-2
-returns-2 c = steps-at (c .before .before .before .before .before .before .before .args .before) (c .before .before .before .before2 .given .1) (opt-absent (ready-at (c .before .before .before .before .before .before .before .args .codes .now) (c .before .before .before .before .before .before .before .args .before) (c .before .before .before .before .before .before .before .pre) (c .before .before .before .before2 .given .1)) (seen-other (c .before .before .before .before .before .before .before .args .codes .now) (c .before .before .before .before2 .given .0 .0) 134 (c .before .token .ensures) (c .if1 .taken)))
+returns-2 c = steps-at (c .before .before .before .before .before .before .before .args .before) (c .before .before .before .before2 .given .1) (opt-absent (ready-at (c .before .before .before .before .before .before .before .args .terminals .now) (c .before .before .before .before .before .before .before .args .before) (c .before .before .before .before .before .before .before .pre) (c .before .before .before .before2 .given .1)) (seen-other (c .before .before .before .before .before .before .before .args .terminals .now) (c .before .before .before .before2 .given .0 .0) 134 (c .before .token .ensures) (c .if1 .taken)))
 
 add-t9 : tie.Need-add-t9
-add-t9 c = omega (arith, (ready-at (c .before .before .before .before .before .before .before .args .codes .now) (c .before .before .before .before .before .before .before .args .before) (c .before .before .before .before .before .before .before .pre) (c .before .before .before .before2 .given .1)) .small, (ready-at (c .before .before .before .before .before .before .before .args .codes .now) (c .before .before .before .before .before .before .before .args .before) (c .before .before .before .before .before .before .before .pre) (c .before .before .before .before2 .given .1)) .within)
+add-t9 c = omega (arith, (ready-at (c .before .before .before .before .before .before .before .args .terminals .now) (c .before .before .before .before .before .before .before .args .before) (c .before .before .before .before .before .before .before .pre) (c .before .before .before .before2 .given .1)) .small, (ready-at (c .before .before .before .before .before .before .before .args .terminals .now) (c .before .before .before .before .before .before .before .args .before) (c .before .before .before .before .before .before .before .pre) (c .before .before .before .before2 .given .1)) .within)
 
 expect-requires : tie.Need-expect-requires
-expect-requires c κs = ((onward (ready-at (c .before .before .before .before .before .before .before .args .codes .now) (c .before .before .before .before .before .before .before .args .before) (c .before .before .before .before .before .before .before .pre) (c .before .before .before .before2 .given .1)) (one-inside (c .before .before .before .before .before .before .before .args .codes .now) (c .before .before .before .before2 .given .0 .0) (c .before .token .result) 134 (c .before .token .ensures) (c .if1 .left) (omega arith))), omega arith)
+expect-requires c κs = ((onward (ready-at (c .before .before .before .before .before .before .before .args .terminals .now) (c .before .before .before .before .before .before .before .args .before) (c .before .before .before .before .before .before .before .pre) (c .before .before .before .before2 .given .1)) (one-inside (c .before .before .before .before .before .before .before .args .terminals .now) (c .before .before .before .before2 .given .0 .0) (c .before .token .result) 134 (c .before .token .ensures) (c .if1 .left) (omega arith))), omega arith)
 
 ids-requires : tie.Need-ids-requires
 ids-requires c κs = search needs
@@ -45,7 +45,7 @@ same-length : tie.Need-same-length
 same-length c = search needs
 
 returns-3 : tie.Need-returns-3
-returns-3 c = steps-at (c .before .before .before .before .before .before .before .before .before .before .before .before .args .before) (c .before .before .before .before .before .before .before .before .before2 .given .1) (opt-present (seen-one (c .before .before .before .before .before .before .before .before .before .before .before .before .args .codes .now) (c .before .before .before .before .before .before .before .before .before2 .given .0 .0) 134 (c .before .before .before .before .before .before .token .ensures) (c .before .before .before .before .before .if1 .left)) (c .before .before .ids .ensures .sound) (supertypes-go (seen-one (c .before .before .before .before .before .before .before .before .before .before .before .before .args .codes .now) (c .before .before .before .before .before .before .before .before .before2 .given .0 .0) 134 (c .before .before .before .before .before .before .token .ensures) (c .before .before .before .before .before .if1 .left)) (c .before .before .before .before .expect .ensures) (c .before .before .ids .ensures)))
+returns-3 c = steps-at (c .before .before .before .before .before .before .before .before .before .before .before .before .args .before) (c .before .before .before .before .before .before .before .before .before2 .given .1) (opt-present (seen-one (c .before .before .before .before .before .before .before .before .before .before .before .before .args .terminals .now) (c .before .before .before .before .before .before .before .before .before2 .given .0 .0) 134 (c .before .before .before .before .before .before .token .ensures) (c .before .before .before .before .before .if1 .left)) (c .before .before .ids .ensures .sound) (supertypes-go (seen-one (c .before .before .before .before .before .before .before .before .before .before .before .before .args .terminals .now) (c .before .before .before .before .before .before .before .before .before2 .given .0 .0) 134 (c .before .before .before .before .before .before .token .ensures) (c .before .before .before .before .before .if1 .left)) (c .before .before .before .before .expect .ensures) (c .before .before .ids .ensures)))
 
 pub supertypes-spec : {M : Type 1} → statement M
 supertypes-spec =

@@ -17,13 +17,13 @@ returns : tie.Need-returns
 returns c = takes-refused (c .enum-told .given .1)
 
 expression-requires : tie.Need-expression-requires
-expression-requires c κs = ready-at (c .before .before .before .before .before .before .args .codes .now) (c .before .before .before .before .before .before .args .before) (c .before .before .before .before .before .before .pre) (c .before .before .before2 .given .1)
+expression-requires c κs = ready-at (c .before .before .before .before .before .before .args .terminals .now) (c .before .before .before .before .before .before .args .before) (c .before .before .before .before .before .before .pre) (c .before .before .before2 .given .1)
 
 same-length : tie.Need-same-length
 same-length c = search needs
 
 returns-2 : tie.Need-returns-2
-returns-2 c = takes-at (c .before .before .before .before .before .before2 .given .1) (ready-at (c .before .before .before .before .before .before .before .before .before .args .codes .now) (c .before .before .before .before .before .before .before .before .before .args .before) (c .before .before .before .before .before .before .before .before .before .pre) (c .before .before .before .before .before .before2 .given .1)) (c .before .before .expression .ensures)
+returns-2 c = takes-at (c .before .before .before .before .before .before2 .given .1) (ready-at (c .before .before .before .before .before .before .before .before .before .args .terminals .now) (c .before .before .before .before .before .before .before .before .before .args .before) (c .before .before .before .before .before .before .before .before .before .pre) (c .before .before .before .before .before .before2 .given .1)) (c .before .before .expression .ensures)
 
 pub value-spec : {M : Type 1} → statement M
 value-spec =

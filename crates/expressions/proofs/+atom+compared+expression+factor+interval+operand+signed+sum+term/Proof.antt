@@ -191,7 +191,7 @@ atom-expression-requires : (t : ℕ) → atom-lts.Need-expression-requires (
   put-reads.Asked,
   put-reads.Learnt,
 ) (atom-at t) atom.Post
-atom-expression-requires t c κs = (omega (arith, c .before .before .before .before .before .pre .0, (one-inside (c .before .before .before .before .before .args .codes .now) (c .before .before .before .before .before .args .p) (c .before .before .token .result) 24 (c .before .before .token .ensures) (c .before .if1 .taken) (omega arith))), onward (c .before .before .before .before .before .pre .1) (one-inside (c .before .before .before .before .before .args .codes .now) (c .before .before .before .before .before .args .p) (c .before .before .token .result) 24 (c .before .before .token .ensures) (c .before .if1 .taken) (omega arith)))
+atom-expression-requires t c κs = (omega (arith, c .before .before .before .before .before .pre .0, (one-inside (c .before .before .before .before .before .args .terminals .now) (c .before .before .before .before .before .args .p) (c .before .before .token .result) 24 (c .before .before .token .ensures) (c .before .if1 .taken) (omega arith))), onward (c .before .before .before .before .before .pre .1) (one-inside (c .before .before .before .before .before .args .terminals .now) (c .before .before .before .before .before .args .p) (c .before .before .token .result) 24 (c .before .before .token .ensures) (c .before .if1 .taken) (omega arith)))
 
 atom-enum-known-inner : (t : ℕ) → atom-lts.Need-enum-known-inner (
   token-reads.Asked,
@@ -247,7 +247,7 @@ atom-returns : (t : ℕ) → atom-lts.Need-returns (
   put-reads.Asked,
   put-reads.Learnt,
 ) (atom-at t) atom.Post
-atom-returns t c = atom-nested (c .before .before .before .before .before .before .before .before .before .before .pre .1) (c .before .before .before .before .before .before .before .token .result) (c .before .before .before .before .before .before .before .token .ensures) (c .before .before .before .before .before .before .if1 .taken) (c .before .before .before .before .expression .ensures) (expects-refused (c .before .before .before .before .before .before .before .before .before .before .args .codes .now) (c .before .before .before .before .expression .result) 25 (c .enum-told .given .1))
+atom-returns t c = atom-nested (c .before .before .before .before .before .before .before .before .before .before .pre .1) (c .before .before .before .before .before .before .before .token .result) (c .before .before .before .before .before .before .before .token .ensures) (c .before .before .before .before .before .before .if1 .taken) (c .before .before .before .before .expression .ensures) (expects-refused (c .before .before .before .before .before .before .before .before .before .before .args .terminals .now) (c .before .before .before .before .expression .result) 25 (c .enum-told .given .1))
 
 atom-token-requires-2 : (t : ℕ) → atom-lts.Need-token-requires-2 (
   token-reads.Asked,
@@ -303,7 +303,7 @@ atom-returns-2 : (t : ℕ) → atom-lts.Need-returns-2 (
   put-reads.Asked,
   put-reads.Learnt,
 ) (atom-at t) atom.Post
-atom-returns-2 t c = atom-nested (c .before .before .before .before .before .before .before .before .before .before .before .before .before .pre .1) (c .before .before .before .before .before .before .before .before .before .before .token .result) (c .before .before .before .before .before .before .before .before .before .before .token .ensures) (c .before .before .before .before .before .before .before .before .before .if1 .taken) (c .before .before .before .before .before .before .before .expression .ensures) (expects-there (c .before .before .before .before .before .before .before .before .before .before .before .before .before .args .codes .now) (c .before .before .before .before .before .before .before .expression .result) 25 (c .before .before .before .inner .given .1) (c .before .token2 .result) (c .before .token2 .ensures) (omega arith) (sound-of (c .before .before .before .before .before .before .before .expression .result) (onward (c .before .before .before .before .before .before .before .before .before .before .before .before .before .pre .1) (one-inside (c .before .before .before .before .before .before .before .before .before .before .before .before .before .args .codes .now) (c .before .before .before .before .before .before .before .before .before .before .before .before .before .args .p) (c .before .before .before .before .before .before .before .before .before .before .token .result) 24 (c .before .before .before .before .before .before .before .before .before .before .token .ensures) (c .before .before .before .before .before .before .before .before .before .if1 .taken) (omega arith))) (c .before .before .before .before .before .before .before .expression .ensures .ahead)) (c .if2 .taken))
+atom-returns-2 t c = atom-nested (c .before .before .before .before .before .before .before .before .before .before .before .before .before .pre .1) (c .before .before .before .before .before .before .before .before .before .before .token .result) (c .before .before .before .before .before .before .before .before .before .before .token .ensures) (c .before .before .before .before .before .before .before .before .before .if1 .taken) (c .before .before .before .before .before .before .before .expression .ensures) (expects-there (c .before .before .before .before .before .before .before .before .before .before .before .before .before .args .terminals .now) (c .before .before .before .before .before .before .before .expression .result) 25 (c .before .before .before .inner .given .1) (c .before .token2 .result) (c .before .token2 .ensures) (omega arith) (sound-of (c .before .before .before .before .before .before .before .expression .result) (onward (c .before .before .before .before .before .before .before .before .before .before .before .before .before .pre .1) (one-inside (c .before .before .before .before .before .before .before .before .before .before .before .before .before .args .terminals .now) (c .before .before .before .before .before .before .before .before .before .before .before .before .before .args .p) (c .before .before .before .before .before .before .before .before .before .before .token .result) 24 (c .before .before .before .before .before .before .before .before .before .before .token .ensures) (c .before .before .before .before .before .before .before .before .before .if1 .taken) (omega arith))) (c .before .before .before .before .before .before .before .expression .ensures .ahead)) (c .if2 .taken))
 
 atom-same-length-3 : (t : ℕ) → atom-lts.Need-same-length-3 (
   token-reads.Asked,
@@ -331,7 +331,7 @@ atom-returns-3 : (t : ℕ) → atom-lts.Need-returns-3 (
   put-reads.Asked,
   put-reads.Learnt,
 ) (atom-at t) atom.Post
-atom-returns-3 t c = atom-nested (c .before .before .before .before .before .before .before .before .before .before .before .before .before .pre .1) (c .before .before .before .before .before .before .before .before .before .before .token .result) (c .before .before .before .before .before .before .before .before .before .before .token .ensures) (c .before .before .before .before .before .before .before .before .before .if1 .taken) (c .before .before .before .before .before .before .before .expression .ensures) (expects-not (c .before .before .before .before .before .before .before .before .before .before .before .before .before .args .codes .now) (c .before .before .before .before .before .before .before .expression .result) 25 (c .before .before .before .inner .given .1) (c .before .token2 .result) (c .before .token2 .ensures) (c .if2 .left))
+atom-returns-3 t c = atom-nested (c .before .before .before .before .before .before .before .before .before .before .before .before .before .pre .1) (c .before .before .before .before .before .before .before .before .before .before .token .result) (c .before .before .before .before .before .before .before .before .before .before .token .ensures) (c .before .before .before .before .before .before .before .before .before .if1 .taken) (c .before .before .before .before .before .before .before .expression .ensures) (expects-not (c .before .before .before .before .before .before .before .before .before .before .before .before .before .args .terminals .now) (c .before .before .before .before .before .before .before .expression .result) 25 (c .before .before .before .inner .given .1) (c .before .token2 .result) (c .before .token2 .ensures) (c .if2 .left))
 
 atom-atom-label-requires : (t : ℕ) → atom-lts.Need-atom-label-requires (
   token-reads.Asked,
@@ -692,7 +692,7 @@ expression-sum-requires-2 : (t : ℕ) → expression-lts.Need-sum-requires-2 (
   node-reads.Learnt,
 ) (expression-at t) expression.Post
 unfolding mem
-expression-sum-requires-2 t c κs = (omega (arith, c .before .before .before .before .before .before .before .before .before .before .before .before .before .pre .0, reads-at (c .before .before .before .before .before .before .before .before .before .sum .ensures) (c .before .before .before .before .before .left .given .1), (inside (c .before .before .before .before .before .before .before .before .before .before .before .before .before .args .codes .now) relations (c .before .before .before .before .before .left .given .0 .0) refl (seen (c .before .before .before .before .before .before .before .before .before .before .before .before .before .args .codes .now) (c .before .before .before .before .before .left .given .0 .0) relations (c .before .before .before .token .ensures) (c .before .before .is-relation .ensures) (c .before .if1 .taken)))), onward (ready-of (c .before .before .before .before .before .before .before .before .before .before .before .before .before .pre .1) (c .before .before .before .before .before .before .before .before .before .sum .ensures .ahead) (c .before .before .before .before .before .left .given .1)) (inside (c .before .before .before .before .before .before .before .before .before .before .before .before .before .args .codes .now) relations (c .before .before .before .before .before .left .given .0 .0) refl (seen (c .before .before .before .before .before .before .before .before .before .before .before .before .before .args .codes .now) (c .before .before .before .before .before .left .given .0 .0) relations (c .before .before .before .token .ensures) (c .before .before .is-relation .ensures) (c .before .if1 .taken))))
+expression-sum-requires-2 t c κs = (omega (arith, c .before .before .before .before .before .before .before .before .before .before .before .before .before .pre .0, reads-at (c .before .before .before .before .before .before .before .before .before .sum .ensures) (c .before .before .before .before .before .left .given .1), (inside (c .before .before .before .before .before .before .before .before .before .before .before .before .before .args .terminals .now) relations (c .before .before .before .before .before .left .given .0 .0) refl (seen (c .before .before .before .before .before .before .before .before .before .before .before .before .before .args .terminals .now) (c .before .before .before .before .before .left .given .0 .0) relations (c .before .before .before .token .ensures) (c .before .before .is-relation .ensures) (c .before .if1 .taken)))), onward (ready-of (c .before .before .before .before .before .before .before .before .before .before .before .before .before .pre .1) (c .before .before .before .before .before .before .before .before .before .sum .ensures .ahead) (c .before .before .before .before .before .left .given .1)) (inside (c .before .before .before .before .before .before .before .before .before .before .before .before .before .args .terminals .now) relations (c .before .before .before .before .before .left .given .0 .0) refl (seen (c .before .before .before .before .before .before .before .before .before .before .before .before .before .args .terminals .now) (c .before .before .before .before .before .left .given .0 .0) relations (c .before .before .before .token .ensures) (c .before .before .is-relation .ensures) (c .before .if1 .taken))))
 
 expression-node-requires : (t : ℕ) → expression-lts.Need-node-requires (
   sum-below t,
@@ -705,7 +705,7 @@ expression-node-requires : (t : ℕ) → expression-lts.Need-node-requires (
   node-reads.Learnt,
 ) (expression-at t) expression.Post
 unfolding mem
-expression-node-requires t c κs = (counts-of (c .before .before .before .sum2 .result) (onward (ready-of (c .before .before .before .before .before .before .before .before .before .before .before .before .before .before .before .before .before .pre .1) (c .before .before .before .before .before .before .before .before .before .before .before .before .before .sum .ensures .ahead) (c .before .before .before .before .before .before .before .before .before .left .given .1)) (inside (c .before .before .before .before .before .before .before .before .before .before .before .before .before .before .before .before .before .args .codes .now) relations (c .before .before .before .before .before .before .before .before .before .left .given .0 .0) refl (seen (c .before .before .before .before .before .before .before .before .before .before .before .before .before .before .before .before .before .args .codes .now) (c .before .before .before .before .before .before .before .before .before .left .given .0 .0) relations (c .before .before .before .before .before .before .before .token .ensures) (c .before .before .before .before .before .before .is-relation .ensures) (c .before .before .before .before .before .if1 .taken)))) (c .before .before .before .sum2 .ensures .ahead), omega arith, omega (arith, c .before .before .before .before .before .before .before .before .before .before .before .before .before .before .before .before .before .pre .1 .small, reads-at (c .before .before .before .before .before .before .before .before .before .before .before .before .before .sum .ensures) (c .before .before .before .before .before .before .before .before .before .left .given .1)))
+expression-node-requires t c κs = (counts-of (c .before .before .before .sum2 .result) (onward (ready-of (c .before .before .before .before .before .before .before .before .before .before .before .before .before .before .before .before .before .pre .1) (c .before .before .before .before .before .before .before .before .before .before .before .before .before .sum .ensures .ahead) (c .before .before .before .before .before .before .before .before .before .left .given .1)) (inside (c .before .before .before .before .before .before .before .before .before .before .before .before .before .before .before .before .before .args .terminals .now) relations (c .before .before .before .before .before .before .before .before .before .left .given .0 .0) refl (seen (c .before .before .before .before .before .before .before .before .before .before .before .before .before .before .before .before .before .args .terminals .now) (c .before .before .before .before .before .before .before .before .before .left .given .0 .0) relations (c .before .before .before .before .before .before .before .token .ensures) (c .before .before .before .before .before .before .is-relation .ensures) (c .before .before .before .before .before .if1 .taken)))) (c .before .before .before .sum2 .ensures .ahead), omega arith, omega (arith, c .before .before .before .before .before .before .before .before .before .before .before .before .before .before .before .before .before .pre .1 .small, reads-at (c .before .before .before .before .before .before .before .before .before .before .before .before .before .sum .ensures) (c .before .before .before .before .before .before .before .before .before .left .given .1)))
 
 expression-same-length-2 : (t : ℕ) → expression-lts.Need-same-length-2 (
   sum-below t,
@@ -730,7 +730,7 @@ expression-returns-2 : (t : ℕ) → expression-lts.Need-returns-2 (
   node-reads.Learnt,
 ) (expression-at t) expression.Post
 unfolding mem
-expression-returns-2 t c = once-both expression′ sum′ relations refl (c .before .before .before .before .before .before .before .before .before .before .before .before .before .before .before .before .before .before .before .before .pre .1) (c .before .before .before .before .before .before .before .before .before .before .before .before .before .before .before .before .sum .ensures) (c .before .before .before .before .before .before .before .before .before .before .before .before .left .given .1) (seen (c .before .before .before .before .before .before .before .before .before .before .before .before .before .before .before .before .before .before .before .before .args .codes .now) (c .before .before .before .before .before .before .before .before .before .before .before .before .left .given .0 .0) relations (c .before .before .before .before .before .before .before .before .before .before .token .ensures) (c .before .before .before .before .before .before .before .before .before .is-relation .ensures) (c .before .before .before .before .before .before .before .before .if1 .taken)) (omega (arith, (inside (c .before .before .before .before .before .before .before .before .before .before .before .before .before .before .before .before .before .before .before .before .args .codes .now) relations (c .before .before .before .before .before .before .before .before .before .before .before .before .left .given .0 .0) refl (seen (c .before .before .before .before .before .before .before .before .before .before .before .before .before .before .before .before .before .before .before .before .args .codes .now) (c .before .before .before .before .before .before .before .before .before .before .before .before .left .given .0 .0) relations (c .before .before .before .before .before .before .before .before .before .before .token .ensures) (c .before .before .before .before .before .before .before .before .before .is-relation .ensures) (c .before .before .before .before .before .before .before .before .if1 .taken))))) (c .before .before .before .before .before .before .sum2 .ensures) (c .before .before .node .ensures)
+expression-returns-2 t c = once-both expression′ sum′ relations refl (c .before .before .before .before .before .before .before .before .before .before .before .before .before .before .before .before .before .before .before .before .pre .1) (c .before .before .before .before .before .before .before .before .before .before .before .before .before .before .before .before .sum .ensures) (c .before .before .before .before .before .before .before .before .before .before .before .before .left .given .1) (seen (c .before .before .before .before .before .before .before .before .before .before .before .before .before .before .before .before .before .before .before .before .args .terminals .now) (c .before .before .before .before .before .before .before .before .before .before .before .before .left .given .0 .0) relations (c .before .before .before .before .before .before .before .before .before .before .token .ensures) (c .before .before .before .before .before .before .before .before .before .is-relation .ensures) (c .before .before .before .before .before .before .before .before .if1 .taken)) (omega (arith, (inside (c .before .before .before .before .before .before .before .before .before .before .before .before .before .before .before .before .before .before .before .before .args .terminals .now) relations (c .before .before .before .before .before .before .before .before .before .before .before .before .left .given .0 .0) refl (seen (c .before .before .before .before .before .before .before .before .before .before .before .before .before .before .before .before .before .before .before .before .args .terminals .now) (c .before .before .before .before .before .before .before .before .before .before .before .before .left .given .0 .0) relations (c .before .before .before .before .before .before .before .before .before .before .token .ensures) (c .before .before .before .before .before .before .before .before .before .is-relation .ensures) (c .before .before .before .before .before .before .before .before .if1 .taken))))) (c .before .before .before .before .before .before .sum2 .ensures) (c .before .before .node .ensures)
 
 expression-same-length-3 : (t : ℕ) → expression-lts.Need-same-length-3 (
   sum-below t,
@@ -754,7 +754,7 @@ expression-returns-3 : (t : ℕ) → expression-lts.Need-returns-3 (
   node-reads.Asked,
   node-reads.Learnt,
 ) (expression-at t) expression.Post
-expression-returns-3 t c = once-alone expression′ sum′ relations refl (c .before .before .before .before .before .before .before .before .before .before .before .before .pre .1) (c .before .before .before .before .before .before .before .before .sum .ensures) (c .before .before .before .before .left .given .1) (seen (c .before .before .before .before .before .before .before .before .before .before .before .before .args .codes .now) (c .before .before .before .before .left .given .0 .0) relations (c .before .before .token .ensures) (c .before .is-relation .ensures) (c .if1 .left))
+expression-returns-3 t c = once-alone expression′ sum′ relations refl (c .before .before .before .before .before .before .before .before .before .before .before .before .pre .1) (c .before .before .before .before .before .before .before .before .sum .ensures) (c .before .before .before .before .left .given .1) (seen (c .before .before .before .before .before .before .before .before .before .before .before .before .args .terminals .now) (c .before .before .before .before .left .given .0 .0) relations (c .before .before .token .ensures) (c .before .is-relation .ensures) (c .if1 .left))
 
 abbrev factor-Inv-loop : factor-lts.InvT-loop
 factor-Inv-loop codes rows₀ p n q₀ m₀ rows q m = (length rows ≡ length rows₀) × Before factor′ operand′ power none codes p n rows₀ q m rows
@@ -880,7 +880,7 @@ factor-returns-3 : (t : ℕ) → factor-lts.Need-returns-3 (
   token-reads.Asked,
   token-reads.Learnt,
 ) (factor-at t) factor.Post factor-Inv-loop factor-μ-loop
-factor-returns-3 t c = turned-alone factor′ operand′ power refl (c .before .before .before .before .before .before .before .before .before .before .before .before .before .before .before .before .before .pre .1) (c .before .before .before .before .before .before .before .before .before .before .before .before .before .before .loop .inv .1) (c .before .before .before .before .before .before .before .before .before .before .before .before .operand .ensures) (c .before .before .before .before .before .before .before .before .right .given .1) (c .before .before .before .before .before .combined .ensures) (c .before .before .if1 .left) (seen-other (c .before .before .before .before .before .before .before .before .before .before .before .before .before .before .before .before .before .args .codes .now) (c .before .before .before .before .before .before .before .before .right .given .0 .0) 32 (c .before .token .ensures) (c .if2 .taken))
+factor-returns-3 t c = turned-alone factor′ operand′ power refl (c .before .before .before .before .before .before .before .before .before .before .before .before .before .before .before .before .before .pre .1) (c .before .before .before .before .before .before .before .before .before .before .before .before .before .before .loop .inv .1) (c .before .before .before .before .before .before .before .before .before .before .before .before .operand .ensures) (c .before .before .before .before .before .before .before .before .right .given .1) (c .before .before .before .before .before .combined .ensures) (c .before .before .if1 .left) (seen-other (c .before .before .before .before .before .before .before .before .before .before .before .before .before .before .before .before .before .args .terminals .now) (c .before .before .before .before .before .before .before .before .right .given .0 .0) 32 (c .before .token .ensures) (c .if2 .taken))
 
 factor-add-q : (t : ℕ) → factor-lts.Need-add-q (
   operand-below t,
@@ -911,7 +911,7 @@ factor-loop-again : (t : ℕ) → factor-lts.Need-loop-again (
   token-reads.Learnt,
 ) (factor-at t) factor.Post factor-Inv-loop factor-μ-loop
 unfolding mem
-factor-loop-again t c = (search needs, turned-again factor′ operand′ power refl (c .before .before .before .before .before .before .before .before .before .before .before .before .before .before .before .before .before .pre .1) (c .before .before .before .before .before .before .before .before .before .before .before .before .before .before .loop .inv .1) (c .before .before .before .before .before .before .before .before .before .before .before .before .operand .ensures) (c .before .before .before .before .before .before .before .before .right .given .1) (c .before .before .before .before .before .combined .ensures) (c .before .before .if1 .left) refl (seen-one (c .before .before .before .before .before .before .before .before .before .before .before .before .before .before .before .before .before .args .codes .now) (c .before .before .before .before .before .before .before .before .right .given .0 .0) 32 (c .before .token .ensures) (c .if2 .left)))
+factor-loop-again t c = (search needs, turned-again factor′ operand′ power refl (c .before .before .before .before .before .before .before .before .before .before .before .before .before .before .before .before .before .pre .1) (c .before .before .before .before .before .before .before .before .before .before .before .before .before .before .loop .inv .1) (c .before .before .before .before .before .before .before .before .before .before .before .before .operand .ensures) (c .before .before .before .before .before .before .before .before .right .given .1) (c .before .before .before .before .before .combined .ensures) (c .before .before .if1 .left) refl (seen-one (c .before .before .before .before .before .before .before .before .before .before .before .before .before .before .before .before .before .args .terminals .now) (c .before .before .before .before .before .before .before .before .right .given .0 .0) 32 (c .before .token .ensures) (c .if2 .left)))
 
 interval-add-sum : (t : ℕ) → interval-lts.Need-add-sum (
   sum-below t,
@@ -935,7 +935,7 @@ interval-sum-requires : (t : ℕ) → interval-lts.Need-sum-requires (
   node-reads.Asked,
   node-reads.Learnt,
 ) (interval-at t) interval.Post
-interval-sum-requires t c κs = (omega (arith, c .before .before .before .pre .0, (one-inside (c .before .before .before .args .codes .now) (c .before .before .before .args .p) (getD (c .before .before .before .args .codes .now) (c .before .before .before .args .p) 0) 21 refl (c .before .before .before .pre .1 .1) (omega arith))), onward (c .before .before .before .pre .1 .0) (one-inside (c .before .before .before .args .codes .now) (c .before .before .before .args .p) (getD (c .before .before .before .args .codes .now) (c .before .before .before .args .p) 0) 21 refl (c .before .before .before .pre .1 .1) (omega arith)))
+interval-sum-requires t c κs = (omega (arith, c .before .before .before .pre .0, (one-inside (c .before .before .before .args .terminals .now) (c .before .before .before .args .p) (getD (c .before .before .before .args .terminals .now) (c .before .before .before .args .p) 0) 21 refl (c .before .before .before .pre .1 .1) (omega arith))), onward (c .before .before .before .pre .1 .0) (one-inside (c .before .before .before .args .terminals .now) (c .before .before .before .args .p) (getD (c .before .before .before .args .terminals .now) (c .before .before .before .args .p) 0) 21 refl (c .before .before .before .pre .1 .1) (omega arith)))
 
 interval-enum-known-low : (t : ℕ) → interval-lts.Need-enum-known-low (
   sum-below t,
@@ -995,7 +995,7 @@ interval-compared-requires : (t : ℕ) → interval-lts.Need-compared-requires (
   node-reads.Asked,
   node-reads.Learnt,
 ) (interval-at t) interval.Post
-interval-compared-requires t c κs = (omega (arith, c .before .before .before .before .before .before .before .before .before .before .pre .0, reads-at (c .before .before .before .before .before .before .sum .ensures) (c .before .before .low .given .1)), (ready-of (onward (c .before .before .before .before .before .before .before .before .before .before .pre .1 .0) (one-inside (c .before .before .before .before .before .before .before .before .before .before .args .codes .now) (c .before .before .before .before .before .before .before .before .before .before .args .p) (getD (c .before .before .before .before .before .before .before .before .before .before .args .codes .now) (c .before .before .before .before .before .before .before .before .before .before .args .p) 0) 21 refl (c .before .before .before .before .before .before .before .before .before .before .pre .1 .1) (omega arith))) (c .before .before .before .before .before .before .sum .ensures .ahead) (c .before .before .low .given .1)))
+interval-compared-requires t c κs = (omega (arith, c .before .before .before .before .before .before .before .before .before .before .pre .0, reads-at (c .before .before .before .before .before .before .sum .ensures) (c .before .before .low .given .1)), (ready-of (onward (c .before .before .before .before .before .before .before .before .before .before .pre .1 .0) (one-inside (c .before .before .before .before .before .before .before .before .before .before .args .terminals .now) (c .before .before .before .before .before .before .before .before .before .before .args .p) (getD (c .before .before .before .before .before .before .before .before .before .before .args .terminals .now) (c .before .before .before .before .before .before .before .before .before .before .args .p) 0) 21 refl (c .before .before .before .before .before .before .before .before .before .before .pre .1 .1) (omega arith))) (c .before .before .before .before .before .before .sum .ensures .ahead) (c .before .before .low .given .1)))
 
 interval-enum-known-item : (t : ℕ) → interval-lts.Need-enum-known-item (
   sum-below t,
@@ -1055,7 +1055,7 @@ interval-compared-requires-2 : (t : ℕ) → interval-lts.Need-compared-requires
   node-reads.Asked,
   node-reads.Learnt,
 ) (interval-at t) interval.Post
-interval-compared-requires-2 t c κs = (omega (arith, c .before .before .before .before .before .before .before .before .before .before .before .before .before .before .before .before .before .pre .0, reads-at (c .before .before .before .before .before .before .before .before .before .before .before .before .before .sum .ensures) (c .before .before .before .before .before .before .before .before .before .low .given .1), compares-at (c .before .before .before .before .before .before .compared .ensures) (c .before .before .item .given .1)), (ready-of (ready-of (onward (c .before .before .before .before .before .before .before .before .before .before .before .before .before .before .before .before .before .pre .1 .0) (one-inside (c .before .before .before .before .before .before .before .before .before .before .before .before .before .before .before .before .before .args .codes .now) (c .before .before .before .before .before .before .before .before .before .before .before .before .before .before .before .before .before .args .p) (getD (c .before .before .before .before .before .before .before .before .before .before .before .before .before .before .before .before .before .args .codes .now) (c .before .before .before .before .before .before .before .before .before .before .before .before .before .before .before .before .before .args .p) 0) 21 refl (c .before .before .before .before .before .before .before .before .before .before .before .before .before .before .before .before .before .pre .1 .1) (omega arith))) (c .before .before .before .before .before .before .before .before .before .before .before .before .before .sum .ensures .ahead) (c .before .before .before .before .before .before .before .before .before .low .given .1)) (c .before .before .before .before .before .before .compared .ensures .ahead) (c .before .before .item .given .1)))
+interval-compared-requires-2 t c κs = (omega (arith, c .before .before .before .before .before .before .before .before .before .before .before .before .before .before .before .before .before .pre .0, reads-at (c .before .before .before .before .before .before .before .before .before .before .before .before .before .sum .ensures) (c .before .before .before .before .before .before .before .before .before .low .given .1), compares-at (c .before .before .before .before .before .before .compared .ensures) (c .before .before .item .given .1)), (ready-of (ready-of (onward (c .before .before .before .before .before .before .before .before .before .before .before .before .before .before .before .before .before .pre .1 .0) (one-inside (c .before .before .before .before .before .before .before .before .before .before .before .before .before .before .before .before .before .args .terminals .now) (c .before .before .before .before .before .before .before .before .before .before .before .before .before .before .before .before .before .args .p) (getD (c .before .before .before .before .before .before .before .before .before .before .before .before .before .before .before .before .before .args .terminals .now) (c .before .before .before .before .before .before .before .before .before .before .before .before .before .before .before .before .before .args .p) 0) 21 refl (c .before .before .before .before .before .before .before .before .before .before .before .before .before .before .before .before .before .pre .1 .1) (omega arith))) (c .before .before .before .before .before .before .before .before .before .before .before .before .before .sum .ensures .ahead) (c .before .before .before .before .before .before .before .before .before .low .given .1)) (c .before .before .before .before .before .before .compared .ensures .ahead) (c .before .before .item .given .1)))
 
 interval-expect-requires : (t : ℕ) → interval-lts.Need-expect-requires (
   sum-below t,
@@ -1067,7 +1067,7 @@ interval-expect-requires : (t : ℕ) → interval-lts.Need-expect-requires (
   node-reads.Asked,
   node-reads.Learnt,
 ) (interval-at t) interval.Post
-interval-expect-requires t c κs = (sound-of (c .before .before .compared2 .result) (ready-of (ready-of (onward (c .before .before .before .before .before .before .before .before .before .before .before .before .before .before .before .before .before .before .before .before .pre .1 .0) (one-inside (c .before .before .before .before .before .before .before .before .before .before .before .before .before .before .before .before .before .before .before .before .args .codes .now) (c .before .before .before .before .before .before .before .before .before .before .before .before .before .before .before .before .before .before .before .before .args .p) (getD (c .before .before .before .before .before .before .before .before .before .before .before .before .before .before .before .before .before .before .before .before .args .codes .now) (c .before .before .before .before .before .before .before .before .before .before .before .before .before .before .before .before .before .before .before .before .args .p) 0) 21 refl (c .before .before .before .before .before .before .before .before .before .before .before .before .before .before .before .before .before .before .before .before .pre .1 .1) (omega arith))) (c .before .before .before .before .before .before .before .before .before .before .before .before .before .before .before .before .sum .ensures .ahead) (c .before .before .before .before .before .before .before .before .before .before .before .before .low .given .1)) (c .before .before .before .before .before .before .before .before .before .compared .ensures .ahead) (c .before .before .before .before .before .item .given .1)) (c .before .before .compared2 .ensures .ahead), omega arith)
+interval-expect-requires t c κs = (sound-of (c .before .before .compared2 .result) (ready-of (ready-of (onward (c .before .before .before .before .before .before .before .before .before .before .before .before .before .before .before .before .before .before .before .before .pre .1 .0) (one-inside (c .before .before .before .before .before .before .before .before .before .before .before .before .before .before .before .before .before .before .before .before .args .terminals .now) (c .before .before .before .before .before .before .before .before .before .before .before .before .before .before .before .before .before .before .before .before .args .p) (getD (c .before .before .before .before .before .before .before .before .before .before .before .before .before .before .before .before .before .before .before .before .args .terminals .now) (c .before .before .before .before .before .before .before .before .before .before .before .before .before .before .before .before .before .before .before .before .args .p) 0) 21 refl (c .before .before .before .before .before .before .before .before .before .before .before .before .before .before .before .before .before .before .before .before .pre .1 .1) (omega arith))) (c .before .before .before .before .before .before .before .before .before .before .before .before .before .before .before .before .sum .ensures .ahead) (c .before .before .before .before .before .before .before .before .before .before .before .before .low .given .1)) (c .before .before .before .before .before .before .before .before .before .compared .ensures .ahead) (c .before .before .before .before .before .item .given .1)) (c .before .before .compared2 .ensures .ahead), omega arith)
 
 interval-node-requires : (t : ℕ) → interval-lts.Need-node-requires (
   sum-below t,
@@ -1079,7 +1079,7 @@ interval-node-requires : (t : ℕ) → interval-lts.Need-node-requires (
   node-reads.Asked,
   node-reads.Learnt,
 ) (interval-at t) interval.Post
-interval-node-requires t c κs = (counts-sound (c .before .before .before .before .before .before .before .before .before .before .before .before .before .before .before .before .before .before .before .before .before .before .args .codes .now) (c .before .expect .result) (c .before .expect .ensures .sound), omega arith, omega (arith, c .before .before .before .before .before .before .before .before .before .before .before .before .before .before .before .before .before .before .before .before .before .before .pre .1 .0 .small, c .before .before .before .before .before .before .before .before .before .before .before .before .before .before .before .before .before .before .before .before .before .before .pre .1 .0 .within))
+interval-node-requires t c κs = (counts-sound (c .before .before .before .before .before .before .before .before .before .before .before .before .before .before .before .before .before .before .before .before .before .before .args .terminals .now) (c .before .expect .result) (c .before .expect .ensures .sound), omega arith, omega (arith, c .before .before .before .before .before .before .before .before .before .before .before .before .before .before .before .before .before .before .before .before .before .before .pre .1 .0 .small, c .before .before .before .before .before .before .before .before .before .before .before .before .before .before .before .before .before .before .before .before .before .before .pre .1 .0 .within))
 
 interval-same-length-3 : (t : ℕ) → interval-lts.Need-same-length-3 (
   sum-below t,
@@ -1103,7 +1103,7 @@ interval-returns-3 : (t : ℕ) → interval-lts.Need-returns-3 (
   node-reads.Asked,
   node-reads.Learnt,
 ) (interval-at t) interval.Post
-interval-returns-3 t c = interval-whole (c .before .before .before .before .before .before .before .before .before .before .before .before .before .before .before .before .before .before .before .before .before .before .before .before .before .pre .1 .0) (c .before .before .before .before .before .before .before .before .before .before .before .before .before .before .before .before .before .before .before .before .before .before .before .before .before .pre .1 .1) (c .before .before .before .before .before .before .before .before .before .before .before .before .before .before .before .before .before .before .before .before .before .sum .ensures) (c .before .before .before .before .before .before .before .before .before .before .before .before .before .before .before .before .before .low .given .1) (c .before .before .before .before .before .before .before .before .before .before .before .before .before .before .compared .ensures) (c .before .before .before .before .before .before .before .before .before .before .item .given .1) (c .before .before .before .before .before .before .before .compared2 .ensures) (c .before .before .before .before .expect .ensures) (c .before .before .node .ensures) (counts-sound (c .before .before .before .before .before .before .before .before .before .before .before .before .before .before .before .before .before .before .before .before .before .before .before .before .before .args .codes .now) (c .before .before .before .before .expect .result) (c .before .before .before .before .expect .ensures .sound))
+interval-returns-3 t c = interval-whole (c .before .before .before .before .before .before .before .before .before .before .before .before .before .before .before .before .before .before .before .before .before .before .before .before .before .pre .1 .0) (c .before .before .before .before .before .before .before .before .before .before .before .before .before .before .before .before .before .before .before .before .before .before .before .before .before .pre .1 .1) (c .before .before .before .before .before .before .before .before .before .before .before .before .before .before .before .before .before .before .before .before .before .sum .ensures) (c .before .before .before .before .before .before .before .before .before .before .before .before .before .before .before .before .before .low .given .1) (c .before .before .before .before .before .before .before .before .before .before .before .before .before .before .compared .ensures) (c .before .before .before .before .before .before .before .before .before .before .item .given .1) (c .before .before .before .before .before .before .before .compared2 .ensures) (c .before .before .before .before .expect .ensures) (c .before .before .node .ensures) (counts-sound (c .before .before .before .before .before .before .before .before .before .before .before .before .before .before .before .before .before .before .before .before .before .before .before .before .before .args .terminals .now) (c .before .before .before .before .expect .result) (c .before .before .before .before .expect .ensures .sound))
 
 operand-token-requires : (t : ℕ) → operand-lts.Need-token-requires (
   token-reads.Asked,
@@ -1301,7 +1301,7 @@ operand-signed-requires : (t : ℕ) → operand-lts.Need-signed-requires (
   atom-below t,
   atom.Post,
 ) (operand-at t) operand.Post
-operand-signed-requires t c κs = (omega (arith, c .before .before .before .before .before .before .before .before .before .pre .0), (c .before .before .before .before .before .before .before .before .before .pre .1, seen (c .before .before .before .before .before .before .before .before .before .args .codes .now) (c .before .before .before .before .before .before .before .before .before .args .p) signs (c .before .before .before .before .before .before .token .ensures) (c .before .before .is-sign .ensures) (c .before .if3 .taken)))
+operand-signed-requires t c κs = (omega (arith, c .before .before .before .before .before .before .before .before .before .pre .0), (c .before .before .before .before .before .before .before .before .before .pre .1, seen (c .before .before .before .before .before .before .before .before .before .args .terminals .now) (c .before .before .before .before .before .before .before .before .before .args .p) signs (c .before .before .before .before .before .before .token .ensures) (c .before .before .is-sign .ensures) (c .before .if3 .taken)))
 
 operand-same-length-3 : (t : ℕ) → operand-lts.Need-same-length-3 (
   token-reads.Asked,
@@ -1529,7 +1529,7 @@ sum-returns-2 : (t : ℕ) → sum-lts.Need-returns-2 (
   is-addition-reads.Asked,
   is-addition-reads.Learnt,
 ) (sum-at t) sum.Post sum-Inv-loop sum-μ-loop
-sum-returns-2 t c = often-ends sum′ term′ additions refl (express .ok sum′ .1) (c .before .before .before .before .before .before .before .before .before .before .before .before .before .before .before .before .before .pre .1) (c .before .before .before .before .before .before .before .before .before .before .before .before .before .before .loop .inv .1) (c .before .before .before .before .before .before .before .before .before .before .before .before .term .ensures) (c .before .before .before .before .before .before .before .before .right .given .1) (c .before .before .before .before .before .combined .ensures) (seen (c .before .before .before .before .before .before .before .before .before .before .before .before .before .before .before .before .before .args .codes .now) (c .before .before .before .before .before .before .before .before .right .given .0 .0) additions (c .before .before .token .ensures) (c .before .is-addition .ensures) (not-true (c .before .is-addition .result) (c .if1 .taken)))
+sum-returns-2 t c = often-ends sum′ term′ additions refl (express .ok sum′ .1) (c .before .before .before .before .before .before .before .before .before .before .before .before .before .before .before .before .before .pre .1) (c .before .before .before .before .before .before .before .before .before .before .before .before .before .before .loop .inv .1) (c .before .before .before .before .before .before .before .before .before .before .before .before .term .ensures) (c .before .before .before .before .before .before .before .before .right .given .1) (c .before .before .before .before .before .combined .ensures) (seen (c .before .before .before .before .before .before .before .before .before .before .before .before .before .before .before .before .before .args .terminals .now) (c .before .before .before .before .before .before .before .before .right .given .0 .0) additions (c .before .before .token .ensures) (c .before .is-addition .ensures) (not-true (c .before .is-addition .result) (c .if1 .taken)))
 
 sum-add-q : (t : ℕ) → sum-lts.Need-add-q (
   term-below t,
@@ -1566,7 +1566,7 @@ sum-loop-again : (t : ℕ) → sum-lts.Need-loop-again (
   is-addition-reads.Learnt,
 ) (sum-at t) sum.Post sum-Inv-loop sum-μ-loop
 unfolding mem
-sum-loop-again t c = (search needs, often-again sum′ term′ additions refl (express .ok sum′ .1) (c .before .before .before .before .before .before .before .before .before .before .before .before .before .before .before .before .before .pre .1) (c .before .before .before .before .before .before .before .before .before .before .before .before .before .before .loop .inv .1) (c .before .before .before .before .before .before .before .before .before .before .before .before .term .ensures) (c .before .before .before .before .before .before .before .before .right .given .1) (c .before .before .before .before .before .combined .ensures) refl (seen (c .before .before .before .before .before .before .before .before .before .before .before .before .before .before .before .before .before .args .codes .now) (c .before .before .before .before .before .before .before .before .right .given .0 .0) additions (c .before .before .token .ensures) (c .before .is-addition .ensures) (not-false (c .before .is-addition .result) (c .if1 .left))))
+sum-loop-again t c = (search needs, often-again sum′ term′ additions refl (express .ok sum′ .1) (c .before .before .before .before .before .before .before .before .before .before .before .before .before .before .before .before .before .pre .1) (c .before .before .before .before .before .before .before .before .before .before .before .before .before .before .loop .inv .1) (c .before .before .before .before .before .before .before .before .before .before .before .before .term .ensures) (c .before .before .before .before .before .before .before .before .right .given .1) (c .before .before .before .before .before .combined .ensures) refl (seen (c .before .before .before .before .before .before .before .before .before .before .before .before .before .before .before .before .before .args .terminals .now) (c .before .before .before .before .before .before .before .before .right .given .0 .0) additions (c .before .before .token .ensures) (c .before .is-addition .ensures) (not-false (c .before .is-addition .result) (c .if1 .left))))
 
 abbrev term-Inv-loop : term-lts.InvT-loop
 term-Inv-loop codes rows₀ p n q₀ m₀ rows q m = (length rows ≡ length rows₀) × Before term′ factor′ multiplications (again multiplications factor′) codes p n rows₀ q m rows
@@ -1704,7 +1704,7 @@ term-returns-2 : (t : ℕ) → term-lts.Need-returns-2 (
   is-multiplication-reads.Asked,
   is-multiplication-reads.Learnt,
 ) (term-at t) term.Post term-Inv-loop term-μ-loop
-term-returns-2 t c = often-ends term′ factor′ multiplications refl (express .ok term′ .1) (c .before .before .before .before .before .before .before .before .before .before .before .before .before .before .before .before .before .pre .1) (c .before .before .before .before .before .before .before .before .before .before .before .before .before .before .loop .inv .1) (c .before .before .before .before .before .before .before .before .before .before .before .before .factor .ensures) (c .before .before .before .before .before .before .before .before .right .given .1) (c .before .before .before .before .before .combined .ensures) (seen (c .before .before .before .before .before .before .before .before .before .before .before .before .before .before .before .before .before .args .codes .now) (c .before .before .before .before .before .before .before .before .right .given .0 .0) multiplications (c .before .before .token .ensures) (c .before .is-multiplication .ensures) (not-true (c .before .is-multiplication .result) (c .if1 .taken)))
+term-returns-2 t c = often-ends term′ factor′ multiplications refl (express .ok term′ .1) (c .before .before .before .before .before .before .before .before .before .before .before .before .before .before .before .before .before .pre .1) (c .before .before .before .before .before .before .before .before .before .before .before .before .before .before .loop .inv .1) (c .before .before .before .before .before .before .before .before .before .before .before .before .factor .ensures) (c .before .before .before .before .before .before .before .before .right .given .1) (c .before .before .before .before .before .combined .ensures) (seen (c .before .before .before .before .before .before .before .before .before .before .before .before .before .before .before .before .before .args .terminals .now) (c .before .before .before .before .before .before .before .before .right .given .0 .0) multiplications (c .before .before .token .ensures) (c .before .is-multiplication .ensures) (not-true (c .before .is-multiplication .result) (c .if1 .taken)))
 
 term-add-q : (t : ℕ) → term-lts.Need-add-q (
   factor-below t,
@@ -1741,7 +1741,7 @@ term-loop-again : (t : ℕ) → term-lts.Need-loop-again (
   is-multiplication-reads.Learnt,
 ) (term-at t) term.Post term-Inv-loop term-μ-loop
 unfolding mem
-term-loop-again t c = (search needs, often-again term′ factor′ multiplications refl (express .ok term′ .1) (c .before .before .before .before .before .before .before .before .before .before .before .before .before .before .before .before .before .pre .1) (c .before .before .before .before .before .before .before .before .before .before .before .before .before .before .loop .inv .1) (c .before .before .before .before .before .before .before .before .before .before .before .before .factor .ensures) (c .before .before .before .before .before .before .before .before .right .given .1) (c .before .before .before .before .before .combined .ensures) refl (seen (c .before .before .before .before .before .before .before .before .before .before .before .before .before .before .before .before .before .args .codes .now) (c .before .before .before .before .before .before .before .before .right .given .0 .0) multiplications (c .before .before .token .ensures) (c .before .is-multiplication .ensures) (not-false (c .before .is-multiplication .result) (c .if1 .left))))
+term-loop-again t c = (search needs, often-again term′ factor′ multiplications refl (express .ok term′ .1) (c .before .before .before .before .before .before .before .before .before .before .before .before .before .before .before .before .before .pre .1) (c .before .before .before .before .before .before .before .before .before .before .before .before .before .before .loop .inv .1) (c .before .before .before .before .before .before .before .before .before .before .before .before .factor .ensures) (c .before .before .before .before .before .before .before .before .right .given .1) (c .before .before .before .before .before .combined .ensures) refl (seen (c .before .before .before .before .before .before .before .before .before .before .before .before .before .before .before .before .before .args .terminals .now) (c .before .before .before .before .before .before .before .before .right .given .0 .0) multiplications (c .before .before .token .ensures) (c .before .is-multiplication .ensures) (not-false (c .before .is-multiplication .result) (c .if1 .left))))
 
 pub +atom+compared+expression+factor+interval+operand+signed+sum+term-spec :
     {M : Type 1} → statement M

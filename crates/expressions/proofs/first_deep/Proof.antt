@@ -19,7 +19,7 @@ abbrev μ-loop : tie.MeasureT-loop
 μ-loop codes steps depth₀ i₀ depth i = length codes - i
 
 loop-holds : tie.Need-loop-holds Inv-loop μ-loop
-loop-holds c = (omega arith, omega arith, deep-start (c .before .args .codes .now))
+loop-holds c = (omega arith, omega arith, deep-start (c .before .args .terminals .now))
 
 shared-slice-read-nested : tie.Need-shared-slice-read-nested Inv-loop μ-loop
 shared-slice-read-nested c = omega arith
@@ -29,7 +29,7 @@ unfolding mem tabulated
 nested-requires c κs = (refl, c .before .before .before .loop .inv .1)
 
 returns : tie.Need-returns Inv-loop μ-loop
-returns c = deep-here (c .before .before .before .before .before .before .before .args .codes .now) (c .before .before .before .before .before .loop .i) (c .before .before .before .before .before .loop .depth) _ (c .before .before .before .before .loop-test .taken) refl (c .before .nested .result) (c .before .nested .ensures) (c .before .before .before .before .before .loop .inv .1) (c .if1 .taken) ∙ c .before .before .before .before .before .loop .inv .2
+returns c = deep-here (c .before .before .before .before .before .before .before .args .terminals .now) (c .before .before .before .before .before .loop .i) (c .before .before .before .before .before .loop .depth) _ (c .before .before .before .before .loop-test .taken) refl (c .before .nested .result) (c .before .nested .ensures) (c .before .before .before .before .before .loop .inv .1) (c .if1 .taken) ∙ c .before .before .before .before .before .loop .inv .2
 
 add-i : tie.Need-add-i Inv-loop μ-loop
 add-i c = omega arith
@@ -38,10 +38,10 @@ loop-less : tie.Need-loop-less Inv-loop μ-loop
 loop-less c = omega arith
 
 loop-again : tie.Need-loop-again Inv-loop μ-loop
-loop-again c = (omega arith, omega arith, sym (deep-on (c .before .before .before .before .before .before .before .args .codes .now) (c .before .before .before .before .before .loop .i) (c .before .before .before .before .before .loop .depth) _ (c .before .before .before .before .loop-test .taken) refl (c .before .nested .result) (c .before .nested .ensures) (λ h. omega arith)) ∙ c .before .before .before .before .before .loop .inv .2)
+loop-again c = (omega arith, omega arith, sym (deep-on (c .before .before .before .before .before .before .before .args .terminals .now) (c .before .before .before .before .before .loop .i) (c .before .before .before .before .before .loop .depth) _ (c .before .before .before .before .loop-test .taken) refl (c .before .nested .result) (c .before .nested .ensures) (λ h. omega arith)) ∙ c .before .before .before .before .before .loop .inv .2)
 
 returns-2 : tie.Need-returns-2 Inv-loop μ-loop
-returns-2 c = deep-end (c .before .before .before .args .codes .now) (c .before .loop .i) (c .before .loop .depth) (omega arith) (omega arith) ∙ c .before .loop .inv .2
+returns-2 c = deep-end (c .before .before .before .args .terminals .now) (c .before .loop .i) (c .before .loop .depth) (omega arith) (omega arith) ∙ c .before .loop .inv .2
 
 pub first-deep-spec : {M : Type 1} → statement M
 first-deep-spec =
