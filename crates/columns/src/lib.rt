@@ -1,6 +1,6 @@
 // Lent columns: a number stored as far as it fits, zeros from an index on, and the cast of an index.
 ghost use mathlib.Core.Path.{_≡_};
-ghost use Prim.Native.Nat.{min, _≤_};
+ghost use Prim.Native.Nat.{min, _-_, _≤_};
 ghost use lib.IntN.{pos};
 ghost use lib.ListN.{set};
 ghost use Rattle.columns.specs.Column.{cleared};
@@ -27,6 +27,16 @@ pub fn shorter(a: usize, b: usize) -> usize
         return a;
     }
     b
+}
+
+// The difference of two numbers, and 0 where it would be negative.
+pub fn difference(a: usize, b: usize) -> usize
+    ensures { λ r. ⌜ r ≡ a - b ⌝ }
+{
+    if a < b {
+        return 0;
+    }
+    a - b
 }
 
 // Stores a number at an index; past the column's end nothing changes.
@@ -82,5 +92,15 @@ pub fn clear64(column: &mut [i64], from: usize)
     while at < column.len() {
         column[at] = 0;
         at += 1;
+    }
+}
+
+pub fn clear_u64(column: &mut [u64], from: usize)
+    ensures { λ _. ⌜ now (column .exit) ≡ cleared 0 from (now (column .entry)) ⌝ }
+{
+    let mut i = from;
+    while i < column.len() {
+        column[i] = 0;
+        i += 1;
     }
 }

@@ -6,75 +6,59 @@ ghost use mathlib.Core.Path.{_≡_};
 ghost use Prim.Native.Nat.{_+_, _≤_, _<_};
 ghost use lib.ListN.{length, getD};
 ghost use Rattle.ebnf.specs.Set.{mem};
-ghost use Rattle.ebnf.specs.Grammar.{seq, star, nt};
+ghost use Rattle.ebnf.specs.Grammar.{star, nt};
 ghost use Rattle.express.specs.tokens.Terminal.{identifier, colon, DERIVE, ENTITY, OF, SUBTYPE, TYPE};
-ghost use Rattle.express.specs.syntax.Grammar.{file, schema, constants, type-declaration, underlying, where-clause, domain-rule, entity, attributes, derived, expression, _·_, _∣_, tok, opt, ids, simple-types};
+ghost use Rattle.express.specs.syntax.Grammar.{file, schema, constants, type-declaration, underlying, where-clause, domain-rule, entity, attributes, derived, _·_, _∣_, tok, opt, ids, simple-types};
 ghost use Rattle.express.specs.syntax.Lookahead.{tables};
-ghost use Rattle.expressions.specs.declared.Read.the-variants.{At};
-ghost use Rattle.expressions.specs.Reading.{Ready, Sound, Reads, Steps};
-ghost use Rattle.expressions.specs.Parsing.{most, Parsing};
-ghost use Rattle.expressions.specs.Outcome.{Judging};
-ghost use Rattle.declarations.specs.Declares.{Takes, Closes, id-of, names-of, type-label, Bases, assigned-by, declared-by, Heads};
+ghost use Rattle.expressions.specs.Reading.{Ready, Reads, Steps};
+ghost use Rattle.expressions.specs.Parsing.{Parsing};
+ghost use Rattle.expressions.specs.Outcome.{Judging, Parses};
+ghost use Rattle.declarations.specs.Declares.{Closes, Leaves, id-of, names-of, type-label, Types, Groups, members-of, assigned-by, declared-by, Heads};
 use codes::labels;
 use expressions::Judgement;
 use expressions::Parsed;
 use expressions::Read;
 use expressions::end_of;
 use expressions::expect;
-use expressions::expression;
+use expressions::expression_at;
 use expressions::first_deep;
 use expressions::judged;
-use expressions::leaf;
-use expressions::node;
-use expressions::packed;
-use expressions::put;
-use expressions::settle;
+use expressions::lay_out;
+use expressions::put_row;
 use expressions::token;
 
-// An expression.
-fn value(terminals: &[u8], rows: &mut [u64], before: Read) -> Read
-    requires { ⌜ Sound (now terminals) before ⌝ }
-    ensures { λ r. ⌜ Takes expression (now (terminals .entry)) before r (now (rows .entry)) (now (rows .exit)) ⌝ }
-{
-    let Read::At(p, n) = before else {
-        return before;
-    };
-    expression(terminals, rows, p, n)
-}
-
-// `;`, and a row over all rows from `first` on
+// ';', and a row over all rows from `first` on
 fn closed(
     terminals: &[u8],
     rows: &mut [u64],
-    before: Read,
+    p: usize,
+    n: usize,
     first: usize,
     label: u64,
     name: usize,
 ) -> Read
-    requires { ⌜ (Sound (now terminals) before) × (label < 65536) × (name < 1048576) ⌝ }
-    ensures { λ r. ⌜ Closes first label name (now (terminals .entry)) before r (now (rows .entry)) (now (rows .exit)) ⌝ }
+    requires { ⌜ (Ready (now terminals) p n) × (label < 65536) × (name < 1048576) ⌝ }
+    ensures { λ r. ⌜ Closes first label name (now (terminals .entry)) p n r (now (rows .entry)) (now (rows .exit)) ⌝ }
 {
-    let end = expect(terminals, before, codes::SEMICOLON);
-    node(rows, end, first, label, name)
+    let end = expect(terminals, p, n, codes::SEMICOLON);
+    let Read::At(q, m) = end else {
+        return end;
+    };
+    put_row(rows, m, first, label, name);
+    Read::At(q, m + 1)
 }
 
 fn is_simple(c: u8) -> bool
     ensures { λ r. ⌜ r ≡ mem c simple-types ⌝ }
 {
     match c {
-        codes::BINARY
-        | codes::BOOLEAN
-        | codes::INTEGER
-        | codes::LOGICAL
-        | codes::NUMBER
-        | codes::REAL
-        | codes::STRING => true,
+        codes::BINARY | codes::BOOLEAN | codes::INTEGER | codes::LOGICAL | codes::NUMBER | codes::REAL | codes::STRING => true,
         _ => false,
     }
 }
 
 // Kind and role of a type's row; 0 where none begins.
-fn labelled(c: u8, label: u64) -> u64
+fn type_label(c: u8, label: u64) -> u64
     ensures { λ r. ⌜ r ≡ type-label c label ⌝ }
 {
     if is_simple(c) {
@@ -83,36 +67,45 @@ fn labelled(c: u8, label: u64) -> u64
     if c == codes::IDENTIFIER {
         return label;
     }
-    0
+    expressions::NO_LABEL
 }
 
 // A simple type, or a name.
-fn base(terminals: &[u8], rows: &mut [u64], before: Read, label: u64) -> Read
-    requires { ⌜ (Sound (now terminals) before) × (label < 65536) ⌝ }
-    ensures { λ r. ⌜ Bases label (now (terminals .entry)) before r (now (rows .entry)) (now (rows .exit)) ⌝ }
+fn base(terminals: &[u8], rows: &mut [u64], p: usize, n: usize, label: u64) -> Read
+    requires { ⌜ (Ready (now terminals) p n) × (label < 65536) ⌝ }
+    ensures { λ r. ⌜ Types label (now (terminals .entry)) p n r (now (rows .entry)) (now (rows .exit)) ⌝ }
 {
-    let Read::At(p, n) = before else {
-        return before;
-    };
-    let kind = labelled(token(terminals, p), label);
-    if kind == 0 {
+    let kind = type_label(token(terminals, p), label);
+    if kind == expressions::NO_LABEL {
         return Read::Refused(p);
     }
-    put(rows, n, packed(kind, p, 1));
+    put_row(rows, n, n, kind, p);
     Read::At(p + 1, n + 1)
 }
 
-// id { ',' id }
-fn names(terminals: &[u8], rows: &mut [u64], before: Read, label: u64) -> Read
-    requires { ⌜ (Sound (now terminals) before) × (label < 65536) ⌝ }
-    ensures { λ r. ⌜ Steps (names-of label) (now (terminals .entry)) before r (now (rows .entry)) (now (rows .exit)) ⌝ }
+// An identifier that leaves a row with nothing below it.
+fn id(terminals: &[u8], rows: &mut [u64], p: usize, n: usize, label: u64) -> Read
+    requires { ⌜ (Ready (now terminals) p n) × (label < 65536) ⌝ }
+    ensures { λ r. ⌜ Leaves label (now (terminals .entry)) p n r (now (rows .entry)) (now (rows .exit)) ⌝ }
 {
-    let first = leaf(terminals, rows, before, label);
+    if token(terminals, p) == codes::IDENTIFIER {
+        put_row(rows, n, n, label, p);
+        return Read::At(p + 1, n + 1);
+    }
+    Read::Refused(p)
+}
+
+// id { ',' id }
+fn names(terminals: &[u8], rows: &mut [u64], p: usize, n: usize, label: u64) -> Read
+    requires { ⌜ (Ready (now terminals) p n) × (label < 65536) ⌝ }
+    ensures { λ r. ⌜ Steps (names-of label) (now (terminals .entry)) p n r (now (rows .entry)) (now (rows .exit)) ⌝ }
+{
+    let first = id(terminals, rows, p, n, label);
     let Read::At(mut q, mut m) = first else {
         return first;
     };
     while token(terminals, q) == codes::COMMA {
-        let next = leaf(terminals, rows, Read::At(q + 1, m), label);
+        let next = id(terminals, rows, q + 1, m, label);
         let Read::At(q2, m2) = next else {
             return next;
         };
@@ -123,13 +116,19 @@ fn names(terminals: &[u8], rows: &mut [u64], before: Read, label: u64) -> Read
 }
 
 // '(' id { ',' id } ')'
-fn ids(terminals: &[u8], rows: &mut [u64], before: Read, label: u64) -> Read
-    requires { ⌜ (Sound (now terminals) before) × (label < 65536) ⌝ }
-    ensures { λ r. ⌜ Steps (ids (id-of label)) (now (terminals .entry)) before r (now (rows .entry)) (now (rows .exit)) ⌝ }
+fn ids(terminals: &[u8], rows: &mut [u64], p: usize, n: usize, label: u64) -> Read
+    requires { ⌜ (Ready (now terminals) p n) × (label < 65536) ⌝ }
+    ensures { λ r. ⌜ Steps (ids (id-of label)) (now (terminals .entry)) p n r (now (rows .entry)) (now (rows .exit)) ⌝ }
 {
-    let opened = expect(terminals, before, codes::LPAREN);
-    let listed = names(terminals, rows, opened, label);
-    expect(terminals, listed, codes::RPAREN)
+    let opened = expect(terminals, p, n, codes::LPAREN);
+    let Read::At(q, m) = opened else {
+        return opened;
+    };
+    let listed = names(terminals, rows, q, m, label);
+    let Read::At(q2, m2) = listed else {
+        return listed;
+    };
+    expect(terminals, q2, m2, codes::RPAREN)
 }
 
 // id ':' base ':=' expression ';'
@@ -137,18 +136,33 @@ fn assigned(terminals: &[u8], rows: &mut [u64], p: usize, n: usize, label: u64) 
     requires { ⌜ (Ready (now terminals) p n) × ((label ≡ 17) ⊎ (label ≡ 22)) ⌝ }
     ensures { λ r. ⌜ Reads (assigned-by label) (now (terminals .entry)) p n r (now (rows .entry)) (now (rows .exit)) ⌝ }
 {
-    let name = expect(terminals, Read::At(p, n), codes::IDENTIFIER);
-    let colon = expect(terminals, name, codes::COLON);
-    let kind = base(terminals, rows, colon, labels::TYPE_NAME);
-    let becomes = expect(terminals, kind, codes::BECOMES);
-    let given = value(terminals, rows, becomes);
-    closed(terminals, rows, given, n, label, p)
+    let name = expect(terminals, p, n, codes::IDENTIFIER);
+    let Read::At(q, m) = name else {
+        return name;
+    };
+    let colon = expect(terminals, q, m, codes::COLON);
+    let Read::At(q2, m2) = colon else {
+        return colon;
+    };
+    let kind = base(terminals, rows, q2, m2, labels::TYPE_NAME);
+    let Read::At(q3, m3) = kind else {
+        return kind;
+    };
+    let becomes = expect(terminals, q3, m3, codes::BECOMES);
+    let Read::At(q4, m4) = becomes else {
+        return becomes;
+    };
+    let given = expression_at(terminals, rows, q4, m4);
+    let Read::At(q5, m5) = given else {
+        return given;
+    };
+    closed(terminals, rows, q5, m5, n, label, p)
 }
 
 // One or more assignments.
 fn assignments(terminals: &[u8], rows: &mut [u64], p: usize, n: usize, label: u64) -> Read
     requires { ⌜ (Ready (now terminals) p n) × ((label ≡ 17) ⊎ (label ≡ 22)) ⌝ }
-    ensures { λ r. ⌜ Steps (nt (assigned-by label) · star (nt (assigned-by label))) (now (terminals .entry)) (At p n) r (now (rows .entry)) (now (rows .exit)) ⌝ }
+    ensures { λ r. ⌜ Steps (nt (assigned-by label) · star (nt (assigned-by label))) (now (terminals .entry)) p n r (now (rows .entry)) (now (rows .exit)) ⌝ }
 {
     let first = assigned(terminals, rows, p, n, label);
     let Read::At(mut q, mut m) = first else {
@@ -166,31 +180,31 @@ fn assignments(terminals: &[u8], rows: &mut [u64], p: usize, n: usize, label: u6
 }
 
 // [ CONSTANT constant { constant } END_CONSTANT ';' ]
-fn constants(terminals: &[u8], rows: &mut [u64], before: Read) -> Read
-    requires { ⌜ Sound (now terminals) before ⌝ }
-    ensures { λ r. ⌜ Steps (opt (nt constants)) (now (terminals .entry)) before r (now (rows .entry)) (now (rows .exit)) ⌝ }
+fn constants(terminals: &[u8], rows: &mut [u64], p: usize, n: usize) -> Read
+    requires { ⌜ Ready (now terminals) p n ⌝ }
+    ensures { λ r. ⌜ Steps (opt (nt constants)) (now (terminals .entry)) p n r (now (rows .entry)) (now (rows .exit)) ⌝ }
 {
-    let Read::At(p, n) = before else {
-        return before;
-    };
     if token(terminals, p) != codes::CONSTANT {
-        return before;
+        return Read::At(p, n);
     }
     let list = assignments(terminals, rows, p + 1, n, labels::CONSTANT);
-    let end = expect(terminals, list, codes::END_CONSTANT);
-    expect(terminals, end, codes::SEMICOLON)
+    let Read::At(q, m) = list else {
+        return list;
+    };
+    let end = expect(terminals, q, m, codes::END_CONSTANT);
+    let Read::At(q2, m2) = end else {
+        return end;
+    };
+    expect(terminals, q2, m2, codes::SEMICOLON)
 }
 
 // [ DERIVE derived { derived } ]
-fn derivations(terminals: &[u8], rows: &mut [u64], before: Read) -> Read
-    requires { ⌜ Sound (now terminals) before ⌝ }
-    ensures { λ r. ⌜ Steps (opt (tok DERIVE · nt derived · star (nt derived))) (now (terminals .entry)) before r (now (rows .entry)) (now (rows .exit)) ⌝ }
+fn derivations(terminals: &[u8], rows: &mut [u64], p: usize, n: usize) -> Read
+    requires { ⌜ Ready (now terminals) p n ⌝ }
+    ensures { λ r. ⌜ Steps (opt (tok DERIVE · nt derived · star (nt derived))) (now (terminals .entry)) p n r (now (rows .entry)) (now (rows .exit)) ⌝ }
 {
-    let Read::At(p, n) = before else {
-        return before;
-    };
     if token(terminals, p) != codes::DERIVE {
-        return before;
+        return Read::At(p, n);
     }
     assignments(terminals, rows, p + 1, n, labels::DERIVED_ATTRIBUTE)
 }
@@ -212,11 +226,17 @@ fn rule(terminals: &[u8], rows: &mut [u64], p: usize, n: usize) -> Read
     ensures { λ r. ⌜ Reads domain-rule (now (terminals .entry)) p n r (now (rows .entry)) (now (rows .exit)) ⌝ }
 {
     if is_labelled(terminals, p) {
-        let named = expression(terminals, rows, p + 2, n);
-        return closed(terminals, rows, named, n, labels::LABELLED_RULE, p);
+        let named = expression_at(terminals, rows, p + 2, n);
+        let Read::At(q, m) = named else {
+            return named;
+        };
+        return closed(terminals, rows, q, m, n, labels::LABELLED_RULE, p);
     }
-    let plain = expression(terminals, rows, p, n);
-    closed(terminals, rows, plain, n, labels::UNLABELLED_RULE, p)
+    let plain = expression_at(terminals, rows, p, n);
+    let Read::At(q, m) = plain else {
+        return plain;
+    };
+    closed(terminals, rows, q, m, n, labels::UNLABELLED_RULE, p)
 }
 
 // A rule begins with this terminal.
@@ -245,7 +265,7 @@ fn begins_rule(c: u8) -> bool
 // One or more rules.
 fn rule_list(terminals: &[u8], rows: &mut [u64], p: usize, n: usize) -> Read
     requires { ⌜ Ready (now terminals) p n ⌝ }
-    ensures { λ r. ⌜ Steps (nt domain-rule · star (nt domain-rule)) (now (terminals .entry)) (At p n) r (now (rows .entry)) (now (rows .exit)) ⌝ }
+    ensures { λ r. ⌜ Steps (nt domain-rule · star (nt domain-rule)) (now (terminals .entry)) p n r (now (rows .entry)) (now (rows .exit)) ⌝ }
 {
     let first = rule(terminals, rows, p, n);
     let Read::At(mut q, mut m) = first else {
@@ -263,47 +283,71 @@ fn rule_list(terminals: &[u8], rows: &mut [u64], p: usize, n: usize) -> Read
 }
 
 // [ WHERE rule { rule } ]
-fn rules(terminals: &[u8], rows: &mut [u64], before: Read) -> Read
-    requires { ⌜ Sound (now terminals) before ⌝ }
-    ensures { λ r. ⌜ Steps (opt (nt where-clause)) (now (terminals .entry)) before r (now (rows .entry)) (now (rows .exit)) ⌝ }
+fn rules(terminals: &[u8], rows: &mut [u64], p: usize, n: usize) -> Read
+    requires { ⌜ Ready (now terminals) p n ⌝ }
+    ensures { λ r. ⌜ Steps (opt (nt where-clause)) (now (terminals .entry)) p n r (now (rows .entry)) (now (rows .exit)) ⌝ }
 {
-    let Read::At(p, n) = before else {
-        return before;
-    };
     if token(terminals, p) != codes::WHERE {
-        return before;
+        return Read::At(p, n);
     }
     rule_list(terminals, rows, p + 1, n)
 }
 
 // A word, and an identifier behind it.
-fn headed(terminals: &[u8], p: usize, n: usize, word: u8) -> Read
+fn head(terminals: &[u8], p: usize, n: usize, word: u8) -> Read
     requires { ⌜ (Ready (now terminals) p n) × (0 < word) ⌝ }
-    ensures { λ r. ⌜ Heads (now (terminals .entry)) word p n r ⌝ }
+    ensures { λ r. ⌜ Heads word (now (terminals .entry)) p n r ⌝ }
 {
-    let first = expect(terminals, Read::At(p, n), word);
-    expect(terminals, first, codes::IDENTIFIER)
+    let first = expect(terminals, p, n, word);
+    let Read::At(q, m) = first else {
+        return first;
+    };
+    expect(terminals, q, m, codes::IDENTIFIER)
+}
+
+// ENUMERATION OF ids, of which the first word is there
+fn enumeration(terminals: &[u8], rows: &mut [u64], p: usize, n: usize) -> Read
+    requires { ⌜ (Ready (now terminals) p n) × (getD (now terminals) p 0 ≡ 76) ⌝ }
+    ensures { λ r. ⌜ Reads underlying (now (terminals .entry)) p n r (now (rows .entry)) (now (rows .exit)) ⌝ }
+{
+    let of = expect(terminals, p + 1, n, codes::OF);
+    let Read::At(q, m) = of else {
+        return of;
+    };
+    let items = ids(terminals, rows, q, m, labels::ITEM);
+    let Read::At(q2, m2) = items else {
+        return items;
+    };
+    put_row(rows, m2, n, labels::ENUMERATION, p);
+    Read::At(q2, m2 + 1)
+}
+
+// SELECT ids, of which the word is there
+fn selection(terminals: &[u8], rows: &mut [u64], p: usize, n: usize) -> Read
+    requires { ⌜ (Ready (now terminals) p n) × (getD (now terminals) p 0 ≡ 126) ⌝ }
+    ensures { λ r. ⌜ Reads underlying (now (terminals .entry)) p n r (now (rows .entry)) (now (rows .exit)) ⌝ }
+{
+    let selected = ids(terminals, rows, p + 1, n, labels::SELECT_NAME);
+    let Read::At(q, m) = selected else {
+        return selected;
+    };
+    put_row(rows, m, n, labels::SELECT, p);
+    Read::At(q, m + 1)
 }
 
 // base | ENUMERATION OF ids | SELECT ids
-fn underlying(terminals: &[u8], rows: &mut [u64], before: Read) -> Read
-    requires { ⌜ Sound (now terminals) before ⌝ }
-    ensures { λ r. ⌜ Takes underlying (now (terminals .entry)) before r (now (rows .entry)) (now (rows .exit)) ⌝ }
+fn underlying(terminals: &[u8], rows: &mut [u64], p: usize, n: usize) -> Read
+    requires { ⌜ Ready (now terminals) p n ⌝ }
+    ensures { λ r. ⌜ Reads underlying (now (terminals .entry)) p n r (now (rows .entry)) (now (rows .exit)) ⌝ }
 {
-    let Read::At(p, n) = before else {
-        return before;
-    };
     let c = token(terminals, p);
     if c == codes::ENUMERATION {
-        let of = expect(terminals, Read::At(p + 1, n), codes::OF);
-        let items = ids(terminals, rows, of, labels::ITEM);
-        return node(rows, items, n, labels::ENUMERATION, p);
+        return enumeration(terminals, rows, p, n);
     }
     if c == codes::SELECT {
-        let selected = ids(terminals, rows, Read::At(p + 1, n), labels::SELECT_NAME);
-        return node(rows, selected, n, labels::SELECT, p);
+        return selection(terminals, rows, p, n);
     }
-    base(terminals, rows, before, labels::RENAMED_TYPE)
+    base(terminals, rows, p, n, labels::RENAMED_TYPE)
 }
 
 // TYPE id '=' underlying ';' [ where ] END_TYPE ';'
@@ -311,13 +355,51 @@ fn type_declaration(terminals: &[u8], rows: &mut [u64], p: usize, n: usize) -> R
     requires { ⌜ Ready (now terminals) p n ⌝ }
     ensures { λ r. ⌜ Reads type-declaration (now (terminals .entry)) p n r (now (rows .entry)) (now (rows .exit)) ⌝ }
 {
-    let head = headed(terminals, p, n, codes::TYPE);
-    let equal = expect(terminals, head, codes::EQUAL);
-    let under = underlying(terminals, rows, equal);
-    let semicolon = expect(terminals, under, codes::SEMICOLON);
-    let ruled = rules(terminals, rows, semicolon);
-    let end = expect(terminals, ruled, codes::END_TYPE);
-    closed(terminals, rows, end, n, labels::TYPE, p + 1)
+    let name = head(terminals, p, n, codes::TYPE);
+    let Read::At(q, m) = name else {
+        return name;
+    };
+    let equal = expect(terminals, q, m, codes::EQUAL);
+    let Read::At(q2, m2) = equal else {
+        return equal;
+    };
+    let under = underlying(terminals, rows, q2, m2);
+    let Read::At(q3, m3) = under else {
+        return under;
+    };
+    let semicolon = expect(terminals, q3, m3, codes::SEMICOLON);
+    let Read::At(q4, m4) = semicolon else {
+        return semicolon;
+    };
+    let ruled = rules(terminals, rows, q4, m4);
+    let Read::At(q5, m5) = ruled else {
+        return ruled;
+    };
+    let end = expect(terminals, q5, m5, codes::END_TYPE);
+    let Read::At(q6, m6) = end else {
+        return end;
+    };
+    closed(terminals, rows, q6, m6, n, labels::TYPE, p + 1)
+}
+
+// base ';', and a row over all rows from `first` on
+fn group(
+    terminals: &[u8],
+    rows: &mut [u64],
+    p: usize,
+    n: usize,
+    first: usize,
+    label: u64,
+    name: usize,
+) -> Read
+    requires { ⌜ (Ready (now terminals) p n) × (label < 65536) × (name < 1048576) ⌝ }
+    ensures { λ r. ⌜ Groups first label name (now (terminals .entry)) p n r (now (rows .entry)) (now (rows .exit)) ⌝ }
+{
+    let kind = base(terminals, rows, p, n, labels::TYPE_NAME);
+    let Read::At(q, m) = kind else {
+        return kind;
+    };
+    closed(terminals, rows, q, m, first, label, name)
 }
 
 // id { ',' id } ':' [ OPTIONAL ] base ';'
@@ -325,27 +407,27 @@ fn attributes(terminals: &[u8], rows: &mut [u64], p: usize, n: usize) -> Read
     requires { ⌜ Ready (now terminals) p n ⌝ }
     ensures { λ r. ⌜ Reads attributes (now (terminals .entry)) p n r (now (rows .entry)) (now (rows .exit)) ⌝ }
 {
-    let listed = names(terminals, rows, Read::At(p, n), labels::ATTRIBUTE_NAME);
-    let colon = expect(terminals, listed, codes::COLON);
-    let Read::At(q, m) = colon else {
+    let listed = names(terminals, rows, p, n, labels::ATTRIBUTE_NAME);
+    let Read::At(q, m) = listed else {
+        return listed;
+    };
+    let colon = expect(terminals, q, m, codes::COLON);
+    let Read::At(q2, m2) = colon else {
         return colon;
     };
-    if token(terminals, q) == codes::OPTIONAL {
-        let kind = base(terminals, rows, Read::At(q + 1, m), labels::TYPE_NAME);
-        return closed(terminals, rows, kind, n, labels::OPTIONAL_GROUP, p);
+    if token(terminals, q2) == codes::OPTIONAL {
+        return group(terminals, rows, q2 + 1, m2, n, labels::OPTIONAL_GROUP, p);
     }
-    let plain = base(terminals, rows, colon, labels::TYPE_NAME);
-    closed(terminals, rows, plain, n, labels::ATTRIBUTE_GROUP, p)
+    group(terminals, rows, q2, m2, n, labels::ATTRIBUTE_GROUP, p)
 }
 
 // { attributes }
-fn groups(terminals: &[u8], rows: &mut [u64], before: Read) -> Read
-    requires { ⌜ Sound (now terminals) before ⌝ }
-    ensures { λ r. ⌜ Steps (star (nt attributes)) (now (terminals .entry)) before r (now (rows .entry)) (now (rows .exit)) ⌝ }
+fn groups(terminals: &[u8], rows: &mut [u64], p: usize, n: usize) -> Read
+    requires { ⌜ Ready (now terminals) p n ⌝ }
+    ensures { λ r. ⌜ Steps (star (nt attributes)) (now (terminals .entry)) p n r (now (rows .entry)) (now (rows .exit)) ⌝ }
 {
-    let Read::At(mut q, mut m) = before else {
-        return before;
-    };
+    let mut q = p;
+    let mut m = n;
     while token(terminals, q) == codes::IDENTIFIER {
         let next = attributes(terminals, rows, q, m);
         let Read::At(q2, m2) = next else {
@@ -358,33 +440,62 @@ fn groups(terminals: &[u8], rows: &mut [u64], before: Read) -> Read
 }
 
 // [ SUBTYPE OF ids ]
-fn supertypes(terminals: &[u8], rows: &mut [u64], before: Read) -> Read
-    requires { ⌜ Sound (now terminals) before ⌝ }
-    ensures { λ r. ⌜ Steps (opt (tok SUBTYPE · tok OF · ids (id-of 1286))) (now (terminals .entry)) before r (now (rows .entry)) (now (rows .exit)) ⌝ }
+fn supertypes(terminals: &[u8], rows: &mut [u64], p: usize, n: usize) -> Read
+    requires { ⌜ Ready (now terminals) p n ⌝ }
+    ensures { λ r. ⌜ Steps (opt (tok SUBTYPE · tok OF · ids (id-of 1286))) (now (terminals .entry)) p n r (now (rows .entry)) (now (rows .exit)) ⌝ }
 {
-    let Read::At(p, n) = before else {
-        return before;
-    };
     if token(terminals, p) != codes::SUBTYPE {
-        return before;
+        return Read::At(p, n);
     }
-    let of = expect(terminals, Read::At(p + 1, n), codes::OF);
-    ids(terminals, rows, of, labels::SUPERTYPE_NAME)
+    let of = expect(terminals, p + 1, n, codes::OF);
+    let Read::At(q, m) = of else {
+        return of;
+    };
+    ids(terminals, rows, q, m, labels::SUPERTYPE_NAME)
 }
 
-// ENTITY id [ SUBTYPE OF ids ] ';' { attributes } [ DERIVE .. ] [ where ] END_ENTITY ';'
+// { attributes } [ DERIVE .. ] [ where ]
+fn members(terminals: &[u8], rows: &mut [u64], p: usize, n: usize) -> Read
+    requires { ⌜ Ready (now terminals) p n ⌝ }
+    ensures { λ r. ⌜ Steps members-of (now (terminals .entry)) p n r (now (rows .entry)) (now (rows .exit)) ⌝ }
+{
+    let grouped = groups(terminals, rows, p, n);
+    let Read::At(q, m) = grouped else {
+        return grouped;
+    };
+    let values = derivations(terminals, rows, q, m);
+    let Read::At(q2, m2) = values else {
+        return values;
+    };
+    rules(terminals, rows, q2, m2)
+}
+
+// ENTITY id [ SUBTYPE OF ids ] ';' members END_ENTITY ';'
 fn entity(terminals: &[u8], rows: &mut [u64], p: usize, n: usize) -> Read
     requires { ⌜ Ready (now terminals) p n ⌝ }
     ensures { λ r. ⌜ Reads entity (now (terminals .entry)) p n r (now (rows .entry)) (now (rows .exit)) ⌝ }
 {
-    let head = headed(terminals, p, n, codes::ENTITY);
-    let supers = supertypes(terminals, rows, head);
-    let semicolon = expect(terminals, supers, codes::SEMICOLON);
-    let grouped = groups(terminals, rows, semicolon);
-    let values = derivations(terminals, rows, grouped);
-    let ruled = rules(terminals, rows, values);
-    let end = expect(terminals, ruled, codes::END_ENTITY);
-    closed(terminals, rows, end, n, labels::ENTITY, p + 1)
+    let name = head(terminals, p, n, codes::ENTITY);
+    let Read::At(q, m) = name else {
+        return name;
+    };
+    let supers = supertypes(terminals, rows, q, m);
+    let Read::At(q2, m2) = supers else {
+        return supers;
+    };
+    let semicolon = expect(terminals, q2, m2, codes::SEMICOLON);
+    let Read::At(q3, m3) = semicolon else {
+        return semicolon;
+    };
+    let body = members(terminals, rows, q3, m3);
+    let Read::At(q4, m4) = body else {
+        return body;
+    };
+    let end = expect(terminals, q4, m4, codes::END_ENTITY);
+    let Read::At(q5, m5) = end else {
+        return end;
+    };
+    closed(terminals, rows, q5, m5, n, labels::ENTITY, p + 1)
 }
 
 fn begins_declaration(c: u8) -> bool
@@ -408,13 +519,12 @@ fn declaration(terminals: &[u8], rows: &mut [u64], p: usize, n: usize) -> Read
 }
 
 // { type | entity }
-fn declarations(terminals: &[u8], rows: &mut [u64], before: Read) -> Read
-    requires { ⌜ Sound (now terminals) before ⌝ }
-    ensures { λ r. ⌜ Steps (star (nt type-declaration ∣ nt entity)) (now (terminals .entry)) before r (now (rows .entry)) (now (rows .exit)) ⌝ }
+fn declarations(terminals: &[u8], rows: &mut [u64], p: usize, n: usize) -> Read
+    requires { ⌜ Ready (now terminals) p n ⌝ }
+    ensures { λ r. ⌜ Steps (star (nt type-declaration ∣ nt entity)) (now (terminals .entry)) p n r (now (rows .entry)) (now (rows .exit)) ⌝ }
 {
-    let Read::At(mut q, mut m) = before else {
-        return before;
-    };
+    let mut q = p;
+    let mut m = n;
     while begins_declaration(token(terminals, q)) {
         let next = declaration(terminals, rows, q, m);
         let Read::At(q2, m2) = next else {
@@ -431,18 +541,33 @@ fn schema(terminals: &[u8], rows: &mut [u64], p: usize, n: usize) -> Read
     requires { ⌜ Ready (now terminals) p n ⌝ }
     ensures { λ r. ⌜ Reads schema (now (terminals .entry)) p n r (now (rows .entry)) (now (rows .exit)) ⌝ }
 {
-    let head = headed(terminals, p, n, codes::SCHEMA);
-    let semicolon = expect(terminals, head, codes::SEMICOLON);
-    let values = constants(terminals, rows, semicolon);
-    let declared = declarations(terminals, rows, values);
-    let end = expect(terminals, declared, codes::END_SCHEMA);
-    closed(terminals, rows, end, n, labels::SCHEMA, p + 1)
+    let name = head(terminals, p, n, codes::SCHEMA);
+    let Read::At(q, m) = name else {
+        return name;
+    };
+    let semicolon = expect(terminals, q, m, codes::SEMICOLON);
+    let Read::At(q2, m2) = semicolon else {
+        return semicolon;
+    };
+    let values = constants(terminals, rows, q2, m2);
+    let Read::At(q3, m3) = values else {
+        return values;
+    };
+    let declared = declarations(terminals, rows, q3, m3);
+    let Read::At(q4, m4) = declared else {
+        return declared;
+    };
+    let end = expect(terminals, q4, m4, codes::END_SCHEMA);
+    let Read::At(q5, m5) = end else {
+        return end;
+    };
+    closed(terminals, rows, q5, m5, n, labels::SCHEMA, p + 1)
 }
 
 // One or more schemas.
 fn schemas(terminals: &[u8], rows: &mut [u64], p: usize, n: usize) -> Read
     requires { ⌜ Ready (now terminals) p n ⌝ }
-    ensures { λ r. ⌜ Steps (nt schema · star (nt schema)) (now (terminals .entry)) (At p n) r (now (rows .entry)) (now (rows .exit)) ⌝ }
+    ensures { λ r. ⌜ Steps (nt schema · star (nt schema)) (now (terminals .entry)) p n r (now (rows .entry)) (now (rows .exit)) ⌝ }
 {
     let first = schema(terminals, rows, p, n);
     let Read::At(mut q, mut m) = first else {
@@ -465,98 +590,57 @@ fn file(terminals: &[u8], rows: &mut [u64]) -> Read
     ensures { λ r. ⌜ Reads file (now (terminals .entry)) 0 0 r (now (rows .entry)) (now (rows .exit)) ⌝ }
 {
     let all = schemas(terminals, rows, 0, 0);
-    node(rows, all, 0, labels::FILE, 0)
+    let Read::At(q, m) = all else {
+        return all;
+    };
+    put_row(rows, m, 0, labels::FILE, 0);
+    Read::At(q, m + 1)
 }
 
 // A whole file, its rows in words.
-fn whole(terminals: &[u8], words: &mut [u64]) -> Judgement
-    requires { ⌜ length (now terminals) ≤ most ⌝ }
-    ensures { λ r. ⌜ Judging file (now (terminals .entry)) r (now (words .entry)) (now (words .exit)) ⌝ }
+fn whole(terminals: &[u8], rows: &mut [u64]) -> Judgement
+    requires { ⌜ length (now terminals) ≤ 65536 ⌝ }
+    ensures { λ r. ⌜ Judging file (now (terminals .entry)) r (now (rows .entry)) (now (rows .exit)) ⌝ }
 {
     let deep = first_deep(terminals);
     let end = end_of(deep, terminals.len());
-    let read = file(&terminals[..end], words);
+    let read = file(&terminals[..end], rows);
     judged(read, deep, end)
 }
 
-// The answer, by way of scratch with room for a word for each token: nodes never outnumber tokens.
+// The answer, by way of a word for each terminal: rows never outnumber tokens.
 fn parse_in(
-    words: &mut [u64],
     terminals: &[u8],
+    words: &mut [u64],
     kinds: &mut [u8],
     tokens: &mut [u32],
     sizes: &mut [u32],
     roles: &mut [u32],
 ) -> Parsed
-    requires { ⌜ (length (now terminals) ≤ most) × (length (now terminals) ≤ length (now words)) ⌝ }
-    ensures { λ r. ⌜ Parsing file (now (terminals .entry)) r (now (kinds .entry)) (now (tokens .entry)) (now (sizes .entry)) (now (roles .entry)) (now (kinds .exit)) (now (tokens .exit)) (now (sizes .exit)) (now (roles .exit)) ⌝ }
+    requires { ⌜ (length (now terminals) ≤ 65536) × (length (now words) ≡ length (now terminals)) ⌝ }
+    ensures { λ r. ⌜ Parses file (now (terminals .entry)) r (now (words .entry)) (now (kinds .entry)) (now (tokens .entry)) (now (sizes .entry)) (now (roles .entry)) (now (words .exit)) (now (kinds .exit)) (now (tokens .exit)) (now (sizes .exit)) (now (roles .exit)) ⌝ }
 {
     let judgement = whole(terminals, words);
-    settle(judgement, words, kinds, tokens, sizes, roles)
+    lay_out(judgement, words, kinds, tokens, sizes, roles)
 }
 
-// Scratch comes in three sizes: a short file clears little, and 24,576 words hold the nodes of nearly every file of 64 KiB. Each has a function of
-// its own, so that the stack has room for one of them alone.
-fn parse_small(
-    terminals: &[u8],
-    kinds: &mut [u8],
-    tokens: &mut [u32],
-    sizes: &mut [u32],
-    roles: &mut [u32],
-) -> Parsed
-    requires { ⌜ length (now terminals) ≤ 1024 ⌝ }
-    ensures { λ r. ⌜ Parsing file (now (terminals .entry)) r (now (kinds .entry)) (now (tokens .entry)) (now (sizes .entry)) (now (roles .entry)) (now (kinds .exit)) (now (tokens .exit)) (now (sizes .exit)) (now (roles .exit)) ⌝ }
-{
-    let mut words = [0u64; 1024];
-    parse_in(&mut words, terminals, kinds, tokens, sizes, roles)
-}
-
-fn parse_middle(
-    terminals: &[u8],
-    kinds: &mut [u8],
-    tokens: &mut [u32],
-    sizes: &mut [u32],
-    roles: &mut [u32],
-) -> Parsed
-    requires { ⌜ length (now terminals) ≤ 24576 ⌝ }
-    ensures { λ r. ⌜ Parsing file (now (terminals .entry)) r (now (kinds .entry)) (now (tokens .entry)) (now (sizes .entry)) (now (roles .entry)) (now (kinds .exit)) (now (tokens .exit)) (now (sizes .exit)) (now (roles .exit)) ⌝ }
-{
-    let mut words = [0u64; 24576];
-    parse_in(&mut words, terminals, kinds, tokens, sizes, roles)
-}
-
-fn parse_large(
-    terminals: &[u8],
-    kinds: &mut [u8],
-    tokens: &mut [u32],
-    sizes: &mut [u32],
-    roles: &mut [u32],
-) -> Parsed
-    requires { ⌜ length (now terminals) ≤ 65536 ⌝ }
-    ensures { λ r. ⌜ Parsing file (now (terminals .entry)) r (now (kinds .entry)) (now (tokens .entry)) (now (sizes .entry)) (now (roles .entry)) (now (kinds .exit)) (now (tokens .exit)) (now (sizes .exit)) (now (roles .exit)) ⌝ }
-{
-    let mut words = [0u64; 65536];
-    parse_in(&mut words, terminals, kinds, tokens, sizes, roles)
-}
-
-// THE PARSE of a whole file: replies 4, 5 and 7, and the node table.
+// THE PARSE of a whole file: replies 4, 5 and 7, and the node table. The scratch that is used is zeros then.
 pub fn parse(
     terminals: &[u8],
+    scratch: &mut [u64],
     kinds: &mut [u8],
     tokens: &mut [u32],
     sizes: &mut [u32],
     roles: &mut [u32],
 ) -> Parsed
-    ensures { λ r. ⌜ Parsing file (now (terminals .entry)) r (now (kinds .entry)) (now (tokens .entry)) (now (sizes .entry)) (now (roles .entry)) (now (kinds .exit)) (now (tokens .exit)) (now (sizes .exit)) (now (roles .exit)) ⌝ }
+    ensures { λ r. ⌜ Parsing file (now (terminals .entry)) r (now (scratch .entry)) (now (kinds .entry)) (now (tokens .entry)) (now (sizes .entry)) (now (roles .entry)) (now (scratch .exit)) (now (kinds .exit)) (now (tokens .exit)) (now (sizes .exit)) (now (roles .exit)) ⌝ }
 {
-    if terminals.len() > expressions::MOST {
+    let n = terminals.len();
+    if n > expressions::MOST {
         return Parsed::Long;
     }
-    if terminals.len() > 24576 {
-        return parse_large(terminals, kinds, tokens, sizes, roles);
+    if scratch.len() < n {
+        return Parsed::Scratch(n);
     }
-    if terminals.len() > 1024 {
-        return parse_middle(terminals, kinds, tokens, sizes, roles);
-    }
-    parse_small(terminals, kinds, tokens, sizes, roles)
+    parse_in(terminals, &mut scratch[..n], kinds, tokens, sizes, roles)
 }

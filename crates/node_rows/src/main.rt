@@ -61,14 +61,14 @@ fn print_nodes(codes: &[u8], starts: &[u32], length: usize) {
     let mut tokens = [0u32; 8192];
     let mut sizes = [0u32; 8192];
     let mut roles = [0u32; 8192];
-    let parsed = declarations::parse(codes, &mut kinds, &mut tokens, &mut sizes, &mut roles);
+    let mut scratch = [0u64; 8192];
+    let parsed = declarations::parse(codes, &mut scratch, &mut kinds, &mut tokens, &mut sizes, &mut roles);
     match parsed {
         expressions::Parsed::Accepted(n) => print_rows(&kinds, &tokens, &sizes, &roles, n),
-        expressions::Parsed::Refused(number, token) => print_refused(
-            number,
-            start_of(starts, token, length),
-        ),
+        expressions::Parsed::Unexpected(token) => print_refused(4, start_of(starts, token, length)),
+        expressions::Parsed::TooDeep(token) => print_refused(5, start_of(starts, token, length)),
         expressions::Parsed::Short(n) => print_refused(7, n),
+        expressions::Parsed::Scratch(n) => print_refused(7, n),
         expressions::Parsed::Long => print_refused(1, 65536),
     }
 }
