@@ -11,15 +11,18 @@ use Rattle.ebnf.specs.Grammar.{here, node, leaf, Ebnf, none, mark, step, seq, a
 use Rattle.ebnf.specs.Rows.{Rows}
 use Rattle.ebnf.specs.Parse.{first, Result}
 use Rattle.ebnf.proofs.Sets.{and-split}
-use Rattle.express.specs.tokens.Terminal.{identifier, semicolon, comma, colon, equal, becomes, CONSTANT, DERIVE, END-CONSTANT, END-ENTITY, END-SCHEMA, END-TYPE, ENTITY, ENUMERATION, OF, OPTIONAL, SCHEMA, SELECT, SUBTYPE, TYPE, WHERE}
-use Rattle.express.specs.syntax.Grammar.{Nonterminal, rules, file, schema, constants, constant, base, type-declaration, underlying, where-clause, domain-rule, entity, attributes, derived, expression, _·_, _∣_, tok, opt, ids, row as row-of, simple-types}
+use Rattle.express.specs.tokens.Terminal.{identifier, semicolon, comma, colon, equal, becomes, CONSTANT, DERIVE, END-CONSTANT, END-ENTITY}
+use Rattle.express.specs.tokens.Terminal.{END-SCHEMA, END-TYPE, ENTITY, ENUMERATION, OF, OPTIONAL, SCHEMA, SELECT, SUBTYPE, TYPE, WHERE}
+use Rattle.express.specs.syntax.Grammar.{Nonterminal, rules, file, schema, constants, constant, base, type-declaration, underlying, where-clause, domain-rule}
+use Rattle.express.specs.syntax.Grammar.{entity, attributes, derived, expression, _·_, _∣_, tok, opt, ids, row as row-of, simple-types}
 use Rattle.express.specs.syntax.NodeKind as kind
 use Rattle.express.proofs.syntax.Descent.{phrase}
 use Rattle.expressions.specs.declared.Read.{Read}
 use Rattle.expressions.specs.declared.Read.the-variants.{At, Refused}
 use Rattle.expressions.specs.Reading.{word, Expects, Ready, Sound, Reads, Reading, Continues, Steps}
 use Rattle.expressions.proofs.Terminals.{is-one, not-one, inside}
-use Rattle.expressions.proofs.Laws.{start, finish, last, alone, apart, together, dead, told, named, passed, by-row, phrased, left, right, ahead-left, ahead-right, operator, reads, rows-few, token-small}
+use Rattle.expressions.proofs.Laws.{start, finish, last, alone, apart, together, dead, told, named, passed}
+use Rattle.expressions.proofs.Laws.{by-row, phrased, left, right, ahead-left, ahead-right, operator, reads, rows-few, token-small}
 use Rattle.expressions.proofs.Operands.{leafs}
 use Rattle.expressions.proofs.Steps.{by-token, by-name}
 use Rattle.declarations.specs.Declares.{Closes, Groups, id-of, names-of, Types, assigned-by, declared-by, Heads, members-of}

@@ -52,7 +52,13 @@ fn is_simple(c: u8) -> bool
     ensures { λ r. ⌜ r ≡ mem c simple-types ⌝ }
 {
     match c {
-        codes::BINARY | codes::BOOLEAN | codes::INTEGER | codes::LOGICAL | codes::NUMBER | codes::REAL | codes::STRING => true,
+        codes::BINARY
+        | codes::BOOLEAN
+        | codes::INTEGER
+        | codes::LOGICAL
+        | codes::NUMBER
+        | codes::REAL
+        | codes::STRING => true,
         _ => false,
     }
 }
@@ -618,7 +624,8 @@ fn parse_in(
     roles: &mut [u32],
 ) -> Parsed
     requires { ⌜ (length (now terminals) ≤ 65536) × (length (now words) ≡ length (now terminals)) ⌝ }
-    ensures { λ r. ⌜ Parses file (now (terminals .entry)) r (now (words .entry)) (now (kinds .entry)) (now (tokens .entry)) (now (sizes .entry)) (now (roles .entry)) (now (words .exit)) (now (kinds .exit)) (now (tokens .exit)) (now (sizes .exit)) (now (roles .exit)) ⌝ }
+    ensures { λ r. ⌜ Parses file (now (terminals .entry)) r (now (words .entry)) (now (kinds .entry)) (now (tokens .entry)) (now (sizes .entry)) (now (roles .entry))
+        (now (words .exit)) (now (kinds .exit)) (now (tokens .exit)) (now (sizes .exit)) (now (roles .exit)) ⌝ }
 {
     let judgement = whole(terminals, words);
     lay_out(judgement, words, kinds, tokens, sizes, roles)
@@ -633,7 +640,8 @@ pub fn parse(
     sizes: &mut [u32],
     roles: &mut [u32],
 ) -> Parsed
-    ensures { λ r. ⌜ Parsing file (now (terminals .entry)) r (now (scratch .entry)) (now (kinds .entry)) (now (tokens .entry)) (now (sizes .entry)) (now (roles .entry)) (now (scratch .exit)) (now (kinds .exit)) (now (tokens .exit)) (now (sizes .exit)) (now (roles .exit)) ⌝ }
+    ensures { λ r. ⌜ Parsing file (now (terminals .entry)) r (now (scratch .entry)) (now (kinds .entry)) (now (tokens .entry)) (now (sizes .entry)) (now (roles .entry))
+        (now (scratch .exit)) (now (kinds .exit)) (now (tokens .exit)) (now (sizes .exit)) (now (roles .exit)) ⌝ }
 {
     let n = terminals.len();
     if n > expressions::MOST {

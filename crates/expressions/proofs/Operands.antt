@@ -21,7 +21,8 @@ use Rattle.expressions.specs.declared.Read.the-variants.{At, Refused}
 use Rattle.expressions.specs.Reading.{word, labelled, atom-label, Expects, Ready, Ahead, Found, Reads, Reading, Compares, Leaf}
 use Rattle.expressions.proofs.Terminals.{is-one, not-one, inside}
 use Rattle.expressions.proofs.Steps.{onward, expect-goes, by-token}
-use Rattle.expressions.proofs.Laws.{start, finish, last, alone, apart, together, dead, refused-found, told, passed, by-leaf, by-row, phrased, left, right, ahead-left, ahead-right, operator, reads, reads-at, compares-at}
+use Rattle.expressions.proofs.Laws.{start, finish, last, alone, apart, together, dead, refused-found, told, passed}
+use Rattle.expressions.proofs.Laws.{by-leaf, by-row, phrased, left, right, ahead-left, ahead-right, operator, reads, reads-at, compares-at}
 
 -- ---- atoms
 

@@ -118,13 +118,15 @@ module _ (x y : Nonterminal) (cs : List ℕ) (begin after : Ebnf Nonterminal) (s
   refused-at at-first h e = reads x (g .within) (refused-found e (began x y begin shape g h))
   refused-at (behind l t v) h e = reads x (g .within) (refused-found e (operand-behind t h (v .reading)))
 
-  first-at : {q m q₂ m₂ m₃ : ℕ} {b c d : List ℕ} {r : Read} → Stands x y cs after ts p n a q m b → q ≤ p → Reads y ts q m r b c → r ≡ At q₂ m₂ → Combines p q n m₂ m₃ c d → Partly x begin ts p n a q₂ m₃ d
+  first-at : {q m q₂ m₂ m₃ : ℕ} {b c d : List ℕ} {r : Read} → Stands x y cs after ts p n a q m b → q ≤ p → Reads y ts q m r b c → r ≡ At q₂ m₂ → Combines p q n m₂ m₃ c d →
+      Partly x begin ts p n a q₂ m₃ d
   first-at at-first z h e k =
       let w = combined-first k in
       record { name = p; reading = rw (w .0, w .1) (told e (began x y begin shape g h)) }
   first-at (behind l t v) z h e k = absurd (omega arith)
 
-  later-at : {q m q₂ m₂ m₃ : ℕ} {b c d : List ℕ} {r : Read} → Stands x y cs after ts p n a q m b → Ready ts q m → p < q → Reads y ts q m r b c → r ≡ At q₂ m₂ → Combines p q n m₂ m₃ c d → Partly x after ts p n a q₂ m₃ d
+  later-at : {q m q₂ m₂ m₃ : ℕ} {b c d : List ℕ} {r : Read} → Stands x y cs after ts p n a q m b → Ready ts q m → p < q → Reads y ts q m r b c → r ≡ At q₂ m₂ →
+      Combines p q n m₂ m₃ c d → Partly x after ts p n a q₂ m₃ d
   later-at at-first u z h e k = absurd (omega arith)
   later-at (behind {i} l t v) u z h e k =
       let s = u .small in

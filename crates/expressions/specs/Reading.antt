@@ -11,11 +11,10 @@ use Rattle.ebnf.specs.Grammar.{Ebnf, seq, nt}
 use Rattle.ebnf.specs.Rows.{Row, Rows, in-rows}
 use Rattle.ebnf.specs.Parse.{Result, at, refused, starved, bind}
 use Rattle.express.specs.tokens.Terminal.{identifier, integer, binary, question, SELF}
-use Rattle.express.specs.syntax.Grammar.{Nonterminal, sum, _·_, leaves, comparisons, logicals, others}
+use Rattle.express.specs.syntax.Grammar.{Nonterminal, rules, sum, _·_, leaves, comparisons, logicals, others}
 use Rattle.express.specs.syntax.NodeKind as kind
-use Rattle.express.proofs.syntax.Syntax.{express}
-use Rattle.express.proofs.syntax.Descent.{phrase}
-use Rattle.ebnf.proofs.Descent as descent
+use Rattle.ebnf.specs.Descent as descent
+use Rattle.express.specs.syntax.Lookahead.{tables}
 use Rattle.expressions.specs.declared.Read.{Read}
 use Rattle.expressions.specs.declared.Read.the-variants.{At, Refused}
 
@@ -66,6 +65,10 @@ Ahead ts p n (Refused k) = Unit {0}
 
 -- ---- what is found
 
+-- what the rule of x comes to at p
+abbrev pub phrase : List ℕ → Nonterminal → ℕ → Result Rows
+phrase ts = descent.phrase in-rows rules tables ts
+
 -- The answer x and the rows b, from a, are what a result says, with its rows from n on. After a refusal, which is reply 4 at a token, the rows
 -- before n are as they were.
 abbrev pub Found : Result Rows → ℕ → Read → List ℕ → List ℕ → Type 0
@@ -101,7 +104,7 @@ Named (refused k) m = Unit {0}
 Named starved m = Unit {0}
 
 abbrev pub run : List ℕ → Ebnf Nonterminal → ℕ → Rows → Result Rows
-run ts e i s = descent.run express in-rows ts e i s (λ j t. at j t)
+run ts e i s = descent.run in-rows rules tables ts e i s (λ j t. at j t)
 
 -- PART OF A RULE HAS BEEN READ: what is wanted is what was found so far, the rule's rows from n on and its next row's name m, and then what
 -- the rest comes to from there.

@@ -80,7 +80,11 @@ fn is_relation(c: u8) -> bool
     ensures { λ r. ⌜ r ≡ mem c relations ⌝ }
 {
     match c {
-        codes::EQUAL | codes::LESS | codes::LESS_EQUAL | codes::GREATER_EQUAL | codes::INSTANCE_EQUAL => true,
+        codes::EQUAL
+        | codes::LESS
+        | codes::LESS_EQUAL
+        | codes::GREATER_EQUAL
+        | codes::INSTANCE_EQUAL => true,
         codes::GREATER | codes::UNEQUAL | codes::INSTANCE_UNEQUAL => true,
         _ => false,
     }
@@ -393,7 +397,10 @@ fn nested(steps: &[u8; 256], depth: usize, c: u8) -> usize
     requires { ⌜ (now steps ≡ stepList) × (depth ≤ 64) ⌝ }
     ensures { λ r. ⌜ r ≡ opened opening closing depth c ⌝ }
 {
-    columns::difference(depth + columns::byte_index(steps[columns::byte_index(c)]), 1)
+    columns::difference(
+        depth + columns::byte_index(steps[columns::byte_index(c)]),
+        1,
+    )
 }
 
 // The first token that opens a parenthesis or an interval while 64 are open; the length where there is none.
@@ -575,7 +582,8 @@ pub fn lay_out(
     sizes: &mut [u32],
     roles: &mut [u32],
 ) -> Parsed
-    ensures { λ r. ⌜ LaysOut judgement r (now (words .entry)) (now (kinds .entry)) (now (tokens .entry)) (now (sizes .entry)) (now (roles .entry)) (now (words .exit)) (now (kinds .exit)) (now (tokens .exit)) (now (sizes .exit)) (now (roles .exit)) ⌝ }
+    ensures { λ r. ⌜ LaysOut judgement r (now (words .entry)) (now (kinds .entry)) (now (tokens .entry)) (now (sizes .entry)) (now (roles .entry))
+        (now (words .exit)) (now (kinds .exit)) (now (tokens .exit)) (now (sizes .exit)) (now (roles .exit)) ⌝ }
 {
     let room = shortest(kinds.len(), tokens.len(), sizes.len(), roles.len());
     let n = counted(judgement);
@@ -597,7 +605,8 @@ fn parse_in(
     roles: &mut [u32],
 ) -> Parsed
     requires { ⌜ (length (now terminals) ≤ 65536) × (length (now words) ≡ length (now terminals)) ⌝ }
-    ensures { λ r. ⌜ Parses expression (now (terminals .entry)) r (now (words .entry)) (now (kinds .entry)) (now (tokens .entry)) (now (sizes .entry)) (now (roles .entry)) (now (words .exit)) (now (kinds .exit)) (now (tokens .exit)) (now (sizes .exit)) (now (roles .exit)) ⌝ }
+    ensures { λ r. ⌜ Parses expression (now (terminals .entry)) r (now (words .entry)) (now (kinds .entry)) (now (tokens .entry)) (now (sizes .entry)) (now (roles .entry))
+        (now (words .exit)) (now (kinds .exit)) (now (tokens .exit)) (now (sizes .exit)) (now (roles .exit)) ⌝ }
 {
     let judgement = whole(terminals, words);
     lay_out(judgement, words, kinds, tokens, sizes, roles)
@@ -612,7 +621,8 @@ pub fn parse_expression(
     sizes: &mut [u32],
     roles: &mut [u32],
 ) -> Parsed
-    ensures { λ r. ⌜ Parsing expression (now (terminals .entry)) r (now (scratch .entry)) (now (kinds .entry)) (now (tokens .entry)) (now (sizes .entry)) (now (roles .entry)) (now (scratch .exit)) (now (kinds .exit)) (now (tokens .exit)) (now (sizes .exit)) (now (roles .exit)) ⌝ }
+    ensures { λ r. ⌜ Parsing expression (now (terminals .entry)) r (now (scratch .entry)) (now (kinds .entry)) (now (tokens .entry)) (now (sizes .entry)) (now (roles .entry))
+        (now (scratch .exit)) (now (kinds .exit)) (now (tokens .exit)) (now (sizes .exit)) (now (roles .exit)) ⌝ }
 {
     let n = terminals.len();
     if n > MOST {

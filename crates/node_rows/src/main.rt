@@ -62,7 +62,14 @@ fn print_nodes(codes: &[u8], starts: &[u32], length: usize) {
     let mut sizes = [0u32; 8192];
     let mut roles = [0u32; 8192];
     let mut scratch = [0u64; 8192];
-    let parsed = declarations::parse(codes, &mut scratch, &mut kinds, &mut tokens, &mut sizes, &mut roles);
+    let parsed = declarations::parse(
+        codes,
+        &mut scratch,
+        &mut kinds,
+        &mut tokens,
+        &mut sizes,
+        &mut roles,
+    );
     match parsed {
         expressions::Parsed::Accepted(n) => print_rows(&kinds, &tokens, &sizes, &roles, n),
         expressions::Parsed::Unexpected(token) => print_refused(4, start_of(starts, token, length)),

@@ -1,3 +1,4 @@
+-- By its rule in Clauses, which takes each step's answer.
 use Rattle.declarations.proofs.assigned.Statement.{statement}
 use Rattle.declarations.proofs.assigned.Tie as tie
 use borrow.Author.Needs.{needs}
@@ -36,10 +37,13 @@ returns-2 c = assigned-colon (c .before .before .before .before .before .before 
     (c .enum-told2 .given .1)
 
 base-requires : tie.Need-base-requires
-base-requires c κs = (expect-ready (c .before .before .before .before .expect2 .ensures) (expect-ready
-    (c .before .before .before .before .before .before .before .before .expect .ensures)
-    (c .before .before .before .before .before .before .before .before .before .before .before .pre .0) (c .before .before .before .before .before .before .name .given .1))
-    (c .before .before .colon .given .1), omega arith)
+base-requires c κs = (
+  expect-ready (c .before .before .before .before .expect2 .ensures) (expect-ready
+      (c .before .before .before .before .before .before .before .before .expect .ensures)
+      (c .before .before .before .before .before .before .before .before .before .before .before .pre .0) (c .before .before .before .before .before .before .name .given .1))
+      (c .before .before .colon .given .1),
+  omega arith,
+)
 
 enum-known-kind : tie.Need-enum-known-kind
 enum-known-kind c = search needs
@@ -53,17 +57,17 @@ same-length c = search needs
 returns-3 : tie.Need-returns-3
 returns-3 c =
     let g = expect-ready (c .before .before .before .before .before .before .before .before .before .expect2 .ensures) (expect-ready
-        (c .before .before .before .before .before .before .before .before .before .before .before .before .before .expect .ensures)
-        (c .before .before .before .before .before .before .before .before .before .before .before .before .before .before .before .before .pre .0)
-        (c .before .before .before .before .before .before .before .before .before .before .before .name .given .1))
-        (c .before .before .before .before .before .before .before .colon .given .1) in
+    (c .before .before .before .before .before .before .before .before .before .before .before .before .before .expect .ensures)
+    (c .before .before .before .before .before .before .before .before .before .before .before .before .before .before .before .before .pre .0)
+    (c .before .before .before .before .before .before .before .before .before .before .before .name .given .1))
+    (c .before .before .before .before .before .before .before .colon .given .1) in
     assigned-type (c .before .before .before .before .before .before .before .before .before .before .before .before .before .before .before .before .pre .0)
-        (c .before .before .before .before .before .before .before .before .before .before .before .before .before .before .before .before .args .label)
-        (c .before .before .before .before .before .before .before .before .before .before .before .before .before .before .before .before .pre .1)
-        (c .before .before .before .before .before .before .before .before .before .before .before .before .before .expect .ensures)
-        (c .before .before .before .before .before .before .before .before .before .before .before .name .given .1)
-        (c .before .before .before .before .before .before .before .before .before .expect2 .ensures)
-        (c .before .before .before .before .before .before .before .colon .given .1) g (c .before .before .before .before .base .ensures) (c .enum-told3 .given .1)
+    (c .before .before .before .before .before .before .before .before .before .before .before .before .before .before .before .before .args .label)
+    (c .before .before .before .before .before .before .before .before .before .before .before .before .before .before .before .before .pre .1)
+    (c .before .before .before .before .before .before .before .before .before .before .before .before .before .expect .ensures)
+    (c .before .before .before .before .before .before .before .before .before .before .before .name .given .1)
+    (c .before .before .before .before .before .before .before .before .before .expect2 .ensures)
+    (c .before .before .before .before .before .before .before .colon .given .1) g (c .before .before .before .before .base .ensures) (c .enum-told3 .given .1)
 
 expect-requires-3 : tie.Need-expect-requires-3
 expect-requires-3 c κs = search needs
@@ -80,18 +84,18 @@ same-length-2 c = search needs
 returns-4 : tie.Need-returns-4
 returns-4 c =
     let g = expect-ready (c .before .before .before .before .before .before .before .before .before .before .before .before .before .expect2 .ensures) (expect-ready
-        (c .before .before .before .before .before .before .before .before .before .before .before .before .before .before .before .before .before .expect .ensures)
-        (c .before .before .before .before .before .before .before .before .before .before .before .before .before .before .before .before .before .before .before .before .pre
-        .0) (c .before .before .before .before .before .before .before .before .before .before .before .before .before .before .before .name .given .1))
-        (c .before .before .before .before .before .before .before .before .before .before .before .colon .given .1) in
+    (c .before .before .before .before .before .before .before .before .before .before .before .before .before .before .before .before .before .expect .ensures)
+    (c .before .before .before .before .before .before .before .before .before .before .before .before .before .before .before .before .before .before .before .before .pre
+    .0) (c .before .before .before .before .before .before .before .before .before .before .before .before .before .before .before .name .given .1))
+    (c .before .before .before .before .before .before .before .before .before .before .before .colon .given .1) in
     assigned-becomes (c .before .before .before .before .before .before .before .before .before .before .before .before .before .before .before .before .before .before .before
-        .before .pre .0) (c .before .before .before .before .before .before .before .before .before .before .before .before .before .before .before .before .before .before
-        .before .before .args .label) (c .before .before .before .before .before .before .before .before .before .before .before .before .before .before .before .before .before
-        .before .before .before .pre .1) (c .before .before .before .before .before .before .before .before .before .before .before .before .before .before .before .before
-        .before .expect .ensures) (c .before .before .before .before .before .before .before .before .before .before .before .before .before .before .before .name .given .1)
-        (c .before .before .before .before .before .before .before .before .before .before .before .before .before .expect2 .ensures)
-        (c .before .before .before .before .before .before .before .before .before .before .before .colon .given .1) g
-        (c .before .before .before .before .before .before .before .before .base .ensures)
+    .before .pre .0) (c .before .before .before .before .before .before .before .before .before .before .before .before .before .before .before .before .before .before
+    .before .before .args .label) (c .before .before .before .before .before .before .before .before .before .before .before .before .before .before .before .before .before
+    .before .before .before .pre .1) (c .before .before .before .before .before .before .before .before .before .before .before .before .before .before .before .before
+    .before .expect .ensures) (c .before .before .before .before .before .before .before .before .before .before .before .before .before .before .before .name .given .1)
+    (c .before .before .before .before .before .before .before .before .before .before .before .before .before .expect2 .ensures)
+    (c .before .before .before .before .before .before .before .before .before .before .before .colon .given .1) g
+    (c .before .before .before .before .before .before .before .before .base .ensures)
     (c .before .before .before .before .kind .given .1) (c .before .before .expect3 .ensures) (c .enum-told4 .given .1)
 
 expression-at-requires : tie.Need-expression-at-requires
@@ -109,48 +113,54 @@ same-length-3 c = search needs
 returns-5 : tie.Need-returns-5
 returns-5 c =
     let g = expect-ready (c .before .before .before .before .before .before .before .before .before .before .before .before .before .before .before .before .before .before
-        .before .before .expect2 .ensures) (expect-ready (c .before .before .before .before .before .before .before .before .before .before .before .before .before .before
-        .before .before .before .before .before .before .before .before .before .before .expect .ensures)
-        (c .before .before .before .before .before .before .before .before .before .before .before .before .before .before .before .before .before .before .before .before .before
-        .before .before .before .before .before .before .pre .0) (c .before .before .before .before .before .before .before .before .before .before .before .before .before
-        .before .before .before .before .before .before .before .before .before .name .given .1))
-        (c .before .before .before .before .before .before .before .before .before .before .before .before .before .before .before .before .before .before .colon .given .1) in
+    .before .before .expect2 .ensures) (expect-ready (c .before .before .before .before .before .before .before .before .before .before .before .before .before .before
+    .before .before .before .before .before .before .before .before .before .before .expect .ensures)
+    (c .before .before .before .before .before .before .before .before .before .before .before .before .before .before .before .before .before .before .before .before .before
+    .before .before .before .before .before .before .pre .0) (c .before .before .before .before .before .before .before .before .before .before .before .before .before
+    .before .before .before .before .before .before .before .before .before .name .given .1))
+    (c .before .before .before .before .before .before .before .before .before .before .before .before .before .before .before .before .before .before .colon .given .1) in
     let h = expect-ready (c .before .before .before .before .before .before .before .before .before .expect3 .ensures) (sound-ready
-        (c .before .before .before .before .before .before .before .before .before .before .before .before .before .before .before .base .result)
-        (c .before .before .before .before .before .before .before .before .before .before .before .before .before .before .before .base .ensures .sound)
-        (c .before .before .before .before .before .before .before .before .before .before .before .kind .given .1))
-        (c .before .before .before .before .before .before .before .becomes .given .1) in
+    (c .before .before .before .before .before .before .before .before .before .before .before .before .before .before .before .base .result)
+    (c .before .before .before .before .before .before .before .before .before .before .before .before .before .before .before .base .ensures .sound)
+    (c .before .before .before .before .before .before .before .before .before .before .before .kind .given .1))
+    (c .before .before .before .before .before .before .before .becomes .given .1) in
     assigned-value (c .before .before .before .before .before .before .before .before .before .before .before .before .before .before .before .before .before .before .before
-        .before .before .before .before .before .before .before .before .pre .0)
-        (c .before .before .before .before .before .before .before .before .before .before .before .before .before .before .before .before .before .before .before .before .before
-        .before .before .before .before .before .before .args .label)
-        (c .before .before .before .before .before .before .before .before .before .before .before .before .before .before .before .before .before .before .before .before .before
-        .before .before .before .before .before .before .pre .1) (c .before .before .before .before .before .before .before .before .before .before .before .before .before
-        .before .before .before .before .before .before .before .before .before .before .before .expect .ensures)
-        (c .before .before .before .before .before .before .before .before .before .before .before .before .before .before .before .before .before .before .before .before .before
-        .before .name .given .1) (c .before .before .before .before .before .before .before .before .before .before .before .before .before .before .before .before .before
-        .before .before .before .expect2 .ensures) (c .before .before .before .before .before .before .before .before .before .before .before .before .before .before .before
-        .before .before .before .colon .given .1) g (c .before .before .before .before .before .before .before .before .before .before .before .before .before .before .before
-        .base .ensures)
+    .before .before .before .before .before .before .before .before .pre .0)
+    (c .before .before .before .before .before .before .before .before .before .before .before .before .before .before .before .before .before .before .before .before .before
+    .before .before .before .before .before .before .args .label)
+    (c .before .before .before .before .before .before .before .before .before .before .before .before .before .before .before .before .before .before .before .before .before
+    .before .before .before .before .before .before .pre .1) (c .before .before .before .before .before .before .before .before .before .before .before .before .before
+    .before .before .before .before .before .before .before .before .before .before .before .expect .ensures)
+    (c .before .before .before .before .before .before .before .before .before .before .before .before .before .before .before .before .before .before .before .before .before
+    .before .name .given .1) (c .before .before .before .before .before .before .before .before .before .before .before .before .before .before .before .before .before
+    .before .before .before .expect2 .ensures) (c .before .before .before .before .before .before .before .before .before .before .before .before .before .before .before
+    .before .before .before .colon .given .1) g (c .before .before .before .before .before .before .before .before .before .before .before .before .before .before .before
+    .base .ensures)
     (c .before .before .before .before .before .before .before .before .before .before .before .kind .given .1)
-        (c .before .before .before .before .before .before .before .before .before .expect3 .ensures)
-        (c .before .before .before .before .before .before .before .becomes .given .1) (c .before .before .before .before .expression-at .ensures .reads h)
-        (c .enum-told5 .given .1)
+    (c .before .before .before .before .before .before .before .before .before .expect3 .ensures)
+    (c .before .before .before .before .before .before .before .becomes .given .1) (c .before .before .before .before .expression-at .ensures .reads h)
+    (c .enum-told5 .given .1)
 
 closed-requires : tie.Need-closed-requires
 closed-requires c κs =
     let h = expect-ready (c .before .before .before .before .before .before .before .before .before .before .before .expect3 .ensures) (sound-ready
-        (c .before .before .before .before .before .before .before .before .before .before .before .before .before .before .before .before .before .base .result)
-        (c .before .before .before .before .before .before .before .before .before .before .before .before .before .before .before .before .before .base .ensures .sound)
-        (c .before .before .before .before .before .before .before .before .before .before .before .before .before .kind .given .1))
-        (c .before .before .before .before .before .before .before .before .before .becomes .given .1) in
-    (ready-of h ((c .before .before .before .before .before .before .expression-at .ensures .reads h) .ahead) (c .before .before .given .given .1), assigned-small
-        (c .before .before .before .before .before .before .before .before .before .before .before .before .before .before .before .before .before .before .before .before .before
-        .before .before .before .before .before .before .before .before .args .label)
-        (c .before .before .before .before .before .before .before .before .before .before .before .before .before .before .before .before .before .before .before .before .before
-        .before .before .before .before .before .before .before .before .pre .1), omega (arith, token-small
-        (c .before .before .before .before .before .before .before .before .before .before .before .before .before .before .before .before .before .before .before .before .before
-        .before .before .before .before .before .before .before .before .pre .0)))
+    (c .before .before .before .before .before .before .before .before .before .before .before .before .before .before .before .before .before .base .result)
+    (c .before .before .before .before .before .before .before .before .before .before .before .before .before .before .before .before .before .base .ensures .sound)
+    (c .before .before .before .before .before .before .before .before .before .before .before .before .before .kind .given .1))
+    (c .before .before .before .before .before .before .before .before .before .becomes .given .1) in (
+      ready-of h ((c .before .before .before .before .before .before .expression-at .ensures .reads h) .ahead) (c .before .before .given .given .1),
+      assigned-small
+          (c .before .before .before .before .before .before .before .before .before .before .before .before .before .before .before .before .before .before .before .before .before
+          .before .before .before .before .before .before .before .before .args .label)
+          (c .before .before .before .before .before .before .before .before .before .before .before .before .before .before .before .before .before .before .before .before .before
+          .before .before .before .before .before .before .before .before .pre .1),
+      omega (
+        arith,
+        token-small
+            (c .before .before .before .before .before .before .before .before .before .before .before .before .before .before .before .before .before .before .before .before .before
+            .before .before .before .before .before .before .before .before .pre .0),
+      ),
+    )
 
 same-length-4 : tie.Need-same-length-4
 same-length-4 c = search needs
@@ -158,40 +168,40 @@ same-length-4 c = search needs
 returns-6 : tie.Need-returns-6
 returns-6 c =
     let g = expect-ready (c .before .before .before .before .before .before .before .before .before .before .before .before .before .before .before .before .before .before
-        .before .before .before .before .before .before .before .expect2 .ensures) (expect-ready
-        (c .before .before .before .before .before .before .before .before .before .before .before .before .before .before .before .before .before .before .before .before .before
-        .before .before .before .before .before .before .before .before .expect .ensures)
-        (c .before .before .before .before .before .before .before .before .before .before .before .before .before .before .before .before .before .before .before .before .before
-        .before .before .before .before .before .before .before .before .before .before .before .pre .0)
-        (c .before .before .before .before .before .before .before .before .before .before .before .before .before .before .before .before .before .before .before .before .before
-        .before .before .before .before .before .before .name .given .1))
-        (c .before .before .before .before .before .before .before .before .before .before .before .before .before .before .before .before .before .before .before .before .before
-        .before .before .colon .given .1) in
+    .before .before .before .before .before .before .before .expect2 .ensures) (expect-ready
+    (c .before .before .before .before .before .before .before .before .before .before .before .before .before .before .before .before .before .before .before .before .before
+    .before .before .before .before .before .before .before .before .expect .ensures)
+    (c .before .before .before .before .before .before .before .before .before .before .before .before .before .before .before .before .before .before .before .before .before
+    .before .before .before .before .before .before .before .before .before .before .before .pre .0)
+    (c .before .before .before .before .before .before .before .before .before .before .before .before .before .before .before .before .before .before .before .before .before
+    .before .before .before .before .before .before .name .given .1))
+    (c .before .before .before .before .before .before .before .before .before .before .before .before .before .before .before .before .before .before .before .before .before
+    .before .before .colon .given .1) in
     let h = expect-ready (c .before .before .before .before .before .before .before .before .before .before .before .before .before .before .expect3 .ensures) (sound-ready
-        (c .before .before .before .before .before .before .before .before .before .before .before .before .before .before .before .before .before .before .before .before .base
-        .result) (c .before .before .before .before .before .before .before .before .before .before .before .before .before .before .before .before .before .before .before
-        .before .base .ensures .sound) (c .before .before .before .before .before .before .before .before .before .before .before .before .before .before .before .before .kind
-        .given .1)) (c .before .before .before .before .before .before .before .before .before .before .before .before .becomes .given .1) in
+    (c .before .before .before .before .before .before .before .before .before .before .before .before .before .before .before .before .before .before .before .before .base
+    .result) (c .before .before .before .before .before .before .before .before .before .before .before .before .before .before .before .before .before .before .before
+    .before .base .ensures .sound) (c .before .before .before .before .before .before .before .before .before .before .before .before .before .before .before .before .kind
+    .given .1)) (c .before .before .before .before .before .before .before .before .before .before .before .before .becomes .given .1) in
     assigned-reads (c .before .before .before .before .before .before .before .before .before .before .before .before .before .before .before .before .before .before .before
-        .before .before .before .before .before .before .before .before .before .before .before .before .before .pre .0)
-        (c .before .before .before .before .before .before .before .before .before .before .before .before .before .before .before .before .before .before .before .before .before
-        .before .before .before .before .before .before .before .before .before .before .before .args .label)
-        (c .before .before .before .before .before .before .before .before .before .before .before .before .before .before .before .before .before .before .before .before .before
-        .before .before .before .before .before .before .before .before .before .before .before .pre .1)
-        (c .before .before .before .before .before .before .before .before .before .before .before .before .before .before .before .before .before .before .before .before .before
-        .before .before .before .before .before .before .before .before .expect .ensures)
-        (c .before .before .before .before .before .before .before .before .before .before .before .before .before .before .before .before .before .before .before .before .before
-        .before .before .before .before .before .before .name .given .1)
-        (c .before .before .before .before .before .before .before .before .before .before .before .before .before .before .before .before .before .before .before .before .before
-        .before .before .before .before .expect2 .ensures) (c .before .before .before .before .before .before .before .before .before .before .before .before .before .before
-        .before .before .before .before .before .before .before .before .before .colon .given .1) g
-        (c .before .before .before .before .before .before .before .before .before .before .before .before .before .before .before .before .before .before .before .before .base
-        .ensures)
+    .before .before .before .before .before .before .before .before .before .before .before .before .before .pre .0)
+    (c .before .before .before .before .before .before .before .before .before .before .before .before .before .before .before .before .before .before .before .before .before
+    .before .before .before .before .before .before .before .before .before .before .before .args .label)
+    (c .before .before .before .before .before .before .before .before .before .before .before .before .before .before .before .before .before .before .before .before .before
+    .before .before .before .before .before .before .before .before .before .before .before .pre .1)
+    (c .before .before .before .before .before .before .before .before .before .before .before .before .before .before .before .before .before .before .before .before .before
+    .before .before .before .before .before .before .before .before .expect .ensures)
+    (c .before .before .before .before .before .before .before .before .before .before .before .before .before .before .before .before .before .before .before .before .before
+    .before .before .before .before .before .before .name .given .1)
+    (c .before .before .before .before .before .before .before .before .before .before .before .before .before .before .before .before .before .before .before .before .before
+    .before .before .before .before .expect2 .ensures) (c .before .before .before .before .before .before .before .before .before .before .before .before .before .before
+    .before .before .before .before .before .before .before .before .before .colon .given .1) g
+    (c .before .before .before .before .before .before .before .before .before .before .before .before .before .before .before .before .before .before .before .before .base
+    .ensures)
     (c .before .before .before .before .before .before .before .before .before .before .before .before .before .before .before .before .kind .given .1)
-        (c .before .before .before .before .before .before .before .before .before .before .before .before .before .before .expect3 .ensures)
-        (c .before .before .before .before .before .before .before .before .before .before .before .before .becomes .given .1)
-        (c .before .before .before .before .before .before .before .before .before .expression-at .ensures .reads h) (c .before .before .before .before .before .given .given .1)
-        (c .before .before .closed .ensures)
+    (c .before .before .before .before .before .before .before .before .before .before .before .before .before .before .expect3 .ensures)
+    (c .before .before .before .before .before .before .before .before .before .before .before .before .becomes .given .1)
+    (c .before .before .before .before .before .before .before .before .before .expression-at .ensures .reads h) (c .before .before .before .before .before .given .given .1)
+    (c .before .before .closed .ensures)
 
 pub assigned-spec : {M : Type 1} → statement M
 assigned-spec =

@@ -1,3 +1,4 @@
+-- What was read when the loop began goes on to where it is.
 use Rattle.declarations.proofs.assignments.Statement.{statement}
 use Rattle.declarations.proofs.assignments.Tie as tie
 use borrow.Author.Needs.{needs}
@@ -36,8 +37,12 @@ returns : tie.Need-returns Inv-loop μ-loop
 returns c = list-refused (reads-goes (c .before .before .before .before .assigned .ensures)) (c .enum-told .given .1)
 
 loop-holds : tie.Need-loop-holds Inv-loop μ-loop
-loop-holds c = (refl, ready-of (c .before .before .before .before .before .before .before .before .before .pre .0)
-    (c .before .before .before .before .before .assigned .ensures .ahead) (c .before .first .given .1), loops-begin)
+loop-holds c = (
+  refl,
+  ready-of (c .before .before .before .before .before .before .before .before .before .pre .0)
+      (c .before .before .before .before .before .assigned .ensures .ahead) (c .before .first .given .1),
+  loops-begin,
+)
 
 token-requires : tie.Need-token-requires Inv-loop μ-loop
 token-requires c κs = search needs
@@ -57,19 +62,19 @@ same-length-2 c = search needs
 returns-2 : tie.Need-returns-2 Inv-loop μ-loop
 returns-2 c =
     let t = begins-at (c .before .before .before .before .before .before .before .before .before .before .before .before .before .before .before .before .before .before .args
-        .terminals .now) (c .before .before .before .before .before .before .before .before .loop .q)
-        (c .before .before .before .before .before .before .before .before .before .before .before .before .before .before .before .before .before .before .args .label) true
-        (c .before .before .before .before .before .before .before .before .before .before .before .before .before .before .before .before .before .before .pre .1) (seen-one
-        (c .before .before .before .before .before .before .before .before .before .before .before .before .before .before .before .before .before .before .args .terminals .now)
-        (c .before .before .before .before .before .before .before .before .loop .q) 1 (c .before .before .before .before .before .before .before .token .ensures)
-        (c .before .before .before .before .before .before .if1 .taken)) in
+    .terminals .now) (c .before .before .before .before .before .before .before .before .loop .q)
+    (c .before .before .before .before .before .before .before .before .before .before .before .before .before .before .before .before .before .before .args .label) true
+    (c .before .before .before .before .before .before .before .before .before .before .before .before .before .before .before .before .before .before .pre .1) (seen-one
+    (c .before .before .before .before .before .before .before .before .before .before .before .before .before .before .before .before .before .before .args .terminals .now)
+    (c .before .before .before .before .before .before .before .before .loop .q) 1 (c .before .before .before .before .before .before .before .token .ensures)
+    (c .before .before .before .before .before .before .if1 .taken)) in
     list-then (reads-goes (c .before .before .before .before .before .before .before .before .before .before .before .before .before .before .assigned .ensures))
-        (c .before .before .before .before .before .before .before .before .before .before .first .given .1)
+    (c .before .before .before .before .before .before .before .before .before .before .first .given .1)
     (many-refused (loops-turn (c .before .before .before .before .before .before .before .before .loop .inv .2) (assigned-ok
-        (c .before .before .before .before .before .before .before .before .before .before .before .before .before .before .before .before .before .before .args .label)
-        (c .before .before .before .before .before .before .before .before .before .before .before .before .before .before .before .before .before .before .pre .1))
-        (c .before .before .before .before .before .before .before .before .loop .inv .1) t (reads-goes (c .before .before .before .before .assigned2 .ensures)))
-        (c .enum-told2 .given .1))
+    (c .before .before .before .before .before .before .before .before .before .before .before .before .before .before .before .before .before .before .args .label)
+    (c .before .before .before .before .before .before .before .before .before .before .before .before .before .before .before .before .before .before .pre .1))
+    (c .before .before .before .before .before .before .before .before .loop .inv .1) t (reads-goes (c .before .before .before .before .assigned2 .ensures)))
+    (c .enum-told2 .given .1))
 
 loop-less : tie.Need-loop-less Inv-loop μ-loop
 loop-less c = omega (arith, reads-at (c .before .before .before .before .before .assigned2 .ensures) (c .before .next .given .1))
@@ -77,19 +82,21 @@ loop-less c = omega (arith, reads-at (c .before .before .before .before .before 
 loop-again : tie.Need-loop-again Inv-loop μ-loop
 loop-again c =
     let t = begins-at (c .before .before .before .before .before .before .before .before .before .before .before .before .before .before .before .before .before .before .before
-        .args .terminals .now) (c .before .before .before .before .before .before .before .before .before .loop .q)
-        (c .before .before .before .before .before .before .before .before .before .before .before .before .before .before .before .before .before .before .before .args
-        .label) true (c .before .before .before .before .before .before .before .before .before .before .before .before .before .before .before .before .before .before .before
-        .pre .1) (seen-one (c .before .before .before .before .before .before .before .before .before .before .before .before .before .before .before .before .before .before
-        .before .args .terminals .now) (c .before .before .before .before .before .before .before .before .before .loop .q) 1
-        (c .before .before .before .before .before .before .before .before .token .ensures) (c .before .before .before .before .before .before .before .if1 .taken)) in
-    (search needs, ready-of (c .before .before .before .before .before .before .before .before .before .loop .inv .1)
-        (c .before .before .before .before .before .assigned2 .ensures .ahead) (c .before .next .given .1),
-    loops-at (loops-turn (c .before .before .before .before .before .before .before .before .before .loop .inv .2) (assigned-ok
-        (c .before .before .before .before .before .before .before .before .before .before .before .before .before .before .before .before .before .before .before .args .label)
-        (c .before .before .before .before .before .before .before .before .before .before .before .before .before .before .before .before .before .before .before .pre .1))
-        (c .before .before .before .before .before .before .before .before .before .loop .inv .1) t (reads-goes (c .before .before .before .before .before .assigned2 .ensures)))
-        (c .before .next .given .1))
+    .args .terminals .now) (c .before .before .before .before .before .before .before .before .before .loop .q)
+    (c .before .before .before .before .before .before .before .before .before .before .before .before .before .before .before .before .before .before .before .args
+    .label) true (c .before .before .before .before .before .before .before .before .before .before .before .before .before .before .before .before .before .before .before
+    .pre .1) (seen-one (c .before .before .before .before .before .before .before .before .before .before .before .before .before .before .before .before .before .before
+    .before .args .terminals .now) (c .before .before .before .before .before .before .before .before .before .loop .q) 1
+    (c .before .before .before .before .before .before .before .before .token .ensures) (c .before .before .before .before .before .before .before .if1 .taken)) in (
+      search needs,
+      ready-of (c .before .before .before .before .before .before .before .before .before .loop .inv .1)
+          (c .before .before .before .before .before .assigned2 .ensures .ahead) (c .before .next .given .1),
+      loops-at (loops-turn (c .before .before .before .before .before .before .before .before .before .loop .inv .2) (assigned-ok
+          (c .before .before .before .before .before .before .before .before .before .before .before .before .before .before .before .before .before .before .before .args .label)
+          (c .before .before .before .before .before .before .before .before .before .before .before .before .before .before .before .before .before .before .before .pre .1))
+          (c .before .before .before .before .before .before .before .before .before .loop .inv .1) t (reads-goes (c .before .before .before .before .before .assigned2 .ensures)))
+          (c .before .next .given .1),
+    )
 
 same-length-3 : tie.Need-same-length-3 Inv-loop μ-loop
 same-length-3 c = search needs
@@ -98,12 +105,12 @@ returns-3 : tie.Need-returns-3 Inv-loop μ-loop
 returns-3 c =
     list-then (reads-goes (c .before .before .before .before .before .before .before .before .assigned .ensures)) (c .before .before .before .before .first .given .1)
     (many-ends (c .before .before .loop .inv .2) (assigned-ok (c .before .before .before .before .before .before .before .before .before .before .before .before .args .label)
-        (c .before .before .before .before .before .before .before .before .before .before .before .before .pre .1)) (c .before .before .loop .inv .1)
+    (c .before .before .before .before .before .before .before .before .before .before .before .before .pre .1)) (c .before .before .loop .inv .1)
     (begins-at (c .before .before .before .before .before .before .before .before .before .before .before .before .args .terminals .now) (c .before .before .loop .q)
-        (c .before .before .before .before .before .before .before .before .before .before .before .before .args .label) false
-        (c .before .before .before .before .before .before .before .before .before .before .before .before .pre .1) (seen-other
-        (c .before .before .before .before .before .before .before .before .before .before .before .before .args .terminals .now) (c .before .before .loop .q) 1
-        (c .before .token .ensures) (c .if1 .left))))
+    (c .before .before .before .before .before .before .before .before .before .before .before .before .args .label) false
+    (c .before .before .before .before .before .before .before .before .before .before .before .before .pre .1) (seen-other
+    (c .before .before .before .before .before .before .before .before .before .before .before .before .args .terminals .now) (c .before .before .loop .q) 1
+    (c .before .token .ensures) (c .if1 .left))))
 
 pub assignments-spec : {M : Type 1} → statement M
 assignments-spec =

@@ -1,3 +1,4 @@
+-- By its rule in Clauses, which takes each step's answer.
 use Rattle.declarations.proofs.attributes.Statement.{statement}
 use Rattle.declarations.proofs.attributes.Tie as tie
 use borrow.Author.Needs.{needs}
@@ -44,19 +45,22 @@ token-requires : tie.Need-token-requires
 token-requires c κs = search needs
 
 add-group : tie.Need-add-group
-add-group c = omega (arith, token-small (expect-ready (c .before .before .before .before .before .before .expect .ensures) (sound-ready
-    (c .before .before .before .before .before .before .before .before .before .before .before .before .names .result)
-    (c .before .before .before .before .before .before .before .before .before .before .before .before .names .ensures .sound)
-    (c .before .before .before .before .before .before .before .before .listed .given .1)) (c .before .before .before .before .colon .given .1)))
+add-group c = omega (
+  arith,
+  token-small (expect-ready (c .before .before .before .before .before .before .expect .ensures) (sound-ready
+      (c .before .before .before .before .before .before .before .before .before .before .before .before .names .result)
+      (c .before .before .before .before .before .before .before .before .before .before .before .before .names .ensures .sound)
+      (c .before .before .before .before .before .before .before .before .listed .given .1)) (c .before .before .before .before .colon .given .1)),
+)
 
 group-requires : tie.Need-group-requires
 group-requires c κs =
     let g = expect-ready (c .before .before .before .before .before .before .expect .ensures) (sound-ready
-        (c .before .before .before .before .before .before .before .before .before .before .before .before .names .result)
-        (c .before .before .before .before .before .before .before .before .before .before .before .before .names .ensures .sound)
-        (c .before .before .before .before .before .before .before .before .listed .given .1)) (c .before .before .before .before .colon .given .1) in
+    (c .before .before .before .before .before .before .before .before .before .before .before .before .names .result)
+    (c .before .before .before .before .before .before .before .before .before .before .before .before .names .ensures .sound)
+    (c .before .before .before .before .before .before .before .before .listed .given .1)) (c .before .before .before .before .colon .given .1) in
     let l = one-inside (c .before .before .before .before .before .before .before .before .before .before .before .before .before .before .before .before .args .terminals .now)
-        (c .before .before .before .before .colon .given .0 .0) (c .before .before .token .result) 112 (c .before .before .token .ensures) (c .before .if1 .taken) (omega arith) in
+    (c .before .before .before .before .colon .given .0 .0) (c .before .before .token .result) 112 (c .before .before .token .ensures) (c .before .if1 .taken) (omega arith) in
     (onward g l, omega arith, omega (arith, token-small (c .before .before .before .before .before .before .before .before .before .before .before .before .before .before .before .before .pre)))
 
 same-length-3 : tie.Need-same-length-3
@@ -65,19 +69,23 @@ same-length-3 c = search needs
 returns-3 : tie.Need-returns-3
 returns-3 c =
     attributes-optional (c .before .before .before .before .before .before .before .before .before .before .before .before .before .before .before .before .before .before .before
-        .pre) (c .before .before .before .before .before .before .before .before .before .before .before .before .before .before .before .names .ensures)
-        (c .before .before .before .before .before .before .before .before .before .before .before .listed .given .1)
-        (c .before .before .before .before .before .before .before .before .before .expect .ensures) (c .before .before .before .before .before .before .before .colon .given .1)
+    .pre) (c .before .before .before .before .before .before .before .before .before .before .before .before .before .before .before .names .ensures)
+    (c .before .before .before .before .before .before .before .before .before .before .before .listed .given .1)
+    (c .before .before .before .before .before .before .before .before .before .expect .ensures) (c .before .before .before .before .before .before .before .colon .given .1)
     (seen-one (c .before .before .before .before .before .before .before .before .before .before .before .before .before .before .before .before .before .before .before .args
-        .terminals .now) (c .before .before .before .before .before .before .before .colon .given .0 .0) 112 (c .before .before .before .before .before .token .ensures)
-        (c .before .before .before .before .if1 .taken)) (c .before .before .group .ensures)
+    .terminals .now) (c .before .before .before .before .before .before .before .colon .given .0 .0) 112 (c .before .before .before .before .before .token .ensures)
+    (c .before .before .before .before .if1 .taken)) (c .before .before .group .ensures)
 
 group-requires-2 : tie.Need-group-requires-2
-group-requires-2 c κs = (expect-ready (c .before .before .before .before .before .before .expect .ensures) (sound-ready
-    (c .before .before .before .before .before .before .before .before .before .before .before .before .names .result)
-    (c .before .before .before .before .before .before .before .before .before .before .before .before .names .ensures .sound)
-    (c .before .before .before .before .before .before .before .before .listed .given .1)) (c .before .before .before .before .colon .given .1), omega arith, omega
-    (arith, token-small (c .before .before .before .before .before .before .before .before .before .before .before .before .before .before .before .before .pre)))
+group-requires-2 c κs = (
+  expect-ready (c .before .before .before .before .before .before .expect .ensures) (sound-ready
+      (c .before .before .before .before .before .before .before .before .before .before .before .before .names .result)
+      (c .before .before .before .before .before .before .before .before .before .before .before .before .names .ensures .sound)
+      (c .before .before .before .before .before .before .before .before .listed .given .1)) (c .before .before .before .before .colon .given .1),
+  omega arith,
+  omega
+      (arith, token-small (c .before .before .before .before .before .before .before .before .before .before .before .before .before .before .before .before .pre)),
+)
 
 same-length-4 : tie.Need-same-length-4
 same-length-4 c = search needs
@@ -85,12 +93,12 @@ same-length-4 c = search needs
 returns-4 : tie.Need-returns-4
 returns-4 c =
     attributes-plain (c .before .before .before .before .before .before .before .before .before .before .before .before .before .before .before .before .before .before .before
-        .pre) (c .before .before .before .before .before .before .before .before .before .before .before .before .before .before .before .names .ensures)
-        (c .before .before .before .before .before .before .before .before .before .before .before .listed .given .1)
-        (c .before .before .before .before .before .before .before .before .before .expect .ensures) (c .before .before .before .before .before .before .before .colon .given .1)
+    .pre) (c .before .before .before .before .before .before .before .before .before .before .before .before .before .before .before .names .ensures)
+    (c .before .before .before .before .before .before .before .before .before .before .before .listed .given .1)
+    (c .before .before .before .before .before .before .before .before .before .expect .ensures) (c .before .before .before .before .before .before .before .colon .given .1)
     (seen-other (c .before .before .before .before .before .before .before .before .before .before .before .before .before .before .before .before .before .before .before .args
-        .terminals .now) (c .before .before .before .before .before .before .before .colon .given .0 .0) 112 (c .before .before .before .before .before .token .ensures)
-        (c .before .before .before .before .if1 .left)) (c .before .before .group2 .ensures)
+    .terminals .now) (c .before .before .before .before .before .before .before .colon .given .0 .0) 112 (c .before .before .before .before .before .token .ensures)
+    (c .before .before .before .before .if1 .left)) (c .before .before .group2 .ensures)
 
 pub attributes-spec : {M : Type 1} → statement M
 attributes-spec =

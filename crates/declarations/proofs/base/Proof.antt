@@ -18,12 +18,20 @@ put-row-requires : tie.Need-put-row-requires
 put-row-requires c κs = search needs
 
 add-t12 : tie.Need-add-t12
-add-t12 c = omega (arith, token-small (c .before .before .before .before .before .before .before .before .before .pre .0), rows-few
-    (c .before .before .before .before .before .before .before .before .before .pre .0))
+add-t12 c = omega (
+  arith,
+  token-small (c .before .before .before .before .before .before .before .before .before .pre .0),
+  rows-few
+      (c .before .before .before .before .before .before .before .before .before .pre .0),
+)
 
 add-t13 : tie.Need-add-t13
-add-t13 c = omega (arith, token-small (c .before .before .before .before .before .before .before .before .before .pre .0), rows-few
-    (c .before .before .before .before .before .before .before .before .before .pre .0))
+add-t13 c = omega (
+  arith,
+  token-small (c .before .before .before .before .before .before .before .before .before .pre .0),
+  rows-few
+      (c .before .before .before .before .before .before .before .before .before .pre .0),
+)
 
 same-length : tie.Need-same-length
 same-length c = search needs

@@ -22,8 +22,11 @@ put-row-requires : tie.Need-put-row-requires
 put-row-requires c κs = search needs
 
 add-t14 : tie.Need-add-t14
-add-t14 c = omega (arith, rows-few (expect-ready (c .before .before .before .before .before .before .before .expect .ensures)
-    (c .before .before .before .before .before .before .before .before .before .before .pre .0) (c .before .before .before .before .before .end .given .1)))
+add-t14 c = omega (
+  arith,
+  rows-few (expect-ready (c .before .before .before .before .before .before .before .expect .ensures)
+      (c .before .before .before .before .before .before .before .before .before .before .pre .0) (c .before .before .before .before .before .end .given .1)),
+)
 
 same-length : tie.Need-same-length
 same-length c = search needs

@@ -1,3 +1,4 @@
+-- By its rule in Clauses, which takes each step's answer.
 use Rattle.declarations.proofs.constants.Statement.{statement}
 use Rattle.declarations.proofs.constants.Tie as tie
 use borrow.Author.Needs.{needs}
@@ -21,8 +22,11 @@ add-assignments : tie.Need-add-assignments
 add-assignments c = omega (arith, token-small (c .before .before .before .before .before .pre))
 
 assignments-requires : tie.Need-assignments-requires
-assignments-requires c κs = (onward (c .before .before .before .before .before .pre) (one-inside (c .before .before .before .before .before .args .terminals .now)
-    (c .before .before .before .before .before .args .p) (c .before .before .token .result) 53 (c .before .before .token .ensures) (c .before .if1 .left) (omega arith)), inl refl)
+assignments-requires c κs = (
+  onward (c .before .before .before .before .before .pre) (one-inside (c .before .before .before .before .before .args .terminals .now)
+      (c .before .before .before .before .before .args .p) (c .before .before .token .result) 53 (c .before .before .token .ensures) (c .before .if1 .left) (omega arith)),
+  inl refl,
+)
 
 enum-known-list : tie.Need-enum-known-list
 enum-known-list c = search needs
@@ -36,11 +40,11 @@ same-length c = search needs
 returns-2 : tie.Need-returns-2
 returns-2 c =
     let t = seen-one (c .before .before .before .before .before .before .before .before .before .before .args .terminals .now)
-        (c .before .before .before .before .before .before .before .before .before .before .args .p) 53
-        (c .before .before .before .before .before .before .before .token .ensures) (c .before .before .before .before .before .before .if1 .left) in
+    (c .before .before .before .before .before .before .before .before .before .before .args .p) 53
+    (c .before .before .before .before .before .before .before .token .ensures) (c .before .before .before .before .before .before .if1 .left) in
     opt-reads (c .before .before .before .before .before .before .before .before .before .before .pre) t (constants-list
-        (c .before .before .before .before .before .before .before .before .before .before .pre) t (c .before .before .before .before .assignments .ensures)
-        (c .enum-told .given .1))
+    (c .before .before .before .before .before .before .before .before .before .before .pre) t (c .before .before .before .before .assignments .ensures)
+    (c .enum-told .given .1))
 
 expect-requires : tie.Need-expect-requires
 expect-requires c κs = search needs
@@ -57,13 +61,13 @@ same-length-2 c = search needs
 returns-3 : tie.Need-returns-3
 returns-3 c =
     let t = seen-one (c .before .before .before .before .before .before .before .before .before .before .before .before .before .before .args .terminals .now)
-        (c .before .before .before .before .before .before .before .before .before .before .before .before .before .before .args .p) 53
-        (c .before .before .before .before .before .before .before .before .before .before .before .token .ensures)
-        (c .before .before .before .before .before .before .before .before .before .before .if1 .left) in
+    (c .before .before .before .before .before .before .before .before .before .before .before .before .before .before .args .p) 53
+    (c .before .before .before .before .before .before .before .before .before .before .before .token .ensures)
+    (c .before .before .before .before .before .before .before .before .before .before .if1 .left) in
     opt-reads (c .before .before .before .before .before .before .before .before .before .before .before .before .before .before .pre) t (constants-end
-        (c .before .before .before .before .before .before .before .before .before .before .before .before .before .before .pre) t
-        (c .before .before .before .before .before .before .before .before .assignments .ensures) (c .before .before .before .before .list .given .1)
-        (c .before .before .expect .ensures) (c .enum-told2 .given .1))
+    (c .before .before .before .before .before .before .before .before .before .before .before .before .before .before .pre) t
+    (c .before .before .before .before .before .before .before .before .assignments .ensures) (c .before .before .before .before .list .given .1)
+    (c .before .before .expect .ensures) (c .enum-told2 .given .1))
 
 expect-requires-2 : tie.Need-expect-requires-2
 expect-requires-2 c κs = search needs
@@ -74,14 +78,14 @@ same-length-3 c = search needs
 returns-4 : tie.Need-returns-4
 returns-4 c =
     let t = seen-one (c .before .before .before .before .before .before .before .before .before .before .before .before .before .before .before .before .args .terminals .now)
-        (c .before .before .before .before .before .before .before .before .before .before .before .before .before .before .before .before .args .p) 53
-        (c .before .before .before .before .before .before .before .before .before .before .before .before .before .token .ensures)
-        (c .before .before .before .before .before .before .before .before .before .before .before .before .if1 .left) in
+    (c .before .before .before .before .before .before .before .before .before .before .before .before .before .before .before .before .args .p) 53
+    (c .before .before .before .before .before .before .before .before .before .before .before .before .before .token .ensures)
+    (c .before .before .before .before .before .before .before .before .before .before .before .before .if1 .left) in
     opt-reads (c .before .before .before .before .before .before .before .before .before .before .before .before .before .before .before .before .pre) t (constants-reads
-        (c .before .before .before .before .before .before .before .before .before .before .before .before .before .before .before .before .pre) t
-        (c .before .before .before .before .before .before .before .before .before .before .assignments .ensures)
-        (c .before .before .before .before .before .before .list .given .1) (c .before .before .before .before .expect .ensures) (c .before .before .end .given .1)
-        (c .expect2 .ensures))
+    (c .before .before .before .before .before .before .before .before .before .before .before .before .before .before .before .before .pre) t
+    (c .before .before .before .before .before .before .before .before .before .before .assignments .ensures)
+    (c .before .before .before .before .before .before .list .given .1) (c .before .before .before .before .expect .ensures) (c .before .before .end .given .1)
+    (c .expect2 .ensures))
 
 pub constants-spec : {M : Type 1} → statement M
 constants-spec =

@@ -1,3 +1,4 @@
+-- What was read when the loop began goes on to where it is.
 use Rattle.declarations.proofs.declarations.Statement.{statement}
 use Rattle.declarations.proofs.declarations.Tie as tie
 use borrow.Author.Needs.{needs}
@@ -55,16 +56,18 @@ loop-less : tie.Need-loop-less Inv-loop μ-loop
 loop-less c = omega (arith, reads-at (c .before .before .before .before .before .declaration .ensures) (c .before .next .given .1))
 
 loop-again : tie.Need-loop-again Inv-loop μ-loop
-loop-again c =
-    (search needs, ready-of (c .before .before .before .before .before .before .before .before .before .before .loop .inv .1)
-        (c .before .before .before .before .before .declaration .ensures .ahead) (c .before .next .given .1),
-    loops-at (loops-turn (c .before .before .before .before .before .before .before .before .before .before .loop .inv .2) declarations-ok
-        (c .before .before .before .before .before .before .before .before .before .before .loop .inv .1) (seen
-        (c .before .before .before .before .before .before .before .before .before .before .before .before .before .args .terminals .now)
-        (c .before .before .before .before .before .before .before .before .before .before .loop .q) (TYPE ++ ENTITY)
-        (c .before .before .before .before .before .before .before .before .before .token .ensures)
-        (c .before .before .before .before .before .before .before .before .begins-declaration .ensures) (c .before .before .before .before .before .before .before .if1 .taken))
-        (declared-reads (c .before .before .before .before .before .declaration .ensures))) (c .before .next .given .1))
+loop-again c = (
+  search needs,
+  ready-of (c .before .before .before .before .before .before .before .before .before .before .loop .inv .1)
+      (c .before .before .before .before .before .declaration .ensures .ahead) (c .before .next .given .1),
+  loops-at (loops-turn (c .before .before .before .before .before .before .before .before .before .before .loop .inv .2) declarations-ok
+      (c .before .before .before .before .before .before .before .before .before .before .loop .inv .1) (seen
+      (c .before .before .before .before .before .before .before .before .before .before .before .before .before .args .terminals .now)
+      (c .before .before .before .before .before .before .before .before .before .before .loop .q) (TYPE ++ ENTITY)
+      (c .before .before .before .before .before .before .before .before .before .token .ensures)
+      (c .before .before .before .before .before .before .before .before .begins-declaration .ensures) (c .before .before .before .before .before .before .before .if1 .taken))
+      (declared-reads (c .before .before .before .before .before .declaration .ensures))) (c .before .next .given .1),
+)
 
 same-length-2 : tie.Need-same-length-2 Inv-loop μ-loop
 same-length-2 c = search needs

@@ -1,3 +1,4 @@
+-- By its rule in Clauses, which takes each step's answer.
 use Rattle.declarations.proofs.derivations.Statement.{statement}
 use Rattle.declarations.proofs.derivations.Tie as tie
 use borrow.Author.Needs.{needs}
@@ -21,8 +22,11 @@ add-assignments : tie.Need-add-assignments
 add-assignments c = omega (arith, token-small (c .before .before .before .before .before .pre))
 
 assignments-requires : tie.Need-assignments-requires
-assignments-requires c κs = (onward (c .before .before .before .before .before .pre) (one-inside (c .before .before .before .before .before .args .terminals .now)
-    (c .before .before .before .before .before .args .p) (c .before .before .token .result) 57 (c .before .before .token .ensures) (c .before .if1 .left) (omega arith)), inr refl)
+assignments-requires c κs = (
+  onward (c .before .before .before .before .before .pre) (one-inside (c .before .before .before .before .before .args .terminals .now)
+      (c .before .before .before .before .before .args .p) (c .before .before .token .result) 57 (c .before .before .token .ensures) (c .before .if1 .left) (omega arith)),
+  inr refl,
+)
 
 same-length : tie.Need-same-length
 same-length c = search needs
@@ -30,8 +34,8 @@ same-length c = search needs
 returns-2 : tie.Need-returns-2
 returns-2 c =
     let t = seen-one (c .before .before .before .before .before .before .before .before .args .terminals .now)
-        (c .before .before .before .before .before .before .before .before .args .p) 57 (c .before .before .before .before .before .token .ensures)
-        (c .before .before .before .before .if1 .left) in
+    (c .before .before .before .before .before .before .before .before .args .p) 57 (c .before .before .before .before .before .token .ensures)
+    (c .before .before .before .before .if1 .left) in
     opt-present t (c .before .before .assignments .ensures .sound) (derivations-go t (c .before .before .assignments .ensures))
 
 pub derivations-spec : {M : Type 1} → statement M

@@ -1,3 +1,4 @@
+-- By its rule in Clauses, which takes each step's answer.
 use Rattle.declarations.proofs.entity.Statement.{statement}
 use Rattle.declarations.proofs.entity.Tie as tie
 use borrow.Author.Needs.{needs}
@@ -95,28 +96,38 @@ same-length-4 c = search needs
 returns-5 : tie.Need-returns-5
 returns-5 c =
     entity-5 (c .before .before .before .before .before .before .before .before .before .before .before .before .before .before .before .before .before .before .before .before
-        .before .before .before .before .before .before .before .pre)
-        (c .before .before .before .before .before .before .before .before .before .before .before .before .before .before .before .before .before .before .before .before .before
-        .before .before .before .head .ensures) (c .before .before .before .before .before .before .before .before .before .before .before .before .before .before .before .before
-        .before .before .before .before .before .before .name .given .1)
-        (c .before .before .before .before .before .before .before .before .before .before .before .before .before .before .before .before .before .before .before .supertypes
-        .ensures) (c .before .before .before .before .before .before .before .before .before .before .before .before .before .before .before .supers .given .1)
-        (c .before .before .before .before .before .before .before .before .before .before .before .before .before .expect .ensures)
-        (c .before .before .before .before .before .before .before .before .before .before .before .semicolon .given .1)
-        (c .before .before .before .before .before .before .before .before .members .ensures)
+    .before .before .before .before .before .before .before .pre)
+    (c .before .before .before .before .before .before .before .before .before .before .before .before .before .before .before .before .before .before .before .before .before
+    .before .before .before .head .ensures) (c .before .before .before .before .before .before .before .before .before .before .before .before .before .before .before .before
+    .before .before .before .before .before .before .name .given .1)
+    (c .before .before .before .before .before .before .before .before .before .before .before .before .before .before .before .before .before .before .before .supertypes
+    .ensures) (c .before .before .before .before .before .before .before .before .before .before .before .before .before .before .before .supers .given .1)
+    (c .before .before .before .before .before .before .before .before .before .before .before .before .before .expect .ensures)
+    (c .before .before .before .before .before .before .before .before .before .before .before .semicolon .given .1)
+    (c .before .before .before .before .before .before .before .before .members .ensures)
     (c .before .before .before .before .body .given .1) (c .before .before .expect2 .ensures) (c .enum-told5 .given .1)
 
 add-closed : tie.Need-add-closed
-add-closed c = omega (arith, token-small (c .before .before .before .before .before .before .before .before .before .before .before .before .before .before .before .before
-    .before .before .before .before .before .before .before .before .before .before .before .before .before .pre))
+add-closed c = omega (
+  arith,
+  token-small (c .before .before .before .before .before .before .before .before .before .before .before .before .before .before .before .before
+      .before .before .before .before .before .before .before .before .before .before .before .before .before .pre),
+)
 
 closed-requires : tie.Need-closed-requires
-closed-requires c κs = (expect-ready (c .before .before .before .before .expect2 .ensures) (sound-ready
-    (c .before .before .before .before .before .before .before .before .before .before .members .result)
-    (c .before .before .before .before .before .before .before .before .before .before .members .ensures .sound)
-    (c .before .before .before .before .before .before .body .given .1)) (c .before .before .end .given .1), omega arith, omega (arith, token-small
-    (c .before .before .before .before .before .before .before .before .before .before .before .before .before .before .before .before .before .before .before .before .before
-    .before .before .before .before .before .before .before .before .pre)))
+closed-requires c κs = (
+  expect-ready (c .before .before .before .before .expect2 .ensures) (sound-ready
+      (c .before .before .before .before .before .before .before .before .before .before .members .result)
+      (c .before .before .before .before .before .before .before .before .before .before .members .ensures .sound)
+      (c .before .before .before .before .before .before .body .given .1)) (c .before .before .end .given .1),
+  omega arith,
+  omega (
+    arith,
+    token-small
+        (c .before .before .before .before .before .before .before .before .before .before .before .before .before .before .before .before .before .before .before .before .before
+        .before .before .before .before .before .before .before .before .pre),
+  ),
+)
 
 same-length-5 : tie.Need-same-length-5
 same-length-5 c = c .before .before .closed .kept .1 .0 ∙ (c .before .before .before .before .before .before .before .before .before .before .before .before .before .members
@@ -126,18 +137,18 @@ same-length-5 c = c .before .before .closed .kept .1 .0 ∙ (c .before .before .
 returns-6 : tie.Need-returns-6
 returns-6 c =
     entity-reads (c .before .before .before .before .before .before .before .before .before .before .before .before .before .before .before .before .before .before .before
-        .before .before .before .before .before .before .before .before .before .before .before .before .before .pre)
-        (c .before .before .before .before .before .before .before .before .before .before .before .before .before .before .before .before .before .before .before .before .before
-        .before .before .before .before .before .before .before .before .head .ensures)
-        (c .before .before .before .before .before .before .before .before .before .before .before .before .before .before .before .before .before .before .before .before .before
-        .before .before .before .before .before .before .name .given .1)
-        (c .before .before .before .before .before .before .before .before .before .before .before .before .before .before .before .before .before .before .before .before .before
-        .before .before .before .supertypes .ensures) (c .before .before .before .before .before .before .before .before .before .before .before .before .before .before .before
-        .before .before .before .before .before .supers .given .1) (c .before .before .before .before .before .before .before .before .before .before .before .before .before
-        .before .before .before .before .before .expect .ensures) (c .before .before .before .before .before .before .before .before .before .before .before .before .before
-        .before .before .before .semicolon .given .1) (c .before .before .before .before .before .before .before .before .before .before .before .before .before .members .ensures)
+    .before .before .before .before .before .before .before .before .before .before .before .before .before .pre)
+    (c .before .before .before .before .before .before .before .before .before .before .before .before .before .before .before .before .before .before .before .before .before
+    .before .before .before .before .before .before .before .before .head .ensures)
+    (c .before .before .before .before .before .before .before .before .before .before .before .before .before .before .before .before .before .before .before .before .before
+    .before .before .before .before .before .before .name .given .1)
+    (c .before .before .before .before .before .before .before .before .before .before .before .before .before .before .before .before .before .before .before .before .before
+    .before .before .before .supertypes .ensures) (c .before .before .before .before .before .before .before .before .before .before .before .before .before .before .before
+    .before .before .before .before .before .supers .given .1) (c .before .before .before .before .before .before .before .before .before .before .before .before .before
+    .before .before .before .before .before .expect .ensures) (c .before .before .before .before .before .before .before .before .before .before .before .before .before
+    .before .before .before .semicolon .given .1) (c .before .before .before .before .before .before .before .before .before .before .before .before .before .members .ensures)
     (c .before .before .before .before .before .before .before .before .before .body .given .1) (c .before .before .before .before .before .before .before .expect2 .ensures)
-        (c .before .before .before .before .before .end .given .1) (c .before .before .closed .ensures)
+    (c .before .before .before .before .before .end .given .1) (c .before .before .closed .ensures)
 
 pub entity-spec : {M : Type 1} → statement M
 entity-spec =

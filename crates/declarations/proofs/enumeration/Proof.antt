@@ -1,3 +1,4 @@
+-- By its rule in Clauses, which takes each step's answer.
 use Rattle.declarations.proofs.enumeration.Statement.{statement}
 use Rattle.declarations.proofs.enumeration.Tie as tie
 use borrow.Author.Needs.{needs}
@@ -27,8 +28,8 @@ returns c = enumeration-stopped (c .before .before .before .before .before .pre 
 ids-requires : tie.Need-ids-requires
 ids-requires c κs =
     let l = one-inside (c .before .before .before .before .before .before .before .args .terminals .now) (c .before .before .before .before .before .before .before .args .p)
-        (getD (c .before .before .before .before .before .before .before .args .terminals .now) (c .before .before .before .before .before .before .before .args .p) 0) 76 refl
-        (c .before .before .before .before .before .before .before .pre .1) (omega arith) in
+    (getD (c .before .before .before .before .before .before .before .args .terminals .now) (c .before .before .before .before .before .before .before .args .p) 0) 76 refl
+    (c .before .before .before .before .before .before .before .pre .1) (omega arith) in
     (expect-ready (c .before .before .before .before .expect .ensures) (onward (c .before .before .before .before .before .before .before .pre .0) l) (c .before .before .of .given .1), omega arith)
 
 enum-known-items : tie.Need-enum-known-items
@@ -50,8 +51,11 @@ put-row-requires : tie.Need-put-row-requires
 put-row-requires c κs = search needs
 
 add-t11 : tie.Need-add-t11
-add-t11 c = omega (arith, rows-few (sound-ready (c .before .before .before .before .before .before .before .before .before .ids .result)
-    (c .before .before .before .before .before .before .before .before .before .ids .ensures .sound) (c .before .before .before .before .before .items .given .1)))
+add-t11 c = omega (
+  arith,
+  rows-few (sound-ready (c .before .before .before .before .before .before .before .before .before .ids .result)
+      (c .before .before .before .before .before .before .before .before .before .ids .ensures .sound) (c .before .before .before .before .before .items .given .1)),
+)
 
 same-length-2 : tie.Need-same-length-2
 same-length-2 c = search needs

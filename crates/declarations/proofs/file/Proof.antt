@@ -1,3 +1,4 @@
+-- By its rule in Clauses, which takes each step's answer.
 use borrow.Author.Needs.{needs}
 use Rattle.declarations.proofs.file.Statement.{statement}
 use Rattle.declarations.proofs.file.Tie as tie
@@ -25,8 +26,11 @@ put-row-requires : tie.Need-put-row-requires
 put-row-requires c κs = search needs
 
 add-t11 : tie.Need-add-t11
-add-t11 c = omega (arith, rows-few (sound-ready (c .before .before .before .before .before .before .before .before .before .schemas .result)
-    (c .before .before .before .before .before .before .before .before .before .schemas .ensures .sound) (c .before .before .before .before .before .all .given .1)))
+add-t11 c = omega (
+  arith,
+  rows-few (sound-ready (c .before .before .before .before .before .before .before .before .before .schemas .result)
+      (c .before .before .before .before .before .before .before .before .before .schemas .ensures .sound) (c .before .before .before .before .before .all .given .1)),
+)
 
 same-length-2 : tie.Need-same-length-2
 same-length-2 c = search needs

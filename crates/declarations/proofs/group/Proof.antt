@@ -21,9 +21,13 @@ returns c = groups-refused (c .before .before .before .before .before .before .b
     (c .before .before .before .before .before .before .before .before .pre .0) (c .before .before .before .before .base .ensures) (c .enum-told .given .1)
 
 closed-requires : tie.Need-closed-requires
-closed-requires c κs = (sound-ready (c .before .before .before .before .before .before .base .result) (c .before .before .before .before .before .before .base .ensures .sound)
-    (c .before .before .kind .given .1), c .before .before .before .before .before .before .before .before .before .before .pre .1, c .before .before .before .before .before
-    .before .before .before .before .before .pre .2)
+closed-requires c κs = (
+  sound-ready (c .before .before .before .before .before .before .base .result) (c .before .before .before .before .before .before .base .ensures .sound)
+      (c .before .before .kind .given .1),
+  c .before .before .before .before .before .before .before .before .before .before .pre .1,
+  c .before .before .before .before .before
+      .before .before .before .before .before .pre .2,
+)
 
 same-length-2 : tie.Need-same-length-2
 same-length-2 c = search needs

@@ -17,8 +17,11 @@ returns : tie.Need-returns
 returns c = ids-opened (c .before .before .before .before .before .args .label) (c .before .before .before .before .before .pre .0) (c .before .before .expect .ensures) (c .enum-told .given .1)
 
 names-requires : tie.Need-names-requires
-names-requires c κs = (expect-ready (c .before .before .before .before .expect .ensures) (c .before .before .before .before .before .before .before .pre .0)
-    (c .before .before .opened .given .1), c .before .before .before .before .before .before .before .pre .1)
+names-requires c κs = (
+  expect-ready (c .before .before .before .before .expect .ensures) (c .before .before .before .before .before .before .before .pre .0)
+      (c .before .before .opened .given .1),
+  c .before .before .before .before .before .before .before .pre .1,
+)
 
 enum-known-listed : tie.Need-enum-known-listed
 enum-known-listed c = search needs

@@ -1,3 +1,4 @@
+-- What was read when the loop began goes on to where it is.
 use Rattle.declarations.proofs.names.Statement.{statement}
 use Rattle.declarations.proofs.names.Tie as tie
 use borrow.Author.Needs.{needs}
@@ -46,10 +47,13 @@ add-id : tie.Need-add-id Inv-loop μ-loop
 add-id c = search needs
 
 id-requires-2 : tie.Need-id-requires-2 Inv-loop μ-loop
-id-requires-2 c κs = (onward (c .before .before .before .loop .inv .1) (one-inside
-    (c .before .before .before .before .before .before .before .before .before .before .before .before .before .args .terminals .now) (c .before .before .before .loop .q)
-    (c .before .before .token .result) 8 (c .before .before .token .ensures) (c .before .if1 .taken)
-    (omega arith)), c .before .before .before .before .before .before .before .before .before .before .before .before .before .pre .1)
+id-requires-2 c κs = (
+  onward (c .before .before .before .loop .inv .1) (one-inside
+      (c .before .before .before .before .before .before .before .before .before .before .before .before .before .args .terminals .now) (c .before .before .before .loop .q)
+      (c .before .before .token .result) 8 (c .before .before .token .ensures) (c .before .if1 .taken)
+      (omega arith)),
+  c .before .before .before .before .before .before .before .before .before .before .before .before .before .pre .1,
+)
 
 enum-known-next : tie.Need-enum-known-next Inv-loop μ-loop
 enum-known-next c = search needs
@@ -63,41 +67,47 @@ same-length-2 c = search needs
 returns-2 : tie.Need-returns-2 Inv-loop μ-loop
 returns-2 c =
     let t = seen-one (c .before .before .before .before .before .before .before .before .before .before .before .before .before .before .before .before .before .before .args
-        .terminals .now) (c .before .before .before .before .before .before .before .before .loop .q) 8
-        (c .before .before .before .before .before .before .before .token .ensures) (c .before .before .before .before .before .before .if1 .taken) in
+    .terminals .now) (c .before .before .before .before .before .before .before .before .loop .q) 8
+    (c .before .before .before .before .before .before .before .token .ensures) (c .before .before .before .before .before .before .if1 .taken) in
     let l = one-inside (c .before .before .before .before .before .before .before .before .before .before .before .before .before .before .before .before .before .before .args
-        .terminals .now) (c .before .before .before .before .before .before .before .before .loop .q) (c .before .before .before .before .before .before .before .token .result) 8
-        (c .before .before .before .before .before .before .before .token .ensures) (c .before .before .before .before .before .before .if1 .taken) (omega arith) in
+    .terminals .now) (c .before .before .before .before .before .before .before .before .loop .q) (c .before .before .before .before .before .before .before .token .result) 8
+    (c .before .before .before .before .before .before .before .token .ensures) (c .before .before .before .before .before .before .if1 .taken) (omega arith) in
     list-then (leaf-goes (c .before .before .before .before .before .before .before .before .before .before .before .before .before .before .before .before .before .before .pre
-        .1) (c .before .before .before .before .before .before .before .before .before .before .before .before .before .before .before .before .before .before .pre .0)
-        (c .before .before .before .before .before .before .before .before .before .before .before .before .before .before .id .ensures))
-        (c .before .before .before .before .before .before .before .before .before .before .first .given .1)
+    .1) (c .before .before .before .before .before .before .before .before .before .before .before .before .before .before .before .before .before .before .pre .0)
+    (c .before .before .before .before .before .before .before .before .before .before .before .before .before .before .id .ensures))
+    (c .before .before .before .before .before .before .before .before .before .before .first .given .1)
     (many-refused (loops-turn (c .before .before .before .before .before .before .before .before .loop .inv .2) (names-ok
-        (c .before .before .before .before .before .before .before .before .before .before .before .before .before .before .before .before .before .before .args .label))
-        (c .before .before .before .before .before .before .before .before .loop .inv .1) t (comma-goes
-        (c .before .before .before .before .before .before .before .before .before .before .before .before .before .before .before .before .before .before .pre .1) (onward
-        (c .before .before .before .before .before .before .before .before .loop .inv .1) l) t (c .before .before .before .before .id2 .ensures))) (c .enum-told2 .given .1))
+    (c .before .before .before .before .before .before .before .before .before .before .before .before .before .before .before .before .before .before .args .label))
+    (c .before .before .before .before .before .before .before .before .loop .inv .1) t (comma-goes
+    (c .before .before .before .before .before .before .before .before .before .before .before .before .before .before .before .before .before .before .pre .1) (onward
+    (c .before .before .before .before .before .before .before .before .loop .inv .1) l) t (c .before .before .before .before .id2 .ensures))) (c .enum-told2 .given .1))
 
 loop-less : tie.Need-loop-less Inv-loop μ-loop
-loop-less c = omega (arith, leaf-onward (c .before .before .before .before .before .id2 .ensures) (c .before .next .given .1), (sound-ready
-    (c .before .before .before .before .before .id2 .result) (c .before .before .before .before .before .id2 .ensures .sound) (c .before .next .given .1)) .within)
+loop-less c = omega (
+  arith,
+  leaf-onward (c .before .before .before .before .before .id2 .ensures) (c .before .next .given .1),
+  (sound-ready
+      (c .before .before .before .before .before .id2 .result) (c .before .before .before .before .before .id2 .ensures .sound) (c .before .next .given .1)) .within,
+)
 
 loop-again : tie.Need-loop-again Inv-loop μ-loop
 loop-again c =
     let t = seen-one (c .before .before .before .before .before .before .before .before .before .before .before .before .before .before .before .before .before .before .before
-        .args .terminals .now) (c .before .before .before .before .before .before .before .before .before .loop .q) 8
-        (c .before .before .before .before .before .before .before .before .token .ensures) (c .before .before .before .before .before .before .before .if1 .taken) in
+    .args .terminals .now) (c .before .before .before .before .before .before .before .before .before .loop .q) 8
+    (c .before .before .before .before .before .before .before .before .token .ensures) (c .before .before .before .before .before .before .before .if1 .taken) in
     let l = one-inside (c .before .before .before .before .before .before .before .before .before .before .before .before .before .before .before .before .before .before .before
-        .args .terminals .now) (c .before .before .before .before .before .before .before .before .before .loop .q)
-        (c .before .before .before .before .before .before .before .before .token .result) 8 (c .before .before .before .before .before .before .before .before .token .ensures)
-        (c .before .before .before .before .before .before .before .if1 .taken) (omega arith) in
-    (search needs, sound-ready (c .before .before .before .before .before .id2 .result) (c .before .before .before .before .before .id2 .ensures .sound) (c .before .next .given .1),
-    loops-at (loops-turn (c .before .before .before .before .before .before .before .before .before .loop .inv .2) (names-ok
-        (c .before .before .before .before .before .before .before .before .before .before .before .before .before .before .before .before .before .before .before .args .label))
-        (c .before .before .before .before .before .before .before .before .before .loop .inv .1) t (comma-goes
-        (c .before .before .before .before .before .before .before .before .before .before .before .before .before .before .before .before .before .before .before .pre .1)
-        (onward (c .before .before .before .before .before .before .before .before .before .loop .inv .1) l) t (c .before .before .before .before .before .id2 .ensures)))
-        (c .before .next .given .1))
+    .args .terminals .now) (c .before .before .before .before .before .before .before .before .before .loop .q)
+    (c .before .before .before .before .before .before .before .before .token .result) 8 (c .before .before .before .before .before .before .before .before .token .ensures)
+    (c .before .before .before .before .before .before .before .if1 .taken) (omega arith) in (
+      search needs,
+      sound-ready (c .before .before .before .before .before .id2 .result) (c .before .before .before .before .before .id2 .ensures .sound) (c .before .next .given .1),
+      loops-at (loops-turn (c .before .before .before .before .before .before .before .before .before .loop .inv .2) (names-ok
+          (c .before .before .before .before .before .before .before .before .before .before .before .before .before .before .before .before .before .before .before .args .label))
+          (c .before .before .before .before .before .before .before .before .before .loop .inv .1) t (comma-goes
+          (c .before .before .before .before .before .before .before .before .before .before .before .before .before .before .before .before .before .before .before .pre .1)
+          (onward (c .before .before .before .before .before .before .before .before .before .loop .inv .1) l) t (c .before .before .before .before .before .id2 .ensures)))
+          (c .before .next .given .1),
+    )
 
 same-length-3 : tie.Need-same-length-3 Inv-loop μ-loop
 same-length-3 c = search needs
@@ -105,11 +115,11 @@ same-length-3 c = search needs
 returns-3 : tie.Need-returns-3 Inv-loop μ-loop
 returns-3 c =
     list-then (leaf-goes (c .before .before .before .before .before .before .before .before .before .before .before .before .pre .1)
-        (c .before .before .before .before .before .before .before .before .before .before .before .before .pre .0)
-        (c .before .before .before .before .before .before .before .before .id .ensures)) (c .before .before .before .before .first .given .1)
+    (c .before .before .before .before .before .before .before .before .before .before .before .before .pre .0)
+    (c .before .before .before .before .before .before .before .before .id .ensures)) (c .before .before .before .before .first .given .1)
     (many-ends (c .before .before .loop .inv .2) (names-ok (c .before .before .before .before .before .before .before .before .before .before .before .before .args .label))
-        (c .before .before .loop .inv .1) (seen-other (c .before .before .before .before .before .before .before .before .before .before .before .before .args .terminals .now)
-        (c .before .before .loop .q) 8 (c .before .token .ensures) (c .if1 .left)))
+    (c .before .before .loop .inv .1) (seen-other (c .before .before .before .before .before .before .before .before .before .before .before .before .args .terminals .now)
+    (c .before .before .loop .q) 8 (c .before .token .ensures) (c .if1 .left)))
 
 pub names-spec : {M : Type 1} → statement M
 names-spec =

@@ -1,3 +1,4 @@
+-- The words lent are the first part of scratch; the rest is not touched.
 use borrow.Author.Needs.{needs}
 use Rattle.declarations.proofs.parse.Statement.{statement}
 use Rattle.declarations.proofs.parse.Tie as tie
@@ -22,10 +23,13 @@ slice-aggregate-parse-in c = sym (length-take-le (length (c .before .before .bef
     (c .before .before .before .before .before .before .before .before .before .args .scratch .now) (omega (arith, c .before .if2 .left)))
 
 parse-in-requires : tie.Need-parse-in-requires
-parse-in-requires c κs = (omega (arith, c .before .before .before .before .before .before .if1 .left), length-take-le (length
-    (c .before .before .before .before .before .before .before .before .before .before .before .before .before .args .terminals .now))
-    (c .before .before .before .before .before .before .before .before .before .before .before .before .before .args .scratch .now) (omega
-    (arith, c .before .before .before .before .before .if2 .left)))
+parse-in-requires c κs = (
+  omega (arith, c .before .before .before .before .before .before .if1 .left),
+  length-take-le (length
+      (c .before .before .before .before .before .before .before .before .before .before .before .before .before .args .terminals .now))
+      (c .before .before .before .before .before .before .before .before .before .before .before .before .before .args .scratch .now) (omega
+      (arith, c .before .before .before .before .before .if2 .left)),
+)
 
 same-length : tie.Need-same-length
 same-length c = search needs
@@ -43,9 +47,15 @@ same-length-5 : tie.Need-same-length-5
 same-length-5 c = search needs
 
 returns-3 : tie.Need-returns-3
-returns-3 c = parsing refl (omega (arith, c .before .before .before .before .before .before .before .before .before .before .before .before .before .before .before .before
-    .before .if1 .left)) (omega (arith, c .before .before .before .before .before .before .before .before .before .before .before .before .before .before .before .before .if2
-    .left)) (c .before .before .before .before .before .before .before .before .before .before .parse-in .ensures) refl
+returns-3 c = parsing refl (omega (
+  arith,
+  c .before .before .before .before .before .before .before .before .before .before .before .before .before .before .before .before
+      .before .if1 .left,
+)) (omega (
+  arith,
+  c .before .before .before .before .before .before .before .before .before .before .before .before .before .before .before .before .if2
+      .left,
+)) (c .before .before .before .before .before .before .before .before .before .before .parse-in .ensures) refl
 
 pub parse-spec : {M : Type 1} → statement M
 parse-spec =

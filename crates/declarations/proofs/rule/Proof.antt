@@ -1,3 +1,4 @@
+-- By its rule in Clauses, which takes each step's answer.
 use Rattle.declarations.proofs.rule.Statement.{statement}
 use Rattle.declarations.proofs.rule.Tie as tie
 use borrow.Author.Needs.{needs}
@@ -26,20 +27,23 @@ same-length c = search needs
 returns : tie.Need-returns
 returns c =
     let g = label-ready (c .before .before .before .before .before .before .before .before .before .before .pre)
-        (c .before .before .before .before .before .before .before .is-labelled .result) (c .before .before .before .before .before .before .before .is-labelled .ensures)
-        (c .before .before .before .before .before .before .if1 .taken) in
+    (c .before .before .before .before .before .before .before .is-labelled .result) (c .before .before .before .before .before .before .before .is-labelled .ensures)
+    (c .before .before .before .before .before .before .if1 .taken) in
     labelled-refused (c .before .before .before .before .before .before .before .before .before .before .pre)
-        (c .before .before .before .before .before .before .before .is-labelled .result) (c .before .before .before .before .before .before .before .is-labelled .ensures)
-        (c .before .before .before .before .before .before .if1 .taken) (c .before .before .before .before .expression-at .ensures .reads g) (c .enum-told .given .1)
+    (c .before .before .before .before .before .before .before .is-labelled .result) (c .before .before .before .before .before .before .before .is-labelled .ensures)
+    (c .before .before .before .before .before .before .if1 .taken) (c .before .before .before .before .expression-at .ensures .reads g) (c .enum-told .given .1)
 
 closed-requires : tie.Need-closed-requires
 closed-requires c κs =
     let g = label-ready (c .before .before .before .before .before .before .before .before .before .before .before .before .pre)
-        (c .before .before .before .before .before .before .before .before .before .is-labelled .result)
-        (c .before .before .before .before .before .before .before .before .before .is-labelled .ensures)
-        (c .before .before .before .before .before .before .before .before .if1 .taken) in
-    (ready-of g ((c .before .before .before .before .before .before .expression-at .ensures .reads g) .ahead) (c .before .before .named .given .1), omega arith, omega
-        (arith, token-small (c .before .before .before .before .before .before .before .before .before .before .before .before .pre)))
+    (c .before .before .before .before .before .before .before .before .before .is-labelled .result)
+    (c .before .before .before .before .before .before .before .before .before .is-labelled .ensures)
+    (c .before .before .before .before .before .before .before .before .if1 .taken) in (
+      ready-of g ((c .before .before .before .before .before .before .expression-at .ensures .reads g) .ahead) (c .before .before .named .given .1),
+      omega arith,
+      omega
+          (arith, token-small (c .before .before .before .before .before .before .before .before .before .before .before .before .pre)),
+    )
 
 same-length-2 : tie.Need-same-length-2
 same-length-2 c = search needs
@@ -47,15 +51,15 @@ same-length-2 c = search needs
 returns-2 : tie.Need-returns-2
 returns-2 c =
     let g = label-ready (c .before .before .before .before .before .before .before .before .before .before .before .before .before .before .before .pre)
-        (c .before .before .before .before .before .before .before .before .before .before .before .before .is-labelled .result)
-        (c .before .before .before .before .before .before .before .before .before .before .before .before .is-labelled .ensures)
-        (c .before .before .before .before .before .before .before .before .before .before .before .if1 .taken) in
+    (c .before .before .before .before .before .before .before .before .before .before .before .before .is-labelled .result)
+    (c .before .before .before .before .before .before .before .before .before .before .before .before .is-labelled .ensures)
+    (c .before .before .before .before .before .before .before .before .before .before .before .if1 .taken) in
     labelled-reads (c .before .before .before .before .before .before .before .before .before .before .before .before .before .before .before .pre)
-        (c .before .before .before .before .before .before .before .before .before .before .before .before .is-labelled .result)
-        (c .before .before .before .before .before .before .before .before .before .before .before .before .is-labelled .ensures)
-        (c .before .before .before .before .before .before .before .before .before .before .before .if1 .taken)
-        (c .before .before .before .before .before .before .before .before .before .expression-at .ensures .reads g) (c .before .before .before .before .before .named .given .1)
-        (c .before .before .closed .ensures)
+    (c .before .before .before .before .before .before .before .before .before .before .before .before .is-labelled .result)
+    (c .before .before .before .before .before .before .before .before .before .before .before .before .is-labelled .ensures)
+    (c .before .before .before .before .before .before .before .before .before .before .before .if1 .taken)
+    (c .before .before .before .before .before .before .before .before .before .expression-at .ensures .reads g) (c .before .before .before .before .before .named .given .1)
+    (c .before .before .closed .ensures)
 
 expression-at-requires-2 : tie.Need-expression-at-requires-2
 expression-at-requires-2 c κs = search needs
@@ -76,10 +80,14 @@ returns-3 c = plain-refused (c .before .before .before .before .before .before .
     (c .before .before .before .before .before .before .before .before .before .before .pre)) (c .enum-told2 .given .1)
 
 closed-requires-2 : tie.Need-closed-requires-2
-closed-requires-2 c κs = (ready-of (c .before .before .before .before .before .before .before .before .before .before .before .before .pre)
-    ((c .before .before .before .before .before .before .expression-at2 .ensures .reads
-    (c .before .before .before .before .before .before .before .before .before .before .before .before .pre)) .ahead) (c .before .before .plain .given .1), omega arith, omega
-    (arith, token-small (c .before .before .before .before .before .before .before .before .before .before .before .before .pre)))
+closed-requires-2 c κs = (
+  ready-of (c .before .before .before .before .before .before .before .before .before .before .before .before .pre)
+      ((c .before .before .before .before .before .before .expression-at2 .ensures .reads
+      (c .before .before .before .before .before .before .before .before .before .before .before .before .pre)) .ahead) (c .before .before .plain .given .1),
+  omega arith,
+  omega
+      (arith, token-small (c .before .before .before .before .before .before .before .before .before .before .before .before .pre)),
+)
 
 same-length-4 : tie.Need-same-length-4
 same-length-4 c = search needs

@@ -1,3 +1,4 @@
+-- By its rule in Clauses, which takes each step's answer.
 use Rattle.declarations.proofs.rules.Statement.{statement}
 use Rattle.declarations.proofs.rules.Tie as tie
 use borrow.Author.Needs.{needs}
@@ -28,10 +29,10 @@ same-length c = search needs
 returns-2 : tie.Need-returns-2
 returns-2 c =
     let t = seen-one (c .before .before .before .before .before .before .before .before .args .terminals .now)
-        (c .before .before .before .before .before .before .before .before .args .p) 151 (c .before .before .before .before .before .token .ensures)
-        (c .before .before .before .before .if1 .left) in
+    (c .before .before .before .before .before .before .before .before .args .p) 151 (c .before .before .before .before .before .token .ensures)
+    (c .before .before .before .before .if1 .left) in
     opt-reads (c .before .before .before .before .before .before .before .before .pre) t (where-reads (c .before .before .before .before .before .before .before .before .pre) t
-        (c .before .before .rule-list .ensures))
+    (c .before .before .rule-list .ensures))
 
 pub rules-spec : {M : Type 1} → statement M
 rules-spec =

@@ -1,3 +1,4 @@
+-- By its rule in Clauses, which takes each step's answer.
 use borrow.Author.Needs.{needs}
 use Rattle.declarations.proofs.schema.Statement.{statement}
 use Rattle.declarations.proofs.schema.Tie as tie
@@ -91,28 +92,38 @@ same-length-3 c = search needs
 returns-5 : tie.Need-returns-5
 returns-5 c =
     schema-5 (c .before .before .before .before .before .before .before .before .before .before .before .before .before .before .before .before .before .before .before .before
-        .before .before .before .before .before .before .before .pre)
-        (c .before .before .before .before .before .before .before .before .before .before .before .before .before .before .before .before .before .before .before .before .before
-        .before .before .before .head .ensures) (c .before .before .before .before .before .before .before .before .before .before .before .before .before .before .before .before
-        .before .before .before .before .before .before .name .given .1)
-        (c .before .before .before .before .before .before .before .before .before .before .before .before .before .before .before .before .before .before .before .before .expect
-        .ensures) (c .before .before .before .before .before .before .before .before .before .before .before .before .before .before .before .before .before .before .semicolon
-        .given .1) (c .before .before .before .before .before .before .before .before .before .before .before .before .before .before .before .constants .ensures)
-        (c .before .before .before .before .before .before .before .before .before .before .before .values .given .1)
-        (c .before .before .before .before .before .before .before .before .declarations .ensures)
+    .before .before .before .before .before .before .before .pre)
+    (c .before .before .before .before .before .before .before .before .before .before .before .before .before .before .before .before .before .before .before .before .before
+    .before .before .before .head .ensures) (c .before .before .before .before .before .before .before .before .before .before .before .before .before .before .before .before
+    .before .before .before .before .before .before .name .given .1)
+    (c .before .before .before .before .before .before .before .before .before .before .before .before .before .before .before .before .before .before .before .before .expect
+    .ensures) (c .before .before .before .before .before .before .before .before .before .before .before .before .before .before .before .before .before .before .semicolon
+    .given .1) (c .before .before .before .before .before .before .before .before .before .before .before .before .before .before .before .constants .ensures)
+    (c .before .before .before .before .before .before .before .before .before .before .before .values .given .1)
+    (c .before .before .before .before .before .before .before .before .declarations .ensures)
     (c .before .before .before .before .declared .given .1) (c .before .before .expect2 .ensures) (c .enum-told5 .given .1)
 
 add-closed : tie.Need-add-closed
-add-closed c = omega (arith, token-small (c .before .before .before .before .before .before .before .before .before .before .before .before .before .before .before .before
-    .before .before .before .before .before .before .before .before .before .before .before .before .before .pre))
+add-closed c = omega (
+  arith,
+  token-small (c .before .before .before .before .before .before .before .before .before .before .before .before .before .before .before .before
+      .before .before .before .before .before .before .before .before .before .before .before .before .before .pre),
+)
 
 closed-requires : tie.Need-closed-requires
-closed-requires c κs = (expect-ready (c .before .before .before .before .expect2 .ensures) (sound-ready
-    (c .before .before .before .before .before .before .before .before .before .before .declarations .result)
-    (c .before .before .before .before .before .before .before .before .before .before .declarations .ensures .sound)
-    (c .before .before .before .before .before .before .declared .given .1)) (c .before .before .end .given .1), omega arith, omega (arith, token-small
-    (c .before .before .before .before .before .before .before .before .before .before .before .before .before .before .before .before .before .before .before .before .before
-    .before .before .before .before .before .before .before .before .pre)))
+closed-requires c κs = (
+  expect-ready (c .before .before .before .before .expect2 .ensures) (sound-ready
+      (c .before .before .before .before .before .before .before .before .before .before .declarations .result)
+      (c .before .before .before .before .before .before .before .before .before .before .declarations .ensures .sound)
+      (c .before .before .before .before .before .before .declared .given .1)) (c .before .before .end .given .1),
+  omega arith,
+  omega (
+    arith,
+    token-small
+        (c .before .before .before .before .before .before .before .before .before .before .before .before .before .before .before .before .before .before .before .before .before
+        .before .before .before .before .before .before .before .before .pre),
+  ),
+)
 
 same-length-4 : tie.Need-same-length-4
 same-length-4 c = c .before .before .closed .kept .1 .0 ∙ (c .before .before .before .before .before .before .before .before .before .before .before .before .before .declarations
@@ -122,19 +133,19 @@ same-length-4 c = c .before .before .closed .kept .1 .0 ∙ (c .before .before .
 returns-6 : tie.Need-returns-6
 returns-6 c =
     schema-reads (c .before .before .before .before .before .before .before .before .before .before .before .before .before .before .before .before .before .before .before
-        .before .before .before .before .before .before .before .before .before .before .before .before .before .pre)
-        (c .before .before .before .before .before .before .before .before .before .before .before .before .before .before .before .before .before .before .before .before .before
-        .before .before .before .before .before .before .before .before .head .ensures)
-        (c .before .before .before .before .before .before .before .before .before .before .before .before .before .before .before .before .before .before .before .before .before
-        .before .before .before .before .before .before .name .given .1)
-        (c .before .before .before .before .before .before .before .before .before .before .before .before .before .before .before .before .before .before .before .before .before
-        .before .before .before .before .expect .ensures) (c .before .before .before .before .before .before .before .before .before .before .before .before .before .before
-        .before .before .before .before .before .before .before .before .before .semicolon .given .1)
-        (c .before .before .before .before .before .before .before .before .before .before .before .before .before .before .before .before .before .before .before .before
-        .constants .ensures) (c .before .before .before .before .before .before .before .before .before .before .before .before .before .before .before .before .values .given .1)
-        (c .before .before .before .before .before .before .before .before .before .before .before .before .before .declarations .ensures)
+    .before .before .before .before .before .before .before .before .before .before .before .before .before .pre)
+    (c .before .before .before .before .before .before .before .before .before .before .before .before .before .before .before .before .before .before .before .before .before
+    .before .before .before .before .before .before .before .before .head .ensures)
+    (c .before .before .before .before .before .before .before .before .before .before .before .before .before .before .before .before .before .before .before .before .before
+    .before .before .before .before .before .before .name .given .1)
+    (c .before .before .before .before .before .before .before .before .before .before .before .before .before .before .before .before .before .before .before .before .before
+    .before .before .before .before .expect .ensures) (c .before .before .before .before .before .before .before .before .before .before .before .before .before .before
+    .before .before .before .before .before .before .before .before .before .semicolon .given .1)
+    (c .before .before .before .before .before .before .before .before .before .before .before .before .before .before .before .before .before .before .before .before
+    .constants .ensures) (c .before .before .before .before .before .before .before .before .before .before .before .before .before .before .before .before .values .given .1)
+    (c .before .before .before .before .before .before .before .before .before .before .before .before .before .declarations .ensures)
     (c .before .before .before .before .before .before .before .before .before .declared .given .1) (c .before .before .before .before .before .before .before .expect2 .ensures)
-        (c .before .before .before .before .before .end .given .1) (c .before .before .closed .ensures)
+    (c .before .before .before .before .before .end .given .1) (c .before .before .closed .ensures)
 
 pub schema-spec : {M : Type 1} → statement M
 schema-spec =

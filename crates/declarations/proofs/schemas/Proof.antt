@@ -1,3 +1,4 @@
+-- What was read when the loop began goes on to where it is.
 use Rattle.declarations.proofs.schemas.Statement.{statement}
 use Rattle.declarations.proofs.schemas.Tie as tie
 use Prim.Native.Nat.{_-_}
@@ -35,8 +36,12 @@ returns : tie.Need-returns Inv-loop μ-loop
 returns c = list-refused (reads-goes (c .before .before .before .before .schema .ensures)) (c .enum-told .given .1)
 
 loop-holds : tie.Need-loop-holds Inv-loop μ-loop
-loop-holds c = (refl, ready-of (c .before .before .before .before .before .before .before .before .before .pre)
-    (c .before .before .before .before .before .schema .ensures .ahead) (c .before .first .given .1), loops-begin)
+loop-holds c = (
+  refl,
+  ready-of (c .before .before .before .before .before .before .before .before .before .pre)
+      (c .before .before .before .before .before .schema .ensures .ahead) (c .before .first .given .1),
+  loops-begin,
+)
 
 token-requires : tie.Need-token-requires Inv-loop μ-loop
 token-requires c κs = search needs
@@ -56,26 +61,28 @@ same-length-2 c = search needs
 returns-2 : tie.Need-returns-2 Inv-loop μ-loop
 returns-2 c =
     list-then (reads-goes (c .before .before .before .before .before .before .before .before .before .before .before .before .before .before .schema .ensures))
-        (c .before .before .before .before .before .before .before .before .before .before .first .given .1)
+    (c .before .before .before .before .before .before .before .before .before .before .first .given .1)
     (many-refused (loops-turn (c .before .before .before .before .before .before .before .before .loop .inv .2) schemas-ok
-        (c .before .before .before .before .before .before .before .before .loop .inv .1) (seen-one
-        (c .before .before .before .before .before .before .before .before .before .before .before .before .before .before .before .before .before .before .args .terminals .now)
-        (c .before .before .before .before .before .before .before .before .loop .q) 125 (c .before .before .before .before .before .before .before .token .ensures)
-        (c .before .before .before .before .before .before .if1 .taken)) (reads-goes (c .before .before .before .before .schema2 .ensures))) (c .enum-told2 .given .1))
+    (c .before .before .before .before .before .before .before .before .loop .inv .1) (seen-one
+    (c .before .before .before .before .before .before .before .before .before .before .before .before .before .before .before .before .before .before .args .terminals .now)
+    (c .before .before .before .before .before .before .before .before .loop .q) 125 (c .before .before .before .before .before .before .before .token .ensures)
+    (c .before .before .before .before .before .before .if1 .taken)) (reads-goes (c .before .before .before .before .schema2 .ensures))) (c .enum-told2 .given .1))
 
 loop-less : tie.Need-loop-less Inv-loop μ-loop
 loop-less c = omega (arith, reads-at (c .before .before .before .before .before .schema2 .ensures) (c .before .next .given .1))
 
 loop-again : tie.Need-loop-again Inv-loop μ-loop
-loop-again c =
-    (search needs, ready-of (c .before .before .before .before .before .before .before .before .before .loop .inv .1)
-        (c .before .before .before .before .before .schema2 .ensures .ahead) (c .before .next .given .1),
-    loops-at (loops-turn (c .before .before .before .before .before .before .before .before .before .loop .inv .2) schemas-ok
-        (c .before .before .before .before .before .before .before .before .before .loop .inv .1) (seen-one
-        (c .before .before .before .before .before .before .before .before .before .before .before .before .before .before .before .before .before .before .before .args
-        .terminals .now) (c .before .before .before .before .before .before .before .before .before .loop .q) 125
-        (c .before .before .before .before .before .before .before .before .token .ensures) (c .before .before .before .before .before .before .before .if1 .taken)) (reads-goes
-        (c .before .before .before .before .before .schema2 .ensures))) (c .before .next .given .1))
+loop-again c = (
+  search needs,
+  ready-of (c .before .before .before .before .before .before .before .before .before .loop .inv .1)
+      (c .before .before .before .before .before .schema2 .ensures .ahead) (c .before .next .given .1),
+  loops-at (loops-turn (c .before .before .before .before .before .before .before .before .before .loop .inv .2) schemas-ok
+      (c .before .before .before .before .before .before .before .before .before .loop .inv .1) (seen-one
+      (c .before .before .before .before .before .before .before .before .before .before .before .before .before .before .before .before .before .before .before .args
+      .terminals .now) (c .before .before .before .before .before .before .before .before .before .loop .q) 125
+      (c .before .before .before .before .before .before .before .before .token .ensures) (c .before .before .before .before .before .before .before .if1 .taken)) (reads-goes
+      (c .before .before .before .before .before .schema2 .ensures))) (c .before .next .given .1),
+)
 
 same-length-3 : tie.Need-same-length-3 Inv-loop μ-loop
 same-length-3 c = search needs

@@ -1,3 +1,4 @@
+-- By its rule in Clauses, which takes each step's answer.
 use Rattle.declarations.proofs.selection.Statement.{statement}
 use Rattle.declarations.proofs.selection.Tie as tie
 use borrow.Author.Needs.{needs}
@@ -13,8 +14,11 @@ add-ids : tie.Need-add-ids
 add-ids c = omega (arith, token-small (c .before .before .before .pre .0))
 
 ids-requires : tie.Need-ids-requires
-ids-requires c κs = (onward (c .before .before .before .pre .0) (one-inside (c .before .before .before .args .terminals .now) (c .before .before .before .args .p) (getD
-    (c .before .before .before .args .terminals .now) (c .before .before .before .args .p) 0) 126 refl (c .before .before .before .pre .1) (omega arith)), omega arith)
+ids-requires c κs = (
+  onward (c .before .before .before .pre .0) (one-inside (c .before .before .before .args .terminals .now) (c .before .before .before .args .p) (getD
+      (c .before .before .before .args .terminals .now) (c .before .before .before .args .p) 0) 126 refl (c .before .before .before .pre .1) (omega arith)),
+  omega arith,
+)
 
 enum-known-selected : tie.Need-enum-known-selected
 enum-known-selected c = search needs
@@ -33,8 +37,11 @@ put-row-requires : tie.Need-put-row-requires
 put-row-requires c κs = search needs
 
 add-t10 : tie.Need-add-t10
-add-t10 c = omega (arith, rows-few (sound-ready (c .before .before .before .before .before .before .before .before .before .ids .result)
-    (c .before .before .before .before .before .before .before .before .before .ids .ensures .sound) (c .before .before .before .before .before .selected .given .1)))
+add-t10 c = omega (
+  arith,
+  rows-few (sound-ready (c .before .before .before .before .before .before .before .before .before .ids .result)
+      (c .before .before .before .before .before .before .before .before .before .ids .ensures .sound) (c .before .before .before .before .before .selected .given .1)),
+)
 
 same-length-2 : tie.Need-same-length-2
 same-length-2 c = search needs

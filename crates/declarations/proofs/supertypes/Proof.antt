@@ -1,3 +1,4 @@
+-- By its rule in Clauses, which takes each step's answer.
 use Rattle.declarations.proofs.supertypes.Statement.{statement}
 use Rattle.declarations.proofs.supertypes.Tie as tie
 use borrow.Author.Needs.{needs}
@@ -30,17 +31,19 @@ enum-told c = search needs
 returns-2 : tie.Need-returns-2
 returns-2 c =
     let t = seen-one (c .before .before .before .before .before .before .before .args .terminals .now) (c .before .before .before .before .before .before .before .args .p) 134
-        (c .before .before .before .before .token .ensures) (c .before .before .before .if1 .left) in
+    (c .before .before .before .before .token .ensures) (c .before .before .before .if1 .left) in
     opt-present t (refused-sound (c .before .before .before .before .before .before .before .args .terminals .now) (c .before .before .expect .result) (c .enum-told .given .1))
-        (supertypes-stopped t (c .before .before .expect .ensures) (c .enum-told .given .1))
+    (supertypes-stopped t (c .before .before .expect .ensures) (c .enum-told .given .1))
 
 ids-requires : tie.Need-ids-requires
 ids-requires c κs =
     let l = one-inside (c .before .before .before .before .before .before .before .before .before .args .terminals .now)
-        (c .before .before .before .before .before .before .before .before .before .args .p) (c .before .before .before .before .before .before .token .result) 134
-        (c .before .before .before .before .before .before .token .ensures) (c .before .before .before .before .before .if1 .left) (omega arith) in
-    (expect-ready (c .before .before .before .before .expect .ensures) (onward (c .before .before .before .before .before .before .before .before .before .pre) l)
-        (c .before .before .of .given .1), omega arith)
+    (c .before .before .before .before .before .before .before .before .before .args .p) (c .before .before .before .before .before .before .token .result) 134
+    (c .before .before .before .before .before .before .token .ensures) (c .before .before .before .before .before .if1 .left) (omega arith) in (
+      expect-ready (c .before .before .before .before .expect .ensures) (onward (c .before .before .before .before .before .before .before .before .before .pre) l)
+          (c .before .before .of .given .1),
+      omega arith,
+    )
 
 same-length : tie.Need-same-length
 same-length c = search needs
@@ -48,11 +51,11 @@ same-length c = search needs
 returns-3 : tie.Need-returns-3
 returns-3 c =
     let t = seen-one (c .before .before .before .before .before .before .before .before .before .before .before .before .args .terminals .now)
-        (c .before .before .before .before .before .before .before .before .before .before .before .before .args .p) 134
-        (c .before .before .before .before .before .before .before .before .before .token .ensures)
-        (c .before .before .before .before .before .before .before .before .if1 .left) in
+    (c .before .before .before .before .before .before .before .before .before .before .before .before .args .p) 134
+    (c .before .before .before .before .before .before .before .before .before .token .ensures)
+    (c .before .before .before .before .before .before .before .before .if1 .left) in
     opt-present t (c .before .before .ids .ensures .sound) (supertypes-go t (c .before .before .before .before .before .before .before .expect .ensures)
-        (c .before .before .before .before .before .of .given .1) (c .before .before .ids .ensures))
+    (c .before .before .before .before .before .of .given .1) (c .before .before .ids .ensures))
 
 pub supertypes-spec : {M : Type 1} → statement M
 supertypes-spec =

@@ -1,3 +1,4 @@
+-- By its rule in Clauses, which takes each step's answer.
 use Rattle.declarations.proofs.type_declaration.Statement.{statement}
 use Rattle.declarations.proofs.type_declaration.Tie as tie
 use borrow.Author.Needs.{needs}
@@ -78,13 +79,13 @@ returns-4 c = type-4 (c .before .before .before .before .before .before .before 
 rules-requires : tie.Need-rules-requires
 rules-requires c κs =
     let g = expect-ready (c .before .before .before .before .before .before .before .before .before .before .before .before .before .before .before .expect .ensures) (sound-ready
-        (c .before .before .before .before .before .before .before .before .before .before .before .before .before .before .before .before .before .before .before .head .result)
-        (c .before .before .before .before .before .before .before .before .before .before .before .before .before .before .before .before .before .before .before .head .ensures
-        .sound) (c .before .before .before .before .before .before .before .before .before .before .before .before .before .before .before .before .before .name .given .1))
-        (c .before .before .before .before .before .before .before .before .before .before .before .before .before .equal .given .1) in
+    (c .before .before .before .before .before .before .before .before .before .before .before .before .before .before .before .before .before .before .before .head .result)
+    (c .before .before .before .before .before .before .before .before .before .before .before .before .before .before .before .before .before .before .before .head .ensures
+    .sound) (c .before .before .before .before .before .before .before .before .before .before .before .before .before .before .before .before .before .name .given .1))
+    (c .before .before .before .before .before .before .before .before .before .before .before .before .before .equal .given .1) in
     expect-ready (c .before .before .before .before .expect2 .ensures) (ready-of g
-        (c .before .before .before .before .before .before .before .before .before .before .underlying .ensures .ahead)
-        (c .before .before .before .before .before .before .under .given .1)) (c .before .before .semicolon .given .1)
+    (c .before .before .before .before .before .before .before .before .before .before .underlying .ensures .ahead)
+    (c .before .before .before .before .before .before .under .given .1)) (c .before .before .semicolon .given .1)
 
 enum-known-ruled : tie.Need-enum-known-ruled
 enum-known-ruled c = search needs
@@ -98,15 +99,15 @@ same-length-3 c = search needs
 returns-5 : tie.Need-returns-5
 returns-5 c =
     type-5 (c .before .before .before .before .before .before .before .before .before .before .before .before .before .before .before .before .before .before .before .before
-        .before .before .before .before .before .before .before .pre)
-        (c .before .before .before .before .before .before .before .before .before .before .before .before .before .before .before .before .before .before .before .before .before
-        .before .before .before .head .ensures) (c .before .before .before .before .before .before .before .before .before .before .before .before .before .before .before .before
-        .before .before .before .before .before .before .name .given .1)
-        (c .before .before .before .before .before .before .before .before .before .before .before .before .before .before .before .before .before .before .before .before .expect
-        .ensures) (c .before .before .before .before .before .before .before .before .before .before .before .before .before .before .before .before .before .before .equal .given
-        .1) (c .before .before .before .before .before .before .before .before .before .before .before .before .before .before .before .underlying .ensures)
-        (c .before .before .before .before .before .before .before .before .before .before .before .under .given .1)
-        (c .before .before .before .before .before .before .before .before .before .expect2 .ensures)
+    .before .before .before .before .before .before .before .pre)
+    (c .before .before .before .before .before .before .before .before .before .before .before .before .before .before .before .before .before .before .before .before .before
+    .before .before .before .head .ensures) (c .before .before .before .before .before .before .before .before .before .before .before .before .before .before .before .before
+    .before .before .before .before .before .before .name .given .1)
+    (c .before .before .before .before .before .before .before .before .before .before .before .before .before .before .before .before .before .before .before .before .expect
+    .ensures) (c .before .before .before .before .before .before .before .before .before .before .before .before .before .before .before .before .before .before .equal .given
+    .1) (c .before .before .before .before .before .before .before .before .before .before .before .before .before .before .before .underlying .ensures)
+    (c .before .before .before .before .before .before .before .before .before .before .before .under .given .1)
+    (c .before .before .before .before .before .before .before .before .before .expect2 .ensures)
     (c .before .before .before .before .before .before .before .semicolon .given .1) (c .before .before .before .before .rules .ensures) (c .enum-told5 .given .1)
 
 expect-requires-3 : tie.Need-expect-requires-3
@@ -124,31 +125,41 @@ same-length-4 c = search needs
 returns-6 : tie.Need-returns-6
 returns-6 c =
     type-6 (c .before .before .before .before .before .before .before .before .before .before .before .before .before .before .before .before .before .before .before .before
-        .before .before .before .before .before .before .before .before .before .before .before .pre)
-        (c .before .before .before .before .before .before .before .before .before .before .before .before .before .before .before .before .before .before .before .before .before
-        .before .before .before .before .before .before .before .head .ensures)
-        (c .before .before .before .before .before .before .before .before .before .before .before .before .before .before .before .before .before .before .before .before .before
-        .before .before .before .before .before .name .given .1) (c .before .before .before .before .before .before .before .before .before .before .before .before .before
-        .before .before .before .before .before .before .before .before .before .before .before .expect .ensures)
-        (c .before .before .before .before .before .before .before .before .before .before .before .before .before .before .before .before .before .before .before .before .before
-        .before .equal .given .1) (c .before .before .before .before .before .before .before .before .before .before .before .before .before .before .before .before .before
-        .before .before .underlying .ensures) (c .before .before .before .before .before .before .before .before .before .before .before .before .before .before .before .under
-        .given .1) (c .before .before .before .before .before .before .before .before .before .before .before .before .before .expect2 .ensures)
+    .before .before .before .before .before .before .before .before .before .before .before .pre)
+    (c .before .before .before .before .before .before .before .before .before .before .before .before .before .before .before .before .before .before .before .before .before
+    .before .before .before .before .before .before .before .head .ensures)
+    (c .before .before .before .before .before .before .before .before .before .before .before .before .before .before .before .before .before .before .before .before .before
+    .before .before .before .before .before .name .given .1) (c .before .before .before .before .before .before .before .before .before .before .before .before .before
+    .before .before .before .before .before .before .before .before .before .before .before .expect .ensures)
+    (c .before .before .before .before .before .before .before .before .before .before .before .before .before .before .before .before .before .before .before .before .before
+    .before .equal .given .1) (c .before .before .before .before .before .before .before .before .before .before .before .before .before .before .before .before .before
+    .before .before .underlying .ensures) (c .before .before .before .before .before .before .before .before .before .before .before .before .before .before .before .under
+    .given .1) (c .before .before .before .before .before .before .before .before .before .before .before .before .before .expect2 .ensures)
     (c .before .before .before .before .before .before .before .before .before .before .before .semicolon .given .1)
-        (c .before .before .before .before .before .before .before .before .rules .ensures) (c .before .before .before .before .ruled .given .1)
-        (c .before .before .expect3 .ensures) (c .enum-told6 .given .1)
+    (c .before .before .before .before .before .before .before .before .rules .ensures) (c .before .before .before .before .ruled .given .1)
+    (c .before .before .expect3 .ensures) (c .enum-told6 .given .1)
 
 add-closed : tie.Need-add-closed
-add-closed c = omega (arith, token-small (c .before .before .before .before .before .before .before .before .before .before .before .before .before .before .before .before
-    .before .before .before .before .before .before .before .before .before .before .before .before .before .before .before .before .before .pre))
+add-closed c = omega (
+  arith,
+  token-small (c .before .before .before .before .before .before .before .before .before .before .before .before .before .before .before .before
+      .before .before .before .before .before .before .before .before .before .before .before .before .before .before .before .before .before .pre),
+)
 
 closed-requires : tie.Need-closed-requires
-closed-requires c κs = (expect-ready (c .before .before .before .before .expect3 .ensures) (sound-ready
-    (c .before .before .before .before .before .before .before .before .before .before .rules .result)
-    (c .before .before .before .before .before .before .before .before .before .before .rules .ensures .sound)
-    (c .before .before .before .before .before .before .ruled .given .1)) (c .before .before .end .given .1), omega arith, omega (arith, token-small
-    (c .before .before .before .before .before .before .before .before .before .before .before .before .before .before .before .before .before .before .before .before .before
-    .before .before .before .before .before .before .before .before .before .before .before .before .pre)))
+closed-requires c κs = (
+  expect-ready (c .before .before .before .before .expect3 .ensures) (sound-ready
+      (c .before .before .before .before .before .before .before .before .before .before .rules .result)
+      (c .before .before .before .before .before .before .before .before .before .before .rules .ensures .sound)
+      (c .before .before .before .before .before .before .ruled .given .1)) (c .before .before .end .given .1),
+  omega arith,
+  omega (
+    arith,
+    token-small
+        (c .before .before .before .before .before .before .before .before .before .before .before .before .before .before .before .before .before .before .before .before .before
+        .before .before .before .before .before .before .before .before .before .before .before .before .pre),
+  ),
+)
 
 same-length-5 : tie.Need-same-length-5
 same-length-5 c = c .before .before .closed .kept .1 .0 ∙ (c .before .before .before .before .before .before .before .before .before .before .before .before .before .rules .kept
@@ -158,23 +169,23 @@ same-length-5 c = c .before .before .closed .kept .1 .0 ∙ (c .before .before .
 returns-7 : tie.Need-returns-7
 returns-7 c =
     type-reads (c .before .before .before .before .before .before .before .before .before .before .before .before .before .before .before .before .before .before .before .before
-        .before .before .before .before .before .before .before .before .before .before .before .before .before .before .before .before .pre)
-        (c .before .before .before .before .before .before .before .before .before .before .before .before .before .before .before .before .before .before .before .before .before
-        .before .before .before .before .before .before .before .before .before .before .before .before .head .ensures)
-        (c .before .before .before .before .before .before .before .before .before .before .before .before .before .before .before .before .before .before .before .before .before
-        .before .before .before .before .before .before .before .before .before .before .name .given .1)
-        (c .before .before .before .before .before .before .before .before .before .before .before .before .before .before .before .before .before .before .before .before .before
-        .before .before .before .before .before .before .before .before .expect .ensures)
-        (c .before .before .before .before .before .before .before .before .before .before .before .before .before .before .before .before .before .before .before .before .before
-        .before .before .before .before .before .before .equal .given .1)
-        (c .before .before .before .before .before .before .before .before .before .before .before .before .before .before .before .before .before .before .before .before .before
-        .before .before .before .underlying .ensures) (c .before .before .before .before .before .before .before .before .before .before .before .before .before .before .before
-        .before .before .before .before .before .under .given .1) (c .before .before .before .before .before .before .before .before .before .before .before .before .before
-        .before .before .before .before .before .expect2 .ensures)
+    .before .before .before .before .before .before .before .before .before .before .before .before .before .before .before .before .pre)
+    (c .before .before .before .before .before .before .before .before .before .before .before .before .before .before .before .before .before .before .before .before .before
+    .before .before .before .before .before .before .before .before .before .before .before .before .head .ensures)
+    (c .before .before .before .before .before .before .before .before .before .before .before .before .before .before .before .before .before .before .before .before .before
+    .before .before .before .before .before .before .before .before .before .before .name .given .1)
+    (c .before .before .before .before .before .before .before .before .before .before .before .before .before .before .before .before .before .before .before .before .before
+    .before .before .before .before .before .before .before .before .expect .ensures)
+    (c .before .before .before .before .before .before .before .before .before .before .before .before .before .before .before .before .before .before .before .before .before
+    .before .before .before .before .before .before .equal .given .1)
+    (c .before .before .before .before .before .before .before .before .before .before .before .before .before .before .before .before .before .before .before .before .before
+    .before .before .before .underlying .ensures) (c .before .before .before .before .before .before .before .before .before .before .before .before .before .before .before
+    .before .before .before .before .before .under .given .1) (c .before .before .before .before .before .before .before .before .before .before .before .before .before
+    .before .before .before .before .before .expect2 .ensures)
     (c .before .before .before .before .before .before .before .before .before .before .before .before .before .before .before .before .semicolon .given .1)
-        (c .before .before .before .before .before .before .before .before .before .before .before .before .before .rules .ensures)
-        (c .before .before .before .before .before .before .before .before .before .ruled .given .1) (c .before .before .before .before .before .before .before .expect3 .ensures)
-        (c .before .before .before .before .before .end .given .1) (c .before .before .closed .ensures)
+    (c .before .before .before .before .before .before .before .before .before .before .before .before .before .rules .ensures)
+    (c .before .before .before .before .before .before .before .before .before .ruled .given .1) (c .before .before .before .before .before .before .before .expect3 .ensures)
+    (c .before .before .before .before .before .end .given .1) (c .before .before .closed .ensures)
 
 pub type-declaration-spec : {M : Type 1} → statement M
 type-declaration-spec =

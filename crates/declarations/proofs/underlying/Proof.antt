@@ -1,3 +1,4 @@
+-- By its rule in Clauses, which takes each step's answer.
 use Rattle.declarations.proofs.underlying.Statement.{statement}
 use Rattle.declarations.proofs.underlying.Tie as tie
 use borrow.Author.Needs.{needs}

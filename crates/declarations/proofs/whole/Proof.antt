@@ -29,15 +29,18 @@ same-length : tie.Need-same-length
 same-length c = search needs
 
 returns : tie.Need-returns
-returns c = record { judges = judges (c .before .before .before .before .before .before .before .before .before .before .args .terminals .now) file′
-    (c .before .before .before .file .result) _ _ (c .before .before .before .before .before .before .before .first-deep .result)
-    (c .before .before .before .before .before .before .end-of .result) (c .judged .result) (c .before .before .before .before .before .before .before .first-deep .ensures)
-    (c .before .before .before .before .before .before .end-of .ensures) (c .before .before .before .file .ensures) (c .judged .ensures); few = judged-few
-    (c .before .before .before .before .before .before .before .before .before .before .args .terminals .now) (c .before .before .before .file .result)
-    (c .before .before .before .before .before .before .before .first-deep .result) (c .before .before .before .before .before .before .end-of .result) (c .judged .result)
-    (end-within (c .before .before .before .before .before .before .before .before .before .before .args .terminals .now)
-    (c .before .before .before .before .before .before .before .first-deep .result) (c .before .before .before .before .before .before .end-of .result)
-    (c .before .before .before .before .before .before .end-of .ensures)) (c .judged .ensures) (c .before .before .before .file .ensures .ahead) }
+returns c = record {
+  judges = judges (c .before .before .before .before .before .before .before .before .before .before .args .terminals .now) file′
+      (c .before .before .before .file .result) _ _ (c .before .before .before .before .before .before .before .first-deep .result)
+      (c .before .before .before .before .before .before .end-of .result) (c .judged .result) (c .before .before .before .before .before .before .before .first-deep .ensures)
+      (c .before .before .before .before .before .before .end-of .ensures) (c .before .before .before .file .ensures) (c .judged .ensures);
+  few = judged-few
+      (c .before .before .before .before .before .before .before .before .before .before .args .terminals .now) (c .before .before .before .file .result)
+      (c .before .before .before .before .before .before .before .first-deep .result) (c .before .before .before .before .before .before .end-of .result) (c .judged .result)
+      (end-within (c .before .before .before .before .before .before .before .before .before .before .args .terminals .now)
+      (c .before .before .before .before .before .before .before .first-deep .result) (c .before .before .before .before .before .before .end-of .result)
+      (c .before .before .before .before .before .before .end-of .ensures)) (c .judged .ensures) (c .before .before .before .file .ensures .ahead);
+}
 
 pub whole-spec : {M : Type 1} → statement M
 whole-spec =

@@ -1,3 +1,4 @@
+-- The readers of expressions, which call each other: each call is nearer to the end of the list, or at the same token one level further in. By Operators and Operands.
 use Prim.Native.Nat.{ℕ, _<_, _+_, _-_, _*_}
 use borrow.Fn.Kinds.{In}
 use borrow.Fn.PlainCycle.{Measures, is, falls, and}
@@ -55,11 +56,14 @@ use Rattle.ebnf.specs.Set.{mem}
 use Rattle.express.specs.tokens.Terminal.{power}
 use Rattle.express.specs.syntax.Grammar.{expression as expression′, sum as sum′, term as term′, factor as factor′, operand as operand′, relations, additions, multiplications, signs}
 use Rattle.express.proofs.syntax.Syntax.{express}
-use Rattle.expressions.proofs.Operators.{Before, before-first, again, combinable, often-refused, often-ends, often-again, once-refused, once-alone, once-ready, once-stopped, once-both}
+use Rattle.expressions.proofs.Operators.{Before, before-first, again, combinable, often-refused, often-ends}
+use Rattle.expressions.proofs.Operators.{often-again, once-refused, once-alone, once-ready, once-stopped, once-both}
 use Rattle.expressions.proofs.Terminals.{seen, seen-one, seen-other}
 use Rattle.expressions.proofs.Steps.{onward, onward-row, one-inside}
 use Rattle.expressions.proofs.Laws.{reads-at, compares-at, ready-of, rows-few, token-small}
-use Rattle.expressions.proofs.Operands.{atom-nested, atom-refused, atom-row, atom-none, operand-interval, sign-ready, sign-count, signed-refused, signed-row, operand-plain, comparison-inside, compared-there, compared-not, brace-inside, low-refused, item-refused, high-refused, end-refused, interval-count, interval-whole}
+use Rattle.expressions.proofs.Operands.{atom-nested, atom-refused, atom-row, atom-none, operand-interval, sign-ready, sign-count, signed-refused, signed-row, operand-plain}
+use Rattle.expressions.proofs.Operands.{comparison-inside, compared-there, compared-not, brace-inside, low-refused}
+use Rattle.expressions.proofs.Operands.{item-refused, high-refused, end-refused, interval-count, interval-whole}
 
 abbrev μ-atom : Measures 2 atom-kinds.ps ℕ
 μ-atom κs a = 8 * (length (a .0 .now) - a .1 .1 .0) + 0
@@ -147,13 +151,42 @@ abbrev term-below : ℕ → In 2 term-kinds.ps
 term-below t = and 2 term-kinds.ps (falls 2 term-kinds.ps _<_ μ-term t) term.Pre
 
 abbrev atom-calls : ℕ → atom-lts.Claims
-atom-calls t = (token-reads.Asked, token-reads.Learnt, expression-below t, expression.Post, expect-reads.Asked, expect-reads.Learnt, atom-label-reads.Asked, atom-label-reads.Learnt, put-row-reads.Asked, put-row-reads.Learnt)
+atom-calls t = (
+  token-reads.Asked,
+  token-reads.Learnt,
+  expression-below t,
+  expression.Post,
+  expect-reads.Asked,
+  expect-reads.Learnt,
+  atom-label-reads.Asked,
+  atom-label-reads.Learnt,
+  put-row-reads.Asked,
+  put-row-reads.Learnt,
+)
 
 abbrev compared-calls : ℕ → compared-lts.Claims
-compared-calls t = (token-reads.Asked, token-reads.Learnt, is-comparison-reads.Asked, is-comparison-reads.Learnt, put-row-reads.Asked, put-row-reads.Learnt, sum-below t, sum.Post)
+compared-calls t = (
+  token-reads.Asked,
+  token-reads.Learnt,
+  is-comparison-reads.Asked,
+  is-comparison-reads.Learnt,
+  put-row-reads.Asked,
+  put-row-reads.Learnt,
+  sum-below t,
+  sum.Post,
+)
 
 abbrev expression-calls : ℕ → expression-lts.Claims
-expression-calls t = (sum-below t, sum.Post, token-reads.Asked, token-reads.Learnt, is-relation-reads.Asked, is-relation-reads.Learnt, put-row-reads.Asked, put-row-reads.Learnt)
+expression-calls t = (
+  sum-below t,
+  sum.Post,
+  token-reads.Asked,
+  token-reads.Learnt,
+  is-relation-reads.Asked,
+  is-relation-reads.Learnt,
+  put-row-reads.Asked,
+  put-row-reads.Learnt,
+)
 
 abbrev factor-calls : ℕ → factor-lts.Claims
 factor-calls t = (operand-below t, operand.Post, token-reads.Asked, token-reads.Learnt, put-row-reads.Asked, put-row-reads.Learnt)
@@ -162,16 +195,49 @@ abbrev interval-calls : ℕ → interval-lts.Claims
 interval-calls t = (sum-below t, sum.Post, compared-below t, compared.Post, expect-reads.Asked, expect-reads.Learnt, put-row-reads.Asked, put-row-reads.Learnt)
 
 abbrev operand-calls : ℕ → operand-lts.Claims
-operand-calls t = (token-reads.Asked, token-reads.Learnt, is-qualified-reads.Asked, is-qualified-reads.Learnt, qualified-reads.Asked, qualified-reads.Learnt, interval-below t, interval.Post, is-sign-reads.Asked, is-sign-reads.Learnt, signed-below t, signed.Post, atom-below t, atom.Post)
+operand-calls t = (
+  token-reads.Asked,
+  token-reads.Learnt,
+  is-qualified-reads.Asked,
+  is-qualified-reads.Learnt,
+  qualified-reads.Asked,
+  qualified-reads.Learnt,
+  interval-below t,
+  interval.Post,
+  is-sign-reads.Asked,
+  is-sign-reads.Learnt,
+  signed-below t,
+  signed.Post,
+  atom-below t,
+  atom.Post,
+)
 
 abbrev signed-calls : ℕ → signed-lts.Claims
 signed-calls t = (atom-below t, atom.Post, put-row-reads.Asked, put-row-reads.Learnt)
 
 abbrev sum-calls : ℕ → sum-lts.Claims
-sum-calls t = (term-below t, term.Post, combined-reads.Asked, combined-reads.Learnt, token-reads.Asked, token-reads.Learnt, is-addition-reads.Asked, is-addition-reads.Learnt)
+sum-calls t = (
+  term-below t,
+  term.Post,
+  combined-reads.Asked,
+  combined-reads.Learnt,
+  token-reads.Asked,
+  token-reads.Learnt,
+  is-addition-reads.Asked,
+  is-addition-reads.Learnt,
+)
 
 abbrev term-calls : ℕ → term-lts.Claims
-term-calls t = (factor-below t, factor.Post, combined-reads.Asked, combined-reads.Learnt, token-reads.Asked, token-reads.Learnt, is-multiplication-reads.Asked, is-multiplication-reads.Learnt)
+term-calls t = (
+  factor-below t,
+  factor.Post,
+  combined-reads.Asked,
+  combined-reads.Learnt,
+  token-reads.Asked,
+  token-reads.Learnt,
+  is-multiplication-reads.Asked,
+  is-multiplication-reads.Learnt,
+)
 
 atom-token-requires : (t : ℕ) → atom-lts.Need-token-requires (atom-calls t) (atom-at t) atom.Post
 atom-token-requires t c κs = search needs
@@ -182,7 +248,7 @@ atom-add-expression t c = omega (arith, token-small (c .before .before .before .
 atom-expression-requires : (t : ℕ) → atom-lts.Need-expression-requires (atom-calls t) (atom-at t) atom.Post
 atom-expression-requires t c κs =
     let l = one-inside (c .before .before .before .before .before .args .terminals .now) (c .before .before .before .before .before .args .p)
-        (c .before .before .token .result) 24 (c .before .before .token .ensures) (c .before .if1 .taken) (omega arith) in
+    (c .before .before .token .result) 24 (c .before .before .token .ensures) (c .before .if1 .taken) (omega arith) in
     (omega (arith, c .before .before .before .before .before .pre .0, l), onward (c .before .before .before .before .before .pre .1) l)
 
 atom-enum-known-inner : (t : ℕ) → atom-lts.Need-enum-known-inner (atom-calls t) (atom-at t) atom.Post
@@ -222,12 +288,20 @@ atom-put-row-requires : (t : ℕ) → atom-lts.Need-put-row-requires (atom-calls
 atom-put-row-requires t c κs = search needs
 
 atom-add-t17 : (t : ℕ) → atom-lts.Need-add-t17 (atom-calls t) (atom-at t) atom.Post
-atom-add-t17 t c = omega (arith, token-small (c .before .before .before .before .before .before .before .before .before .before .pre .1), rows-few
-    (c .before .before .before .before .before .before .before .before .before .before .pre .1))
+atom-add-t17 t c = omega (
+  arith,
+  token-small (c .before .before .before .before .before .before .before .before .before .before .pre .1),
+  rows-few
+      (c .before .before .before .before .before .before .before .before .before .before .pre .1),
+)
 
 atom-add-t18 : (t : ℕ) → atom-lts.Need-add-t18 (atom-calls t) (atom-at t) atom.Post
-atom-add-t18 t c = omega (arith, token-small (c .before .before .before .before .before .before .before .before .before .before .pre .1), rows-few
-    (c .before .before .before .before .before .before .before .before .before .before .pre .1))
+atom-add-t18 t c = omega (
+  arith,
+  token-small (c .before .before .before .before .before .before .before .before .before .before .pre .1),
+  rows-few
+      (c .before .before .before .before .before .before .before .before .before .before .pre .1),
+)
 
 atom-same-length-3 : (t : ℕ) → atom-lts.Need-same-length-3 (atom-calls t) (atom-at t) atom.Post
 atom-same-length-3 t c = search needs
@@ -248,21 +322,31 @@ compared-put-row-requires : (t : ℕ) → compared-lts.Need-put-row-requires (co
 compared-put-row-requires t c κs = search needs
 
 compared-add-sum : (t : ℕ) → compared-lts.Need-add-sum (compared-calls t) (compared-at t) compared.Post
-compared-add-sum t c = omega (arith, token-small (c .before .before .before .before .before .before .before .before .before .before .pre .1), rows-few
-    (c .before .before .before .before .before .before .before .before .before .before .pre .1))
+compared-add-sum t c = omega (
+  arith,
+  token-small (c .before .before .before .before .before .before .before .before .before .before .pre .1),
+  rows-few
+      (c .before .before .before .before .before .before .before .before .before .before .pre .1),
+)
 
 compared-add-sum-2 : (t : ℕ) → compared-lts.Need-add-sum-2 (compared-calls t) (compared-at t) compared.Post
-compared-add-sum-2 t c = omega (arith, token-small (c .before .before .before .before .before .before .before .before .before .before .pre .1), rows-few
-    (c .before .before .before .before .before .before .before .before .before .before .pre .1))
+compared-add-sum-2 t c = omega (
+  arith,
+  token-small (c .before .before .before .before .before .before .before .before .before .before .pre .1),
+  rows-few
+      (c .before .before .before .before .before .before .before .before .before .before .pre .1),
+)
 
 compared-sum-requires : (t : ℕ) → compared-lts.Need-sum-requires (compared-calls t) (compared-at t) compared.Post
 compared-sum-requires t c κs =
     let l = comparison-inside (c .before .before .before .before .before .before .before .before .before .before .pre .1)
-        (c .before .before .before .before .before .before .is-comparison .result) (c .before .before .before .before .before .before .before .token .result)
-        (c .before .before .before .before .before .before .before .token .ensures) (c .before .before .before .before .before .before .is-comparison .ensures)
-        (c .before .before .before .before .before .if1 .taken) in
-    (omega (arith, c .before .before .before .before .before .before .before .before .before .before .pre .0, l), onward-row
-        (c .before .before .before .before .before .before .before .before .before .before .pre .1) l)
+    (c .before .before .before .before .before .before .is-comparison .result) (c .before .before .before .before .before .before .before .token .result)
+    (c .before .before .before .before .before .before .before .token .ensures) (c .before .before .before .before .before .before .is-comparison .ensures)
+    (c .before .before .before .before .before .if1 .taken) in (
+      omega (arith, c .before .before .before .before .before .before .before .before .before .before .pre .0, l),
+      onward-row
+          (c .before .before .before .before .before .before .before .before .before .before .pre .1) l,
+    )
 
 compared-same-length : (t : ℕ) → compared-lts.Need-same-length (compared-calls t) (compared-at t) compared.Post
 compared-same-length t c = search needs
@@ -308,25 +392,36 @@ expression-same-length-2 t c = search needs
 expression-returns-2 : (t : ℕ) → expression-lts.Need-returns-2 (expression-calls t) (expression-at t) expression.Post
 expression-returns-2 t c =
     once-alone expression′ sum′ relations refl (c .before .before .before .before .before .before .before .before .before .before .before .before .pre .1)
-        (c .before .before .before .before .before .before .before .before .sum .ensures) (c .before .before .before .before .left .given .1)
+    (c .before .before .before .before .before .before .before .before .sum .ensures) (c .before .before .before .before .left .given .1)
     (seen (c .before .before .before .before .before .before .before .before .before .before .before .before .args .terminals .now)
-        (c .before .before .before .before .left .given .0 .0) relations (c .before .before .token .ensures) (c .before .is-relation .ensures) (not-true
-        (c .before .is-relation .result) (c .if1 .taken)))
+    (c .before .before .before .before .left .given .0 .0) relations (c .before .before .token .ensures) (c .before .is-relation .ensures) (not-true
+    (c .before .is-relation .result) (c .if1 .taken)))
 
 expression-add-sum : (t : ℕ) → expression-lts.Need-add-sum (expression-calls t) (expression-at t) expression.Post
-expression-add-sum t c = omega (arith, c .before .before .before .before .before .before .before .before .before .before .before .before .before .pre .1 .small, reads-at
-    (c .before .before .before .before .before .before .before .before .before .sum .ensures) (c .before .before .before .before .before .left .given .1))
+expression-add-sum t c = omega (
+  arith,
+  c .before .before .before .before .before .before .before .before .before .before .before .before .before .pre .1 .small,
+  reads-at
+      (c .before .before .before .before .before .before .before .before .before .sum .ensures) (c .before .before .before .before .before .left .given .1),
+)
 
 expression-sum-requires-2 : (t : ℕ) → expression-lts.Need-sum-requires-2 (expression-calls t) (expression-at t) expression.Post
 unfolding mem
 expression-sum-requires-2 t c κs =
     let t = seen (c .before .before .before .before .before .before .before .before .before .before .before .before .before .args .terminals .now)
-        (c .before .before .before .before .before .left .given .0 .0) relations (c .before .before .before .token .ensures) (c .before .before .is-relation .ensures) (not-false
-        (c .before .before .is-relation .result) (c .before .if1 .left)) in
+    (c .before .before .before .before .before .left .given .0 .0) relations (c .before .before .before .token .ensures) (c .before .before .is-relation .ensures) (not-false
+    (c .before .before .is-relation .result) (c .before .if1 .left)) in
     let g = once-ready expression′ sum′ relations refl (c .before .before .before .before .before .before .before .before .before .before .before .before .before .pre .1)
-        (c .before .before .before .before .before .before .before .before .before .sum .ensures) (c .before .before .before .before .before .left .given .1) t refl in
-    (omega (arith, c .before .before .before .before .before .before .before .before .before .before .before .before .before .pre .0, reads-at
-        (c .before .before .before .before .before .before .before .before .before .sum .ensures) (c .before .before .before .before .before .left .given .1), g .within), g)
+    (c .before .before .before .before .before .before .before .before .before .sum .ensures) (c .before .before .before .before .before .left .given .1) t refl in (
+      omega (
+        arith,
+        c .before .before .before .before .before .before .before .before .before .before .before .before .before .pre .0,
+        reads-at
+            (c .before .before .before .before .before .before .before .before .before .sum .ensures) (c .before .before .before .before .before .left .given .1),
+        g .within,
+      ),
+      g,
+    )
 
 expression-enum-known-right : (t : ℕ) → expression-lts.Need-enum-known-right (expression-calls t) (expression-at t) expression.Post
 expression-enum-known-right t c = search needs
@@ -340,24 +435,30 @@ expression-same-length-3 t c = search needs
 expression-returns-3 : (t : ℕ) → expression-lts.Need-returns-3 (expression-calls t) (expression-at t) expression.Post
 expression-returns-3 t c =
     once-stopped expression′ sum′ relations refl (c .before .before .before .before .before .before .before .before .before .before .before .before .before .before .before
-        .before .before .before .pre .1) (c .before .before .before .before .before .before .before .before .before .before .before .before .before .before .sum .ensures)
-        (c .before .before .before .before .before .before .before .before .before .before .left .given .1)
+    .before .before .before .pre .1) (c .before .before .before .before .before .before .before .before .before .before .before .before .before .before .sum .ensures)
+    (c .before .before .before .before .before .before .before .before .before .before .left .given .1)
     (seen (c .before .before .before .before .before .before .before .before .before .before .before .before .before .before .before .before .before .before .args .terminals
-        .now) (c .before .before .before .before .before .before .before .before .before .before .left .given .0 .0) relations
-        (c .before .before .before .before .before .before .before .before .token .ensures) (c .before .before .before .before .before .before .before .is-relation .ensures)
-        (not-false (c .before .before .before .before .before .before .before .is-relation .result) (c .before .before .before .before .before .before .if1 .left)))
+    .now) (c .before .before .before .before .before .before .before .before .before .before .left .given .0 .0) relations
+    (c .before .before .before .before .before .before .before .before .token .ensures) (c .before .before .before .before .before .before .before .is-relation .ensures)
+    (not-false (c .before .before .before .before .before .before .before .is-relation .result) (c .before .before .before .before .before .before .if1 .left)))
     (c .before .before .before .before .sum2 .ensures) (c .enum-told2 .given .1)
 
 expression-put-row-requires : (t : ℕ) → expression-lts.Need-put-row-requires (expression-calls t) (expression-at t) expression.Post
 expression-put-row-requires t c κs = search needs
 
 expression-add-t18 : (t : ℕ) → expression-lts.Need-add-t18 (expression-calls t) (expression-at t) expression.Post
-expression-add-t18 t c = omega (arith, c .before .before .before .before .before .before .before .before .before .before .before .before .before .before .before .before .before
-    .before .before .before .before .before .before .pre .1 .small, c .before .before .before .before .before .before .before .before .before .before .before .before .before
-    .before .before .before .before .before .before .before .before .before .before .pre .1 .behind, reads-at
-    (c .before .before .before .before .before .before .before .before .before .before .before .before .before .before .before .before .before .before .before .sum .ensures)
-    (c .before .before .before .before .before .before .before .before .before .before .before .before .before .before .before .left .given .1), reads-at
-    (c .before .before .before .before .before .before .before .before .before .sum2 .ensures) (c .before .before .before .before .before .right .given .1))
+expression-add-t18 t c = omega (
+  arith,
+  c .before .before .before .before .before .before .before .before .before .before .before .before .before .before .before .before .before
+      .before .before .before .before .before .before .pre .1 .small,
+  c .before .before .before .before .before .before .before .before .before .before .before .before .before
+      .before .before .before .before .before .before .before .before .before .before .pre .1 .behind,
+  reads-at
+      (c .before .before .before .before .before .before .before .before .before .before .before .before .before .before .before .before .before .before .before .sum .ensures)
+      (c .before .before .before .before .before .before .before .before .before .before .before .before .before .before .before .left .given .1),
+  reads-at
+      (c .before .before .before .before .before .before .before .before .before .sum2 .ensures) (c .before .before .before .before .before .right .given .1),
+)
 
 expression-same-length-4 : (t : ℕ) → expression-lts.Need-same-length-4 (expression-calls t) (expression-at t) expression.Post
 expression-same-length-4 t c = search needs
@@ -365,15 +466,15 @@ expression-same-length-4 t c = search needs
 expression-returns-4 : (t : ℕ) → expression-lts.Need-returns-4 (expression-calls t) (expression-at t) expression.Post
 expression-returns-4 t c =
     once-both expression′ sum′ relations refl (c .before .before .before .before .before .before .before .before .before .before .before .before .before .before .before .before
-        .before .before .before .before .before .before .before .pre .1)
-        (c .before .before .before .before .before .before .before .before .before .before .before .before .before .before .before .before .before .before .before .sum .ensures)
-        (c .before .before .before .before .before .before .before .before .before .before .before .before .before .before .before .left .given .1)
+    .before .before .before .before .before .before .before .pre .1)
+    (c .before .before .before .before .before .before .before .before .before .before .before .before .before .before .before .before .before .before .before .sum .ensures)
+    (c .before .before .before .before .before .before .before .before .before .before .before .before .before .before .before .left .given .1)
     (seen (c .before .before .before .before .before .before .before .before .before .before .before .before .before .before .before .before .before .before .before .before
-        .before .before .before .args .terminals .now) (c .before .before .before .before .before .before .before .before .before .before .before .before .before .before .before
-        .left .given .0 .0) relations (c .before .before .before .before .before .before .before .before .before .before .before .before .before .token .ensures)
-        (c .before .before .before .before .before .before .before .before .before .before .before .before .is-relation .ensures) (not-false
-        (c .before .before .before .before .before .before .before .before .before .before .before .before .is-relation .result)
-        (c .before .before .before .before .before .before .before .before .before .before .before .if1 .left)))
+    .before .before .before .args .terminals .now) (c .before .before .before .before .before .before .before .before .before .before .before .before .before .before .before
+    .left .given .0 .0) relations (c .before .before .before .before .before .before .before .before .before .before .before .before .before .token .ensures)
+    (c .before .before .before .before .before .before .before .before .before .before .before .before .is-relation .ensures) (not-false
+    (c .before .before .before .before .before .before .before .before .before .before .before .before .is-relation .result)
+    (c .before .before .before .before .before .before .before .before .before .before .before .if1 .left)))
     (c .before .before .before .before .before .before .before .before .before .sum2 .ensures) (c .before .before .before .before .before .right .given .1) (c .before .before .put-row .ensures)
 
 factor-operand-requires : (t : ℕ) → factor-lts.Need-operand-requires (factor-calls t) (factor-at t) factor.Post
@@ -401,23 +502,34 @@ factor-same-length-2 t c = search needs
 factor-returns-2 : (t : ℕ) → factor-lts.Need-returns-2 (factor-calls t) (factor-at t) factor.Post
 factor-returns-2 t c =
     once-alone factor′ operand′ power refl (c .before .before .before .before .before .before .before .before .before .before .before .pre .1)
-        (c .before .before .before .before .before .before .before .operand .ensures) (c .before .before .before .left .given .1)
+    (c .before .before .before .before .before .before .before .operand .ensures) (c .before .before .before .left .given .1)
     (seen-other (c .before .before .before .before .before .before .before .before .before .before .before .args .terminals .now)
-        (c .before .before .before .left .given .0 .0) 32 (c .before .token .ensures) (c .if1 .taken))
+    (c .before .before .before .left .given .0 .0) 32 (c .before .token .ensures) (c .if1 .taken))
 
 factor-add-operand : (t : ℕ) → factor-lts.Need-add-operand (factor-calls t) (factor-at t) factor.Post
-factor-add-operand t c = omega (arith, c .before .before .before .before .before .before .before .before .before .before .before .before .pre .1 .small, reads-at
-    (c .before .before .before .before .before .before .before .before .operand .ensures) (c .before .before .before .before .left .given .1))
+factor-add-operand t c = omega (
+  arith,
+  c .before .before .before .before .before .before .before .before .before .before .before .before .pre .1 .small,
+  reads-at
+      (c .before .before .before .before .before .before .before .before .operand .ensures) (c .before .before .before .before .left .given .1),
+)
 
 factor-operand-requires-2 : (t : ℕ) → factor-lts.Need-operand-requires-2 (factor-calls t) (factor-at t) factor.Post
 unfolding mem
 factor-operand-requires-2 t c κs =
     let t = seen-one (c .before .before .before .before .before .before .before .before .before .before .before .before .args .terminals .now)
-        (c .before .before .before .before .left .given .0 .0) 32 (c .before .before .token .ensures) (c .before .if1 .left) in
+    (c .before .before .before .before .left .given .0 .0) 32 (c .before .before .token .ensures) (c .before .if1 .left) in
     let g = once-ready factor′ operand′ power refl (c .before .before .before .before .before .before .before .before .before .before .before .before .pre .1)
-        (c .before .before .before .before .before .before .before .before .operand .ensures) (c .before .before .before .before .left .given .1) t refl in
-    (omega (arith, c .before .before .before .before .before .before .before .before .before .before .before .before .pre .0, reads-at
-        (c .before .before .before .before .before .before .before .before .operand .ensures) (c .before .before .before .before .left .given .1), g .within), g)
+    (c .before .before .before .before .before .before .before .before .operand .ensures) (c .before .before .before .before .left .given .1) t refl in (
+      omega (
+        arith,
+        c .before .before .before .before .before .before .before .before .before .before .before .before .pre .0,
+        reads-at
+            (c .before .before .before .before .before .before .before .before .operand .ensures) (c .before .before .before .before .left .given .1),
+        g .within,
+      ),
+      g,
+    )
 
 factor-enum-known-right : (t : ℕ) → factor-lts.Need-enum-known-right (factor-calls t) (factor-at t) factor.Post
 factor-enum-known-right t c = search needs
@@ -431,23 +543,29 @@ factor-same-length-3 t c = search needs
 factor-returns-3 : (t : ℕ) → factor-lts.Need-returns-3 (factor-calls t) (factor-at t) factor.Post
 factor-returns-3 t c =
     once-stopped factor′ operand′ power refl (c .before .before .before .before .before .before .before .before .before .before .before .before .before .before .before .before
-        .before .pre .1) (c .before .before .before .before .before .before .before .before .before .before .before .before .before .operand .ensures)
-        (c .before .before .before .before .before .before .before .before .before .left .given .1)
+    .before .pre .1) (c .before .before .before .before .before .before .before .before .before .before .before .before .before .operand .ensures)
+    (c .before .before .before .before .before .before .before .before .before .left .given .1)
     (seen-one (c .before .before .before .before .before .before .before .before .before .before .before .before .before .before .before .before .before .args .terminals .now)
-        (c .before .before .before .before .before .before .before .before .before .left .given .0 .0) 32
-        (c .before .before .before .before .before .before .before .token .ensures) (c .before .before .before .before .before .before .if1 .left))
+    (c .before .before .before .before .before .before .before .before .before .left .given .0 .0) 32
+    (c .before .before .before .before .before .before .before .token .ensures) (c .before .before .before .before .before .before .if1 .left))
     (c .before .before .before .before .operand2 .ensures) (c .enum-told2 .given .1)
 
 factor-put-row-requires : (t : ℕ) → factor-lts.Need-put-row-requires (factor-calls t) (factor-at t) factor.Post
 factor-put-row-requires t c κs = search needs
 
 factor-add-t17 : (t : ℕ) → factor-lts.Need-add-t17 (factor-calls t) (factor-at t) factor.Post
-factor-add-t17 t c = omega (arith, c .before .before .before .before .before .before .before .before .before .before .before .before .before .before .before .before .before
-    .before .before .before .before .before .pre .1 .small, c .before .before .before .before .before .before .before .before .before .before .before .before .before .before
-    .before .before .before .before .before .before .before .before .pre .1 .behind, reads-at
-    (c .before .before .before .before .before .before .before .before .before .before .before .before .before .before .before .before .before .before .operand .ensures)
-    (c .before .before .before .before .before .before .before .before .before .before .before .before .before .before .left .given .1), reads-at
-    (c .before .before .before .before .before .before .before .before .before .operand2 .ensures) (c .before .before .before .before .before .right .given .1))
+factor-add-t17 t c = omega (
+  arith,
+  c .before .before .before .before .before .before .before .before .before .before .before .before .before .before .before .before .before
+      .before .before .before .before .before .pre .1 .small,
+  c .before .before .before .before .before .before .before .before .before .before .before .before .before .before
+      .before .before .before .before .before .before .before .before .pre .1 .behind,
+  reads-at
+      (c .before .before .before .before .before .before .before .before .before .before .before .before .before .before .before .before .before .before .operand .ensures)
+      (c .before .before .before .before .before .before .before .before .before .before .before .before .before .before .left .given .1),
+  reads-at
+      (c .before .before .before .before .before .before .before .before .before .operand2 .ensures) (c .before .before .before .before .before .right .given .1),
+)
 
 factor-same-length-4 : (t : ℕ) → factor-lts.Need-same-length-4 (factor-calls t) (factor-at t) factor.Post
 factor-same-length-4 t c = search needs
@@ -455,13 +573,13 @@ factor-same-length-4 t c = search needs
 factor-returns-4 : (t : ℕ) → factor-lts.Need-returns-4 (factor-calls t) (factor-at t) factor.Post
 factor-returns-4 t c =
     once-both factor′ operand′ power refl (c .before .before .before .before .before .before .before .before .before .before .before .before .before .before .before .before
-        .before .before .before .before .before .before .pre .1) (c .before .before .before .before .before .before .before .before .before .before .before .before .before
-        .before .before .before .before .before .operand .ensures) (c .before .before .before .before .before .before .before .before .before .before .before .before .before
-        .before .left .given .1)
+    .before .before .before .before .before .before .pre .1) (c .before .before .before .before .before .before .before .before .before .before .before .before .before
+    .before .before .before .before .before .operand .ensures) (c .before .before .before .before .before .before .before .before .before .before .before .before .before
+    .before .left .given .1)
     (seen-one (c .before .before .before .before .before .before .before .before .before .before .before .before .before .before .before .before .before .before .before .before
-        .before .before .args .terminals .now) (c .before .before .before .before .before .before .before .before .before .before .before .before .before .before .left .given .0
-        .0) 32 (c .before .before .before .before .before .before .before .before .before .before .before .before .token .ensures)
-        (c .before .before .before .before .before .before .before .before .before .before .before .if1 .left))
+    .before .before .args .terminals .now) (c .before .before .before .before .before .before .before .before .before .before .before .before .before .before .left .given .0
+    .0) 32 (c .before .before .before .before .before .before .before .before .before .before .before .before .token .ensures)
+    (c .before .before .before .before .before .before .before .before .before .before .before .if1 .left))
     (c .before .before .before .before .before .before .before .before .before .operand2 .ensures) (c .before .before .before .before .before .right .given .1) (c .before .before .put-row .ensures)
 
 interval-add-sum : (t : ℕ) → interval-lts.Need-add-sum (interval-calls t) (interval-at t) interval.Post
@@ -470,7 +588,7 @@ interval-add-sum t c = omega (arith, token-small (c .before .before .before .pre
 interval-sum-requires : (t : ℕ) → interval-lts.Need-sum-requires (interval-calls t) (interval-at t) interval.Post
 interval-sum-requires t c κs =
     let l = one-inside (c .before .before .before .args .terminals .now) (c .before .before .before .args .p) (getD (c .before .before .before .args .terminals .now)
-        (c .before .before .before .args .p) 0) 21 refl (c .before .before .before .pre .1 .1) (omega arith) in
+    (c .before .before .before .args .p) 0) 21 refl (c .before .before .before .pre .1 .1) (omega arith) in
     (omega (arith, c .before .before .before .pre .0, l), onward (c .before .before .before .pre .1 .0) l)
 
 interval-enum-known-low : (t : ℕ) → interval-lts.Need-enum-known-low (interval-calls t) (interval-at t) interval.Post
@@ -489,11 +607,17 @@ interval-returns t c = low-refused (c .before .before .before .before .before .b
 interval-compared-requires : (t : ℕ) → interval-lts.Need-compared-requires (interval-calls t) (interval-at t) interval.Post
 interval-compared-requires t c κs =
     let g = onward (c .before .before .before .before .before .before .before .before .before .before .pre .1 .0) (brace-inside
-        (c .before .before .before .before .before .before .before .before .before .before .pre .1 .0)
-        (c .before .before .before .before .before .before .before .before .before .before .pre .1 .1) (c .before .before .before .before .before .before .sum .ensures)) in
-    (omega (arith, c .before .before .before .before .before .before .before .before .before .before .pre .0, reads-at
-        (c .before .before .before .before .before .before .sum .ensures) (c .before .before .low .given .1)), ready-of g
-        (c .before .before .before .before .before .before .sum .ensures .ahead) (c .before .before .low .given .1))
+    (c .before .before .before .before .before .before .before .before .before .before .pre .1 .0)
+    (c .before .before .before .before .before .before .before .before .before .before .pre .1 .1) (c .before .before .before .before .before .before .sum .ensures)) in (
+      omega (
+        arith,
+        c .before .before .before .before .before .before .before .before .before .before .pre .0,
+        reads-at
+            (c .before .before .before .before .before .before .sum .ensures) (c .before .before .low .given .1),
+      ),
+      ready-of g
+          (c .before .before .before .before .before .before .sum .ensures .ahead) (c .before .before .low .given .1),
+    )
 
 interval-enum-known-item : (t : ℕ) → interval-lts.Need-enum-known-item (interval-calls t) (interval-at t) interval.Post
 interval-enum-known-item t c = search needs
@@ -513,16 +637,23 @@ interval-returns-2 t c = item-refused (c .before .before .before .before .before
 interval-compared-requires-2 : (t : ℕ) → interval-lts.Need-compared-requires-2 (interval-calls t) (interval-at t) interval.Post
 interval-compared-requires-2 t c κs =
     let g = onward (c .before .before .before .before .before .before .before .before .before .before .before .before .before .before .before .before .before .pre .1 .0)
-        (brace-inside (c .before .before .before .before .before .before .before .before .before .before .before .before .before .before .before .before .before .pre .1 .0)
-        (c .before .before .before .before .before .before .before .before .before .before .before .before .before .before .before .before .before .pre .1 .1)
-        (c .before .before .before .before .before .before .before .before .before .before .before .before .before .sum .ensures)) in
+    (brace-inside (c .before .before .before .before .before .before .before .before .before .before .before .before .before .before .before .before .before .pre .1 .0)
+    (c .before .before .before .before .before .before .before .before .before .before .before .before .before .before .before .before .before .pre .1 .1)
+    (c .before .before .before .before .before .before .before .before .before .before .before .before .before .sum .ensures)) in
     let h = ready-of g (c .before .before .before .before .before .before .before .before .before .before .before .before .before .sum .ensures .ahead)
-        (c .before .before .before .before .before .before .before .before .before .low .given .1) in
-    (omega (arith, c .before .before .before .before .before .before .before .before .before .before .before .before .before .before .before .before .before .pre .0, reads-at
-        (c .before .before .before .before .before .before .before .before .before .before .before .before .before .sum .ensures)
-        (c .before .before .before .before .before .before .before .before .before .low .given .1), compares-at
-        (c .before .before .before .before .before .before .compared .ensures) (c .before .before .item .given .1)), ready-of h
-        (c .before .before .before .before .before .before .compared .ensures .ahead) (c .before .before .item .given .1))
+    (c .before .before .before .before .before .before .before .before .before .low .given .1) in (
+      omega (
+        arith,
+        c .before .before .before .before .before .before .before .before .before .before .before .before .before .before .before .before .before .pre .0,
+        reads-at
+            (c .before .before .before .before .before .before .before .before .before .before .before .before .before .sum .ensures)
+            (c .before .before .before .before .before .before .before .before .before .low .given .1),
+        compares-at
+            (c .before .before .before .before .before .before .compared .ensures) (c .before .before .item .given .1),
+      ),
+      ready-of h
+          (c .before .before .before .before .before .before .compared .ensures .ahead) (c .before .before .item .given .1),
+    )
 
 interval-enum-known-high : (t : ℕ) → interval-lts.Need-enum-known-high (interval-calls t) (interval-at t) interval.Post
 interval-enum-known-high t c = search needs
@@ -557,13 +688,13 @@ interval-same-length-4 t c = search needs
 interval-returns-4 : (t : ℕ) → interval-lts.Need-returns-4 (interval-calls t) (interval-at t) interval.Post
 interval-returns-4 t c =
     end-refused (c .before .before .before .before .before .before .before .before .before .before .before .before .before .before .before .before .before .before .before .before
-        .before .before .before .before .before .before .pre .1 .0) (c .before .before .before .before .before .before .before .before .before .before .before .before .before
-        .before .before .before .before .before .before .before .before .before .before .before .before .before .pre .1 .1)
-        (c .before .before .before .before .before .before .before .before .before .before .before .before .before .before .before .before .before .before .before .before .before
-        .before .sum .ensures) (c .before .before .before .before .before .before .before .before .before .before .before .before .before .before .before .before .before .before
-        .low .given .1) (c .before .before .before .before .before .before .before .before .before .before .before .before .before .before .before .compared .ensures)
-        (c .before .before .before .before .before .before .before .before .before .before .before .item .given .1)
-        (c .before .before .before .before .before .before .before .before .compared2 .ensures) (c .before .before .before .before .high .given .1)
+    .before .before .before .before .before .before .pre .1 .0) (c .before .before .before .before .before .before .before .before .before .before .before .before .before
+    .before .before .before .before .before .before .before .before .before .before .before .before .before .pre .1 .1)
+    (c .before .before .before .before .before .before .before .before .before .before .before .before .before .before .before .before .before .before .before .before .before
+    .before .sum .ensures) (c .before .before .before .before .before .before .before .before .before .before .before .before .before .before .before .before .before .before
+    .low .given .1) (c .before .before .before .before .before .before .before .before .before .before .before .before .before .before .before .compared .ensures)
+    (c .before .before .before .before .before .before .before .before .before .before .before .item .given .1)
+    (c .before .before .before .before .before .before .before .before .compared2 .ensures) (c .before .before .before .before .high .given .1)
     (c .before .before .expect .ensures) (c .enum-told4 .given .1)
 
 interval-put-row-requires : (t : ℕ) → interval-lts.Need-put-row-requires (interval-calls t) (interval-at t) interval.Post
@@ -572,16 +703,16 @@ interval-put-row-requires t c κs = search needs
 interval-add-t19 : (t : ℕ) → interval-lts.Need-add-t19 (interval-calls t) (interval-at t) interval.Post
 interval-add-t19 t c =
     let l = interval-count (c .before .before .before .before .before .before .before .before .before .before .before .before .before .before .before .before .before .before
-        .before .before .before .before .before .before .before .before .before .before .before .before .before .pre .1 .0)
-        (c .before .before .before .before .before .before .before .before .before .before .before .before .before .before .before .before .before .before .before .before .before
-        .before .before .before .before .before .before .before .before .before .before .pre .1 .1)
-        (c .before .before .before .before .before .before .before .before .before .before .before .before .before .before .before .before .before .before .before .before .before
-        .before .before .before .before .before .before .sum .ensures)
-        (c .before .before .before .before .before .before .before .before .before .before .before .before .before .before .before .before .before .before .before .before .before
-        .before .before .low .given .1) (c .before .before .before .before .before .before .before .before .before .before .before .before .before .before .before .before .before
-        .before .before .before .compared .ensures) (c .before .before .before .before .before .before .before .before .before .before .before .before .before .before .before
-        .before .item .given .1) (c .before .before .before .before .before .before .before .before .before .before .before .before .before .compared2 .ensures)
-        (c .before .before .before .before .before .before .before .before .before .high .given .1)
+    .before .before .before .before .before .before .before .before .before .before .before .before .before .pre .1 .0)
+    (c .before .before .before .before .before .before .before .before .before .before .before .before .before .before .before .before .before .before .before .before .before
+    .before .before .before .before .before .before .before .before .before .before .pre .1 .1)
+    (c .before .before .before .before .before .before .before .before .before .before .before .before .before .before .before .before .before .before .before .before .before
+    .before .before .before .before .before .before .sum .ensures)
+    (c .before .before .before .before .before .before .before .before .before .before .before .before .before .before .before .before .before .before .before .before .before
+    .before .before .low .given .1) (c .before .before .before .before .before .before .before .before .before .before .before .before .before .before .before .before .before
+    .before .before .before .compared .ensures) (c .before .before .before .before .before .before .before .before .before .before .before .before .before .before .before
+    .before .item .given .1) (c .before .before .before .before .before .before .before .before .before .before .before .before .before .compared2 .ensures)
+    (c .before .before .before .before .before .before .before .before .before .high .given .1)
     (c .before .before .before .before .before .before .before .expect .ensures) (c .before .before .before .before .before .end .given .1) in
     omega (arith, l)
 
@@ -595,16 +726,16 @@ interval-same-length-5 t c = c .before .before .put-row .kept .0 ∙
 interval-returns-5 : (t : ℕ) → interval-lts.Need-returns-5 (interval-calls t) (interval-at t) interval.Post
 interval-returns-5 t c =
     interval-whole (c .before .before .before .before .before .before .before .before .before .before .before .before .before .before .before .before .before .before .before
-        .before .before .before .before .before .before .before .before .before .before .before .before .pre .1 .0)
-        (c .before .before .before .before .before .before .before .before .before .before .before .before .before .before .before .before .before .before .before .before .before
-        .before .before .before .before .before .before .before .before .before .before .pre .1 .1)
-        (c .before .before .before .before .before .before .before .before .before .before .before .before .before .before .before .before .before .before .before .before .before
-        .before .before .before .before .before .before .sum .ensures)
-        (c .before .before .before .before .before .before .before .before .before .before .before .before .before .before .before .before .before .before .before .before .before
-        .before .before .low .given .1) (c .before .before .before .before .before .before .before .before .before .before .before .before .before .before .before .before .before
-        .before .before .before .compared .ensures) (c .before .before .before .before .before .before .before .before .before .before .before .before .before .before .before
-        .before .item .given .1) (c .before .before .before .before .before .before .before .before .before .before .before .before .before .compared2 .ensures)
-        (c .before .before .before .before .before .before .before .before .before .high .given .1)
+    .before .before .before .before .before .before .before .before .before .before .before .before .pre .1 .0)
+    (c .before .before .before .before .before .before .before .before .before .before .before .before .before .before .before .before .before .before .before .before .before
+    .before .before .before .before .before .before .before .before .before .before .pre .1 .1)
+    (c .before .before .before .before .before .before .before .before .before .before .before .before .before .before .before .before .before .before .before .before .before
+    .before .before .before .before .before .before .sum .ensures)
+    (c .before .before .before .before .before .before .before .before .before .before .before .before .before .before .before .before .before .before .before .before .before
+    .before .before .low .given .1) (c .before .before .before .before .before .before .before .before .before .before .before .before .before .before .before .before .before
+    .before .before .before .compared .ensures) (c .before .before .before .before .before .before .before .before .before .before .before .before .before .before .before
+    .before .item .given .1) (c .before .before .before .before .before .before .before .before .before .before .before .before .before .compared2 .ensures)
+    (c .before .before .before .before .before .before .before .before .before .high .given .1)
     (c .before .before .before .before .before .before .before .expect .ensures) (c .before .before .before .before .before .end .given .1) (c .before .before .put-row .ensures)
 
 operand-token-requires : (t : ℕ) → operand-lts.Need-token-requires (operand-calls t) (operand-at t) operand.Post
@@ -623,8 +754,10 @@ operand-returns : (t : ℕ) → operand-lts.Need-returns (operand-calls t) (oper
 operand-returns t c = c .before .before .qualified .ensures
 
 operand-interval-requires : (t : ℕ) → operand-lts.Need-interval-requires (operand-calls t) (operand-at t) operand.Post
-operand-interval-requires t c κs = (omega (arith, c .before .before .before .before .before .before .before .pre .0),
-    (c .before .before .before .before .before .before .before .pre .1, sym (c .before .before .before .before .token .ensures) ∙ c .before .if2 .taken))
+operand-interval-requires t c κs = (
+  omega (arith, c .before .before .before .before .before .before .before .pre .0),
+  (c .before .before .before .before .before .before .before .pre .1, sym (c .before .before .before .before .token .ensures) ∙ c .before .if2 .taken),
+)
 
 operand-same-length-2 : (t : ℕ) → operand-lts.Need-same-length-2 (operand-calls t) (operand-at t) operand.Post
 operand-same-length-2 t c = search needs
@@ -639,11 +772,16 @@ operand-is-sign-requires : (t : ℕ) → operand-lts.Need-is-sign-requires (oper
 operand-is-sign-requires t c κs = search needs
 
 operand-signed-requires : (t : ℕ) → operand-lts.Need-signed-requires (operand-calls t) (operand-at t) operand.Post
-operand-signed-requires t c κs = (omega (arith, c .before .before .before .before .before .before .before .before .before .pre .0),
-    (c .before .before .before .before .before .before .before .before .before .pre .1, seen
-    (c .before .before .before .before .before .before .before .before .before .args .terminals .now)
-    (c .before .before .before .before .before .before .before .before .before .args .p) signs (c .before .before .before .before .before .before .token .ensures)
-    (c .before .before .is-sign .ensures) (c .before .if3 .taken)))
+operand-signed-requires t c κs = (
+  omega (arith, c .before .before .before .before .before .before .before .before .before .pre .0),
+  (
+    c .before .before .before .before .before .before .before .before .before .pre .1,
+    seen
+        (c .before .before .before .before .before .before .before .before .before .args .terminals .now)
+        (c .before .before .before .before .before .before .before .before .before .args .p) signs (c .before .before .before .before .before .before .token .ensures)
+        (c .before .before .is-sign .ensures) (c .before .if3 .taken),
+  ),
+)
 
 operand-same-length-3 : (t : ℕ) → operand-lts.Need-same-length-3 (operand-calls t) (operand-at t) operand.Post
 operand-same-length-3 t c = search needs
@@ -652,8 +790,11 @@ operand-returns-3 : (t : ℕ) → operand-lts.Need-returns-3 (operand-calls t) (
 operand-returns-3 t c = c .before .before .signed .ensures
 
 operand-atom-requires : (t : ℕ) → operand-lts.Need-atom-requires (operand-calls t) (operand-at t) operand.Post
-operand-atom-requires t c κs = (omega (arith, c .before .before .before .before .before .before .before .before .before .pre .0), c .before .before .before .before .before
-    .before .before .before .before .pre .1)
+operand-atom-requires t c κs = (
+  omega (arith, c .before .before .before .before .before .before .before .before .before .pre .0),
+  c .before .before .before .before .before
+      .before .before .before .before .pre .1,
+)
 
 operand-same-length-4 : (t : ℕ) → operand-lts.Need-same-length-4 (operand-calls t) (operand-at t) operand.Post
 operand-same-length-4 t c = search needs
@@ -661,12 +802,12 @@ operand-same-length-4 t c = search needs
 operand-returns-4 : (t : ℕ) → operand-lts.Need-returns-4 (operand-calls t) (operand-at t) operand.Post
 operand-returns-4 t c =
     operand-plain (c .before .before .before .before .before .before .before .before .before .before .before .before .pre .1)
-        (c .before .before .before .before .before .before .before .before .is-qualified .result)
-        (c .before .before .before .before .before .before .before .before .is-qualified .ensures) (c .before .before .before .before .before .before .before .if1 .left)
-        (c .before .before .before .before .before .before .before .before .before .token .result)
-        (c .before .before .before .before .before .before .before .before .before .token .ensures) (c .before .before .before .before .before .before .if2 .left)
+    (c .before .before .before .before .before .before .before .before .is-qualified .result)
+    (c .before .before .before .before .before .before .before .before .is-qualified .ensures) (c .before .before .before .before .before .before .before .if1 .left)
+    (c .before .before .before .before .before .before .before .before .before .token .result)
+    (c .before .before .before .before .before .before .before .before .before .token .ensures) (c .before .before .before .before .before .before .if2 .left)
     (c .before .before .before .before .before .is-sign .result) (c .before .before .before .before .before .is-sign .ensures) (c .before .before .before .before .if3 .left)
-        (c .before .before .atom .ensures)
+    (c .before .before .atom .ensures)
 
 signed-add-atom : (t : ℕ) → signed-lts.Need-add-atom (signed-calls t) (signed-at t) signed.Post
 signed-add-atom t c = omega (arith, token-small (c .before .before .before .pre .1 .0))
@@ -693,9 +834,12 @@ signed-put-row-requires : (t : ℕ) → signed-lts.Need-put-row-requires (signed
 signed-put-row-requires t c κs = search needs
 
 signed-add-t10 : (t : ℕ) → signed-lts.Need-add-t10 (signed-calls t) (signed-at t) signed.Post
-signed-add-t10 t c = omega (arith, sign-count (c .before .before .before .before .before .before .before .before .before .before .before .before .before .pre .1 .0)
-    (c .before .before .before .before .before .before .before .before .before .before .before .before .before .pre .1 .1)
-    (c .before .before .before .before .before .before .before .before .before .atom .ensures) (c .before .before .before .before .before .inner .given .1))
+signed-add-t10 t c = omega (
+  arith,
+  sign-count (c .before .before .before .before .before .before .before .before .before .before .before .before .before .pre .1 .0)
+      (c .before .before .before .before .before .before .before .before .before .before .before .before .before .pre .1 .1)
+      (c .before .before .before .before .before .before .before .before .before .atom .ensures) (c .before .before .before .before .before .inner .given .1),
+)
 
 signed-same-length-2 : (t : ℕ) → signed-lts.Need-same-length-2 (signed-calls t) (signed-at t) signed.Post
 signed-same-length-2 t c = search needs
@@ -747,33 +891,41 @@ sum-same-length-2 t c = search needs
 sum-returns-2 : (t : ℕ) → sum-lts.Need-returns-2 (sum-calls t) (sum-at t) sum.Post sum-Inv-loop sum-μ-loop
 sum-returns-2 t c =
     often-ends sum′ term′ additions refl (express .ok sum′ .1) (c .before .before .before .before .before .before .before .before .before .before .before .before .before .before
-        .before .before .before .pre .1) (c .before .before .before .before .before .before .before .before .before .before .before .before .before .before .loop .inv .1)
-        (c .before .before .before .before .before .before .before .before .before .before .before .before .term .ensures)
-        (c .before .before .before .before .before .before .before .before .right .given .1) (c .before .before .before .before .before .combined .ensures)
+    .before .before .before .pre .1) (c .before .before .before .before .before .before .before .before .before .before .before .before .before .before .loop .inv .1)
+    (c .before .before .before .before .before .before .before .before .before .before .before .before .term .ensures)
+    (c .before .before .before .before .before .before .before .before .right .given .1) (c .before .before .before .before .before .combined .ensures)
     (seen (c .before .before .before .before .before .before .before .before .before .before .before .before .before .before .before .before .before .args .terminals .now)
-        (c .before .before .before .before .before .before .before .before .right .given .0 .0) additions (c .before .before .token .ensures) (c .before .is-addition .ensures)
-        (not-true (c .before .is-addition .result) (c .if1 .taken)))
+    (c .before .before .before .before .before .before .before .before .right .given .0 .0) additions (c .before .before .token .ensures) (c .before .is-addition .ensures)
+    (not-true (c .before .is-addition .result) (c .if1 .taken)))
 
 sum-add-q : (t : ℕ) → sum-lts.Need-add-q (sum-calls t) (sum-at t) sum.Post sum-Inv-loop sum-μ-loop
-sum-add-q t c = omega (arith, c .before .before .before .before .before .before .before .before .before .before .before .before .before .before .before .before .before .pre .1
-    .small, reads-at (c .before .before .before .before .before .before .before .before .before .before .before .before .term .ensures)
-    (c .before .before .before .before .before .before .before .before .right .given .1))
+sum-add-q t c = omega (
+  arith,
+  c .before .before .before .before .before .before .before .before .before .before .before .before .before .before .before .before .before .pre .1
+      .small,
+  reads-at (c .before .before .before .before .before .before .before .before .before .before .before .before .term .ensures)
+      (c .before .before .before .before .before .before .before .before .right .given .1),
+)
 
 sum-loop-less : (t : ℕ) → sum-lts.Need-loop-less (sum-calls t) (sum-at t) sum.Post sum-Inv-loop sum-μ-loop
-sum-loop-less t c = omega (arith, reads-at (c .before .before .before .before .before .before .before .before .before .before .before .before .term .ensures)
-    (c .before .before .before .before .before .before .before .before .right .given .1))
+sum-loop-less t c = omega (
+  arith,
+  reads-at (c .before .before .before .before .before .before .before .before .before .before .before .before .term .ensures)
+      (c .before .before .before .before .before .before .before .before .right .given .1),
+)
 
 sum-loop-again : (t : ℕ) → sum-lts.Need-loop-again (sum-calls t) (sum-at t) sum.Post sum-Inv-loop sum-μ-loop
 unfolding mem
-sum-loop-again t c =
-    (search needs,
-    often-again sum′ term′ additions refl (express .ok sum′ .1) (c .before .before .before .before .before .before .before .before .before .before .before .before .before .before
-        .before .before .before .pre .1) (c .before .before .before .before .before .before .before .before .before .before .before .before .before .before .loop .inv .1)
-        (c .before .before .before .before .before .before .before .before .before .before .before .before .term .ensures)
-        (c .before .before .before .before .before .before .before .before .right .given .1) (c .before .before .before .before .before .combined .ensures) refl
-    (seen (c .before .before .before .before .before .before .before .before .before .before .before .before .before .before .before .before .before .args .terminals .now)
-        (c .before .before .before .before .before .before .before .before .right .given .0 .0) additions (c .before .before .token .ensures) (c .before .is-addition .ensures)
-        (not-false (c .before .is-addition .result) (c .if1 .left))))
+sum-loop-again t c = (
+  search needs,
+  often-again sum′ term′ additions refl (express .ok sum′ .1) (c .before .before .before .before .before .before .before .before .before .before .before .before .before .before
+      .before .before .before .pre .1) (c .before .before .before .before .before .before .before .before .before .before .before .before .before .before .loop .inv .1)
+      (c .before .before .before .before .before .before .before .before .before .before .before .before .term .ensures)
+      (c .before .before .before .before .before .before .before .before .right .given .1) (c .before .before .before .before .before .combined .ensures) refl
+      (seen (c .before .before .before .before .before .before .before .before .before .before .before .before .before .before .before .before .before .args .terminals .now)
+      (c .before .before .before .before .before .before .before .before .right .given .0 .0) additions (c .before .before .token .ensures) (c .before .is-addition .ensures)
+      (not-false (c .before .is-addition .result) (c .if1 .left))),
+)
 
 abbrev term-Inv-loop : term-lts.InvT-loop
 term-Inv-loop terminals rows₀ p n q₀ m₀ rows q m = (length rows ≡ length rows₀) × Before term′ factor′ multiplications (again multiplications factor′) terminals p n rows₀ q m rows
@@ -816,35 +968,43 @@ term-same-length-2 t c = search needs
 term-returns-2 : (t : ℕ) → term-lts.Need-returns-2 (term-calls t) (term-at t) term.Post term-Inv-loop term-μ-loop
 term-returns-2 t c =
     often-ends term′ factor′ multiplications refl (express .ok term′ .1)
-        (c .before .before .before .before .before .before .before .before .before .before .before .before .before .before .before .before .before .pre .1)
-        (c .before .before .before .before .before .before .before .before .before .before .before .before .before .before .loop .inv .1)
-        (c .before .before .before .before .before .before .before .before .before .before .before .before .factor .ensures)
-        (c .before .before .before .before .before .before .before .before .right .given .1) (c .before .before .before .before .before .combined .ensures)
+    (c .before .before .before .before .before .before .before .before .before .before .before .before .before .before .before .before .before .pre .1)
+    (c .before .before .before .before .before .before .before .before .before .before .before .before .before .before .loop .inv .1)
+    (c .before .before .before .before .before .before .before .before .before .before .before .before .factor .ensures)
+    (c .before .before .before .before .before .before .before .before .right .given .1) (c .before .before .before .before .before .combined .ensures)
     (seen (c .before .before .before .before .before .before .before .before .before .before .before .before .before .before .before .before .before .args .terminals .now)
-        (c .before .before .before .before .before .before .before .before .right .given .0 .0) multiplications (c .before .before .token .ensures)
-        (c .before .is-multiplication .ensures) (not-true (c .before .is-multiplication .result) (c .if1 .taken)))
+    (c .before .before .before .before .before .before .before .before .right .given .0 .0) multiplications (c .before .before .token .ensures)
+    (c .before .is-multiplication .ensures) (not-true (c .before .is-multiplication .result) (c .if1 .taken)))
 
 term-add-q : (t : ℕ) → term-lts.Need-add-q (term-calls t) (term-at t) term.Post term-Inv-loop term-μ-loop
-term-add-q t c = omega (arith, c .before .before .before .before .before .before .before .before .before .before .before .before .before .before .before .before .before .pre .1
-    .small, reads-at (c .before .before .before .before .before .before .before .before .before .before .before .before .factor .ensures)
-    (c .before .before .before .before .before .before .before .before .right .given .1))
+term-add-q t c = omega (
+  arith,
+  c .before .before .before .before .before .before .before .before .before .before .before .before .before .before .before .before .before .pre .1
+      .small,
+  reads-at (c .before .before .before .before .before .before .before .before .before .before .before .before .factor .ensures)
+      (c .before .before .before .before .before .before .before .before .right .given .1),
+)
 
 term-loop-less : (t : ℕ) → term-lts.Need-loop-less (term-calls t) (term-at t) term.Post term-Inv-loop term-μ-loop
-term-loop-less t c = omega (arith, reads-at (c .before .before .before .before .before .before .before .before .before .before .before .before .factor .ensures)
-    (c .before .before .before .before .before .before .before .before .right .given .1))
+term-loop-less t c = omega (
+  arith,
+  reads-at (c .before .before .before .before .before .before .before .before .before .before .before .before .factor .ensures)
+      (c .before .before .before .before .before .before .before .before .right .given .1),
+)
 
 term-loop-again : (t : ℕ) → term-lts.Need-loop-again (term-calls t) (term-at t) term.Post term-Inv-loop term-μ-loop
 unfolding mem
-term-loop-again t c =
-    (search needs,
-    often-again term′ factor′ multiplications refl (express .ok term′ .1)
-        (c .before .before .before .before .before .before .before .before .before .before .before .before .before .before .before .before .before .pre .1)
-        (c .before .before .before .before .before .before .before .before .before .before .before .before .before .before .loop .inv .1)
-        (c .before .before .before .before .before .before .before .before .before .before .before .before .factor .ensures)
-        (c .before .before .before .before .before .before .before .before .right .given .1) (c .before .before .before .before .before .combined .ensures) refl
-    (seen (c .before .before .before .before .before .before .before .before .before .before .before .before .before .before .before .before .before .args .terminals .now)
-        (c .before .before .before .before .before .before .before .before .right .given .0 .0) multiplications (c .before .before .token .ensures)
-        (c .before .is-multiplication .ensures) (not-false (c .before .is-multiplication .result) (c .if1 .left))))
+term-loop-again t c = (
+  search needs,
+  often-again term′ factor′ multiplications refl (express .ok term′ .1)
+      (c .before .before .before .before .before .before .before .before .before .before .before .before .before .before .before .before .before .pre .1)
+      (c .before .before .before .before .before .before .before .before .before .before .before .before .before .before .loop .inv .1)
+      (c .before .before .before .before .before .before .before .before .before .before .before .before .factor .ensures)
+      (c .before .before .before .before .before .before .before .before .right .given .1) (c .before .before .before .before .before .combined .ensures) refl
+      (seen (c .before .before .before .before .before .before .before .before .before .before .before .before .before .before .before .before .before .args .terminals .now)
+      (c .before .before .before .before .before .before .before .before .right .given .0 .0) multiplications (c .before .before .token .ensures)
+      (c .before .is-multiplication .ensures) (not-false (c .before .is-multiplication .result) (c .if1 .left))),
+)
 
 pub +atom+compared+expression+factor+interval+operand+signed+sum+term-spec :
     {M : Type 1} → statement M

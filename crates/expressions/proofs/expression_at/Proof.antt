@@ -1,3 +1,4 @@
+-- The test of a place is the condition of the reader.
 use borrow.Author.Needs.{needs}
 use Rattle.expressions.proofs.expression_at.Statement.{statement}
 use Rattle.expressions.proofs.expression_at.Tie as tie

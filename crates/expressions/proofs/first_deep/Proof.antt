@@ -1,3 +1,4 @@
+-- The table of steps is computed; what is found from each token on is what is found from the start.
 use Rattle.expressions.proofs.first_deep.Statement.{statement}
 use Rattle.expressions.proofs.first_deep.Tie as tie
 use Prim.Native.Nat.{_≤_, _-_}
@@ -42,8 +43,18 @@ array-write-steps-4 c = search needs
 
 loop-holds : tie.Need-loop-holds Inv-loop μ-loop
 unfolding mem tabulated
-loop-holds c = (rw (c .before .before .before .byte-index .ensures .0, c .before .before .byte-index2 .ensures .0, c .before .byte-index3 .ensures .0, c .byte-index4 .ensures
-    .0) refl, omega arith, omega arith, deep-start (c .before .before .before .before .before .args .terminals .now))
+loop-holds c = (
+  rw (
+    c .before .before .before .byte-index .ensures .0,
+    c .before .before .byte-index2 .ensures .0,
+    c .before .byte-index3 .ensures .0,
+    c .byte-index4 .ensures
+        .0,
+  ) refl,
+  omega arith,
+  omega arith,
+  deep-start (c .before .before .before .before .before .args .terminals .now),
+)
 
 shared-slice-read-nested : tie.Need-shared-slice-read-nested Inv-loop μ-loop
 shared-slice-read-nested c = omega arith
@@ -64,11 +75,14 @@ loop-less : tie.Need-loop-less Inv-loop μ-loop
 loop-less c = omega arith
 
 loop-again : tie.Need-loop-again Inv-loop μ-loop
-loop-again c =
-    (c .before .before .before .before .before .loop .inv .0, omega arith, omega arith,
-    sym (deep-on (c .before .before .before .before .before .before .before .before .before .before .before .args .terminals .now)
-        (c .before .before .before .before .before .loop .i) (c .before .before .before .before .before .loop .depth) _ (c .before .before .before .before .loop-test .taken) refl
-        (c .before .nested .result) (c .before .nested .ensures) (λ h. omega (arith, h, c .if1 .left))) ∙ c .before .before .before .before .before .loop .inv .3)
+loop-again c = (
+  c .before .before .before .before .before .loop .inv .0,
+  omega arith,
+  omega arith,
+  sym (deep-on (c .before .before .before .before .before .before .before .before .before .before .before .args .terminals .now)
+      (c .before .before .before .before .before .loop .i) (c .before .before .before .before .before .loop .depth) _ (c .before .before .before .before .loop-test .taken) refl
+      (c .before .nested .result) (c .before .nested .ensures) (λ h. omega (arith, h, c .if1 .left))) ∙ c .before .before .before .before .before .loop .inv .3,
+)
 
 returns-2 : tie.Need-returns-2 Inv-loop μ-loop
 returns-2 c = deep-end (c .before .before .before .before .before .before .before .args .terminals .now) (c .before .loop .i) (c .before .loop .depth) (omega arith)

@@ -1,3 +1,4 @@
+-- By the columns filled one after the other.
 use borrow.Author.Needs.{needs}
 use Rattle.expressions.proofs.lay_out.Statement.{statement}
 use Rattle.expressions.proofs.lay_out.Tie as tie

@@ -1,3 +1,4 @@
+-- The loop fills the column up to the word that it is at.
 use Rattle.expressions.proofs.unpack_roles.Statement.{statement}
 use Rattle.expressions.proofs.unpack_roles.Tie as tie
 use Prim.Native.Nat.{_-_}

@@ -1,3 +1,4 @@
+-- The loop fills the column up to the word that it is at.
 use Rattle.expressions.proofs.unpack_sizes.Statement.{statement}
 use Rattle.expressions.proofs.unpack_sizes.Tie as tie
 use Prim.Native.Nat.{_-_}
