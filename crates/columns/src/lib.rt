@@ -101,3 +101,13 @@ pub fn clear64(column: &mut [i64], from: usize)
         at += 1;
     }
 }
+
+pub fn clear_u64(column: &mut [u64], from: usize)
+    ensures { λ _. ⌜ now (column .exit) ≡ cleared 0 from (now (column .entry)) ⌝ }
+{
+    let mut i = from;
+    while i < column.len() {
+        column[i] = 0;
+        i += 1;
+    }
+}

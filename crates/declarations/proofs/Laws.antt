@@ -1,5 +1,5 @@
--- The laws of the readers of declarations: readers by value, lists, what may be missing. Assumes nothing.
-use mathlib.Core.Bool.{Bool, true, false, cond}
+-- The laws of the readers of declarations: steps, rows with nothing below them, lists, what may be missing. Assumes nothing.
+use mathlib.Core.Bool.{Bool, true, false, not, cond}
 use mathlib.Core.List.{List, [], _∷_, _++_}
 use mathlib.Core.Logic.{_⊎_, inl, inr, ⊎-elim}
 use mathlib.Core.Path.{_≡_, refl, sym, ap, subst, _∙_}
@@ -9,216 +9,206 @@ use lib.Dec.{eqb}
 use lib.ListN.{length, getD, set, List·getD-eq-default}
 use borrow.Author.Tests.{ne-eqb}
 use Rattle.ebnf.specs.Set.{mem, disjoint}
-use Rattle.ebnf.specs.Grammar.{here, node, leaf, Ebnf, none, mark, step, seq, alt, star, nt}
+use Rattle.ebnf.specs.Grammar.{node, leaf, Ebnf, none, mark, step, seq, alt, star, nt}
 use Rattle.ebnf.specs.Rows.{Rows}
 use Rattle.ebnf.specs.Parse.{first, Result}
 use Rattle.ebnf.proofs.Predictive.{Ok, ok-of}
 use Rattle.ebnf.proofs.Sets.{lt-or-le}
 use Rattle.express.specs.tokens.Terminal.{identifier, semicolon, comma}
-use Rattle.express.specs.syntax.Grammar.{Nonterminal, rules, base, constant, derived, domain-rule, attributes, schema, type-declaration, entity, _·_, _∣_, tok, opt, ids, simple-types}
+use Rattle.express.specs.syntax.Grammar.{Nonterminal, base, constant, derived, domain-rule, attributes, schema, type-declaration, entity, _·_, _∣_, tok, opt, ids, simple-types}
 use Rattle.express.specs.syntax.Lookahead.{tables}
 use Rattle.express.proofs.syntax.Descent.{phrase}
 use Rattle.expressions.specs.declared.Read.{Read}
 use Rattle.expressions.specs.declared.Read.the-variants.{At, Refused}
-use Rattle.expressions.specs.Reading.{labelled, word, Ready, Sound, Found, Reads, expected, Expects, Reading, Goes, Steps, Took, Leafed, Leaves, Noded, Counts}
+use Rattle.expressions.specs.Reading.{labelled, word, Expects, Ready, Sound, Found, Reads, Reading, Continues, Steps, Leaf}
 use Rattle.expressions.proofs.Terminals.{is-one, not-one, inside}
-use Rattle.expressions.proofs.Laws.{start, finish, last, apart, together, nothing, dead, refused-found, told, token, named, passed, missed, took, row, phrased, left, right, more, stop, reads, reads-at, sound-of, ready-of, counts-sound}
+use Rattle.expressions.proofs.Laws.{start, finish, last, apart, nothing, dead, refused-found, told, by-leaf, by-row, phrased, left, right, more, stop, passed, reads, sound-of, rows-few}
 use Rattle.expressions.proofs.Operands.{leafs, leafs-last}
-use Rattle.expressions.proofs.Steps.{ready-at, onward-row}
-use Rattle.declarations.specs.Declares.{Taken, Takes, Closes, id-of, names-of, type-label, Typed, Bases, assigned-by, Heads}
+use Rattle.expressions.proofs.Steps.{onward-row, one-inside, expect-ready, expect-goes, by-token, by-name}
+use Rattle.declarations.specs.Declares.{Closes, Groups, id-of, names-of, Leaves, type-label, Types, assigned-by, Heads}
 
--- ---- readers by value
+-- ---- steps
 
-pub takes-refused : {x : Nonterminal} {ts : List ℕ} {before : Read} {a b : List ℕ} {k : ℕ} → before ≡ Refused k → Takes x ts before before a b
-takes-refused e = rw e (record { sound = tt; taken = refl })
+-- where a step has led
+pub sound-ready : {ts : List ℕ} {q m : ℕ} (r : Read) → Sound ts r → r ≡ At q m → Ready ts q m
+sound-ready {ts} r s e = subst (λ (x : Read). Sound ts x) e s
 
-pub takes-at : {x : Nonterminal} {ts : List ℕ} {before r : Read} {a b : List ℕ} {p n : ℕ} → before ≡ At p n → Ready ts p n → Reads x ts p n r a b → Takes x ts before r a b
-takes-at {r = r} e g h = rw e (record { sound = sound-of r g (h .ahead); taken = h })
+pub refused-sound : (ts : List ℕ) {k : ℕ} (r : Read) → r ≡ Refused k → Sound ts r
+refused-sound ts r e = rw e tt
 
-takes-by : (x : Nonterminal) (ts : List ℕ) (before r : Read) (a b : List ℕ) → Taken x ts before r a b → Goes (nt x) ts before r a b
-takes-by x ts (At p n) r a b t = record { on = λ v. phrased t v }
-takes-by x ts (Refused k) r a b t = record { on = λ v. told (sym t) (dead refl v) }
+pub expect-sound : {code : ℕ} {ts : List ℕ} {p n : ℕ} (r : Read) → Ready ts p n → Expects code ts p n r → Sound ts r
+expect-sound (At q m) g h = expect-ready h g refl
+expect-sound (Refused k) g h = tt
 
-pub takes-goes : {x : Nonterminal} {ts : List ℕ} {before r : Read} {a b : List ℕ} → Takes x ts before r a b → Goes (nt x) ts before r a b
-takes-goes {x} {ts} {before} {r} {a} {b} t = takes-by x ts before r a b (t .taken)
+module _ {x : Nonterminal} {ts : List ℕ} {p n : ℕ} {r : Read} {a b : List ℕ} (h : Reads x ts p n r a b) where
+  pub reads-goes : Continues (nt x) ts p n r a b
+  reads-goes = record { on = λ v. phrased h v }
 
-pub reads-goes : {x : Nonterminal} {ts : List ℕ} {p n : ℕ} {r : Read} {a b : List ℕ} → Reads x ts p n r a b → Goes (nt x) ts (At p n) r a b
-reads-goes h = record { on = λ v. phrased h v }
+  pub reads-sound : Ready ts p n → Sound ts r
+  reads-sound g = sound-of r g (h .ahead)
 
-module _ {ts : List ℕ} (before : Read) {a b : List ℕ} where
-  pub steps-refused : (e : Ebnf Nonterminal) {k : ℕ} → before ≡ Refused k → Steps e ts before before a b
-  steps-refused e h = record { sound = rw h tt; goes = record { on = λ v. dead h v } }
-
-  pub steps-at : {e : Ebnf Nonterminal} {p n : ℕ} {r : Read} → before ≡ At p n → Steps e ts (At p n) r a b → Steps e ts before r a b
-  steps-at {e} {r = r} h s = subst (λ (x : Read). Steps e ts x r a b) (sym h) s
-
--- a token that a step by value takes
-pub by-token : {ts cs : List ℕ} {x r : Read} {want : Result Rows} {n m : ℕ} {was b : List ℕ} {rest : Ebnf Nonterminal} → Expects ts cs x r →
-    Reading ts want n was (seq (tok cs) rest) m x b → Reading ts want n was rest m r b
-by-token h v = told (sym (h .is)) (token v)
+-- a reader of x is refused where a part of its rule is
+pub stopped : (x : Nonterminal) {ts : List ℕ} {p n : ℕ} {r : Read} {a b : List ℕ} {rest : Ebnf Nonterminal} {m k : ℕ} → Ready ts p n → Reading ts (phrase ts x p) n a rest m r b → r ≡ Refused k →
+    Reads x ts p n r a b
+stopped x g v e = reads x (g .within) (refused-found e v)
 
 -- ---- the end of a rule
 
 label-back : (label : ℕ) → labelled (label % 256) (label / 256) ≡ label
 label-back label = omega arith
 
-pub closes : (first label name : ℕ) (ts : List ℕ) (x r s : Read) (a b : List ℕ) → label < 65536 → name < 1048576 → Expects ts semicolon x s → Noded first label name s r a b →
-    Closes first label name ts x r a b
-closes first label name ts x r s a b l n h k =
-    record {
-      ends = λ v.
-          finish
-          (row r b (omega arith) (omega arith) (counts-sound ts s (h .sound)) n
-          (subst (λ (z : ℕ). Noded first z name s r a b) (sym (label-back label)) k)
-          (last (by-token h v)));
-    }
+module _ (first : ℕ) {label name : ℕ} {ts : List ℕ} {p n : ℕ} {s : Read} {a : List ℕ} (h : Expects 9 ts p n s) where
+  pub closes-refused : {k : ℕ} → s ≡ Refused k → Closes first label name ts p n s a a
+  closes-refused e = record { ends = λ v. refused-found e (by-token h (omega arith) v) }
+
+  pub closes-row : {q m : ℕ} {b : List ℕ} → Ready ts p n → label < 65536 → name < 1048576 → s ≡ At q m → b ≡ set a m (word label name (m + 1 - first)) →
+      Closes first label name ts p n (At q (m + 1)) a b
+  closes-row {q} {m} {b} g l i e u =
+      record {
+        ends = λ v.
+            finish
+            (by-row b (omega arith) (omega arith) (rows-few (expect-ready h g e)) i (u ∙ ap (λ (z : ℕ). set a m (word z name (m + 1 - first))) (sym (label-back label)))
+            (last (told e (by-token h (omega arith) v))));
+      }
 
 -- ---- an identifier that leaves a row
 
-leafed-as : (ts cs : List ℕ) (l z : ℕ) (x r : Read) (a b : List ℕ) → l ≡ z → Leafed ts cs l x r a b → Leafed ts cs z x r a b
-leafed-as ts cs l z x r a b e h = subst (λ (y : ℕ). Leafed ts cs y x r a b) e h
+module _ {label : ℕ} {ts : List ℕ} {p n : ℕ} {r : Read} {a b : List ℕ} where
+  pub leaf-goes : label < 65536 → Ready ts p n → Leaves label ts p n r a b → Continues (id-of label) ts p n r a b
+  leaf-goes l g h =
+      record {
+        on = λ v.
+            by-leaf (mem (getD ts p 0) identifier) r b (omega arith) (omega arith) g refl
+            (subst (λ (y : ℕ). Leaf (mem (getD ts p 0) identifier) y p n r a b) (sym (label-back label)) (h .leaf)) v;
+      }
 
-pub leaf-goes : {ts : List ℕ} {label : ℕ} {x r : Read} {a b : List ℕ} → label < 65536 → Sound ts x → Leaves ts label x r a b → Goes (id-of label) ts x r a b
-leaf-goes {ts} {label} {x} {r} {a} {b} l g h =
-    record { on = λ v. took r b (omega arith) (omega arith) g (leafed-as ts identifier label (labelled (label % 256) (label / 256)) x r a b (sym (label-back label)) (h .took)) v }
+  pub leaf-onward : {q m : ℕ} → Leaves label ts p n r a b → r ≡ At q m → p < q
+  leaf-onward {q} {m} h e = go (mem (getD ts p 0) identifier) (h .leaf)
+    where
+      go : (t : Bool) → Leaf t label p n r a b → p < q
+      go true k = let z : q ≡ p + 1 = cc (k .0, e) in omega arith
+      go false k = let z : _≡_ {A = ℕ} 0 1 = cc (k .0, e) in absurd (omega arith)
+
+module _ {label : ℕ} {ts : List ℕ} {p n : ℕ} {a : List ℕ} (t : ℕ) (f : t ≡ getD ts p 0) where
+  pub leaves-there : {b : List ℕ} → Ready ts p n → t ≡ 1 → b ≡ set a n (word label p (n + 1 - n)) → Leaves label ts p n (At (p + 1) (n + 1)) a b
+  leaves-there g h u =
+      record { sound = onward-row g (one-inside ts p t 1 f h (omega arith)); leaf = rw (is-one (getD ts p 0) 1 (sym f ∙ h)) (refl, u) }
+
+  pub leaves-not : (t ≡ 1 → ⊥) → Leaves label ts p n (Refused p) a a
+  leaves-not h = record { sound = tt; leaf = rw (not-one (getD ts p 0) 1 (λ k. h (f ∙ k))) (refl, refl) }
 
 -- ---- types
 
-module _ {ts : List ℕ} {p n : ℕ} (g : Ready ts p n) {r : Read} {a b : List ℕ} where
-  base-at : Typed ts 518 (At p n) r a b → Reads base ts p n r a b
-  base-at h =
-      reads base (g .within)
-      (leafs ts (phrase ts base p) n a p p g r b _ _ _ _ _ (omega arith) (omega arith) refl
-      (leafs-last ts (phrase ts base p) n a p p g r b identifier 6 2 (omega arith) (omega arith) refl) h (last (start base p (g .within))))
-
-base-by : (ts : List ℕ) (x r : Read) (a b : List ℕ) → Sound ts x → Typed ts 518 x r a b → Taken base ts x r a b
-base-by ts (At p n) r a b g h = base-at g h
-base-by ts (Refused k) r a b g h = h
-
-pub base-takes : {ts : List ℕ} {r : Read} {a b : List ℕ} (x : Read) → Sound ts x → Bases 518 ts x r a b → Takes base ts x r a b
-base-takes {ts} {r} {a} {b} x g h = record { sound = h .sound; taken = base-by ts x r a b g (h .typed) }
-
--- ---- repetitions
-
--- what was read when the loop began goes on to here
-pub record Loops (e : Ebnf Nonterminal) (ts : List ℕ) (x₀ x : Read) (c₀ c : List ℕ) : Type 0 where
-  pub on : {want : Result Rows} {n m : ℕ} {was : List ℕ} {rest : Ebnf Nonterminal} →
-      Reading ts want n was (seq (star e) rest) m x₀ c₀ → Reading ts want n was (seq (star e) rest) m x c
-
-pub loops-begin : {e : Ebnf Nonterminal} {ts : List ℕ} {x : Read} {c : List ℕ} → Loops e ts x x c c
-loops-begin = record { on = λ v. v }
-
-module _ {e : Ebnf Nonterminal} {ts : List ℕ} {x₀ : Read} {q m : ℕ} {c₀ c : List ℕ} (L : Loops e ts x₀ (At q m) c₀ c) (o : Ok tables (star e)) (g : Ready ts q m) where
-  -- one turn
-  pub loops-turn : {r : Read} {d : List ℕ} → mem (getD ts q 0) (first tables e) ≡ true → Goes e ts (At q m) r c d → Loops e ts x₀ r c₀ d
-  loops-turn t h = record { on = λ v. h .on (more o (g .within) t (L .on v)) }
-
-  -- no turn more
-  loops-last : {want : Result Rows} {n l : ℕ} {was : List ℕ} {rest : Ebnf Nonterminal} → mem (getD ts q 0) (first tables e) ≡ false →
-      Reading ts want n was (seq (star e) rest) l x₀ c₀ → Reading ts want n was rest l (At q m) c
-  loops-last t v = stop o (g .within) t (L .on v)
-
-pub loops-at : {e : Ebnf Nonterminal} {ts : List ℕ} {x₀ x y : Read} {c₀ c : List ℕ} → x ≡ y → Loops e ts x₀ x c₀ c → Loops e ts x₀ y c₀ c
-loops-at {e} {ts} {x₀} {c₀ = c₀} {c = c} h L = subst (λ (z : Read). Loops e ts x₀ z c₀ c) h L
-
--- { e }, from a place
-module _ {e : Ebnf Nonterminal} {ts : List ℕ} {x₀ : Read} {c₀ : List ℕ} where
-  pub many-refused : {r : Read} {d : List ℕ} {k : ℕ} → Loops e ts x₀ r c₀ d → r ≡ Refused k → Steps (star e) ts x₀ r c₀ d
-  many-refused L h = record { sound = rw h tt; goes = record { on = λ v. dead h (L .on v) } }
-
-  pub many-ends : {q m : ℕ} {c : List ℕ} → Loops e ts x₀ (At q m) c₀ c → Ok tables (star e) → Ready ts q m → mem (getD ts q 0) (first tables e) ≡ false → Steps (star e) ts x₀ (At q m) c₀ c
-  many-ends L o g t = record { sound = g; goes = record { on = λ v. loops-last L o g t v } }
-
--- e { f }, where e was read first
-module _ {e f : Ebnf Nonterminal} {ts : List ℕ} {x r : Read} {a b : List ℕ} (h : Goes e ts x r a b) where
-  pub list-refused : {k : ℕ} → r ≡ Refused k → Steps (seq e f) ts x r a b
-  list-refused z = record { sound = rw z tt; goes = record { on = λ v. dead z (h .on (apart v)) } }
-
-  pub list-then : {q m : ℕ} {y : Read} {c : List ℕ} → r ≡ At q m → Steps f ts (At q m) y b c → Steps (seq e f) ts x y a c
-  list-then z s = record { sound = s .sound; goes = record { on = λ v. s .goes .on (told z (h .on (apart v))) } }
-
--- ---- what may be missing
-
-module _ {e : Ebnf Nonterminal} {ts : List ℕ} {p n : ℕ} {a : List ℕ} where
-  pub opt-absent : Ready ts p n → mem (getD ts p 0) (first tables e) ≡ false → Steps (opt e) ts (At p n) (At p n) a a
-  opt-absent g t = record { sound = g; goes = record { on = λ v. nothing (right t v) } }
-
-  pub opt-present : {r : Read} {b : List ℕ} → mem (getD ts p 0) (first tables e) ≡ true → Sound ts r → Goes e ts (At p n) r a b → Steps (opt e) ts (At p n) r a b
-  opt-present t s h = record { sound = s; goes = record { on = λ v. h .on (left t v) } }
-
--- ---- a word and an identifier
-
-pub heads : {ts : List ℕ} {word p n : ℕ} {x r : Read} → Expects ts (word ∷ []) (At p n) x → Expects ts identifier x r → Heads ts word p n r
-heads {ts} h k = record { is = k .is ∙ ap (λ (z : Read). expected ts identifier z) (h .is); sound = k .sound }
-
-module _ (ts : List ℕ) (word p n : ℕ) (r : Read) (want : Result Rows) (m : ℕ) (a : List ℕ) (rest : Ebnf Nonterminal) where
-  head-by : (b : Bool) → mem (getD ts p 0) (word ∷ []) ≡ b → r ≡ expected ts identifier (cond b (At (p + 1) n) (Refused p)) →
-      Reading ts want n a (seq (tok (word ∷ [])) (seq (step here identifier none) rest)) m (At p n) a → Reading ts want n a rest (p + 1) r a
-  head-by true t e v = told (sym e) (named (passed t v))
-  head-by false t e v = told (sym e) (dead refl (missed t v))
-
-pub by-head : {ts : List ℕ} {word p n : ℕ} {r : Read} {want : Result Rows} {m : ℕ} {a : List ℕ} {rest : Ebnf Nonterminal} → Heads ts word p n r →
-    Reading ts want n a (seq (tok (word ∷ [])) (seq (step here identifier none) rest)) m (At p n) a → Reading ts want n a rest (p + 1) r a
-by-head {ts} {word} {p} {n} {r} {want} {m} {a} {rest} h v = head-by ts word p n r want m a rest (mem (getD ts p 0) (word ∷ [])) refl (h .is) v
-
--- ---- a type's row, as the code leaves it
+pub base-reads : {ts : List ℕ} {p n : ℕ} {r : Read} {a b : List ℕ} → Ready ts p n → Types 518 ts p n r a b → Reads base ts p n r a b
+base-reads {ts} {p} {n} {r} {a} {b} g h =
+    reads base (g .within)
+    (leafs ts (phrase ts base p) n a p p g r b _ _ _ _ _ (omega arith) (omega arith) refl
+    (leafs-last ts (phrase ts base p) n a p p g r b identifier 6 2 (omega arith) (omega arith) refl) (h .leaf) (last (start base p (g .within))))
 
 -- a token that has a label is within the list
-pub type-inside : (ts : List ℕ) (p label t l : ℕ) → t ≡ getD ts p 0 → l ≡ type-label t label → (l ≡ 0 → ⊥) → p < length ts
+type-inside : (ts : List ℕ) (p label t l : ℕ) → t ≡ getD ts p 0 → l ≡ type-label t label → (l ≡ 0 → ⊥) → p < length ts
 unfolding mem
 type-inside ts p label t l f e z =
     ⊎-elim (λ (i : p < length ts). i)
     (λ (i : length ts ≤ p). absurd (z (e ∙ ap (λ (x : ℕ). type-label x label) (f ∙ List·getD-eq-default ts 0 i))))
     (lt-or-le p (length ts))
 
-cond-small : (b : Bool) (x y : ℕ) → x < 65536 → y < 65536 → cond b x y < 65536
-cond-small true x y f g = f
-cond-small false x y f g = g
+label-at : (ts : List ℕ) (p label t l : ℕ) → t ≡ getD ts p 0 → l ≡ type-label t label → type-label (getD ts p 0) label ≡ l
+label-at ts p label t l f k = ap (λ (x : ℕ). type-label x label) (sym f) ∙ sym k
 
-pub type-small : (t label l : ℕ) → label < 65536 → l ≡ type-label t label → l < 65536
-type-small t label l h e = rw e (cond-small (mem t simple-types) _ _ (omega arith) (cond-small (mem t identifier) _ _ h (omega arith)))
+module _ {ts : List ℕ} {p n label : ℕ} {a : List ℕ} (t l : ℕ) (f : t ≡ getD ts p 0) (k : l ≡ type-label t label) where
+  pub types-none : l ≡ 0 → Types label ts p n (Refused p) a a
+  types-none z = record { sound = tt; leaf = rw (label-at ts p label t l f k ∙ z) (refl, refl) }
 
-module _ (ts : List ℕ) (before : Read) (label : ℕ) (a : List ℕ) where
-  pub bases-refused : {k : ℕ} (b : List ℕ) → before ≡ Refused k → Bases label ts before before a b
-  bases-refused b e = rw e (record { sound = tt; typed = refl })
+  pub types-row : {b : List ℕ} → Ready ts p n → (l ≡ 0 → ⊥) → b ≡ set a n (word l p (n + 1 - n)) → Types label ts p n (At (p + 1) (n + 1)) a b
+  types-row g z u = record { sound = onward-row g (type-inside ts p label t l f k z); leaf = rw (label-at ts p label t l f k) (rw (ne-eqb l 0 z) (refl, u)) }
 
-  module _ {p n : ℕ} (e : before ≡ At p n) (t l : ℕ) (f : t ≡ getD ts p 0) (k : l ≡ type-label t label) where
-    label-at : type-label (getD ts p 0) label ≡ l
-    label-at = ap (λ (x : ℕ). type-label x label) (sym f) ∙ sym k
+-- base ';', and a row
+module _ (first : ℕ) {label name : ℕ} {ts : List ℕ} {p n : ℕ} {s : Read} {a b : List ℕ} (g : Ready ts p n) (h : Types 518 ts p n s a b) where
+  pub groups-refused : {k : ℕ} → s ≡ Refused k → Groups first label name ts p n s a b
+  groups-refused e = record { ends = λ v. refused-found e (phrased (base-reads g h) v) }
 
-    pub bases-none : (b : List ℕ) → l ≡ 0 → Bases label ts before (Refused p) a b
-    bases-none b z = rw e (record { sound = tt; typed = rw (label-at ∙ z) refl })
+  pub groups-closed : {q m : ℕ} {r : Read} {c : List ℕ} → s ≡ At q m → Closes first label name ts q m r b c → Groups first label name ts p n r a c
+  groups-closed e k = record { ends = λ v. k .ends (told e (phrased (base-reads g h) v)) }
 
-    pub bases-row : (b : List ℕ) (w : ℕ) → Sound ts before → (l ≡ 0 → ⊥) → w ≡ word l p 1 → b ≡ set a n w → Bases label ts before (At (p + 1) (n + 1)) a b
-    bases-row b w g z v u =
-        rw e
-        (record {
-          sound = onward-row (ready-at ts before g e) (type-inside ts p label t l f k z);
-          typed = rw label-at (rw (ne-eqb l 0 z) (refl, u ∙ ap (λ (y : ℕ). set a n y) v));
-        })
+-- ---- repetitions
+
+-- what was read when the loop began goes on to here
+pub record Loops (e : Ebnf Nonterminal) (ts : List ℕ) (p n : ℕ) (x : Read) (c₀ c : List ℕ) : Type 0 where
+  pub on : {want : Result Rows} {k m : ℕ} {was : List ℕ} {rest : Ebnf Nonterminal} →
+      Reading ts want k was (seq (star e) rest) m (At p n) c₀ → Reading ts want k was (seq (star e) rest) m x c
+
+pub loops-begin : {e : Ebnf Nonterminal} {ts : List ℕ} {p n : ℕ} {c : List ℕ} → Loops e ts p n (At p n) c c
+loops-begin = record { on = λ v. v }
+
+module _ {e : Ebnf Nonterminal} {ts : List ℕ} {p n q m : ℕ} {c₀ c : List ℕ} (L : Loops e ts p n (At q m) c₀ c) (o : Ok tables (star e)) (g : Ready ts q m) where
+  -- one turn
+  pub loops-turn : {r : Read} {d : List ℕ} → mem (getD ts q 0) (first tables e) ≡ true → Continues e ts q m r c d → Loops e ts p n r c₀ d
+  loops-turn t h = record { on = λ v. h .on (more o (g .within) t (L .on v)) }
+
+  -- no turn more
+  pub many-ends : mem (getD ts q 0) (first tables e) ≡ false → Steps (star e) ts p n (At q m) c₀ c
+  many-ends t = record { sound = g; goes = record { on = λ v. stop o (g .within) t (L .on v) } }
+
+module _ {e : Ebnf Nonterminal} {ts : List ℕ} {p n : ℕ} {c₀ d : List ℕ} {r : Read} (L : Loops e ts p n r c₀ d) where
+  pub loops-at : {q m : ℕ} → r ≡ At q m → Loops e ts p n (At q m) c₀ d
+  loops-at h = subst (λ (z : Read). Loops e ts p n z c₀ d) h L
+
+  pub many-refused : {k : ℕ} → r ≡ Refused k → Steps (star e) ts p n r c₀ d
+  many-refused h = record { sound = rw h tt; goes = record { on = λ v. dead h (L .on v) } }
+
+-- e and then f
+module _ {e f : Ebnf Nonterminal} {ts : List ℕ} {p n : ℕ} {r : Read} {a b : List ℕ} (h : Continues e ts p n r a b) where
+  pub list-refused : {k : ℕ} → r ≡ Refused k → Steps (seq e f) ts p n r a b
+  list-refused z = record { sound = rw z tt; goes = record { on = λ v. dead z (h .on (apart v)) } }
+
+  pub list-then : {q m : ℕ} {y : Read} {c : List ℕ} → r ≡ At q m → Steps f ts q m y b c → Steps (seq e f) ts p n y a c
+  list-then z s = record { sound = s .sound; goes = record { on = λ v. s .goes .on (told z (h .on (apart v))) } }
+
+-- ---- what may be missing
+
+module _ {e : Ebnf Nonterminal} {ts : List ℕ} {p n : ℕ} {a : List ℕ} where
+  pub opt-absent : Ready ts p n → mem (getD ts p 0) (first tables e) ≡ false → Steps (opt e) ts p n (At p n) a a
+  opt-absent g t = record { sound = g; goes = record { on = λ v. nothing (right t v) } }
+
+  pub opt-present : {r : Read} {b : List ℕ} → mem (getD ts p 0) (first tables e) ≡ true → Sound ts r → Continues e ts p n r a b → Steps (opt e) ts p n r a b
+  opt-present t s h = record { sound = s; goes = record { on = λ v. h .on (left t v) } }
+
+-- a phrase that may be missing
+pub opt-reads : {x : Nonterminal} {ts : List ℕ} {p n : ℕ} {r : Read} {a b : List ℕ} → Ready ts p n → mem (getD ts p 0) (tables .begins x) ≡ true → Reads x ts p n r a b → Steps
+    (opt (nt x)) ts p n r a b
+opt-reads g t h = opt-present t (reads-sound h g) (reads-goes h)
+
+-- ---- a word and an identifier
+
+module _ {word : ℕ} {ts : List ℕ} {p n : ℕ} {x : Read} (g : Ready ts p n) (z : 0 < word) (h : Expects word ts p n x) where
+  pub heads-refused : {k : ℕ} → x ≡ Refused k → Heads word ts p n x
+  heads-refused e = record { sound = rw e tt; goes = λ v. dead e (by-token h z v) }
+
+  pub heads-named : {q m : ℕ} {r : Read} → x ≡ At q m → Expects 1 ts q m r → Heads word ts p n r
+  heads-named {q} {m} {r} e k =
+      let w = expect-goes h e in
+      record { sound = expect-sound r (expect-ready h g e) k; goes = λ v. rw (← (w .0)) (by-name k (omega arith) (told e (by-token h z v))) }
 
 -- ---- names behind commas
 
-pub comma-goes : {ts : List ℕ} {label q m : ℕ} {r : Read} {b c : List ℕ} → label < 65536 → Ready ts (q + 1) m → mem (getD ts q 0) comma ≡ true → Leaves ts label (At (q + 1) m) r b c →
-    Goes (tok comma · id-of label) ts (At q m) r b c
+pub comma-goes : {ts : List ℕ} {label q m : ℕ} {r : Read} {b c : List ℕ} → label < 65536 → Ready ts (q + 1) m → mem (getD ts q 0) comma ≡ true → Leaves label ts (q + 1) m r b c →
+    Continues (tok comma · id-of label) ts q m r b c
 comma-goes l g t h = record { on = λ v. (leaf-goes l g h) .on (passed t (apart v)) }
 
 pub names-ok : (label : ℕ) → Ok tables (star (tok comma · id-of label))
 unfolding mem disjoint
 names-ok label = ok-of tables (star (tok comma · id-of label)) refl
 
-leaf-after : (label p n q m : ℕ) (r : Read) (a b : List ℕ) (t : Bool) → Took t label p n r a b → r ≡ At q m → p < q
-leaf-after label p n q m r a b true h e = let z : q ≡ p + 1 = cc (h .0, e) in omega arith
-leaf-after label p n q m r a b false h e = let z : _≡_ {A = ℕ} 0 1 = cc (h, e) in absurd (omega arith)
-
-pub leaf-onward : {ts : List ℕ} {label p n q m : ℕ} {r : Read} {a b : List ℕ} → Leaves ts label (At p n) r a b → r ≡ At q m → p < q
-leaf-onward {ts} {label} {p} {n} {q} {m} {r} {a} {b} h e = leaf-after label p n q m r a b (mem (getD ts p 0) identifier) (h .took) e
-
 -- ---- assignments
 
 pub assigned-begins : (label : ℕ) → (label ≡ 17) ⊎ (label ≡ 22) → tables .begins (assigned-by label) ≡ identifier
 assigned-begins label (inl e) = rw e refl
 assigned-begins label (inr e) = rw e refl
+
+pub assigned-small : (label : ℕ) → (label ≡ 17) ⊎ (label ≡ 22) → label < 65536
+assigned-small label (inl e) = omega arith
+assigned-small label (inr e) = omega arith
 
 pub assigned-ok : (label : ℕ) → (label ≡ 17) ⊎ (label ≡ 22) → Ok tables (star (nt (assigned-by label)))
 unfolding mem disjoint
@@ -246,9 +236,21 @@ declarations-ok = ok-of tables (star (nt type-declaration ∣ nt entity)) refl
 
 -- ---- '(' id { ',' id } ')'
 
-regroup : {ts : List ℕ} {want : Result Rows} {n m : ℕ} {a b : List ℕ} {x : Read} {e f g h : Ebnf Nonterminal} → Reading ts want n a (seq (seq e (seq f g)) h) m x b → Reading ts want n a (seq (seq e f) (seq g h)) m x b
+regroup : {ts : List ℕ} {want : Result Rows} {n m : ℕ} {a b : List ℕ} {x : Read} {e f g h : Ebnf Nonterminal} → Reading ts want n a (seq (seq e
+    (seq f g)) h) m x b → Reading ts want n a (seq (seq e f) (seq g h)) m x b
 regroup r = record { done = r .done; found = r .found; named = r .named; is = r .is }
 
-pub ids-steps : {ts : List ℕ} (label : ℕ) {before opened listed r : Read} {a b : List ℕ} → Expects ts (24 ∷ []) before opened → Steps (names-of label) ts opened listed a b → Expects ts (25 ∷ []) listed r →
-    Steps (ids (id-of label)) ts before r a b
-ids-steps label x s y = record { sound = y .sound; goes = record { on = λ v. by-token y (s .goes .on (regroup (by-token x (apart v)))) } }
+module _ (label : ℕ) {ts : List ℕ} {p n : ℕ} (g : Ready ts p n) {opened : Read} {a : List ℕ} (x : Expects 24 ts p n opened) where
+  pub ids-opened : {k : ℕ} → opened ≡ Refused k → Steps (ids (id-of label)) ts p n opened a a
+  ids-opened e = record { sound = rw e tt; goes = record { on = λ v. dead e (by-token x (omega arith) (apart v)) } }
+
+  module _ {q m : ℕ} (e : opened ≡ At q m) {listed : Read} {b : List ℕ} (s : Steps (names-of label) ts q m listed a b) where
+    pub ids-listed : {k : ℕ} → listed ≡ Refused k → Steps (ids (id-of label)) ts p n listed a b
+    ids-listed e₂ = record { sound = rw e₂ tt; goes = record { on = λ v. dead e₂ (s .goes .on (regroup (told e (by-token x (omega arith) (apart v))))) } }
+
+    pub ids-closed : {q₂ m₂ : ℕ} {r : Read} → listed ≡ At q₂ m₂ → Expects 25 ts q₂ m₂ r → Steps (ids (id-of label)) ts p n r a b
+    ids-closed {r = r} e₂ y =
+        record {
+          sound = expect-sound r (sound-ready listed (s .sound) e₂) y;
+          goes = record { on = λ v. by-token y (omega arith) (told e₂ (s .goes .on (regroup (told e (by-token x (omega arith) (apart v)))))) };
+        }

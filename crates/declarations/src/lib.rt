@@ -1,4 +1,4 @@
-// Declarations and whole files by recursive descent: terminal codes to node columns.
+// Declarations and whole files by recursive descent: terminals to node columns.
 ghost use mathlib.Core.Bool.{_&&_};
 ghost use mathlib.Core.Logic.{_⊎_};
 ghost use mathlib.Core.List.{_++_};
@@ -6,106 +6,112 @@ ghost use mathlib.Core.Path.{_≡_};
 ghost use Prim.Native.Nat.{_+_, _≤_, _<_};
 ghost use lib.ListN.{length, getD};
 ghost use Rattle.ebnf.specs.Set.{mem};
-ghost use Rattle.ebnf.specs.Grammar.{seq, star, nt};
+ghost use Rattle.ebnf.specs.Grammar.{star, nt};
 ghost use Rattle.express.specs.tokens.Terminal.{identifier, colon, DERIVE, ENTITY, OF, SUBTYPE, TYPE};
-ghost use Rattle.express.specs.syntax.Grammar.{file, schema, constants, type-declaration, underlying, where-clause, domain-rule, entity, attributes, derived, expression, _·_, _∣_, tok, opt, ids, simple-types};
+ghost use Rattle.express.specs.syntax.Grammar.{file, schema, constants, type-declaration, underlying, where-clause, domain-rule, entity, attributes, derived, _·_, _∣_, tok, opt, ids, simple-types};
 ghost use Rattle.express.specs.syntax.Lookahead.{tables};
-ghost use Rattle.expressions.specs.declared.Read.the-variants.{At};
-ghost use Rattle.expressions.specs.Reading.{Ready, Sound, Reads, Steps};
-ghost use Rattle.expressions.specs.Parsing.{most, Parsing};
-ghost use Rattle.expressions.specs.Outcome.{Judging};
-ghost use Rattle.declarations.specs.Declares.{Takes, Closes, id-of, names-of, type-label, Bases, assigned-by, declared-by, Heads};
+ghost use Rattle.expressions.specs.Reading.{Ready, Reads, Steps};
+ghost use Rattle.expressions.specs.Parsing.{Parsing};
+ghost use Rattle.expressions.specs.Outcome.{Judging, Parses};
+ghost use Rattle.declarations.specs.Declares.{Closes, Leaves, id-of, names-of, type-label, Types, Groups, members-of, assigned-by, declared-by, Heads};
+use codes::labels;
 use expressions::Judgement;
 use expressions::Parsed;
 use expressions::Read;
 use expressions::end_of;
 use expressions::expect;
-use expressions::expression;
+use expressions::expression_at;
 use expressions::first_deep;
 use expressions::judged;
-use expressions::leaf;
-use expressions::node;
-use expressions::packed;
-use expressions::put;
-use expressions::settle;
+use expressions::lay_out;
+use expressions::put_row;
 use expressions::token;
 
-// An expression.
-fn value(codes: &[u8], rows: &mut [u64], before: Read) -> Read
-    requires { ⌜ Sound (now codes) before ⌝ }
-    ensures { λ r. ⌜ Takes expression (now (codes .entry)) before r (now (rows .entry)) (now (rows .exit)) ⌝ }
-{
-    let Read::At(p, n) = before else {
-        return before;
-    };
-    expression(codes, rows, p, n)
-}
-
-// `;`, and a row over all rows from `first` on
+// ';', and a row over all rows from `first` on
 fn closed(
-    codes: &[u8],
+    terminals: &[u8],
     rows: &mut [u64],
-    before: Read,
+    p: usize,
+    n: usize,
     first: usize,
     label: u64,
     name: usize,
 ) -> Read
-    requires { ⌜ (Sound (now codes) before) × (label < 65536) × (name < 1048576) ⌝ }
-    ensures { λ r. ⌜ Closes first label name (now (codes .entry)) before r (now (rows .entry)) (now (rows .exit)) ⌝ }
+    requires { ⌜ (Ready (now terminals) p n) × (label < 65536) × (name < 1048576) ⌝ }
+    ensures { λ r. ⌜ Closes first label name (now (terminals .entry)) p n r (now (rows .entry)) (now (rows .exit)) ⌝ }
 {
-    let end = expect(codes, before, 9);
-    node(rows, end, first, label, name)
+    let end = expect(terminals, p, n, codes::SEMICOLON);
+    let Read::At(q, m) = end else {
+        return end;
+    };
+    put_row(rows, m, first, label, name);
+    Read::At(q, m + 1)
 }
 
 fn is_simple(c: u8) -> bool
     ensures { λ r. ⌜ r ≡ mem c simple-types ⌝ }
 {
     match c {
-        48 | 50 | 92 | 102 | 107 | 118 | 133 => true,
+        codes::BINARY
+        | codes::BOOLEAN
+        | codes::INTEGER
+        | codes::LOGICAL
+        | codes::NUMBER
+        | codes::REAL
+        | codes::STRING => true,
         _ => false,
     }
 }
 
 // Kind and role of a type's row; 0 where none begins.
-fn labelled(c: u8, label: u64) -> u64
+fn type_label(c: u8, label: u64) -> u64
     ensures { λ r. ⌜ r ≡ type-label c label ⌝ }
 {
     if is_simple(c) {
-        return 13;
+        return labels::SIMPLE_TYPE;
     }
-    if c == 1 {
+    if c == codes::IDENTIFIER {
         return label;
     }
-    0
+    expressions::NO_LABEL
 }
 
 // A simple type, or a name.
-fn base(codes: &[u8], rows: &mut [u64], before: Read, label: u64) -> Read
-    requires { ⌜ (Sound (now codes) before) × (label < 65536) ⌝ }
-    ensures { λ r. ⌜ Bases label (now (codes .entry)) before r (now (rows .entry)) (now (rows .exit)) ⌝ }
+fn base(terminals: &[u8], rows: &mut [u64], p: usize, n: usize, label: u64) -> Read
+    requires { ⌜ (Ready (now terminals) p n) × (label < 65536) ⌝ }
+    ensures { λ r. ⌜ Types label (now (terminals .entry)) p n r (now (rows .entry)) (now (rows .exit)) ⌝ }
 {
-    let Read::At(p, n) = before else {
-        return before;
-    };
-    let kind = labelled(token(codes, p), label);
-    if kind == 0 {
+    let kind = type_label(token(terminals, p), label);
+    if kind == expressions::NO_LABEL {
         return Read::Refused(p);
     }
-    put(rows, n, packed(kind, p, 1));
+    put_row(rows, n, n, kind, p);
     Read::At(p + 1, n + 1)
 }
 
-// id { ',' id }
-fn names(codes: &[u8], rows: &mut [u64], before: Read, label: u64) -> Read
-    requires { ⌜ (Sound (now codes) before) × (label < 65536) ⌝ }
-    ensures { λ r. ⌜ Steps (names-of label) (now (codes .entry)) before r (now (rows .entry)) (now (rows .exit)) ⌝ }
+// An identifier that leaves a row with nothing below it.
+fn id(terminals: &[u8], rows: &mut [u64], p: usize, n: usize, label: u64) -> Read
+    requires { ⌜ (Ready (now terminals) p n) × (label < 65536) ⌝ }
+    ensures { λ r. ⌜ Leaves label (now (terminals .entry)) p n r (now (rows .entry)) (now (rows .exit)) ⌝ }
 {
-    let first = leaf(codes, rows, before, label);
+    if token(terminals, p) == codes::IDENTIFIER {
+        put_row(rows, n, n, label, p);
+        return Read::At(p + 1, n + 1);
+    }
+    Read::Refused(p)
+}
+
+// id { ',' id }
+fn names(terminals: &[u8], rows: &mut [u64], p: usize, n: usize, label: u64) -> Read
+    requires { ⌜ (Ready (now terminals) p n) × (label < 65536) ⌝ }
+    ensures { λ r. ⌜ Steps (names-of label) (now (terminals .entry)) p n r (now (rows .entry)) (now (rows .exit)) ⌝ }
+{
+    let first = id(terminals, rows, p, n, label);
     let Read::At(mut q, mut m) = first else {
         return first;
     };
-    while token(codes, q) == 8 {
-        let next = leaf(codes, rows, Read::At(q + 1, m), label);
+    while token(terminals, q) == codes::COMMA {
+        let next = id(terminals, rows, q + 1, m, label);
         let Read::At(q2, m2) = next else {
             return next;
         };
@@ -116,39 +122,60 @@ fn names(codes: &[u8], rows: &mut [u64], before: Read, label: u64) -> Read
 }
 
 // '(' id { ',' id } ')'
-fn ids(codes: &[u8], rows: &mut [u64], before: Read, label: u64) -> Read
-    requires { ⌜ (Sound (now codes) before) × (label < 65536) ⌝ }
-    ensures { λ r. ⌜ Steps (ids (id-of label)) (now (codes .entry)) before r (now (rows .entry)) (now (rows .exit)) ⌝ }
+fn ids(terminals: &[u8], rows: &mut [u64], p: usize, n: usize, label: u64) -> Read
+    requires { ⌜ (Ready (now terminals) p n) × (label < 65536) ⌝ }
+    ensures { λ r. ⌜ Steps (ids (id-of label)) (now (terminals .entry)) p n r (now (rows .entry)) (now (rows .exit)) ⌝ }
 {
-    let opened = expect(codes, before, 24);
-    let listed = names(codes, rows, opened, label);
-    expect(codes, listed, 25)
+    let opened = expect(terminals, p, n, codes::LPAREN);
+    let Read::At(q, m) = opened else {
+        return opened;
+    };
+    let listed = names(terminals, rows, q, m, label);
+    let Read::At(q2, m2) = listed else {
+        return listed;
+    };
+    expect(terminals, q2, m2, codes::RPAREN)
 }
 
 // id ':' base ':=' expression ';'
-fn assigned(codes: &[u8], rows: &mut [u64], p: usize, n: usize, label: u64) -> Read
-    requires { ⌜ (Ready (now codes) p n) × ((label ≡ 17) ⊎ (label ≡ 22)) ⌝ }
-    ensures { λ r. ⌜ Reads (assigned-by label) (now (codes .entry)) p n r (now (rows .entry)) (now (rows .exit)) ⌝ }
+fn assigned(terminals: &[u8], rows: &mut [u64], p: usize, n: usize, label: u64) -> Read
+    requires { ⌜ (Ready (now terminals) p n) × ((label ≡ 17) ⊎ (label ≡ 22)) ⌝ }
+    ensures { λ r. ⌜ Reads (assigned-by label) (now (terminals .entry)) p n r (now (rows .entry)) (now (rows .exit)) ⌝ }
 {
-    let name = expect(codes, Read::At(p, n), 1);
-    let colon = expect(codes, name, 10);
-    let kind = base(codes, rows, colon, 518);
-    let becomes = expect(codes, kind, 30);
-    let given = value(codes, rows, becomes);
-    closed(codes, rows, given, n, label, p)
+    let name = expect(terminals, p, n, codes::IDENTIFIER);
+    let Read::At(q, m) = name else {
+        return name;
+    };
+    let colon = expect(terminals, q, m, codes::COLON);
+    let Read::At(q2, m2) = colon else {
+        return colon;
+    };
+    let kind = base(terminals, rows, q2, m2, labels::TYPE_NAME);
+    let Read::At(q3, m3) = kind else {
+        return kind;
+    };
+    let becomes = expect(terminals, q3, m3, codes::BECOMES);
+    let Read::At(q4, m4) = becomes else {
+        return becomes;
+    };
+    let given = expression_at(terminals, rows, q4, m4);
+    let Read::At(q5, m5) = given else {
+        return given;
+    };
+    closed(terminals, rows, q5, m5, n, label, p)
 }
 
 // One or more assignments.
-fn assignments(codes: &[u8], rows: &mut [u64], p: usize, n: usize, label: u64) -> Read
-    requires { ⌜ (Ready (now codes) p n) × ((label ≡ 17) ⊎ (label ≡ 22)) ⌝ }
-    ensures { λ r. ⌜ Steps (nt (assigned-by label) · star (nt (assigned-by label))) (now (codes .entry)) (At p n) r (now (rows .entry)) (now (rows .exit)) ⌝ }
+fn assignments(terminals: &[u8], rows: &mut [u64], p: usize, n: usize, label: u64) -> Read
+    requires { ⌜ (Ready (now terminals) p n) × ((label ≡ 17) ⊎ (label ≡ 22)) ⌝ }
+    ensures { λ r. ⌜ Steps (nt (assigned-by label) · star (nt (assigned-by label))) (now (terminals .entry)) p n r (now (rows .entry)) (now (rows .exit)) ⌝ }
 {
-    let first = assigned(codes, rows, p, n, label);
+    let first = assigned(terminals, rows, p, n, label);
     let Read::At(mut q, mut m) = first else {
         return first;
     };
-    while token(codes, q) == 1 {
-        let next = assigned(codes, rows, q, m, label);
+    while token(terminals, q) == codes::IDENTIFIER {
+        let next = assigned(terminals, rows, q, m, label);
         let Read::At(q2, m2) = next else {
             return next;
         };
@@ -159,57 +186,63 @@ fn assignments(codes: &[u8], rows: &mut [u64], p: usize, n: usize, label: u64) -
 }
 
 // [ CONSTANT constant { constant } END_CONSTANT ';' ]
-fn constants(codes: &[u8], rows: &mut [u64], before: Read) -> Read
-    requires { ⌜ Sound (now codes) before ⌝ }
-    ensures { λ r. ⌜ Steps (opt (nt constants)) (now (codes .entry)) before r (now (rows .entry)) (now (rows .exit)) ⌝ }
+fn constants(terminals: &[u8], rows: &mut [u64], p: usize, n: usize) -> Read
+    requires { ⌜ Ready (now terminals) p n ⌝ }
+    ensures { λ r. ⌜ Steps (opt (nt constants)) (now (terminals .entry)) p n r (now (rows .entry)) (now (rows .exit)) ⌝ }
 {
-    let Read::At(p, n) = before else {
-        return before;
-    };
-    if token(codes, p) != 53 {
-        return before;
+    if token(terminals, p) != codes::CONSTANT {
+        return Read::At(p, n);
     }
-    let list = assignments(codes, rows, p + 1, n, 17);
-    let end = expect(codes, list, 63);
-    expect(codes, end, 9)
+    let list = assignments(terminals, rows, p + 1, n, labels::CONSTANT);
+    let Read::At(q, m) = list else {
+        return list;
+    };
+    let end = expect(terminals, q, m, codes::END_CONSTANT);
+    let Read::At(q2, m2) = end else {
+        return end;
+    };
+    expect(terminals, q2, m2, codes::SEMICOLON)
 }
 
 // [ DERIVE derived { derived } ]
-fn derivations(codes: &[u8], rows: &mut [u64], before: Read) -> Read
-    requires { ⌜ Sound (now codes) before ⌝ }
-    ensures { λ r. ⌜ Steps (opt (tok DERIVE · nt derived · star (nt derived))) (now (codes .entry)) before r (now (rows .entry)) (now (rows .exit)) ⌝ }
+fn derivations(terminals: &[u8], rows: &mut [u64], p: usize, n: usize) -> Read
+    requires { ⌜ Ready (now terminals) p n ⌝ }
+    ensures { λ r. ⌜ Steps (opt (tok DERIVE · nt derived · star (nt derived))) (now (terminals .entry)) p n r (now (rows .entry)) (now (rows .exit)) ⌝ }
 {
-    let Read::At(p, n) = before else {
-        return before;
-    };
-    if token(codes, p) != 57 {
-        return before;
+    if token(terminals, p) != codes::DERIVE {
+        return Read::At(p, n);
     }
-    assignments(codes, rows, p + 1, n, 22)
+    assignments(terminals, rows, p + 1, n, labels::DERIVED_ATTRIBUTE)
 }
 
 // id ':' stands here.
-fn is_labelled(codes: &[u8], p: usize) -> bool
+fn is_labelled(terminals: &[u8], p: usize) -> bool
     requires { ⌜ p ≤ 65536 ⌝ }
-    ensures { λ r. ⌜ r ≡ (mem (getD (now (codes .entry)) p 0) identifier && mem (getD (now (codes .entry)) (p + 1) 0) colon) ⌝ }
+    ensures { λ r. ⌜ r ≡ (mem (getD (now (terminals .entry)) p 0) identifier && mem (getD (now (terminals .entry)) (p + 1) 0) colon) ⌝ }
 {
-    if token(codes, p) == 1 {
-        return token(codes, p + 1) == 10;
+    if token(terminals, p) == codes::IDENTIFIER {
+        return token(terminals, p + 1) == codes::COLON;
     }
     false
 }
 
 // [ id ':' ] expression ';'
-fn rule(codes: &[u8], rows: &mut [u64], p: usize, n: usize) -> Read
-    requires { ⌜ Ready (now codes) p n ⌝ }
-    ensures { λ r. ⌜ Reads domain-rule (now (codes .entry)) p n r (now (rows .entry)) (now (rows .exit)) ⌝ }
+fn rule(terminals: &[u8], rows: &mut [u64], p: usize, n: usize) -> Read
+    requires { ⌜ Ready (now terminals) p n ⌝ }
+    ensures { λ r. ⌜ Reads domain-rule (now (terminals .entry)) p n r (now (rows .entry)) (now (rows .exit)) ⌝ }
 {
-    if is_labelled(codes, p) {
-        let named = expression(codes, rows, p + 2, n);
-        return closed(codes, rows, named, n, 279, p);
+    if is_labelled(terminals, p) {
+        let named = expression_at(terminals, rows, p + 2, n);
+        let Read::At(q, m) = named else {
+            return named;
+        };
+        return closed(terminals, rows, q, m, n, labels::LABELLED_RULE, p);
     }
-    let plain = expression(codes, rows, p, n);
-    closed(codes, rows, plain, n, 535, p)
+    let plain = expression_at(terminals, rows, p, n);
+    let Read::At(q, m) = plain else {
+        return plain;
+    };
+    closed(terminals, rows, q, m, n, labels::UNLABELLED_RULE, p)
 }
 
 // A rule begins with this terminal.
@@ -217,23 +250,35 @@ fn begins_rule(c: u8) -> bool
     ensures { λ r. ⌜ r ≡ mem c (tables .begins domain-rule) ⌝ }
 {
     match c {
-        1 | 3 | 5 | 12 | 21 | 24 | 54 | 80 | 106 | 115 | 127 | 139 | 143 => true,
-        2 | 4 | 6 | 13 => true,
+        codes::IDENTIFIER
+        | codes::REAL_LITERAL
+        | codes::BINARY_LITERAL
+        | codes::PLUS
+        | codes::LBRACE
+        | codes::LPAREN
+        | codes::CONST_E
+        | codes::FALSE
+        | codes::NOT
+        | codes::PI
+        | codes::SELF
+        | codes::TRUE
+        | codes::UNKNOWN => true,
+        codes::INTEGER_LITERAL | codes::STRING_LITERAL | codes::QUESTION | codes::MINUS => true,
         _ => false,
     }
 }
 
 // One or more rules.
-fn rule_list(codes: &[u8], rows: &mut [u64], p: usize, n: usize) -> Read
-    requires { ⌜ Ready (now codes) p n ⌝ }
-    ensures { λ r. ⌜ Steps (nt domain-rule · star (nt domain-rule)) (now (codes .entry)) (At p n) r (now (rows .entry)) (now (rows .exit)) ⌝ }
+fn rule_list(terminals: &[u8], rows: &mut [u64], p: usize, n: usize) -> Read
+    requires { ⌜ Ready (now terminals) p n ⌝ }
+    ensures { λ r. ⌜ Steps (nt domain-rule · star (nt domain-rule)) (now (terminals .entry)) p n r (now (rows .entry)) (now (rows .exit)) ⌝ }
 {
-    let first = rule(codes, rows, p, n);
+    let first = rule(terminals, rows, p, n);
     let Read::At(mut q, mut m) = first else {
         return first;
     };
-    while begins_rule(token(codes, q)) {
-        let next = rule(codes, rows, q, m);
+    while begins_rule(token(terminals, q)) {
+        let next = rule(terminals, rows, q, m);
         let Read::At(q2, m2) = next else {
             return next;
         };
@@ -244,91 +289,153 @@ fn rule_list(codes: &[u8], rows: &mut [u64], p: usize, n: usize) -> Read
 }
 
 // [ WHERE rule { rule } ]
-fn rules(codes: &[u8], rows: &mut [u64], before: Read) -> Read
-    requires { ⌜ Sound (now codes) before ⌝ }
-    ensures { λ r. ⌜ Steps (opt (nt where-clause)) (now (codes .entry)) before r (now (rows .entry)) (now (rows .exit)) ⌝ }
+fn rules(terminals: &[u8], rows: &mut [u64], p: usize, n: usize) -> Read
+    requires { ⌜ Ready (now terminals) p n ⌝ }
+    ensures { λ r. ⌜ Steps (opt (nt where-clause)) (now (terminals .entry)) p n r (now (rows .entry)) (now (rows .exit)) ⌝ }
 {
-    let Read::At(p, n) = before else {
-        return before;
-    };
-    if token(codes, p) != 151 {
-        return before;
+    if token(terminals, p) != codes::WHERE {
+        return Read::At(p, n);
     }
-    rule_list(codes, rows, p + 1, n)
+    rule_list(terminals, rows, p + 1, n)
 }
 
 // A word, and an identifier behind it.
-fn headed(codes: &[u8], p: usize, n: usize, word: u8) -> Read
-    requires { ⌜ (Ready (now codes) p n) × (0 < word) ⌝ }
-    ensures { λ r. ⌜ Heads (now (codes .entry)) word p n r ⌝ }
+fn head(terminals: &[u8], p: usize, n: usize, word: u8) -> Read
+    requires { ⌜ (Ready (now terminals) p n) × (0 < word) ⌝ }
+    ensures { λ r. ⌜ Heads word (now (terminals .entry)) p n r ⌝ }
 {
-    let first = expect(codes, Read::At(p, n), word);
-    expect(codes, first, 1)
+    let first = expect(terminals, p, n, word);
+    let Read::At(q, m) = first else {
+        return first;
+    };
+    expect(terminals, q, m, codes::IDENTIFIER)
+}
+
+// ENUMERATION OF ids, of which the first word is there
+fn enumeration(terminals: &[u8], rows: &mut [u64], p: usize, n: usize) -> Read
+    requires { ⌜ (Ready (now terminals) p n) × (getD (now terminals) p 0 ≡ 76) ⌝ }
+    ensures { λ r. ⌜ Reads underlying (now (terminals .entry)) p n r (now (rows .entry)) (now (rows .exit)) ⌝ }
+{
+    let of = expect(terminals, p + 1, n, codes::OF);
+    let Read::At(q, m) = of else {
+        return of;
+    };
+    let items = ids(terminals, rows, q, m, labels::ITEM);
+    let Read::At(q2, m2) = items else {
+        return items;
+    };
+    put_row(rows, m2, n, labels::ENUMERATION, p);
+    Read::At(q2, m2 + 1)
+}
+
+// SELECT ids, of which the word is there
+fn selection(terminals: &[u8], rows: &mut [u64], p: usize, n: usize) -> Read
+    requires { ⌜ (Ready (now terminals) p n) × (getD (now terminals) p 0 ≡ 126) ⌝ }
+    ensures { λ r. ⌜ Reads underlying (now (terminals .entry)) p n r (now (rows .entry)) (now (rows .exit)) ⌝ }
+{
+    let selected = ids(terminals, rows, p + 1, n, labels::SELECT_NAME);
+    let Read::At(q, m) = selected else {
+        return selected;
+    };
+    put_row(rows, m, n, labels::SELECT, p);
+    Read::At(q, m + 1)
 }
 
 // base | ENUMERATION OF ids | SELECT ids
-fn underlying(codes: &[u8], rows: &mut [u64], before: Read) -> Read
-    requires { ⌜ Sound (now codes) before ⌝ }
-    ensures { λ r. ⌜ Takes underlying (now (codes .entry)) before r (now (rows .entry)) (now (rows .exit)) ⌝ }
+fn underlying(terminals: &[u8], rows: &mut [u64], p: usize, n: usize) -> Read
+    requires { ⌜ Ready (now terminals) p n ⌝ }
+    ensures { λ r. ⌜ Reads underlying (now (terminals .entry)) p n r (now (rows .entry)) (now (rows .exit)) ⌝ }
 {
-    let Read::At(p, n) = before else {
-        return before;
-    };
-    let c = token(codes, p);
-    if c == 76 {
-        let of = expect(codes, Read::At(p + 1, n), 110);
-        let items = ids(codes, rows, of, 14);
-        return node(rows, items, n, 15, p);
+    let c = token(terminals, p);
+    if c == codes::ENUMERATION {
+        return enumeration(terminals, rows, p, n);
     }
-    if c == 126 {
-        let selected = ids(codes, rows, Read::At(p + 1, n), 1030);
-        return node(rows, selected, n, 16, p);
+    if c == codes::SELECT {
+        return selection(terminals, rows, p, n);
     }
-    base(codes, rows, before, 774)
+    base(terminals, rows, p, n, labels::RENAMED_TYPE)
 }
 
 // TYPE id '=' underlying ';' [ where ] END_TYPE ';'
-fn type_declaration(codes: &[u8], rows: &mut [u64], p: usize, n: usize) -> Read
-    requires { ⌜ Ready (now codes) p n ⌝ }
-    ensures { λ r. ⌜ Reads type-declaration (now (codes .entry)) p n r (now (rows .entry)) (now (rows .exit)) ⌝ }
+fn type_declaration(terminals: &[u8], rows: &mut [u64], p: usize, n: usize) -> Read
+    requires { ⌜ Ready (now terminals) p n ⌝ }
+    ensures { λ r. ⌜ Reads type-declaration (now (terminals .entry)) p n r (now (rows .entry)) (now (rows .exit)) ⌝ }
 {
-    let head = headed(codes, p, n, 140);
-    let equal = expect(codes, head, 14);
-    let under = underlying(codes, rows, equal);
-    let semicolon = expect(codes, under, 9);
-    let ruled = rules(codes, rows, semicolon);
-    let end = expect(codes, ruled, 74);
-    closed(codes, rows, end, n, 18, p + 1)
+    let name = head(terminals, p, n, codes::TYPE);
+    let Read::At(q, m) = name else {
+        return name;
+    };
+    let equal = expect(terminals, q, m, codes::EQUAL);
+    let Read::At(q2, m2) = equal else {
+        return equal;
+    };
+    let under = underlying(terminals, rows, q2, m2);
+    let Read::At(q3, m3) = under else {
+        return under;
+    };
+    let semicolon = expect(terminals, q3, m3, codes::SEMICOLON);
+    let Read::At(q4, m4) = semicolon else {
+        return semicolon;
+    };
+    let ruled = rules(terminals, rows, q4, m4);
+    let Read::At(q5, m5) = ruled else {
+        return ruled;
+    };
+    let end = expect(terminals, q5, m5, codes::END_TYPE);
+    let Read::At(q6, m6) = end else {
+        return end;
+    };
+    closed(terminals, rows, q6, m6, n, labels::TYPE, p + 1)
+}
+
+// base ';', and a row over all rows from `first` on
+fn group(
+    terminals: &[u8],
+    rows: &mut [u64],
+    p: usize,
+    n: usize,
+    first: usize,
+    label: u64,
+    name: usize,
+) -> Read
+    requires { ⌜ (Ready (now terminals) p n) × (label < 65536) × (name < 1048576) ⌝ }
+    ensures { λ r. ⌜ Groups first label name (now (terminals .entry)) p n r (now (rows .entry)) (now (rows .exit)) ⌝ }
+{
+    let kind = base(terminals, rows, p, n, labels::TYPE_NAME);
+    let Read::At(q, m) = kind else {
+        return kind;
+    };
+    closed(terminals, rows, q, m, first, label, name)
 }
 
 // id { ',' id } ':' [ OPTIONAL ] base ';'
-fn attributes(codes: &[u8], rows: &mut [u64], p: usize, n: usize) -> Read
-    requires { ⌜ Ready (now codes) p n ⌝ }
-    ensures { λ r. ⌜ Reads attributes (now (codes .entry)) p n r (now (rows .entry)) (now (rows .exit)) ⌝ }
+fn attributes(terminals: &[u8], rows: &mut [u64], p: usize, n: usize) -> Read
+    requires { ⌜ Ready (now terminals) p n ⌝ }
+    ensures { λ r. ⌜ Reads attributes (now (terminals .entry)) p n r (now (rows .entry)) (now (rows .exit)) ⌝ }
 {
-    let listed = names(codes, rows, Read::At(p, n), 19);
-    let colon = expect(codes, listed, 10);
-    let Read::At(q, m) = colon else {
+    let listed = names(terminals, rows, p, n, labels::ATTRIBUTE_NAME);
+    let Read::At(q, m) = listed else {
+        return listed;
+    };
+    let colon = expect(terminals, q, m, codes::COLON);
+    let Read::At(q2, m2) = colon else {
         return colon;
     };
-    if token(codes, q) == 112 {
-        let kind = base(codes, rows, Read::At(q + 1, m), 518);
-        return closed(codes, rows, kind, n, 21, p);
+    if token(terminals, q2) == codes::OPTIONAL {
+        return group(terminals, rows, q2 + 1, m2, n, labels::OPTIONAL_GROUP, p);
     }
-    let plain = base(codes, rows, colon, 518);
-    closed(codes, rows, plain, n, 20, p)
+    group(terminals, rows, q2, m2, n, labels::ATTRIBUTE_GROUP, p)
 }
 
 // { attributes }
-fn groups(codes: &[u8], rows: &mut [u64], before: Read) -> Read
-    requires { ⌜ Sound (now codes) before ⌝ }
-    ensures { λ r. ⌜ Steps (star (nt attributes)) (now (codes .entry)) before r (now (rows .entry)) (now (rows .exit)) ⌝ }
+fn groups(terminals: &[u8], rows: &mut [u64], p: usize, n: usize) -> Read
+    requires { ⌜ Ready (now terminals) p n ⌝ }
+    ensures { λ r. ⌜ Steps (star (nt attributes)) (now (terminals .entry)) p n r (now (rows .entry)) (now (rows .exit)) ⌝ }
 {
-    let Read::At(mut q, mut m) = before else {
-        return before;
-    };
-    while token(codes, q) == 1 {
-        let next = attributes(codes, rows, q, m);
+    let mut q = p;
+    let mut m = n;
+    while token(terminals, q) == codes::IDENTIFIER {
+        let next = attributes(terminals, rows, q, m);
         let Read::At(q2, m2) = next else {
             return next;
         };
@@ -339,65 +446,93 @@ fn groups(codes: &[u8], rows: &mut [u64], before: Read) -> Read
 }
 
 // [ SUBTYPE OF ids ]
-fn supertypes(codes: &[u8], rows: &mut [u64], before: Read) -> Read
-    requires { ⌜ Sound (now codes) before ⌝ }
-    ensures { λ r. ⌜ Steps (opt (tok SUBTYPE · tok OF · ids (id-of 1286))) (now (codes .entry)) before r (now (rows .entry)) (now (rows .exit)) ⌝ }
+fn supertypes(terminals: &[u8], rows: &mut [u64], p: usize, n: usize) -> Read
+    requires { ⌜ Ready (now terminals) p n ⌝ }
+    ensures { λ r. ⌜ Steps (opt (tok SUBTYPE · tok OF · ids (id-of 1286))) (now (terminals .entry)) p n r (now (rows .entry)) (now (rows .exit)) ⌝ }
 {
-    let Read::At(p, n) = before else {
-        return before;
-    };
-    if token(codes, p) != 134 {
-        return before;
+    if token(terminals, p) != codes::SUBTYPE {
+        return Read::At(p, n);
     }
-    let of = expect(codes, Read::At(p + 1, n), 110);
-    ids(codes, rows, of, 1286)
+    let of = expect(terminals, p + 1, n, codes::OF);
+    let Read::At(q, m) = of else {
+        return of;
+    };
+    ids(terminals, rows, q, m, labels::SUPERTYPE_NAME)
 }
 
-// ENTITY id [ SUBTYPE OF ids ] ';' { attributes } [ DERIVE .. ] [ where ] END_ENTITY ';'
-fn entity(codes: &[u8], rows: &mut [u64], p: usize, n: usize) -> Read
-    requires { ⌜ Ready (now codes) p n ⌝ }
-    ensures { λ r. ⌜ Reads entity (now (codes .entry)) p n r (now (rows .entry)) (now (rows .exit)) ⌝ }
+// { attributes } [ DERIVE .. ] [ where ]
+fn members(terminals: &[u8], rows: &mut [u64], p: usize, n: usize) -> Read
+    requires { ⌜ Ready (now terminals) p n ⌝ }
+    ensures { λ r. ⌜ Steps members-of (now (terminals .entry)) p n r (now (rows .entry)) (now (rows .exit)) ⌝ }
 {
-    let head = headed(codes, p, n, 75);
-    let supers = supertypes(codes, rows, head);
-    let semicolon = expect(codes, supers, 9);
-    let grouped = groups(codes, rows, semicolon);
-    let values = derivations(codes, rows, grouped);
-    let ruled = rules(codes, rows, values);
-    let end = expect(codes, ruled, 65);
-    closed(codes, rows, end, n, 24, p + 1)
+    let grouped = groups(terminals, rows, p, n);
+    let Read::At(q, m) = grouped else {
+        return grouped;
+    };
+    let values = derivations(terminals, rows, q, m);
+    let Read::At(q2, m2) = values else {
+        return values;
+    };
+    rules(terminals, rows, q2, m2)
+}
+
+// ENTITY id [ SUBTYPE OF ids ] ';' members END_ENTITY ';'
+fn entity(terminals: &[u8], rows: &mut [u64], p: usize, n: usize) -> Read
+    requires { ⌜ Ready (now terminals) p n ⌝ }
+    ensures { λ r. ⌜ Reads entity (now (terminals .entry)) p n r (now (rows .entry)) (now (rows .exit)) ⌝ }
+{
+    let name = head(terminals, p, n, codes::ENTITY);
+    let Read::At(q, m) = name else {
+        return name;
+    };
+    let supers = supertypes(terminals, rows, q, m);
+    let Read::At(q2, m2) = supers else {
+        return supers;
+    };
+    let semicolon = expect(terminals, q2, m2, codes::SEMICOLON);
+    let Read::At(q3, m3) = semicolon else {
+        return semicolon;
+    };
+    let body = members(terminals, rows, q3, m3);
+    let Read::At(q4, m4) = body else {
+        return body;
+    };
+    let end = expect(terminals, q4, m4, codes::END_ENTITY);
+    let Read::At(q5, m5) = end else {
+        return end;
+    };
+    closed(terminals, rows, q5, m5, n, labels::ENTITY, p + 1)
 }
 
 fn begins_declaration(c: u8) -> bool
     ensures { λ r. ⌜ r ≡ mem c (TYPE ++ ENTITY) ⌝ }
 {
     match c {
-        75 | 140 => true,
+        codes::ENTITY | codes::TYPE => true,
         _ => false,
     }
 }
 
 // type | entity
-fn declaration(codes: &[u8], rows: &mut [u64], p: usize, n: usize) -> Read
-    requires { ⌜ Ready (now codes) p n ⌝ }
-    ensures { λ r. ⌜ Reads (declared-by (getD (now (codes .entry)) p 0)) (now (codes .entry)) p n r (now (rows .entry)) (now (rows .exit)) ⌝ }
+fn declaration(terminals: &[u8], rows: &mut [u64], p: usize, n: usize) -> Read
+    requires { ⌜ Ready (now terminals) p n ⌝ }
+    ensures { λ r. ⌜ Reads (declared-by (getD (now (terminals .entry)) p 0)) (now (terminals .entry)) p n r (now (rows .entry)) (now (rows .exit)) ⌝ }
 {
-    if token(codes, p) == 140 {
-        return type_declaration(codes, rows, p, n);
+    if token(terminals, p) == codes::TYPE {
+        return type_declaration(terminals, rows, p, n);
     }
-    entity(codes, rows, p, n)
+    entity(terminals, rows, p, n)
 }
 
 // { type | entity }
-fn declarations(codes: &[u8], rows: &mut [u64], before: Read) -> Read
-    requires { ⌜ Sound (now codes) before ⌝ }
-    ensures { λ r. ⌜ Steps (star (nt type-declaration ∣ nt entity)) (now (codes .entry)) before r (now (rows .entry)) (now (rows .exit)) ⌝ }
+fn declarations(terminals: &[u8], rows: &mut [u64], p: usize, n: usize) -> Read
+    requires { ⌜ Ready (now terminals) p n ⌝ }
+    ensures { λ r. ⌜ Steps (star (nt type-declaration ∣ nt entity)) (now (terminals .entry)) p n r (now (rows .entry)) (now (rows .exit)) ⌝ }
 {
-    let Read::At(mut q, mut m) = before else {
-        return before;
-    };
-    while begins_declaration(token(codes, q)) {
-        let next = declaration(codes, rows, q, m);
+    let mut q = p;
+    let mut m = n;
+    while begins_declaration(token(terminals, q)) {
+        let next = declaration(terminals, rows, q, m);
         let Read::At(q2, m2) = next else {
             return next;
         };
@@ -408,29 +543,44 @@ fn declarations(codes: &[u8], rows: &mut [u64], before: Read) -> Read
 }
 
 // SCHEMA id ';' [ constants ] { type | entity } END_SCHEMA ';'
-fn schema(codes: &[u8], rows: &mut [u64], p: usize, n: usize) -> Read
-    requires { ⌜ Ready (now codes) p n ⌝ }
-    ensures { λ r. ⌜ Reads schema (now (codes .entry)) p n r (now (rows .entry)) (now (rows .exit)) ⌝ }
+fn schema(terminals: &[u8], rows: &mut [u64], p: usize, n: usize) -> Read
+    requires { ⌜ Ready (now terminals) p n ⌝ }
+    ensures { λ r. ⌜ Reads schema (now (terminals .entry)) p n r (now (rows .entry)) (now (rows .exit)) ⌝ }
 {
-    let head = headed(codes, p, n, 125);
-    let semicolon = expect(codes, head, 9);
-    let values = constants(codes, rows, semicolon);
-    let declared = declarations(codes, rows, values);
-    let end = expect(codes, declared, 73);
-    closed(codes, rows, end, n, 25, p + 1)
+    let name = head(terminals, p, n, codes::SCHEMA);
+    let Read::At(q, m) = name else {
+        return name;
+    };
+    let semicolon = expect(terminals, q, m, codes::SEMICOLON);
+    let Read::At(q2, m2) = semicolon else {
+        return semicolon;
+    };
+    let values = constants(terminals, rows, q2, m2);
+    let Read::At(q3, m3) = values else {
+        return values;
+    };
+    let declared = declarations(terminals, rows, q3, m3);
+    let Read::At(q4, m4) = declared else {
+        return declared;
+    };
+    let end = expect(terminals, q4, m4, codes::END_SCHEMA);
+    let Read::At(q5, m5) = end else {
+        return end;
+    };
+    closed(terminals, rows, q5, m5, n, labels::SCHEMA, p + 1)
 }
 
 // One or more schemas.
-fn schemas(codes: &[u8], rows: &mut [u64], p: usize, n: usize) -> Read
-    requires { ⌜ Ready (now codes) p n ⌝ }
-    ensures { λ r. ⌜ Steps (nt schema · star (nt schema)) (now (codes .entry)) (At p n) r (now (rows .entry)) (now (rows .exit)) ⌝ }
+fn schemas(terminals: &[u8], rows: &mut [u64], p: usize, n: usize) -> Read
+    requires { ⌜ Ready (now terminals) p n ⌝ }
+    ensures { λ r. ⌜ Steps (nt schema · star (nt schema)) (now (terminals .entry)) p n r (now (rows .entry)) (now (rows .exit)) ⌝ }
 {
-    let first = schema(codes, rows, p, n);
+    let first = schema(terminals, rows, p, n);
     let Read::At(mut q, mut m) = first else {
         return first;
     };
-    while token(codes, q) == 125 {
-        let next = schema(codes, rows, q, m);
+    while token(terminals, q) == codes::SCHEMA {
+        let next = schema(terminals, rows, q, m);
         let Read::At(q2, m2) = next else {
             return next;
         };
@@ -441,103 +591,64 @@ fn schemas(codes: &[u8], rows: &mut [u64], p: usize, n: usize) -> Read
 }
 
 // schema { schema }
-fn file(codes: &[u8], rows: &mut [u64]) -> Read
-    requires { ⌜ Ready (now codes) 0 0 ⌝ }
-    ensures { λ r. ⌜ Reads file (now (codes .entry)) 0 0 r (now (rows .entry)) (now (rows .exit)) ⌝ }
+fn file(terminals: &[u8], rows: &mut [u64]) -> Read
+    requires { ⌜ Ready (now terminals) 0 0 ⌝ }
+    ensures { λ r. ⌜ Reads file (now (terminals .entry)) 0 0 r (now (rows .entry)) (now (rows .exit)) ⌝ }
 {
-    let all = schemas(codes, rows, 0, 0);
-    node(rows, all, 0, 26, 0)
+    let all = schemas(terminals, rows, 0, 0);
+    let Read::At(q, m) = all else {
+        return all;
+    };
+    put_row(rows, m, 0, labels::FILE, 0);
+    Read::At(q, m + 1)
 }
 
 // A whole file, its rows in words.
-fn whole(codes: &[u8], words: &mut [u64]) -> Judgement
-    requires { ⌜ length (now codes) ≤ most ⌝ }
-    ensures { λ r. ⌜ Judging file (now (codes .entry)) r (now (words .entry)) (now (words .exit)) ⌝ }
+fn whole(terminals: &[u8], rows: &mut [u64]) -> Judgement
+    requires { ⌜ length (now terminals) ≤ 65536 ⌝ }
+    ensures { λ r. ⌜ Judging file (now (terminals .entry)) r (now (rows .entry)) (now (rows .exit)) ⌝ }
 {
-    let deep = first_deep(codes);
-    let end = end_of(deep, codes.len());
-    let read = file(&codes[..end], words);
+    let deep = first_deep(terminals);
+    let end = end_of(deep, terminals.len());
+    let read = file(&terminals[..end], rows);
     judged(read, deep, end)
 }
 
-// The answer, by way of scratch with room for a word for each token: nodes never outnumber tokens.
+// The answer, by way of a word for each terminal: rows never outnumber tokens.
 fn parse_in(
+    terminals: &[u8],
     words: &mut [u64],
-    codes: &[u8],
     kinds: &mut [u8],
     tokens: &mut [u32],
     sizes: &mut [u32],
     roles: &mut [u32],
 ) -> Parsed
-    requires { ⌜ (length (now codes) ≤ most) × (length (now codes) ≤ length (now words)) ⌝ }
-    ensures { λ r. ⌜ Parsing file (now (codes .entry)) r (now (kinds .entry)) (now (tokens .entry)) (now (sizes .entry)) (now (roles .entry)) (now (kinds .exit)) (now (tokens .exit)) (now (sizes .exit)) (now (roles .exit)) ⌝ }
+    requires { ⌜ (length (now terminals) ≤ 65536) × (length (now words) ≡ length (now terminals)) ⌝ }
+    ensures { λ r. ⌜ Parses file (now (terminals .entry)) r (now (words .entry)) (now (kinds .entry)) (now (tokens .entry)) (now (sizes .entry)) (now (roles .entry))
+        (now (words .exit)) (now (kinds .exit)) (now (tokens .exit)) (now (sizes .exit)) (now (roles .exit)) ⌝ }
 {
-    let judgement = whole(codes, words);
-    settle(judgement, words, kinds, tokens, sizes, roles)
+    let judgement = whole(terminals, words);
+    lay_out(judgement, words, kinds, tokens, sizes, roles)
 }
 
-// Scratch comes in three sizes: a short file clears little, and 24,576 words hold the nodes of nearly every file of 64 KiB. Each has a function of
-// its own, so that the stack has room for one of them alone.
-fn parse_small(
-    codes: &[u8],
-    kinds: &mut [u8],
-    tokens: &mut [u32],
-    sizes: &mut [u32],
-    roles: &mut [u32],
-) -> Parsed
-    requires { ⌜ length (now codes) ≤ 1024 ⌝ }
-    ensures { λ r. ⌜ Parsing file (now (codes .entry)) r (now (kinds .entry)) (now (tokens .entry)) (now (sizes .entry)) (now (roles .entry)) (now (kinds .exit)) (now (tokens .exit)) (now (sizes .exit)) (now (roles .exit)) ⌝ }
-{
-    let mut words = [0u64; 1024];
-    parse_in(&mut words, codes, kinds, tokens, sizes, roles)
-}
-
-fn parse_middle(
-    codes: &[u8],
-    kinds: &mut [u8],
-    tokens: &mut [u32],
-    sizes: &mut [u32],
-    roles: &mut [u32],
-) -> Parsed
-    requires { ⌜ length (now codes) ≤ 24576 ⌝ }
-    ensures { λ r. ⌜ Parsing file (now (codes .entry)) r (now (kinds .entry)) (now (tokens .entry)) (now (sizes .entry)) (now (roles .entry)) (now (kinds .exit)) (now (tokens .exit)) (now (sizes .exit)) (now (roles .exit)) ⌝ }
-{
-    let mut words = [0u64; 24576];
-    parse_in(&mut words, codes, kinds, tokens, sizes, roles)
-}
-
-fn parse_large(
-    codes: &[u8],
-    kinds: &mut [u8],
-    tokens: &mut [u32],
-    sizes: &mut [u32],
-    roles: &mut [u32],
-) -> Parsed
-    requires { ⌜ length (now codes) ≤ 65536 ⌝ }
-    ensures { λ r. ⌜ Parsing file (now (codes .entry)) r (now (kinds .entry)) (now (tokens .entry)) (now (sizes .entry)) (now (roles .entry)) (now (kinds .exit)) (now (tokens .exit)) (now (sizes .exit)) (now (roles .exit)) ⌝ }
-{
-    let mut words = [0u64; 65536];
-    parse_in(&mut words, codes, kinds, tokens, sizes, roles)
-}
-
-// THE PARSE of a whole file: replies 4, 5 and 7, and the node table.
+// THE PARSE of a whole file: replies 4, 5 and 7, and the node table. The scratch that is used is zeros then.
 pub fn parse(
-    codes: &[u8],
+    terminals: &[u8],
+    scratch: &mut [u64],
     kinds: &mut [u8],
     tokens: &mut [u32],
     sizes: &mut [u32],
     roles: &mut [u32],
 ) -> Parsed
-    ensures { λ r. ⌜ Parsing file (now (codes .entry)) r (now (kinds .entry)) (now (tokens .entry)) (now (sizes .entry)) (now (roles .entry)) (now (kinds .exit)) (now (tokens .exit)) (now (sizes .exit)) (now (roles .exit)) ⌝ }
+    ensures { λ r. ⌜ Parsing file (now (terminals .entry)) r (now (scratch .entry)) (now (kinds .entry)) (now (tokens .entry)) (now (sizes .entry)) (now (roles .entry))
+        (now (scratch .exit)) (now (kinds .exit)) (now (tokens .exit)) (now (sizes .exit)) (now (roles .exit)) ⌝ }
 {
-    if codes.len() > 65536 {
+    let n = terminals.len();
+    if n > expressions::MOST {
         return Parsed::Long;
     }
-    if codes.len() > 24576 {
-        return parse_large(codes, kinds, tokens, sizes, roles);
+    if scratch.len() < n {
+        return Parsed::Scratch(n);
     }
-    if codes.len() > 1024 {
-        return parse_middle(codes, kinds, tokens, sizes, roles);
-    }
-    parse_small(codes, kinds, tokens, sizes, roles)
+    parse_in(terminals, &mut scratch[..n], kinds, tokens, sizes, roles)
 }

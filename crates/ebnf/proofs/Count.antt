@@ -12,6 +12,7 @@ use Rattle.ebnf.specs.Grammar.{Mark, silent, here, node, leaf, Ebnf, non
 use Rattle.ebnf.specs.Grammar.{Derives, nothing, marked, token, both, left, right, stop, more, label, other, rule}
 use Rattle.ebnf.specs.Rows.{Row, Rows, in-rows, stamp-rows}
 use Rattle.ebnf.specs.Parse.{Tables, Result, at, refused, starved}
+use Rattle.ebnf.specs.Descent.{phrase as phrase-of}
 use Rattle.ebnf.proofs.Predictive.{Predictive}
 use Rattle.ebnf.proofs.Sound.{Right}
 use Rattle.ebnf.proofs.Equations.{parsed, parsed-right}
@@ -147,5 +148,5 @@ module _ {N : Type 0} {rules : N → Ebnf N} {T : Tables N} {gain : N → ℕ} (
   counted-at x i starved d = tt
 
   pub phrase-counted : (x : N) (i : ℕ) → i ≤ length ts → Counted x i (phrase G in-rows ts x i)
-  unfolding phrase
+  unfolding phrase-of
   phrase-counted x i l = counted-at x i (parsed G in-rows ts (rules x) i (in-rows .start i)) (parsed-right G in-rows ts (rules x) (G .ok x) i (in-rows .start i) l)

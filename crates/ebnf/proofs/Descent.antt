@@ -10,6 +10,7 @@ use Rattle.ebnf.specs.Set.{mem}
 use Rattle.ebnf.specs.Grammar.{Mark, silent, here, node, leaf, Ebnf, none, mark, step, seq, alt, star, fork, nt, Actions, Derives}
 use Rattle.ebnf.specs.Rows.{stamp-name, Rows, in-rows}
 use Rattle.ebnf.specs.Parse.{Tables, first, Result, at, refused, starved, bind, descend, verdict, parse}
+use Rattle.ebnf.specs.Descent.{parsed as parsed-by, phrase as phrase-of, repeat as repeat-of, run as run-of}
 use Rattle.ebnf.proofs.Sets.{and-split}
 use Rattle.ebnf.proofs.Derivations.{mono}
 use Rattle.ebnf.proofs.Predictive.{Ok, Predictive}
@@ -35,25 +36,15 @@ cond-bind true x y u v k f g = f refl
 cond-bind false x y u v k f g = g refl
 
 module _ {N : Type 0} {rules : N → Ebnf N} {T : Tables N} (G : Predictive rules T) (A : Actions) (ts : List ℕ) where
-  -- what the rule of x comes to at i
-  unfoldable pub phrase : N → ℕ → Result (A .Value)
-  phrase x i = parsed G A ts (rules x) i (A .start i)
+  -- what the rule of x comes to at i; a repetition; and what e comes to at i, with what follows it
+  abbrev pub phrase : N → ℕ → Result (A .Value)
+  phrase = phrase-of A rules T ts
 
-  -- what a repetition comes to
-  unfoldable pub repeat : Ebnf N → ℕ → A .Value → Result (A .Value)
-  repeat a i r = parsed G A ts (star a) i r
+  abbrev pub repeat : Ebnf N → ℕ → A .Value → Result (A .Value)
+  repeat = repeat-of A rules T ts
 
-  -- what e comes to at i, with what follows it
   abbrev pub run : Ebnf N → ℕ → A .Value → (ℕ → A .Value → Result (A .Value)) → Result (A .Value)
-  run none i r k = k i r
-  run (mark m) i r k = k i (A .close m r)
-  run (step m cs a) i r k = cond (mem (getD ts i 0) cs) (run a (suc i) r (λ j s. k j (A .stamp m i s))) (refused i)
-  run (seq a b) i r k = run a i r (λ j s. run b j s k)
-  run (alt a b) i r k = cond (mem (getD ts i 0) (first T a)) (run a i r k) (run b i r k)
-  run (star a) i r k = bind (repeat a i r) k
-  run (fork m cs ds a b) i r k =
-      cond (mem (getD ts i 0) cs && mem (getD ts (suc i) 0) ds) (run a (suc (suc i)) (A .stamp m i r) k) (run b i r k)
-  run (nt x) i r k = bind (phrase x i) (λ j s. k j (A .join r s))
+  run = run-of A rules T ts
 
   bind-same : (e : Ebnf N) (i : ℕ) (r : A .Value) (x : Result (A .Value)) → Right A rules ts e i r x → (k l : ℕ → A .Value → Result (A .Value)) →
       ((j : ℕ) (s : A .Value) → j ≤ length ts → k j s ≡ l j s) → bind x k ≡ bind x l
@@ -62,7 +53,7 @@ module _ {N : Type 0} {rules : N → Ebnf N} {T : Tables N} (G : Predictive rule
   bind-same e i r starved d k l h = refl
 
   pub runs : (e : Ebnf N) → Ok T e → (i : ℕ) (r : A .Value) → i ≤ length ts → (k : ℕ → A .Value → Result (A .Value)) → bind (parsed G A ts e i r) k ≡ run e i r k
-  unfolding phrase repeat
+  unfolding phrase-of repeat-of
   runs none o i r l k = rw (parsed-none G A ts i r l)
   runs (mark m) o i r l k = rw (parsed-mark G A ts m i r l)
   runs (step m cs a) o i r l k =
@@ -91,19 +82,19 @@ module _ {N : Type 0} {rules : N → Ebnf N} {T : Tables N} (G : Predictive rule
 
   -- THE EQUATION OF A NONTERMINAL
   pub phrase-is : (x : N) (i : ℕ) → i ≤ length ts → phrase x i ≡ run (rules x) i (A .start i) (λ j s. at j s)
-  unfolding phrase
+  unfolding phrase-of
   phrase-is x i l = sym (bind-at (parsed G A ts (rules x) i (A .start i))) ∙ runs (rules x) (G .ok x) i (A .start i) l (λ j s. at j s)
 
   -- THE EQUATION OF A REPETITION
   pub repeat-is : (a : Ebnf N) → Ok T (star a) → (i : ℕ) (r : A .Value) → i ≤ length ts →
       repeat a i r ≡ cond (mem (getD ts i 0) (first T a)) (run a i r (λ j s. repeat a j s)) (at i r)
-  unfolding repeat
+  unfolding repeat-of
   repeat-is a o i r l =
       parsed-star G A ts a o i r l ∙ ap (λ (x : Result (A .Value)). cond (mem (getD ts i 0) (first T a)) x (at i r)) (runs a (o .0) i r l (λ j s. repeat a j s))
 
   -- the verdict on a whole list
   pub parse-is : (x : N) → parse A rules T x ts ≡ verdict (length ts) (bind (phrase x 0) (λ j s. at j (A .join (A .start 0) s)))
-  unfolding parse phrase parsed
+  unfolding parse phrase-of parsed-by
   parse-is x = ap (verdict (length ts)) (parsed-nt G A ts x 0 (A .start 0) (omega arith))
 
   -- ---- where a result lies
@@ -122,13 +113,13 @@ module _ {N : Type 0} {rules : N → Ebnf N} {T : Tables N} (G : Predictive rule
 
   -- a phrase takes at least one token
   pub phrase-placed : (x : N) (i : ℕ) → i ≤ length ts → Placed 1 i (phrase x i)
-  unfolding phrase
+  unfolding phrase-of
   phrase-placed x i l =
       placed (rules x) 1 i (A .start i) (parsed G A ts (rules x) i (A .start i)) (parsed-right G A ts (rules x) (G .ok x) i (A .start i) l) (parsed-fed G A ts (rules x) (G .ok x) i (A .start i) l)
       (λ j s d. let e = (eats G d (G .full x)) .1 in omega (arith, e))
 
   pub repeat-placed : (a : Ebnf N) → Ok T (star a) → (i : ℕ) (r : A .Value) → i ≤ length ts → Placed 0 i (repeat a i r)
-  unfolding repeat
+  unfolding repeat-of
   repeat-placed a o i r l =
       placed (star a) 0 i r (parsed G A ts (star a) i r) (parsed-right G A ts (star a) o i r l) (parsed-fed G A ts (star a) o i r l) (λ j s d. let e = mono d in omega (arith, e))
 
@@ -232,7 +223,7 @@ module _ {N : Type 0} {rules : N → Ebnf N} {T : Tables N} (G : Predictive rule
 
   -- what follows may differ in form alone
   walks : (e : Ebnf N) (i : ℕ) (r : Rows) (k l : ℕ → Rows → Result Rows) → ((j : ℕ) (s : Rows) → k j s ≡ l j s) → run G in-rows ts e i r k ≡ walk e i r l
-  unfolding repeat parsed
+  unfolding repeat-of parsed-by
   walks none i r k l h = h i r
   walks (mark m) i r k l h = h i (in-rows .close m r)
   walks (step m cs a) i r k l h =

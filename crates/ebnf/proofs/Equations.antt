@@ -10,6 +10,7 @@ use lib.ListN.{length, getD}
 use Rattle.ebnf.specs.Set.{mem}
 use Rattle.ebnf.specs.Grammar.{Mark, Ebnf, none, mark, step, seq, alt, star, fork, nt, Actions, Derives}
 use Rattle.ebnf.specs.Parse.{Tables, first, depth-of, Result, at, refused, starved, bind, descend, budget}
+use Rattle.ebnf.specs.Descent.{parsed as parsed-by}
 use Rattle.ebnf.proofs.Sets.{and-split, lt-or-le}
 use Rattle.ebnf.proofs.Predictive.{Ok, Predictive}
 use Rattle.ebnf.proofs.Lookahead.{eats, inside}
@@ -66,12 +67,12 @@ module _ (A : Actions) {N : Type 0} (rules : N → Ebnf N) (T : Tables N) (ts : 
 
 module _ {N : Type 0} {rules : N → Ebnf N} {T : Tables N} (G : Predictive rules T) (A : Actions) (ts : List ℕ) where
   -- the result at i, whatever the fuel, if it is enough
-  unfoldable pub parsed : Ebnf N → ℕ → A .Value → Result (A .Value)
-  parsed e i r = descend A rules T ts (budget (T .bound) ts i + depth-of T e) e i r
+  abbrev pub parsed : Ebnf N → ℕ → A .Value → Result (A .Value)
+  parsed = parsed-by A rules T ts
 
   enough : (n : ℕ) (e : Ebnf N) → Ok T e → (i : ℕ) (r : A .Value) → i ≤ length ts → budget (T .bound) ts i + depth-of T e ≤ n →
       descend A rules T ts n e i r ≡ parsed e i r
-  unfolding parsed
+  unfolding parsed-by
   enough n e o i r l f = more-fuel A rules T ts n _ e i r f (fed G A ts _ e o i r l (le-refl _))
 
   -- with one fuel to spare
@@ -127,7 +128,7 @@ module _ {N : Type 0} {rules : N → Ebnf N} {T : Tables N} (G : Predictive rule
   then-at a b n i r starved d f = refl
 
   pub parsed-right : (e : Ebnf N) → Ok T e → (i : ℕ) (r : A .Value) → i ≤ length ts → Right A rules ts e i r (parsed e i r)
-  unfolding parsed
+  unfolding parsed-by
   parsed-right e o i r l = right-at G A ts _ e o i r l
 
   pub parsed-seq : (a b : Ebnf N) → Ok T (seq a b) → (i : ℕ) (r : A .Value) → i ≤ length ts →
@@ -172,5 +173,5 @@ module _ {N : Type 0} {rules : N → Ebnf N} {T : Tables N} (G : Predictive rule
       go false h = refl
 
   pub parsed-fed : (e : Ebnf N) → Ok T e → (i : ℕ) (r : A .Value) → i ≤ length ts → Fed (parsed e i r)
-  unfolding parsed
+  unfolding parsed-by
   parsed-fed e o i r l = fed G A ts _ e o i r l (le-refl _)

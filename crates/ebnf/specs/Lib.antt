@@ -5,3 +5,4 @@ pub mod Trees
 pub mod Parse
 pub mod Check
 pub mod Depth
+pub mod Descent

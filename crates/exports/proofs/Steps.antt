@@ -20,13 +20,6 @@ scans whole counted replied =
       lengths = whole .lengths;
     }
 
-pub parses : {ts k t z o k′ t′ z′ o′ : List ℕ} {a : Parsed} {r n : ℕ} → Parsing.Parsing file ts a k t z o k′ t′ z′ o′ → n ≡ Parsing.number a → r ≡ Parsing.reply a → Parses ts r n k t z o k′ t′ z′ o′
-parses p counted replied =
-    record {
-      replies = replied ∙ ap Parsing.reply (p .answers);
-      counts = counted ∙ ap Parsing.number (p .answers);
-      kinds = p .kinds-are;
-      tokens = p .tokens-are;
-      sizes = p .sizes-are;
-      roles = p .roles-are;
-    }
+pub parses : {ts s k t z o s′ k′ t′ z′ o′ : List ℕ} {a : Parsed} {r n : ℕ} → Parsing.Parsing file ts a s k t z o s′ k′ t′ z′ o′ → n ≡ Parsing.token-or-count a → r ≡ Parsing.reply a →
+    Parses ts r n s k t z o s′ k′ t′ z′ o′
+parses {a = a} p counted replied = record { answer = a; parses = p; replies = replied; counts = counted }

@@ -1,12 +1,12 @@
 -- A reading step as two numbers: its reply, and the number beside it.
 use Prim.Native.Nat.{ℕ, min}
 use mathlib.Core.Path.{_≡_}
-use mathlib.Core.List.{List, map}
+use mathlib.Core.List.{List}
 use lib.ListN.{length}
 use lib.Seq.{sets}
 use Rattle.express.specs.tokens.Lexis as Lexis
-use Rattle.ebnf.specs.Rows.{Row}
 use Rattle.express.specs.syntax.Grammar.{file}
+use Rattle.expressions.specs.declared.Parsed.{Parsed}
 use Rattle.expressions.specs.Parsing as Parsing
 use Rattle.express.specs.tokens.Lexis.{Reading, at, refused, lexed-to, tokens}
 
@@ -29,10 +29,8 @@ pub record Scans (limit : ℕ) (src k₀ s₀ z₀ : List ℕ) (r n : ℕ) (k s 
   pub lengths : z ≡ sets z₀ 0 (Lexis.sizes (lexed-to limit src))
 
 -- what `woffulent_parse` answers and leaves: the promise of `parse`, its answer as two numbers
-pub record Parses (ts : List ℕ) (r n : ℕ) (k t z o k′ t′ z′ o′ : List ℕ) : Type 0 where
-  pub replies : r ≡ Parsing.reply (Parsing.answer-to file ts (Parsing.entries k t z o))
-  pub counts : n ≡ Parsing.number (Parsing.answer-to file ts (Parsing.entries k t z o))
-  pub kinds : k′ ≡ sets k 0 (map (λ (r : Row). r .kind) (Parsing.rows-to file ts))
-  pub tokens : t′ ≡ sets t 0 (map (λ (r : Row). r .token) (Parsing.rows-to file ts))
-  pub sizes : z′ ≡ sets z 0 (map (λ (r : Row). r .size) (Parsing.rows-to file ts))
-  pub roles : o′ ≡ sets o 0 (map (λ (r : Row). r .role) (Parsing.rows-to file ts))
+pub record Parses (ts : List ℕ) (r n : ℕ) (s k t z o s′ k′ t′ z′ o′ : List ℕ) : Type 0 where
+  pub answer : Parsed
+  pub parses : Parsing.Parsing file ts answer s k t z o s′ k′ t′ z′ o′
+  pub replies : r ≡ Parsing.reply answer
+  pub counts : n ≡ Parsing.token-or-count answer

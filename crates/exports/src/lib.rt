@@ -78,40 +78,48 @@ pub extern "C" fn woffulent_terminals(
     terminals::terminals(src, kinds, starts, lengths, out);
 }
 
+// Scratch that is too short is no reply of the checker.
+const SCRATCH_SHORT: u8 = 255;
+
 fn parse_reply(parsed: expressions::Parsed) -> u8
     ensures { λ r. ⌜ r ≡ Parsing.reply parsed ⌝ }
 {
     match parsed {
-        expressions::Parsed::Accepted(_) => 0,
-        expressions::Parsed::Refused(k, _) => k,
-        expressions::Parsed::Short(_) => 7,
-        expressions::Parsed::Long => 1,
+        expressions::Parsed::Accepted(_) => codes::replies::ACCEPTED,
+        expressions::Parsed::Unexpected(_) => codes::replies::UNEXPECTED,
+        expressions::Parsed::TooDeep(_) => codes::replies::TOO_DEEP,
+        expressions::Parsed::Short(_) => codes::replies::NODES_SHORT,
+        expressions::Parsed::Scratch(_) => SCRATCH_SHORT,
+        expressions::Parsed::Long => codes::replies::TOO_LONG,
     }
 }
 
 fn parse_number(parsed: expressions::Parsed) -> usize
-    ensures { λ r. ⌜ r ≡ Parsing.number parsed ⌝ }
+    ensures { λ r. ⌜ r ≡ Parsing.token-or-count parsed ⌝ }
 {
     match parsed {
         expressions::Parsed::Accepted(n) => n,
-        expressions::Parsed::Refused(_, j) => j,
+        expressions::Parsed::Unexpected(j) => j,
+        expressions::Parsed::TooDeep(k) => k,
         expressions::Parsed::Short(n) => n,
-        expressions::Parsed::Long => 65536,
+        expressions::Parsed::Scratch(n) => n,
+        expressions::Parsed::Long => expressions::MOST,
     }
 }
 
 #[no_mangle]
 pub extern "C" fn woffulent_parse(
-    codes: &[u8],
+    list: &[u8],
+    scratch: &mut [u64],
     kinds: &mut [u8],
     tokens: &mut [u32],
     sizes: &mut [u32],
     roles: &mut [u32],
     count: &mut usize,
 ) -> u8
-    ensures { λ r. ⌜ Parses (now (codes .entry)) r (now (count .exit)) (now (kinds .entry)) (now (tokens .entry)) (now (sizes .entry)) (now (roles .entry)) (now (kinds .exit)) (now (tokens .exit)) (now (sizes .exit)) (now (roles .exit)) ⌝ }
+    ensures { λ r. ⌜ Parses (now (list .entry)) r (now (count .exit)) (now (scratch .entry)) (now (kinds .entry)) (now (tokens .entry)) (now (sizes .entry)) (now (roles .entry)) (now (scratch .exit)) (now (kinds .exit)) (now (tokens .exit)) (now (sizes .exit)) (now (roles .exit)) ⌝ }
 {
-    let parsed = declarations::parse(codes, kinds, tokens, sizes, roles);
+    let parsed = declarations::parse(list, scratch, kinds, tokens, sizes, roles);
     *count = parse_number(parsed);
     parse_reply(parsed)
 }

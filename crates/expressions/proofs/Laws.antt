@@ -6,8 +6,8 @@ use Prim.Native.Nat.{ℕ, suc, _+_, _-_, _*_, _≤_, _<_}
 use native.Mathlib.Nat.{add-zero}
 use native.Mathlib.Numerals.{add-one}
 use native.Mathlib.Omega.{arith}
-use lib.ListN.{length, getD, set, length-append}
-use lib.Seq.{sets}
+use lib.ListN.{length, getD, set, take, length-append}
+use lib.Seq.{sets, take-take}
 use Rattle.ebnf.specs.Set.{mem}
 use Rattle.ebnf.specs.Grammar.{silent, here, node, leaf, Ebnf, none, mark, step, seq, alt, star, fork, nt}
 use Rattle.ebnf.specs.Rows.{Row, Rows, in-rows}
@@ -19,10 +19,10 @@ use Rattle.express.specs.syntax.Lookahead.{tables}
 use Rattle.express.proofs.syntax.Syntax.{express}
 use Rattle.express.proofs.syntax.Descent.{phrase, phrase-placed, so}
 use Rattle.express.proofs.syntax.Count.{Counted, phrase-counted, gain}
-use Rattle.columns.proofs.Laws.{sets-append, sets-snoc}
+use Rattle.columns.proofs.Laws.{sets-append, take-sets}
 use Rattle.expressions.specs.declared.Read.{Read}
 use Rattle.expressions.specs.declared.Read.the-variants.{At, Refused}
-use Rattle.expressions.specs.Reading.{labelled, word, word-of, Fits, All-fit, Ready, Sound, Ahead, Found, Reads, expected, Named, run, Reading, Goes, Steps, Compares, Took, Leafed, Noded, Counts}
+use Rattle.expressions.specs.Reading.{labelled, word, word-of, Fits, All-fit, Ready, Sound, Ahead, Found, Reads, Named, run, Reading, Compares, Leaf}
 
 -- ---- rows
 
@@ -41,6 +41,13 @@ sets-both a n r s =
     ∙ (sets-append a n (map word-of r) (map word-of s)
     ∙ ap (λ (k : ℕ). sets (sets a n (map word-of r)) (n + k) (map word-of s)) (map-length r)))
 
+-- the rows before those of a rule are as they were
+kept : (n : ℕ) (a : List ℕ) {b : List ℕ} (ws : List ℕ) → b ≡ sets a n ws → take n b ≡ take n a
+kept n a ws e = ap (take n) e ∙ take-sets n a n ws (omega arith)
+
+kept-below : (n i : ℕ) (b c : List ℕ) → n ≤ i → take i c ≡ take i b → take n c ≡ take n b
+kept-below n i b c l e = sym (take-take n i c l) ∙ (ap (take n) e ∙ take-take n i b l)
+
 -- ---- results
 
 bind-after : (y : Result Rows) (k k′ l : ℕ → Rows → Result Rows) → ((j : ℕ) (t : Rows) → bind (k j t) l ≡ k′ j t) → bind (bind y k) l ≡ bind y k′
@@ -57,7 +64,7 @@ cond-bind false x y u v l f g = g
 at-not-refused : {A : Type 0} (j m k : ℕ) → At j m ≡ Refused k → A
 at-not-refused j m k e = let z : _≡_ {A = ℕ} 0 1 = cc in absurd (omega arith)
 
-refused-not-at : {A : Type 0} (j m k : ℕ) → Refused k ≡ At j m → A
+pub refused-not-at : {A : Type 0} (j m k : ℕ) → Refused k ≡ At j m → A
 refused-not-at j m k e = let z : _≡_ {A = ℕ} 0 1 = cc in absurd (omega arith)
 
 -- ---- from the start of a rule to its end
@@ -68,11 +75,10 @@ module _ (ts : List ℕ) (want : Result Rows) (n : ℕ) (a : List ℕ) (x : Read
   finish-at (refused k) f w = rw w f
   finish-at starved f w = absurd f
 
-  dead-at : (e g : Ebnf Nonterminal) (k l : ℕ) (c : List ℕ) → x ≡ Refused k → (d : Result Rows) → Found d n x a b → want ≡ bind d (λ j s. run ts e j s) →
-      Reading ts want n a g l x c
-  dead-at e g k l c h (at j s) f w = at-not-refused _ _ k (sym (f .0) ∙ h)
-  dead-at e g k l c h (refused j) f w = record { done = refused j; found = f; named = tt; is = w }
-  dead-at e g k l c h starved f w = absurd f
+  dead-at : (e g : Ebnf Nonterminal) (k l : ℕ) → x ≡ Refused k → (d : Result Rows) → Found d n x a b → want ≡ bind d (λ j s. run ts e j s) → Reading ts want n a g l x b
+  dead-at e g k l h (at j s) f w = at-not-refused _ _ k (sym (f .0) ∙ h)
+  dead-at e g k l h (refused j) f w = record { done = refused j; found = f; named = tt; is = w }
+  dead-at e g k l h starved f w = absurd f
 
 pub start : {ts : List ℕ} {n : ℕ} {a : List ℕ} (x : Nonterminal) (p : ℕ) → p ≤ length ts → Reading ts (phrase ts x p) n a (rules x) p (At p n) a
 start {ts} {n} {a} x p l =
@@ -105,12 +111,12 @@ module _ {ts : List ℕ} {want : Result Rows} {n : ℕ} {a : List ℕ} {m : ℕ}
   nothing r = record { done = r .done; found = r .found; named = r .named; is = r .is }
 
   -- after a refusal nothing that is left matters
-  pub dead : {e g : Ebnf Nonterminal} {k l : ℕ} {c : List ℕ} → x ≡ Refused k → Reading ts want n a e m x b → Reading ts want n a g l x c
-  dead {e} {g} {k} {l} {c} h r = dead-at ts want n a x b e g k l c h (r .done) (r .found) (r .is)
+  pub dead : {e g : Ebnf Nonterminal} {k l : ℕ} → x ≡ Refused k → Reading ts want n a e m x b → Reading ts want n a g l x b
+  dead {e} {g} {k} {l} h r = dead-at ts want n a x b e g k l h (r .done) (r .found) (r .is)
 
   pub refused-found : {e : Ebnf Nonterminal} {k : ℕ} → x ≡ Refused k → Reading ts want n a e m x b → Found want n x a b
   refused-found {e} {k} h r =
-      let z = dead-at ts want n a x b e none k 0 b h (r .done) (r .found) (r .is) in
+      let z = dead-at ts want n a x b e none k 0 h (r .done) (r .found) (r .is) in
       finish-at ts want n a x b (z .done) (z .found) (z .is)
 
   -- the answer under another name
@@ -119,21 +125,28 @@ module _ {ts : List ℕ} {want : Result Rows} {n : ℕ} {a : List ℕ} {m : ℕ}
 
 -- ---- tokens
 
-module _ (ts : List ℕ) (want : Result Rows) (n : ℕ) (a : List ℕ) (rest : Ebnf Nonterminal) (m : ℕ) (b cs : List ℕ) where
-  token-at : (x : Read) (d : Result Rows) → Found d n x a b → Named d m → want ≡ bind d (λ j s. run ts (seq (step silent cs none) rest) j s) →
-      Reading ts want n a rest m (expected ts cs x) b
-  token-at x (at j s) f e w = rw (f .0) (go (mem (getD ts j 0) cs) refl)
+-- a token of a set
+abbrev pub expected : List ℕ → List ℕ → ℕ → ℕ → Read
+expected ts cs p n = cond (mem (getD ts p 0) cs) (At (p + 1) n) (Refused p)
+
+module _ (ts : List ℕ) (want : Result Rows) (n : ℕ) (a : List ℕ) (rest : Ebnf Nonterminal) (m : ℕ) (b cs : List ℕ) (q i : ℕ) where
+  token-at : (d : Result Rows) → Found d n (At q i) a b → Named d m → want ≡ bind d (λ j s. run ts (seq (step silent cs none) rest) j s) →
+      Reading ts want n a rest m (expected ts cs q i) b
+  token-at (at j s) f e w =
+      let e₁ : q ≡ j = cc (f .0) in
+      let e₂ : i ≡ n + length (s .rows) = cc (f .0) in
+      rw (e₁, e₂) (go (mem (getD ts j 0) cs) refl)
     where
       go : (t : Bool) → mem (getD ts j 0) cs ≡ t → Reading ts want n a rest m (cond t (At (j + 1) (n + length (s .rows))) (Refused j)) b
       go true h =
           record { done = at (suc j) s; found = (ap (λ (q : ℕ). At q (n + length (s .rows))) (add-one j), f .1, f .2); named = e; is = w ∙ rw h }
-      go false h = record { done = refused j; found = refl; named = tt; is = w ∙ rw h }
-  token-at x (refused k) f e w = rw f (record { done = refused k; found = refl; named = tt; is = w })
-  token-at x starved f e w = absurd f
+      go false h = record { done = refused j; found = (refl, kept n a (map word-of (s .rows)) (f .1)); named = tt; is = w ∙ rw h }
+  token-at (refused k) f e w = at-not-refused q i k (f .0)
+  token-at starved f e w = absurd f
 
-  named-at : (q i : ℕ) (d : Result Rows) → Found d n (At q i) a b → want ≡ bind d (λ j s. run ts (seq (step here cs none) rest) j s) →
-      Reading ts want n a rest q (expected ts cs (At q i)) b
-  named-at q i (at j s) f w =
+  named-at : (d : Result Rows) → Found d n (At q i) a b → want ≡ bind d (λ j s. run ts (seq (step here cs none) rest) j s) →
+      Reading ts want n a rest q (expected ts cs q i) b
+  named-at (at j s) f w =
       let e₁ : q ≡ j = cc (f .0) in
       let e₂ : i ≡ n + length (s .rows) = cc (f .0) in
       rw (e₁, e₂) (go (mem (getD ts j 0) cs) refl)
@@ -146,18 +159,18 @@ module _ (ts : List ℕ) (want : Result Rows) (n : ℕ) (a : List ℕ) (rest : E
             named = refl;
             is = w ∙ rw h;
           }
-      go false h = record { done = refused j; found = refl; named = tt; is = w ∙ rw h }
-  named-at q i (refused k) f w = at-not-refused q i k f
-  named-at q i starved f w = absurd f
+      go false h = record { done = refused j; found = (refl, kept n a (map word-of (s .rows)) (f .1)); named = tt; is = w ∙ rw h }
+  named-at (refused k) f w = at-not-refused q i k (f .0)
+  named-at starved f w = absurd f
 
-module _ {ts : List ℕ} {want : Result Rows} {n : ℕ} {a : List ℕ} {rest : Ebnf Nonterminal} {m : ℕ} {b : List ℕ} where
+module _ {ts : List ℕ} {want : Result Rows} {n : ℕ} {a : List ℕ} {rest : Ebnf Nonterminal} {m : ℕ} {b cs : List ℕ} {q i : ℕ} where
   -- a token of the set
-  pub token : {cs : List ℕ} {x : Read} → Reading ts want n a (seq (step silent cs none) rest) m x b → Reading ts want n a rest m (expected ts cs x) b
-  token {cs} {x} r = token-at ts want n a rest m b cs x (r .done) (r .found) (r .named) (r .is)
+  pub token : Reading ts want n a (seq (step silent cs none) rest) m (At q i) b → Reading ts want n a rest m (expected ts cs q i) b
+  token r = token-at ts want n a rest m b cs q i (r .done) (r .found) (r .named) (r .is)
 
   -- a token of the set, which names the next row
-  pub named : {cs : List ℕ} {q i : ℕ} → Reading ts want n a (seq (step here cs none) rest) m (At q i) b → Reading ts want n a rest q (expected ts cs (At q i)) b
-  named {cs} {q} {i} r = named-at ts want n a rest m b cs q i (r .done) (r .found) (r .is)
+  pub named : Reading ts want n a (seq (step here cs none) rest) m (At q i) b → Reading ts want n a rest q (expected ts cs q i) b
+  named r = named-at ts want n a rest m b cs q i (r .done) (r .found) (r .is)
 
 -- ---- rows
 
@@ -172,65 +185,59 @@ one-more j n i s a b c q name r f g w =
       fit-append (s .rows) (r ∷ []) (f .2) (g, tt),
     )
 
-module _ (ts : List ℕ) (want : Result Rows) (n : ℕ) (a : List ℕ) (rest : Ebnf Nonterminal) (m : ℕ) (b c : List ℕ) (r : Read) (k o : ℕ) (hk : k < 256) (ho : o < 256) where
-  leaf-at : (cs : List ℕ) (x : Read) → Sound ts x → Leafed ts cs (labelled k o) x r b c → (d : Result Rows) → Found d n x a b → Named d m →
+module _ (ts : List ℕ) (want : Result Rows) (n : ℕ) (a : List ℕ) (rest : Ebnf Nonterminal) (m : ℕ) (b c : List ℕ) (q i k o : ℕ) (hk : k < 256) (ho : o < 256) where
+  leaf-at : (cs : List ℕ) (r : Read) → Ready ts q i → (t : Bool) → mem (getD ts q 0) cs ≡ t → Leaf t (labelled k o) q i r b c → (d : Result Rows) → Found d n (At q i) a b → Named d m →
       want ≡ bind d (λ j s. run ts (seq (step (leaf k o) cs none) rest) j s) → Reading ts want n a rest m r c
-  leaf-at cs (At q i) g h (at j s) f e w = go (mem (getD ts q 0) cs) refl h
-    where
-      go : (t : Bool) → mem (getD ts q 0) cs ≡ t → Took t (labelled k o) q i r b c → Reading ts want n a rest m r c
-      go true z v =
-          let e₁ : j ≡ q = cc (f .0) in
-          let row : Row = record { kind = k; token = q; size = 1; role = o } in
-          let g₁ = g .small in
-          let g₂ = g .within in
-          let fits : Fits row = record { kind = hk; role = ho; token = omega arith; size = omega arith } in
-          let e₃ : i ≡ n + length (s .rows) = cc (f .0) in
-          let f₂ : Found (at q s) n (At q i) a b = (ap (λ (z : ℕ). At q z) e₃, f .1, f .2) in
-          rw (v .0)
-          (record {
-            done = at (suc q) (so (s .name) (s .rows ++ (row ∷ [])));
-            found = rw (add-one q) (one-more q n i s a b c (suc q) (s .name) row f₂ fits (v .1));
-            named = e;
-            is = w ∙ (rw e₁ (rw z));
-          })
-      go false z v = let e₁ : j ≡ q = cc (f .0) in rw v (record { done = refused q; found = refl; named = tt; is = w ∙ (rw e₁ (rw z)) })
-  leaf-at cs (Refused k′) g h (at j s) f e w = refused-not-at _ _ k′ (f .0)
-  leaf-at cs (At q i) g h (refused k′) f e w = at-not-refused q i k′ f
-  leaf-at cs (Refused k′) g h (refused l) f e w = let e₁ : k′ ≡ l = cc f in record { done = refused k′; found = h; named = tt; is = w ∙ ap refused (sym e₁) }
-  leaf-at cs x g h starved f e w = absurd f
+  leaf-at cs r g true z v (at j s) f e w =
+      let e₁ : j ≡ q = cc (f .0) in
+      let row : Row = record { kind = k; token = q; size = 1; role = o } in
+      let g₁ = g .small in
+      let g₂ = g .within in
+      let fits : Fits row = record { kind = hk; role = ho; token = omega arith; size = omega arith } in
+      let e₃ : i ≡ n + length (s .rows) = cc (f .0) in
+      let f₂ : Found (at q s) n (At q i) a b = (ap (λ (z : ℕ). At q z) e₃, f .1, f .2) in
+      let size : i + 1 - i ≡ 1 = omega arith in
+      rw (v .0)
+      (record {
+        done = at (suc q) (so (s .name) (s .rows ++ (row ∷ [])));
+        found = rw (add-one q) (one-more q n i s a b c (suc q) (s .name) row f₂ fits (v .1 ∙ ap (λ (z : ℕ). set b i (word (labelled k o) q z)) size));
+        named = e;
+        is = w ∙ (rw e₁ (rw z));
+      })
+  leaf-at cs r g false z v (at j s) f e w =
+      let e₁ : j ≡ q = cc (f .0) in
+      record { done = refused q; found = (v .0, ap (take n) (v .1) ∙ kept n a (map word-of (s .rows)) (f .1)); named = tt; is = w ∙ (rw e₁ (rw z)) }
+  leaf-at cs r g t z v (refused k′) f e w = at-not-refused q i k′ (f .0)
+  leaf-at cs r g t z v starved f e w = absurd f
 
-  row-at : (x : Read) → Counts x → m < 1048576 → Noded n (labelled k o) m x r b c → (d : Result Rows) → Found d n x a b → Named d m →
-      want ≡ bind d (λ j s. run ts (seq (mark (node k o)) rest) j s) → Reading ts want n a rest m r c
-  row-at (At q i) g l h (at j s) f e w =
+  row-at : i ≤ 65536 → m < 1048576 → c ≡ set b i (word (labelled k o) m (i + 1 - n)) → (d : Result Rows) → Found d n (At q i) a b → Named d m →
+      want ≡ bind d (λ j s. run ts (seq (mark (node k o)) rest) j s) → Reading ts want n a rest m (At q (i + 1)) c
+  row-at g l h (at j s) f e w =
       let e₁ : j ≡ q = cc (f .0) in
       let e₂ : i ≡ n + length (s .rows) = cc (f .0) in
       let size : i + 1 - n ≡ suc (length (s .rows)) = omega arith in
       let row : Row = record { kind = k; token = m; size = suc (length (s .rows)); role = o } in
       let fits : Fits row = record { kind = hk; role = ho; token = l; size = omega arith } in
-      let e₃ : i ≡ n + length (s .rows) = cc (f .0) in
-      let f₂ : Found (at q s) n (At q i) a b = (ap (λ (z : ℕ). At q z) e₃, f .1, f .2) in
-      rw (h .0)
-      (record {
+      let f₂ : Found (at q s) n (At q i) a b = (ap (λ (z : ℕ). At q z) e₂, f .1, f .2) in
+      record {
         done = at q (so m (s .rows ++ (row ∷ [])));
-        found = one-more q n i s a b c q m row f₂ fits (h .1 ∙ ap (λ (z : ℕ). set b i (word (labelled k o) m z)) size);
+        found = one-more q n i s a b c q m row f₂ fits (h ∙ ap (λ (z : ℕ). set b i (word (labelled k o) m z)) size);
         named = refl;
         is = w ∙ (rw (e₁, e));
-      })
-  row-at (Refused k′) g l h (at j s) f e w = refused-not-at _ _ k′ (f .0)
-  row-at (At q i) g l h (refused k′) f e w = at-not-refused q i k′ f
-  row-at (Refused k′) g l h (refused l′) f e w = let e₁ : k′ ≡ l′ = cc f in record { done = refused k′; found = h; named = tt; is = w ∙ ap refused (sym e₁) }
-  row-at x g l h starved f e w = absurd f
+      }
+  row-at g l h (refused k′) f e w = at-not-refused q i k′ (f .0)
+  row-at g l h starved f e w = absurd f
 
-module _ {ts : List ℕ} {want : Result Rows} {n : ℕ} {a : List ℕ} {rest : Ebnf Nonterminal} {m : ℕ} {b : List ℕ} where
-  -- a token of the set that leaves a row with nothing below it
-  pub took : {k o : ℕ} {cs : List ℕ} {x : Read} (r : Read) (c : List ℕ) → k < 256 → o < 256 → Sound ts x → Leafed ts cs (labelled k o) x r b c →
-      Reading ts want n a (seq (step (leaf k o) cs none) rest) m x b → Reading ts want n a rest m r c
-  took {k} {o} {cs} {x} r c hk ho g h v = leaf-at ts want n a rest m b c r k o hk ho cs x g h (v .done) (v .found) (v .named) (v .is)
+module _ {ts : List ℕ} {want : Result Rows} {n : ℕ} {a : List ℕ} {rest : Ebnf Nonterminal} {m : ℕ} {b : List ℕ} {q i k o : ℕ} where
+  -- a token of the set that leaves a row with nothing below it, or is refused
+  pub by-leaf : {cs : List ℕ} (t : Bool) (r : Read) (c : List ℕ) → k < 256 → o < 256 → Ready ts q i → mem (getD ts q 0) cs ≡ t → Leaf t (labelled k o) q i r b c →
+      Reading ts want n a (seq (step (leaf k o) cs none) rest) m (At q i) b → Reading ts want n a rest m r c
+  by-leaf {cs} t r c hk ho g e h v = leaf-at ts want n a rest m b c q i k o hk ho cs r g t e h (v .done) (v .found) (v .named) (v .is)
 
   -- a row over all that the rule has left so far
-  pub row : {k o : ℕ} {x : Read} (r : Read) (c : List ℕ) → k < 256 → o < 256 → Counts x → m < 1048576 → Noded n (labelled k o) m x r b c →
-      Reading ts want n a (seq (mark (node k o)) rest) m x b → Reading ts want n a rest m r c
-  row {k} {o} {x} r c hk ho g l h v = row-at ts want n a rest m b c r k o hk ho x g l h (v .done) (v .found) (v .named) (v .is)
+  pub by-row : (c : List ℕ) → k < 256 → o < 256 → i ≤ 65536 → m < 1048576 → c ≡ set b i (word (labelled k o) m (i + 1 - n)) →
+      Reading ts want n a (seq (mark (node k o)) rest) m (At q i) b → Reading ts want n a rest m (At q (i + 1)) c
+  by-row c hk ho g l h v = row-at ts want n a rest m b c q i k o hk ho g l h (v .done) (v .found) (v .named) (v .is)
 
 -- ---- nonterminals
 
@@ -250,7 +257,9 @@ module _ (ts : List ℕ) (want : Result Rows) (n : ℕ) (a : List ℕ) (rest : E
         named = e;
         is = w;
       }
-  both s f e (refused k) g w = record { done = refused k; found = g; named = tt; is = w }
+  both s f e (refused k) g w =
+      let e₁ : i ≡ n + length (s .rows) = cc (f .0) in
+      record { done = refused k; found = (g .0, kept-below n i b c (omega arith) (g .1) ∙ kept n a (map word-of (s .rows)) (f .1)); named = tt; is = w }
   both s f e starved g w = absurd g
 
   phrase-at : Found (phrase ts y p) i r b c → (d : Result Rows) → Found d n (At p i) a b → Named d m → want ≡ bind d (λ j s. run ts (seq (nt y) rest) j s) →
@@ -260,7 +269,7 @@ module _ (ts : List ℕ) (want : Result Rows) (n : ℕ) (a : List ℕ) (rest : E
       let e₃ : i ≡ n + length (s .rows) = cc (f .0) in
       let f₂ : Found (at p s) n (At p i) a b = (ap (λ (z : ℕ). At p z) e₃, f .1, f .2) in
       both s f₂ e (phrase ts y p) g (w ∙ (rw e₁ refl))
-  phrase-at g (refused k) f e w = at-not-refused p i k f
+  phrase-at g (refused k) f e w = at-not-refused p i k (f .0)
   phrase-at g starved f e w = absurd f
 
 module _ {ts : List ℕ} {want : Result Rows} {n : ℕ} {a : List ℕ} {rest : Ebnf Nonterminal} {m : ℕ} {b : List ℕ} where
@@ -293,7 +302,7 @@ module _ (ts : List ℕ) (want : Result Rows) (n : ℕ) (a : List ℕ) (rest : E
   instead e g h (at j s) f nm w =
       let e₁ : j ≡ q = cc (f .0) in
       record { done = at j s; found = f; named = nm; is = w ∙ rw e₁ (h s) }
-  instead e g h (refused k) f nm w = at-not-refused q i k f
+  instead e g h (refused k) f nm w = at-not-refused q i k (f .0)
   instead e g h starved f nm w = absurd f
 
   forked : (cs ds : List ℕ) (e g : Ebnf Nonterminal) → (mem (getD ts q 0) cs && mem (getD ts (suc q) 0) ds) ≡ true → (d : Result Rows) → Found d n (At q i) a b →
@@ -308,7 +317,7 @@ module _ (ts : List ℕ) (want : Result Rows) (n : ℕ) (a : List ℕ) (rest : E
         named = refl;
         is = w ∙ rw e₁ (rw h);
       }
-  forked cs ds e g h (refused k) f w = at-not-refused q i k f
+  forked cs ds e g h (refused k) f w = at-not-refused q i k (f .0)
   forked cs ds e g h starved f w = absurd f
 
 module _ {ts : List ℕ} {want : Result Rows} {n : ℕ} {a : List ℕ} {rest : Ebnf Nonterminal} {m : ℕ} {b : List ℕ} {q i : ℕ} where
@@ -363,7 +372,7 @@ module _ {ts : List ℕ} {want : Result Rows} {n : ℕ} {a : List ℕ} {rest : E
 
 ahead-of : (ts : List ℕ) (x : Nonterminal) (p n : ℕ) (r : Read) (a b : List ℕ) (d : Result Rows) → descent.Placed express in-rows ts 1 p d → Counted p ts x d → Found d n r a b → Ahead ts p n r
 ahead-of ts x p n r a b (at j s) l c f = rw (f .0) (omega (arith, l .0), l .1, omega arith, omega (arith, c))
-ahead-of ts x p n r a b (refused k) l c f = rw f tt
+ahead-of ts x p n r a b (refused k) l c f = rw (f .0) tt
 ahead-of ts x p n r a b starved l c f = absurd f
 
 -- A reader of x: what it finds, and where that lies.
@@ -390,10 +399,9 @@ sound-of (Refused k) g h = tt
 pub ready-of : {ts : List ℕ} {p n q m : ℕ} {r : Read} → Ready ts p n → Ahead ts p n r → r ≡ At q m → Ready ts q m
 ready-of {ts} {q = q} {m = m} {r = r} g h e = subst (λ (r : Read). Sound ts r) e (sound-of r g h)
 
-pub counts-of : {ts : List ℕ} {p n : ℕ} (r : Read) → Ready ts p n → Ahead ts p n r → Counts r
-counts-of (At q m) g h = let w = g .behind in let s = g .small in omega arith
-counts-of (Refused k) g h = tt
+-- a place is not too far
+pub rows-few : {ts : List ℕ} {p n : ℕ} → Ready ts p n → n ≤ 65536
+rows-few g = let a = g .small in let b = g .within in let c = g .behind in omega arith
 
-pub counts-sound : (ts : List ℕ) (r : Read) → Sound ts r → Counts r
-counts-sound ts (At q m) g = let a = g .small in let b = g .within in let c = g .behind in omega arith
-counts-sound ts (Refused k) g = tt
+pub token-small : {ts : List ℕ} {p n : ℕ} → Ready ts p n → p ≤ 65536
+token-small g = let a = g .small in let b = g .within in omega arith

@@ -128,19 +128,21 @@ module _ (ts : List ℕ) (x : Nonterminal) (read : Read) (a b : List ℕ) where
       go : (t : Bool) → eqb j l ≡ t → Judges (uncut (cond t (accepted (so 0 (s .rows))) (refused-at j))) (cond t (cond (ltb l l) (TooDeep l) (Good (0 + length (s .rows)))) (Unexpected j)) a b
       go true h = rw (le-ltb l l (omega arith)) (ap Good (omega arith), f .1, f .2)
       go false h = refl
-  judge-uncut l (refused k) g e f = let u = g .1 in rw (f, le-ltb l k (omega arith)) refl
+  judge-uncut l (refused k) g e f = let u = g .1 in rw (f .0, le-ltb l k (omega arith)) refl
   judge-uncut l starved g e f = absurd f
 
-  judge-cut : (us : List ℕ) (k : ℕ) (d : Result Rows) → descent.Placed express in-rows us 1 0 d → length us ≡ suc k → Found d 0 read a b → Judges (cut-at k (verdict (suc k) (bind d shut))) (judged read k (suc k)) a b
+  judge-cut : (us : List ℕ) (k : ℕ) (d : Result Rows) → descent.Placed express in-rows us 1 0 d → length us ≡ suc k → Found d 0 read a b → Judges (cut-at k (verdict (suc k)
+      (bind d shut))) (judged read k (suc k)) a b
   judge-cut us k (at j s) g e f = rw (f .0) (go (eqb j (suc k)) refl)
     where
-      go : (t : Bool) → eqb j (suc k) ≡ t → Judges (cut-at k (cond t (accepted (so 0 (s .rows))) (refused-at j))) (cond t (cond (ltb k (suc k)) (TooDeep k) (Good (0 + length (s .rows)))) (Unexpected j)) a b
+      go : (t : Bool) → eqb j (suc k) ≡ t → Judges (cut-at k (cond t (accepted (so 0 (s .rows))) (refused-at j))) (cond t (cond (ltb k (suc k)) (TooDeep k) (Good (0 + length
+          (s .rows)))) (Unexpected j)) a b
       go true h = rw (lt-ltb k (suc k) (omega arith)) refl
       go false h =
           let u = g .1 in
           let n : j ≤ k = ⊎-elim (λ (z : j < suc k). omega arith) (λ (z : suc k ≤ j). absurd (eqb-false j (suc k) h (omega arith))) (lt-or-le j (suc k)) in
           rw (le-leb j k n) refl
-  judge-cut us k (refused j) g e f = rw f (go (leb j k) refl)
+  judge-cut us k (refused j) g e f = rw (f .0) (go (leb j k) refl)
     where
       go : (t : Bool) → leb j k ≡ t → Judges (cond t (unexpected j) (too-deep k)) (cond (ltb k j) (TooDeep k) (Unexpected j)) a b
       go true h = rw (le-ltb k j (leb-true j k h)) refl

@@ -12,23 +12,24 @@ use Rattle.ebnf.specs.Grammar.{leaf, Ebnf, none, step, seq, alt, nt}
 use Rattle.ebnf.specs.Rows.{Rows}
 use Rattle.ebnf.specs.Parse.{Result}
 use Rattle.ebnf.proofs.Sets.{and-split, apart′}
-use Rattle.express.specs.tokens.Terminal.{identifier, dot, rbrace, SELF}
+use Rattle.express.specs.tokens.Terminal.{identifier, dot, rbrace, rparen, SELF}
 use Rattle.express.specs.syntax.Grammar.{Nonterminal, expression, sum, operand, atom, interval, signs, comparisons, _·_, _∣_, tok, named, leaves, row as row-of}
 use Rattle.express.specs.syntax.NodeKind as kind
 use Rattle.express.proofs.syntax.Descent.{phrase}
 use Rattle.expressions.specs.declared.Read.{Read}
 use Rattle.expressions.specs.declared.Read.the-variants.{At, Refused}
-use Rattle.expressions.specs.Reading.{word, labelled, atom-label, Ready, Sound, Ahead, Found, Reads, expected, Expects, Reading, Goes, Compares, Took, Leaves, Noded, Counts}
+use Rattle.expressions.specs.Reading.{word, labelled, atom-label, Expects, Ready, Ahead, Found, Reads, Reading, Compares, Leaf}
 use Rattle.expressions.proofs.Terminals.{is-one, not-one, inside}
-use Rattle.expressions.proofs.Steps.{count-at, onward, noded-there}
-use Rattle.expressions.proofs.Laws.{start, finish, last, alone, apart, together, dead, refused-found, told, token, passed, took, row, phrased, left, right, ahead-left, ahead-right, operator, reads, reads-at, compares-at, counts-of, sound-of, ready-of}
+use Rattle.expressions.proofs.Steps.{onward, expect-goes, by-token}
+use Rattle.expressions.proofs.Laws.{start, finish, last, alone, apart, together, dead, refused-found, told, passed}
+use Rattle.expressions.proofs.Laws.{by-leaf, by-row, phrased, left, right, ahead-left, ahead-right, operator, reads, reads-at, compares-at}
 
 -- ---- atoms
 
 module _ (ts : List ℕ) (want : Result Rows) (n : ℕ) (a : List ℕ) (m p : ℕ) (g : Ready ts p n) (r : Read) (b : List ℕ) where
   -- what a row labelled l, or none where l is 0, leaves
   abbrev pub Label : ℕ → Type 0
-  Label l = Took (not (eqb l 0)) l p n r a b
+  Label l = Leaf (not (eqb l 0)) l p n r a b
 
   -- the token is of the set and leaves its row, or the other alternatives are tried
   pub leafs : (cs : List ℕ) (k o : ℕ) (others : Ebnf _) (l : ℕ) → k < 256 → o < 256 → eqb (labelled k o) 0 ≡ false →
@@ -38,18 +39,18 @@ module _ (ts : List ℕ) (want : Result Rows) (n : ℕ) (a : List ℕ) (m p : �
     where
       go : (t : Bool) → mem (getD ts p 0) cs ≡ t → Label (cond t (labelled k o) l) → Found want n r a b
       go true e w =
-          let w₂ : Took true (labelled k o) p n r a b = subst (λ (x : Bool). Took (not x) (labelled k o) p n r a b) z w in
-          finish (took r b hk ho g (subst (λ (x : Bool). Took x (labelled k o) p n r a b) (sym e) w₂) (left e v))
+          let w₂ : Leaf true (labelled k o) p n r a b = subst (λ (x : Bool). Leaf (not x) (labelled k o) p n r a b) z w in
+          finish (by-leaf true r b hk ho g e w₂ (left e v))
       go false e w = next w (right e v)
 
   -- the last alternative
   pub leafs-last : (cs : List ℕ) (k o : ℕ) → k < 256 → o < 256 → eqb (labelled k o) 0 ≡ false →
       Label (cond (mem (getD ts p 0) cs) (labelled k o) 0) → Reading ts want n a (seq (step (leaf k o) cs none) none) m (At p n) a → Found want n r a b
-  leafs-last cs k o hk ho z h v = finish (took r b hk ho g (go (mem (getD ts p 0) cs) h) v)
+  leafs-last cs k o hk ho z h v = go (mem (getD ts p 0) cs) refl h
     where
-      go : (t : Bool) → Label (cond t (labelled k o) 0) → Took t (labelled k o) p n r a b
-      go true w = subst (λ (x : Bool). Took (not x) (labelled k o) p n r a b) z w
-      go false w = w
+      go : (t : Bool) → mem (getD ts p 0) cs ≡ t → Label (cond t (labelled k o) 0) → Found want n r a b
+      go true e w = finish (by-leaf true r b hk ho g e (subst (λ (x : Bool). Leaf (not x) (labelled k o) p n r a b) z w) v)
+      go false e w = finish (by-leaf false r b hk ho g e w v)
 
 -- the token at p, where the code has read it
 module _ {ts : List ℕ} {p n : ℕ} (g : Ready ts p n) (c : ℕ) (e : c ≡ getD ts p 0) where
@@ -60,13 +61,18 @@ module _ {ts : List ℕ} {p n : ℕ} (g : Ready ts p n) (c : ℕ) (e : c ≡ get
   at-none d h = not-one (getD ts p 0) d (λ k. h (e ∙ k))
 
   -- '(' expression ')'
-  pub atom-nested : {a b : List ℕ} {r w : Read} → c ≡ 24 → Reads expression ts (p + 1) n r a b → Expects ts (25 ∷ []) r w → Reads atom ts p n w a b
-  atom-nested h inner x =
-      reads atom (g .within)
-      (finish (told (sym (x .is)) (token (phrased inner (apart (passed (at-one 24 h) (apart (left (at-one 24 h) (last (start atom p (g .within)))))))))))
+  module _ (h : c ≡ 24) {a b : List ℕ} {r : Read} (inner : Reads expression ts (p + 1) n r a b) where
+    atom-inner : Reading ts (phrase ts atom p) n a (seq (tok rparen) none) p r b
+    atom-inner = phrased inner (apart (passed (at-one 24 h) (apart (left (at-one 24 h) (last (start atom p (g .within)))))))
+
+    pub atom-refused : {k : ℕ} → r ≡ Refused k → Reads atom ts p n r a b
+    atom-refused e = reads atom (g .within) (refused-found e atom-inner)
+
+    pub atom-nested : {q m : ℕ} {w : Read} → r ≡ At q m → Expects 25 ts q m w → Reads atom ts p n w a b
+    atom-nested e x = reads atom (g .within) (finish (by-token x (omega arith) (told e atom-inner)))
 
   -- a token that leaves a row, or none that begins an atom
-  atom-by-label : {a b : List ℕ} {r : Read} → (c ≡ 24 → ⊥) → Took (not (eqb (atom-label (getD ts p 0)) 0)) (atom-label (getD ts p 0)) p n r a b → Reads atom ts p n r a b
+  atom-by-label : {a b : List ℕ} {r : Read} → (c ≡ 24 → ⊥) → Leaf (not (eqb (atom-label (getD ts p 0)) 0)) (atom-label (getD ts p 0)) p n r a b → Reads atom ts p n r a b
   atom-by-label {a} {b} {r} h w =
       let L = leafs ts (phrase ts atom p) n a p p g r b in
       reads atom (g .within)
@@ -79,15 +85,15 @@ module _ {ts : List ℕ} {p n : ℕ} (g : Ready ts p n) (c : ℕ) (e : c ≡ get
       (leafs-last ts (phrase ts atom p) n a p p g r b SELF kind.self 0 (omega arith) (omega arith) refl))))))
       w (right (at-none 24 h) (last (start atom p (g .within)))))
 
-  pub atom-row : {a b : List ℕ} (l w : ℕ) → (c ≡ 24 → ⊥) → l ≡ atom-label c → (l ≡ 0 → ⊥) → w ≡ word l p 1 → b ≡ set a n w → Reads atom ts p n (At (p + 1) (n + 1)) a b
-  atom-row {a} {b} l w h k z v u =
+  pub atom-row : {a b : List ℕ} (l : ℕ) → (c ≡ 24 → ⊥) → l ≡ atom-label c → (l ≡ 0 → ⊥) → b ≡ set a n (word l p (n + 1 - n)) → Reads atom ts p n (At (p + 1) (n + 1)) a b
+  atom-row {a} {b} l h k z u =
       let k₂ : l ≡ atom-label (getD ts p 0) = k ∙ ap atom-label e in
-      atom-by-label h (rw (← k₂) (rw (ne-eqb l 0 z) (refl, u ∙ ap (λ (y : ℕ). set a n y) v)))
+      atom-by-label h (rw (← k₂) (rw (ne-eqb l 0 z) (refl, u)))
 
-  pub atom-none : {a b : List ℕ} (l : ℕ) → (c ≡ 24 → ⊥) → l ≡ atom-label c → l ≡ 0 → Reads atom ts p n (Refused p) a b
+  pub atom-none : {a : List ℕ} (l : ℕ) → (c ≡ 24 → ⊥) → l ≡ atom-label c → l ≡ 0 → Reads atom ts p n (Refused p) a a
   atom-none l h k z =
       let k₂ : atom-label (getD ts p 0) ≡ 0 = ap atom-label (sym e) ∙ (sym k ∙ z) in
-      atom-by-label h (rw k₂ refl)
+      atom-by-label h (rw k₂ (refl, refl))
 
 -- ---- operands
 
@@ -97,8 +103,12 @@ module _ {ts : List ℕ} {p n : ℕ} (g : Ready ts p n) (h : mem (getD ts p 0) s
   unfolding mem
   sign-ready = onward g (inside ts signs p refl h)
 
-  pub sign-count : {r : Read} {q m : ℕ} → Ahead ts (p + 1) n r → r ≡ At q m → m ≤ 65536
-  sign-count {r} i e = count-at r (counts-of r sign-ready i) e
+  pub sign-count : {r : Read} {q m : ℕ} {a b : List ℕ} → Reads atom ts (p + 1) n r a b → r ≡ At q m → m ≤ 65536
+  sign-count i e =
+      let u = reads-at i e in
+      let s = g .small in
+      let w = g .behind in
+      omega arith
 
   sign-alone : {a : List ℕ} → Reading ts (phrase ts operand p) n a (seq (named signs · nt atom · row-of kind.unary) none) p (At p n) a
   unfolding mem disjoint
@@ -114,26 +124,36 @@ module _ {ts : List ℕ} {p n : ℕ} (g : Ready ts p n) (h : mem (getD ts p 0) s
   signed-refused i e = reads operand (g .within) (refused-found e (sign-atom i))
 
   -- and the row over it
-  pub signed-row : {r : Read} {q m z w : ℕ} → r ≡ At q m → z ≡ m + 1 - n → w ≡ word kind.unary p z → (a b d : List ℕ) → Reads atom ts (p + 1) n r a b → d ≡ set b m w → Reads operand ts p n (At q (m + 1)) a d
-  signed-row {r} {q} {m} {z} {w} e s v a b d i u =
+  pub signed-row : {r : Read} {q m : ℕ} {a b d : List ℕ} → Reads atom ts (p + 1) n r a b → r ≡ At q m → d ≡ set b m (word kind.unary p (m + 1 - n)) → Reads operand ts p n (At q (m + 1)) a d
+  signed-row {d = d} i e u =
       let l = g .small in
       let l₂ = g .within in
-      reads operand (g .within)
-      (finish (row (At q (m + 1)) d (omega arith) (omega arith) (counts-of r sign-ready (i .ahead)) (omega arith) (noded-there n kind.unary p r b d w z e s v u) (last (sign-atom i))))
+      reads operand (g .within) (finish (by-row d (omega arith) (omega arith) (sign-count i e) (omega arith) u (told e (last (sign-atom i)))))
 
-module _ {ts : List ℕ} {p n : ℕ} (g : Ready ts p n) (q : Bool) (e : q ≡ (mem (getD ts p 0) identifier && mem (getD ts (p + 1) 0) dot)) where
-  -- type.item: where the item stands is within the list
-  pub item-ready : q ≡ true → Ready ts (p + 2) n
+-- type.item, of which the dot is there
+module _ {ts : List ℕ} {p n : ℕ} (g : Ready ts p n) (h : (mem (getD ts p 0) identifier && mem (getD ts (p + 1) 0) dot) ≡ true) where
+  -- where the item stands is within the list
+  pub item-ready : Ready ts (p + 2) n
   unfolding mem
-  item-ready h =
-      let i = inside ts dot (p + 1) refl ((and-split (mem (getD ts p 0) identifier) _ (sym e ∙ h)) .1) in
+  item-ready =
+      let i = inside ts dot (p + 1) refl ((and-split (mem (getD ts p 0) identifier) _ h) .1) in
       let w = g .behind in
       record { small = g .small; within = omega arith; behind = omega arith }
 
-  pub operand-item : {a b : List ℕ} {r : Read} → q ≡ true → Leaves ts kind.qualified-item (At (p + 2) n) r a b → Reads operand ts p n r a b
-  operand-item {a} {b} {r} h l =
-      reads operand (g .within) (finish (took r b (omega arith) (omega arith) (item-ready h) (l .took) (ahead-left (sym e ∙ h) (last (start operand p (g .within))))))
+  item-by : {a b : List ℕ} (t : Bool) (r : Read) → mem (getD ts (p + 2) 0) identifier ≡ t → Leaf t kind.qualified-item (p + 2) n r a b → Reads operand ts p n r a b
+  item-by {b = b} t r e l =
+      reads operand (g .within) (finish (by-leaf t r b (omega arith) (omega arith) item-ready e l (ahead-left h (last (start operand p (g .within))))))
 
+  module _ (t : ℕ) (f : t ≡ getD ts (p + 2) 0) where
+    pub item-row : {a b : List ℕ} → t ≡ 1 → b ≡ set a n (word kind.qualified-item (p + 2) (n + 1 - n)) → Reads operand ts p n (At (p + 3) (n + 1)) a b
+    item-row k u =
+        let e : p + 3 ≡ p + 2 + 1 = omega arith in
+        rw e (item-by true (At (p + 2 + 1) (n + 1)) (is-one (getD ts (p + 2) 0) 1 (sym f ∙ k)) (refl, u))
+
+    pub item-none : {a : List ℕ} → (t ≡ 1 → ⊥) → Reads operand ts p n (Refused (p + 2)) a a
+    item-none k = item-by false (Refused (p + 2)) (not-one (getD ts (p + 2) 0) 1 (λ z. k (f ∙ z))) (refl, refl)
+
+module _ {ts : List ℕ} {p n : ℕ} (g : Ready ts p n) (q : Bool) (e : q ≡ (mem (getD ts p 0) identifier && mem (getD ts (p + 1) 0) dot)) where
   module _ (h : q ≡ false) (c : ℕ) (f : c ≡ getD ts p 0) where
     pub operand-interval : {a b : List ℕ} {r : Read} → c ≡ 21 → Reads interval ts p n r a b → Reads operand ts p n r a b
     operand-interval k i =
@@ -163,24 +183,18 @@ module _ {ts : List ℕ} {p n : ℕ} (g : Ready ts p n) (s : Bool) (t : ℕ) (f 
   ahead-more (At q m) h = (omega arith, h .1, omega arith, omega arith)
   ahead-more (Refused k) h = tt
 
-  pub compared-there : {a b c : List ℕ} {r : Read} (w : ℕ) → s ≡ true → w ≡ word kind.interval-operator p 1 → b ≡ set a n w → Reads sum ts (p + 1) (n + 1) r b c → Compares ts p n r a c
-  compared-there {a} {b} {c} {r} w z v u i =
+  pub compared-there : {a b c : List ℕ} {r : Read} → s ≡ true → b ≡ set a n (word kind.interval-operator p (n + 1 - n)) → Reads sum ts (p + 1) (n + 1) r b c → Compares ts p n r a c
+  compared-there {b = b} {r = r} z u i =
       record {
         ahead = ahead-more r (i .ahead);
-        goes =
-            record {
-              on = λ x.
-                  phrased i
-                  (took (At (p + 1) (n + 1)) b (omega arith) (omega arith) g
-                  (rw (comparison-at true z) (refl, u ∙ ap (λ (y : ℕ). set a n y) v)) (apart x));
-            };
+        goes = record { on = λ x. phrased i (by-leaf true (At (p + 1) (n + 1)) b (omega arith) (omega arith) g (comparison-at true z) (refl, u) (apart x)) };
       }
 
-  pub compared-not : {a b : List ℕ} → s ≡ false → Compares ts p n (Refused p) a b
-  compared-not {a} {b} z =
+  pub compared-not : {a : List ℕ} → s ≡ false → Compares ts p n (Refused p) a a
+  compared-not {a} z =
       record {
         ahead = tt;
-        goes = record { on = λ x. dead refl (took (Refused p) b (omega arith) (omega arith) g (rw (comparison-at false z) refl) (apart x)) };
+        goes = record { on = λ x. dead refl (by-leaf false (Refused p) a (omega arith) (omega arith) g (comparison-at false z) (refl, refl) (apart x)) };
       }
 
 -- ---- intervals
@@ -209,11 +223,35 @@ module _ {ts : List ℕ} {p n : ℕ} (g : Ready ts p n) (h : getD ts p 0 ≡ 21)
     pub item-refused : {k : ℕ} → r₂ ≡ Refused k → Reads interval ts p n r₂ a c
     item-refused e₂ = reads interval (g .within) (refused-found e₂ interval-item)
 
-    module _ {q₂ m₂ : ℕ} (e₂ : r₂ ≡ At q₂ m₂) {r₃ : Read} {d : List ℕ} (high : Compares ts q₂ m₂ r₃ c d) {w v : Read} {z : List ℕ} (x : Expects ts (22 ∷ []) r₃ w) (y : Noded n kind.interval p w v d z) where
-      pub interval-whole : Counts w → Reads interval ts p n v a z
-      interval-whole k =
-          let s = g .small in
-          let s₂ = g .within in
-          reads interval (g .within)
-          (finish (row v z (omega arith) (omega arith) k (omega arith) y
-          (last (told (sym (x .is)) (token (high .goes .on (together (told e₂ interval-item))))))))
+    module _ {q₂ m₂ : ℕ} (e₂ : r₂ ≡ At q₂ m₂) {r₃ : Read} {d : List ℕ} (high : Compares ts q₂ m₂ r₃ c d) where
+      interval-high : Reading ts (phrase ts interval p) n a closing p r₃ d
+      interval-high = high .goes .on (together (told e₂ interval-item))
+
+      pub high-refused : {k : ℕ} → r₃ ≡ Refused k → Reads interval ts p n r₃ a d
+      high-refused e₃ = reads interval (g .within) (refused-found e₃ interval-high)
+
+      module _ {q₃ m₃ : ℕ} (e₃ : r₃ ≡ At q₃ m₃) {w : Read} (x : Expects 22 ts q₃ m₃ w) where
+        interval-closed : Reading ts (phrase ts interval p) n a (row-of kind.interval) p w d
+        interval-closed = by-token x (omega arith) interval-high-at
+          where
+            interval-high-at : Reading ts (phrase ts interval p) n a closing p (At q₃ m₃) d
+            interval-high-at = told e₃ interval-high
+
+        pub end-refused : {k : ℕ} → w ≡ Refused k → Reads interval ts p n w a d
+        end-refused e₄ = reads interval (g .within) (refused-found e₄ interval-closed)
+
+        pub interval-count : {q₄ m₄ : ℕ} → w ≡ At q₄ m₄ → m₄ ≤ 65536
+        interval-count e₄ =
+            let s = g .small in
+            let s₂ = g .behind in
+            let u = reads-at low e in
+            let v = compares-at item e₂ in
+            let y = compares-at high e₃ in
+            let z = expect-goes x e₄ in
+            omega arith
+
+        pub interval-whole : {q₄ m₄ : ℕ} {z : List ℕ} → w ≡ At q₄ m₄ → z ≡ set d m₄ (word kind.interval p (m₄ + 1 - n)) → Reads interval ts p n (At q₄ (m₄ + 1)) a z
+        interval-whole {z = z} e₄ y =
+            let s = g .small in
+            let s₂ = g .within in
+            reads interval (g .within) (finish (by-row z (omega arith) (omega arith) (interval-count e₄) (omega arith) y (last (told e₄ interval-closed))))

@@ -1,26 +1,25 @@
--- The steps by value: what `expect`, `leaf` and `node` come to, by what they were given. Assumes nothing.
+-- The steps of a reader: a token of one terminal, the place behind it, the row over two operands. Assumes nothing.
 use mathlib.Core.Bool.{Bool, true, false, _&&_, _||_, cond}
 use mathlib.Core.List.{List, [], _∷_}
+use mathlib.Core.Logic.{⊎-elim}
 use mathlib.Core.Path.{_≡_, refl, sym, ap, subst, _∙_}
 use Prim.Native.Nat.{ℕ, suc, _+_, _-_, _≤_, _<_}
 use native.Mathlib.Omega.{arith}
-use lib.Dec.{eqb}
-use lib.ListN.{length, getD, set}
-use borrow.Author.Tests.{eq-eqb, ne-eqb}
+use lib.Dec.{eqb, ltb, leb}
+use lib.ListN.{length, getD, set, List·getD-eq-default}
+use borrow.Author.Tests.{eq-eqb, ne-eqb, lt-ltb, le-ltb, ltb-true, leb-true, le-leb}
 use Rattle.ebnf.specs.Set.{mem}
-use Rattle.express.specs.tokens.Terminal.{identifier, dot}
+use Rattle.ebnf.specs.Grammar.{silent, here, Ebnf, none, step, seq}
+use Rattle.ebnf.specs.Rows.{Rows}
+use Rattle.ebnf.specs.Parse.{Result}
+use Rattle.ebnf.proofs.Sets.{and-split, lt-or-le}
+use Rattle.express.specs.syntax.Grammar.{Nonterminal}
 use Rattle.express.specs.syntax.NodeKind as kind
 use Rattle.expressions.specs.declared.Read.{Read}
 use Rattle.expressions.specs.declared.Read.the-variants.{At, Refused}
-use Rattle.expressions.specs.Reading.{word, Ready, Sound, expected, Expects, Took, Leafed, Leaves, Noded, Combined, Counts}
+use Rattle.expressions.specs.Reading.{word, is-place, expect-at, Expects, Ready, Reads, ReadsAnywhere, Reading, Combines}
 use Rattle.expressions.proofs.Terminals.{is-one, not-one, inside}
-
--- what is known of an answer that was taken apart
-pub ready-at : (ts : List ℕ) (x : Read) {p n : ℕ} → Sound ts x → x ≡ At p n → Ready ts p n
-ready-at ts x g e = subst (λ (y : Read). Sound ts y) e g
-
-pub count-at : (x : Read) {p n : ℕ} → Counts x → x ≡ At p n → n ≤ 65536
-count-at x g e = subst (λ (y : Read). Counts y) e g
+use Rattle.expressions.proofs.Laws.{expected, token, named, told, refused-not-at}
 
 no-zero : (code : ℕ) → 0 < code → mem 0 (code ∷ []) ≡ false
 no-zero code h = not-one 0 code (λ e. omega arith)
@@ -35,71 +34,93 @@ onward g l = let w = g .behind in record { small = g .small; within = omega arit
 pub onward-row : {ts : List ℕ} {p n : ℕ} → Ready ts p n → p < length ts → Ready ts (p + 1) (n + 1)
 onward-row g l = let w = g .behind in record { small = g .small; within = omega arith; behind = omega arith }
 
--- ---- a token
+-- ---- a token of one terminal
 
-module _ (ts : List ℕ) (x : Read) (code : ℕ) where
-  pub expects-refused : {k : ℕ} → x ≡ Refused k → Expects ts (code ∷ []) x x
-  expects-refused e = rw e (record { is = refl; sound = tt })
+or-false : (b : Bool) → (b || false) ≡ b
+or-false true = refl
+or-false false = refl
 
-  module _ {p n : ℕ} (e : x ≡ At p n) (t : ℕ) (f : t ≡ getD ts p 0) where
-    pub expects-there : 0 < code → Sound ts x → t ≡ code → Expects ts (code ∷ []) x (At (p + 1) n)
-    expects-there z g h =
-        rw e
-        (record {
-          is = rw (is-one (getD ts p 0) code (sym f ∙ h)) refl;
-          sound = onward (ready-at ts x g e) (one-inside ts p t code f h z);
-        })
+mem-one : (c code : ℕ) → mem c (code ∷ []) ≡ eqb c code
+unfolding mem
+mem-one c code = or-false (eqb c code)
 
-    pub expects-not : (t ≡ code → ⊥) → Expects ts (code ∷ []) x (Refused p)
-    expects-not h = rw e (record { is = rw (not-one (getD ts p 0) code (λ k. h (f ∙ k))) refl; sound = tt })
+module _ {code : ℕ} {ts : List ℕ} {p n : ℕ} where
+  pub expects-there : p < length ts → getD ts p 0 ≡ code → Expects code ts p n (At (p + 1) n)
+  expects-there l e = record { is = rw (lt-ltb p (length ts) l, eq-eqb (getD ts p 0) code e) refl }
 
--- ---- a leaf
+  pub expects-other : (getD ts p 0 ≡ code → ⊥) → Expects code ts p n (Refused p)
+  expects-other e = record { is = rw (ne-eqb (getD ts p 0) code e) (go (ltb p (length ts))) }
+    where
+      go : (b : Bool) → Refused p ≡ cond (b && false) (At (p + 1) n) (Refused p)
+      go true = refl
+      go false = refl
 
-module _ (ts : List ℕ) (x : Read) (label : ℕ) (a : List ℕ) where
-  pub leaves-refused : {k : ℕ} (b : List ℕ) → x ≡ Refused k → Leaves ts label x x a b
-  leaves-refused b e = rw e (record { sound = tt; took = refl })
+  pub expects-past : length ts ≤ p → Expects code ts p n (Refused p)
+  expects-past l = record { is = rw (le-ltb p (length ts) l) refl }
 
-  module _ {p n : ℕ} (e : x ≡ At p n) (t : ℕ) (f : t ≡ getD ts p 0) where
-    pub leaves-there : (b : List ℕ) (w : ℕ) → Sound ts x → t ≡ 1 → w ≡ word label p 1 → b ≡ set a n w → Leaves ts label x (At (p + 1) (n + 1)) a b
-    leaves-there b w g h v u =
-        rw e
-        (record {
-          sound = onward-row (ready-at ts x g e) (one-inside ts p t 1 f h (omega arith));
-          took = rw (is-one (getD ts p 0) 1 (sym f ∙ h)) (refl, u ∙ ap (λ (z : ℕ). set a n z) v);
-        })
+-- past the end there is none
+expected-is : (ts : List ℕ) (code p n : ℕ) → 0 < code → expect-at ts code p n ≡ expected ts (code ∷ []) p n
+expected-is ts code p n z =
+    ⊎-elim
+    (λ (l : p < length ts). rw (lt-ltb p (length ts) l, mem-one (getD ts p 0) code))
+    (λ (l : length ts ≤ p). rw (le-ltb p (length ts) l, List·getD-eq-default ts 0 l, no-zero code z))
+    (lt-or-le p (length ts))
 
-    pub leaves-not : (b : List ℕ) → (t ≡ 1 → ⊥) → Leaves ts label x (Refused p) a b
-    leaves-not b h = rw e (record { sound = tt; took = rw (not-one (getD ts p 0) 1 (λ k. h (f ∙ k))) refl })
+module _ {code : ℕ} {ts : List ℕ} {p n : ℕ} {r : Read} (h : Expects code ts p n r) where
+  -- where it leads
+  pub expect-goes : {q m : ℕ} → r ≡ At q m → (q ≡ p + 1) × (m ≡ n) × (p < length ts)
+  expect-goes {q} {m} e = go (ltb p (length ts) && eqb (getD ts p 0) code) refl (sym (h .is) ∙ e)
+    where
+      go : (b : Bool) → (ltb p (length ts) && eqb (getD ts p 0) code) ≡ b → cond b (At (p + 1) n) (Refused p) ≡ At q m → (q ≡ p + 1) × (m ≡ n) × (p < length ts)
+      go true b z = (cc, cc, ltb-true p (length ts) ((and-split (ltb p (length ts)) _ b) .0))
+      go false b z = refused-not-at q m p z
 
--- ---- a row over what was read
+  pub expect-ready : {q m : ℕ} → Ready ts p n → r ≡ At q m → Ready ts q m
+  expect-ready g e = let w = expect-goes e in rw (w .0, w .1) (onward g (w .2))
 
-module _ (first label name : ℕ) (x : Read) (a b : List ℕ) where
-  pub noded-refused : {k : ℕ} → x ≡ Refused k → Noded first label name x x a b
-  noded-refused e = rw e refl
+  module _ {want : Result Rows} {k m : ℕ} {was b : List ℕ} {rest : Ebnf Nonterminal} (z : 0 < code) where
+    pub by-token : Reading ts want k was (seq (step silent (code ∷ []) none) rest) m (At p n) b → Reading ts want k was rest m r b
+    by-token v = told (sym (h .is ∙ expected-is ts code p n z)) (token v)
 
-  pub noded-there : {p n : ℕ} (w z : ℕ) → x ≡ At p n → z ≡ n + 1 - first → w ≡ word label name z → b ≡ set a n w → Noded first label name x (At p (n + 1)) a b
-  noded-there {p} {n} w z e s v u = rw e (refl, u ∙ ap (λ (y : ℕ). set a n y) (v ∙ ap (λ (y : ℕ). word label name y) s))
+    -- a token that names the next row
+    pub by-name : Reading ts want k was (seq (step here (code ∷ []) none) rest) m (At p n) b → Reading ts want k was rest p r b
+    by-name v = told (sym (h .is ∙ expected-is ts code p n z)) (named v)
 
 -- ---- the row over two operands
 
 module _ {p q n m : ℕ} {a : List ℕ} where
-  pub combined-one : q ≡ p → Combined p q n m m a a
+  pub combined-one : q ≡ p → Combines p q n m m a a
   combined-one e = let z = eq-eqb q p e in record { count = rw z refl; rows = rw z refl }
 
-  pub combined-two : {b : List ℕ} (w z : ℕ) → (q ≡ p → ⊥) → z ≡ m + 1 - n → w ≡ word kind.two-operand (q - 1) z → b ≡ set a m w → Combined p q n m (m + 1) a b
-  combined-two w z e s v u =
-      let f = ne-eqb q p e in
-      record { count = rw f refl; rows = rw f (u ∙ ap (λ (y : ℕ). set a m y) (v ∙ ap (λ (y : ℕ). word kind.two-operand (q - 1) y) s)) }
+  pub combined-two : {b : List ℕ} → (q ≡ p → ⊥) → b ≡ set a m (word kind.two-operand (q - 1) (m + 1 - n)) → Combines p q n m (m + 1) a b
+  combined-two e u = let f = ne-eqb q p e in record { count = rw f refl; rows = rw f u }
 
 -- ---- two tokens
 
 pub two-there : (ts : List ℕ) (p t u c d : ℕ) → t ≡ getD ts p 0 → t ≡ c → u ≡ getD ts (p + 1) 0 → eqb u d ≡ (mem (getD ts p 0) (c ∷ []) && mem (getD ts (p + 1) 0) (d ∷ []))
-unfolding mem
-two-there ts p t u c d e f g = rw (← e, ← g, f, eq-eqb c c refl) (or-false (eqb u d))
-  where
-    or-false : (b : Bool) → b ≡ (b || false)
-    or-false true = refl
-    or-false false = refl
+two-there ts p t u c d e f g = rw (← e, ← g, is-one t c f, mem-one u d)
 
 pub two-not : (ts : List ℕ) (p t c d : ℕ) → t ≡ getD ts p 0 → (t ≡ c → ⊥) → false ≡ (mem (getD ts p 0) (c ∷ []) && mem (getD ts (p + 1) 0) (d ∷ []))
 two-not ts p t c d e f = rw (not-one (getD ts p 0) c (λ k. f (e ∙ k))) refl
+
+-- ---- a place, by its test
+
+pub place-ready : (ts : List ℕ) (p n : ℕ) → is-place ts p n ≡ true → Ready ts p n
+place-ready ts p n h =
+    let a = and-split (leb (length ts) 65536) _ h in
+    let b = and-split (leb p (length ts)) _ (a .1) in
+    record { small = leb-true (length ts) 65536 (a .0); within = leb-true p (length ts) (b .0); behind = leb-true n p (b .1) }
+
+ready-place : (ts : List ℕ) (p n : ℕ) → Ready ts p n → is-place ts p n ≡ true
+ready-place ts p n g = rw (le-leb (length ts) 65536 (g .small), le-leb p (length ts) (g .within), le-leb n p (g .behind)) refl
+
+true-false : {A : Type 0} (b : Bool) → b ≡ true → b ≡ false → A
+true-false true e f = let z : _≡_ {A = ℕ} 0 1 = cc in absurd (omega arith)
+true-false false e f = let z : _≡_ {A = ℕ} 0 1 = cc in absurd (omega arith)
+
+module _ {x : Nonterminal} {ts : List ℕ} {p n : ℕ} {t : Bool} (e : t ≡ is-place ts p n) {a : List ℕ} where
+  pub anywhere-there : {r : Read} {b : List ℕ} → t ≡ true → Reads x ts p n r a b → ReadsAnywhere x ts p n r a b
+  anywhere-there h k = record { reads = λ g. k; nowhere = λ z. true-false (is-place ts p n) (sym e ∙ h) z }
+
+  pub anywhere-not : t ≡ false → ReadsAnywhere x ts p n (Refused p) a a
+  anywhere-not h = record { reads = λ g. true-false (is-place ts p n) (ready-place ts p n g) (sym e ∙ h); nowhere = λ z. (refl, refl) }

@@ -4,7 +4,7 @@ use mathlib.Core.List.{List, map}
 use mathlib.Core.Option.{Option, some, none as nowhere}
 use mathlib.Core.Path.{_≡_}
 use Prim.Native.Nat.{ℕ, _+_, _/_, _%_, _≤_}
-use lib.ListN.{length, take}
+use lib.ListN.{length, take, replicate}
 use lib.Seq.{sets}
 use lib.Dec.{eqb, ltb, leb}
 use Rattle.columns.specs.Column.{tabulated}
@@ -17,9 +17,9 @@ use Rattle.expressions.specs.declared.Read.the-variants.{At, Refused as 
 use Rattle.expressions.specs.declared.Judgement.{Judgement}
 use Rattle.expressions.specs.declared.Judgement.the-variants.{Good, Unexpected, TooDeep}
 use Rattle.expressions.specs.declared.Parsed.{Parsed}
-use Rattle.expressions.specs.declared.Parsed.the-variants.{Accepted, Refused, Short}
+use Rattle.expressions.specs.declared.Parsed.the-variants.{Accepted, Unexpected as unexpected-at, TooDeep as too-deep-at, Short}
 use Rattle.expressions.specs.Reading.{word-of, All-fit}
-use Rattle.expressions.specs.Parsing.{entries}
+use Rattle.expressions.specs.Parsing.{entries, answer, rows-of}
 
 -- ---- the limit on nesting
 
@@ -65,12 +65,9 @@ token-in w = w / 65536 % 1048576
 abbrev pub size-in : ℕ → ℕ
 size-in w = w / 68719476736 % 1048576
 
--- the first n words, laid out in columns
-pub record Unpacked (words : List ℕ) (n : ℕ) (kinds tokens sizes roles kinds′ tokens′ sizes′ roles′ : List ℕ) : Type 0 where
-  pub kinds-are : kinds′ ≡ sets kinds 0 (map kind-in (take n words))
-  pub tokens-are : tokens′ ≡ sets tokens 0 (map token-in (take n words))
-  pub sizes-are : sizes′ ≡ sets sizes 0 (map size-in (take n words))
-  pub roles-are : roles′ ≡ sets roles 0 (map role-in (take n words))
+-- a part of each of the first n words, in a column as far as it goes
+abbrev pub unpacked : (ℕ → ℕ) → ℕ → List ℕ → List ℕ → List ℕ
+unpacked part n words column = sets column 0 (map part (take n words))
 
 -- how many words a judgement speaks of
 abbrev pub count : Judgement → ℕ
@@ -86,9 +83,23 @@ pub record Judging (x : Nonterminal) (ts : List ℕ) (r : Judgement) (a b : List
 -- a judgement as an answer, where the shortest column has so many entries
 abbrev pub answered : ℕ → Judgement → Parsed
 answered l (Good n) = cond (leb n l) (Accepted n) (Short n)
-answered l (Unexpected j) = Refused 4 j
-answered l (TooDeep k) = Refused 5 k
+answered l (Unexpected j) = unexpected-at j
+answered l (TooDeep k) = too-deep-at k
 
-pub record Settles (j : Judgement) (words : List ℕ) (r : Parsed) (kinds tokens sizes roles kinds′ tokens′ sizes′ roles′ : List ℕ) : Type 0 where
+-- The tail of a parse: from a judgement and its words to the answer, the columns and zeros.
+pub record LaysOut (j : Judgement) (r : Parsed) (words kinds tokens sizes roles words′ kinds′ tokens′ sizes′ roles′ : List ℕ) : Type 0 where
   pub answers : r ≡ answered (entries kinds tokens sizes roles) j
-  pub unpacks : Unpacked words (count j) kinds tokens sizes roles kinds′ tokens′ sizes′ roles′
+  pub kinds-are : kinds′ ≡ unpacked kind-in (count j) words kinds
+  pub tokens-are : tokens′ ≡ unpacked token-in (count j) words tokens
+  pub sizes-are : sizes′ ≡ unpacked size-in (count j) words sizes
+  pub roles-are : roles′ ≡ unpacked role-in (count j) words roles
+  pub words-are : words′ ≡ replicate (length words) 0
+
+-- The parse of a list that is read, by way of a word for each terminal.
+pub record Parses (x : Nonterminal) (ts : List ℕ) (r : Parsed) (words kinds tokens sizes roles words′ kinds′ tokens′ sizes′ roles′ : List ℕ) : Type 0 where
+  pub answers : r ≡ answer (entries kinds tokens sizes roles) (parsed x ts)
+  pub kinds-are : kinds′ ≡ sets kinds 0 (map (λ (r : Row). r .kind) (rows-of (parsed x ts)))
+  pub tokens-are : tokens′ ≡ sets tokens 0 (map (λ (r : Row). r .token) (rows-of (parsed x ts)))
+  pub sizes-are : sizes′ ≡ sets sizes 0 (map (λ (r : Row). r .size) (rows-of (parsed x ts)))
+  pub roles-are : roles′ ≡ sets roles 0 (map (λ (r : Row). r .role) (rows-of (parsed x ts)))
+  pub words-are : words′ ≡ replicate (length words) 0

@@ -1,21 +1,20 @@
 -- What a reading step answers and leaves, in terms of the grammar: the inner contracts of the readers.
-use mathlib.Core.Bool.{Bool, true, false, cond}
+use mathlib.Core.Bool.{Bool, true, false, _&&_, cond}
 use mathlib.Core.List.{List, [], _∷_, map}
 use mathlib.Core.Path.{_≡_}
-use Prim.Native.Nat.{ℕ, _+_, _-_, _*_, _≤_, _<_}
-use lib.Dec.{eqb}
-use lib.ListN.{length, getD, set}
+use Prim.Native.Nat.{ℕ, _+_, _-_, _*_, _%_, _≤_, _<_}
+use lib.Dec.{eqb, ltb, leb}
+use lib.ListN.{length, getD, set, take}
 use lib.Seq.{sets}
 use Rattle.ebnf.specs.Set.{mem}
 use Rattle.ebnf.specs.Grammar.{Ebnf, seq, nt}
 use Rattle.ebnf.specs.Rows.{Row, Rows, in-rows}
 use Rattle.ebnf.specs.Parse.{Result, at, refused, starved, bind}
 use Rattle.express.specs.tokens.Terminal.{identifier, integer, binary, question, SELF}
-use Rattle.express.specs.syntax.Grammar.{Nonterminal, sum, _·_, leaves, comparisons, logicals, others}
+use Rattle.express.specs.syntax.Grammar.{Nonterminal, rules, sum, _·_, leaves, comparisons, logicals, others}
 use Rattle.express.specs.syntax.NodeKind as kind
-use Rattle.express.proofs.syntax.Syntax.{express}
-use Rattle.express.proofs.syntax.Descent.{phrase}
-use Rattle.ebnf.proofs.Descent as descent
+use Rattle.ebnf.specs.Descent as descent
+use Rattle.express.specs.syntax.Lookahead.{tables}
 use Rattle.expressions.specs.declared.Read.{Read}
 use Rattle.expressions.specs.declared.Read.the-variants.{At, Refused}
 
@@ -25,9 +24,9 @@ use Rattle.expressions.specs.declared.Read.the-variants.{At, Refused}
 abbrev pub labelled : ℕ → ℕ → ℕ
 labelled kind role = kind + 256 * role
 
--- a row in one word: its label in 16 bits, then its naming token in 20, then its size
+-- a row in one word: its label in 16 bits, then its naming token in 20, then its size in 20
 abbrev pub word : ℕ → ℕ → ℕ → ℕ
-word label token size = label + 65536 * token + 68719476736 * size
+word label token size = label % 65536 + 65536 * (token % 1048576) + 68719476736 * (size % 1048576)
 
 abbrev pub word-of : Row → ℕ
 word-of r = word (labelled (r .kind) (r .role)) (r .token) (r .size)
@@ -51,6 +50,10 @@ pub record Ready (ts : List ℕ) (p n : ℕ) : Type 0 where
   pub within : p ≤ length ts
   pub behind : n ≤ p
 
+-- the same as a test
+abbrev pub is-place : List ℕ → ℕ → ℕ → Bool
+is-place ts p n = leb (length ts) 65536 && (leb p (length ts) && leb n p)
+
 abbrev pub Sound : List ℕ → Read → Type 0
 Sound ts (At p n) = Ready ts p n
 Sound ts (Refused k) = Unit {0}
@@ -62,10 +65,15 @@ Ahead ts p n (Refused k) = Unit {0}
 
 -- ---- what is found
 
--- The answer x and the rows b, from a, are what a result says, with its rows from n on. After a refusal the rows are left free.
+-- what the rule of x comes to at p
+abbrev pub phrase : List ℕ → Nonterminal → ℕ → Result Rows
+phrase ts = descent.phrase in-rows rules tables ts
+
+-- The answer x and the rows b, from a, are what a result says, with its rows from n on. After a refusal, which is reply 4 at a token, the rows
+-- before n are as they were.
 abbrev pub Found : Result Rows → ℕ → Read → List ℕ → List ℕ → Type 0
 Found (at j s) n x a b = (x ≡ At j (n + length (s .rows))) × (b ≡ sets a n (map word-of (s .rows))) × All-fit (s .rows)
-Found (refused k) n x a b = x ≡ Refused k
+Found (refused k) n x a b = (x ≡ Refused k) × (take n b ≡ take n a)
 Found starved n x a b = ⊥
 
 -- A reader of x, at token p and row n.
@@ -73,16 +81,21 @@ pub record Reads (x : Nonterminal) (ts : List ℕ) (p n : ℕ) (r : Read) (a b :
   pub found : Found (phrase ts x p) n r a b
   pub ahead : Ahead ts p n r
 
--- ---- steps by value
+-- A reader of x that may be given any numbers: those that are no place are refused, and nothing is written.
+pub record ReadsAnywhere (x : Nonterminal) (ts : List ℕ) (p n : ℕ) (r : Read) (a b : List ℕ) : Type 0 where
+  pub reads : Ready ts p n → Reads x ts p n r a b
+  pub nowhere : is-place ts p n ≡ false → (r ≡ Refused p) × (b ≡ a)
 
--- a token of the set
-abbrev pub expected : List ℕ → List ℕ → Read → Read
-expected ts cs (At p n) = cond (mem (getD ts p 0) cs) (At (p + 1) n) (Refused p)
-expected ts cs (Refused k) = Refused k
+-- ---- tokens
 
-pub record Expects (ts cs : List ℕ) (x r : Read) : Type 0 where
-  pub is : r ≡ expected ts cs x
-  pub sound : Sound ts r
+-- a token of one terminal, within the list
+abbrev pub expect-at : List ℕ → ℕ → ℕ → ℕ → Read
+expect-at ts code p n = cond (ltb p (length ts) && eqb (getD ts p 0) code) (At (p + 1) n) (Refused p)
+
+pub record Expects (code : ℕ) (ts : List ℕ) (p n : ℕ) (r : Read) : Type 0 where
+  pub is : r ≡ expect-at ts code p n
+
+-- ---- parts of rules
 
 -- the name of a result's rows
 abbrev pub Named : Result Rows → ℕ → Type 0
@@ -91,7 +104,7 @@ Named (refused k) m = Unit {0}
 Named starved m = Unit {0}
 
 abbrev pub run : List ℕ → Ebnf Nonterminal → ℕ → Rows → Result Rows
-run ts e i s = descent.run express in-rows ts e i s (λ j t. at j t)
+run ts e i s = descent.run in-rows rules tables ts e i s (λ j t. at j t)
 
 -- PART OF A RULE HAS BEEN READ: what is wanted is what was found so far, the rule's rows from n on and its next row's name m, and then what
 -- the rest comes to from there.
@@ -101,34 +114,26 @@ pub record Reading (ts : List ℕ) (want : Result Rows) (n : ℕ) (a : List ℕ)
   pub named : Named done m
   pub is : want ≡ bind done (λ j s. run ts rest j s)
 
--- Reading e from x to r: whatever is wanted, what is left afterwards is the rest.
-pub record Goes (e : Ebnf Nonterminal) (ts : List ℕ) (x r : Read) (a b : List ℕ) : Type 0 where
-  pub on : {want : Result Rows} {n m : ℕ} {was : List ℕ} {rest : Ebnf Nonterminal} →
-      Reading ts want n was (seq e rest) m x a → Reading ts want n was rest m r b
+-- Reading e at token p and row n, to the answer r: whatever is wanted, what is left afterwards is the rest.
+pub record Continues (e : Ebnf Nonterminal) (ts : List ℕ) (p n : ℕ) (r : Read) (a b : List ℕ) : Type 0 where
+  pub on : {want : Result Rows} {k m : ℕ} {was : List ℕ} {rest : Ebnf Nonterminal} →
+      Reading ts want k was (seq e rest) m (At p n) a → Reading ts want k was rest m r b
 
-pub record Steps (e : Ebnf Nonterminal) (ts : List ℕ) (x r : Read) (a b : List ℕ) : Type 0 where
+pub record Steps (e : Ebnf Nonterminal) (ts : List ℕ) (p n : ℕ) (r : Read) (a b : List ℕ) : Type 0 where
   pub sound : Sound ts r
-  pub goes : Goes e ts x r a b
+  pub goes : Continues e ts p n r a b
 
 -- a comparison and a sum, at token p and row n
 pub record Compares (ts : List ℕ) (p n : ℕ) (r : Read) (a b : List ℕ) : Type 0 where
   pub ahead : Ahead ts p n r
-  pub goes : Goes (leaves comparisons kind.interval-operator · nt sum) ts (At p n) r a b
+  pub goes : Continues (leaves comparisons kind.interval-operator · nt sum) ts p n r a b
 
 -- ---- rows
 
--- a row with nothing below it, where the token is one that leaves it
-abbrev pub Took : Bool → ℕ → ℕ → ℕ → Read → List ℕ → List ℕ → Type 0
-Took true label p n r a b = (r ≡ At (p + 1) (n + 1)) × (b ≡ set a n (word label p 1))
-Took false label p n r a b = r ≡ Refused p
-
-abbrev pub Leafed : List ℕ → List ℕ → ℕ → Read → Read → List ℕ → List ℕ → Type 0
-Leafed ts cs label (At p n) r a b = Took (mem (getD ts p 0) cs) label p n r a b
-Leafed ts cs label (Refused k) r a b = r ≡ Refused k
-
-pub record Leaves (ts : List ℕ) (label : ℕ) (x r : Read) (a b : List ℕ) : Type 0 where
-  pub sound : Sound ts r
-  pub took : Leafed ts identifier label x r a b
+-- The token at p leaves a row with nothing below it, at n; or it is refused, and nothing is written.
+abbrev pub Leaf : Bool → ℕ → ℕ → ℕ → Read → List ℕ → List ℕ → Type 0
+Leaf true label p n r a b = (r ≡ At (p + 1) (n + 1)) × (b ≡ set a n (word label p (n + 1 - n)))
+Leaf false label p n r a b = (r ≡ Refused p) × (b ≡ a)
 
 -- kind and role of an atom's row, by its token; 0 where the token begins no atom that leaves one
 abbrev pub atom-label : ℕ → ℕ
@@ -141,16 +146,7 @@ atom-label c =
     (cond (mem c identifier) (labelled kind.name kind.in-expression)
     (cond (mem c SELF) kind.self 0))))))
 
--- a row over all rows from `first` on; past the end of the rows nothing changes
-abbrev pub Noded : ℕ → ℕ → ℕ → Read → Read → List ℕ → List ℕ → Type 0
-Noded first label name (At p n) r a b = (r ≡ At p (n + 1)) × (b ≡ set a n (word label name (n + 1 - first)))
-Noded first label name (Refused k) r a b = r ≡ Refused k
-
 -- The row over two operands, the second at q behind their operator, where m rows are left: r rows then. A first operand, at p, has no such row.
-pub record Combined (p q n m r : ℕ) (a b : List ℕ) : Type 0 where
+pub record Combines (p q n m r : ℕ) (a b : List ℕ) : Type 0 where
   pub count : r ≡ cond (eqb q p) m (m + 1)
   pub rows : b ≡ cond (eqb q p) a (set a m (word kind.two-operand (q - 1) (m + 1 - n)))
-
-abbrev pub Counts : Read → Type 0
-Counts (At p n) = n ≤ 65536
-Counts (Refused k) = Unit {0}

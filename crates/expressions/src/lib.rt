@@ -1,20 +1,36 @@
-// Expressions by recursive descent: terminal codes to rows of nodes, each row packed into one word.
-ghost use mathlib.Core.Bool.{true, _&&_, cond};
-ghost use mathlib.Core.List.{[], _∷_};
+// Expressions by recursive descent: terminals to rows of nodes, each row packed into one word; and what is common to every parse.
+ghost use mathlib.Core.Bool.{true, _&&_};
 ghost use mathlib.Core.Path.{_≡_};
-ghost use Prim.Native.Nat.{ℕ, _+_, _-_, _*_, _≤_, _<_, min};
+ghost use Prim.Native.Nat.{_+_, _-_, _≤_, min};
 ghost use lib.ListN.{length, getD, set};
 ghost use Rattle.ebnf.specs.Set.{mem};
+ghost use Rattle.ebnf.specs.Depth.{opened};
 ghost use Rattle.express.specs.tokens.Terminal.{identifier, dot};
 ghost use Rattle.express.specs.syntax.Grammar.{expression, sum, term, factor, operand, atom, interval, relations, additions, multiplications, signs, comparisons};
-ghost use Rattle.ebnf.specs.Depth.{opened};
 ghost use Rattle.express.specs.syntax.Syntax.{opening, closing};
-ghost use Rattle.expressions.specs.Reading.{word, atom-label, Ready, Sound, Reads, Expects, Leaves, Compares, Noded, Combined, Counts};
-ghost use Rattle.expressions.specs.Parsing.{most, Parsing};
-ghost use Rattle.expressions.specs.Outcome.{steps as stepList, deep-or-end, end-of, judged, Judging, answered, kind-in, role-in, token-in, size-in, Unpacked, count, Settles};
-use columns::put8;
-use columns::put32;
+ghost use Rattle.expressions.specs.Reading.{word, atom-label, is-place, Expects, Ready, Reads, ReadsAnywhere, Compares, Combines};
+ghost use Rattle.expressions.specs.Parsing.{Parsing};
+ghost use Rattle.expressions.specs.Outcome.{steps as stepList, deep-or-end, end-of, judged, Judging, answered, kind-in, role-in, token-in, size-in, unpacked, count, LaysOut, Parses};
+use codes::labels;
 use columns::shorter;
+
+// A list that is read has no more terminals than a file has bytes.
+pub const MOST: usize = 65536;
+
+// A row's word has its kind and role in 16 bits, then its naming token and its size in 20 bits each.
+const TOKEN_UNIT: u64 = 65536;
+
+const PLACES: u64 = 1048576;
+
+const SIZE_UNIT: u64 = TOKEN_UNIT * PLACES;
+
+const ROLE_UNIT: u64 = 256;
+
+// No row has this kind and role.
+pub const NO_LABEL: u64 = 0;
+
+// The limit on brackets open at once.
+const NESTING: usize = 64;
 
 // The next token and the next row; or the token that cannot stand.
 pub enum Read {
@@ -23,192 +39,159 @@ pub enum Read {
 }
 
 // The terminal at a place, and 0 past the end.
-pub fn token(codes: &[u8], at: usize) -> u8
-    ensures { λ r. ⌜ r ≡ getD (now (codes .entry)) at 0 ⌝ }
+pub fn token(terminals: &[u8], at: usize) -> u8
+    ensures { λ r. ⌜ r ≡ getD (now (terminals .entry)) at 0 ⌝ }
 {
-    if at < codes.len() {
-        return codes[at];
+    if at < terminals.len() {
+        return terminals[at];
     }
-    0
+    codes::NONE
 }
 
-// A row: kind and role, naming token and size in one word.
-pub fn packed(label: u64, token: usize, size: usize) -> u64
-    requires { ⌜ (label < 65536) × (token < 1048576) × (size < 1048576) ⌝ }
+// A token of one terminal, which leaves no row.
+pub fn expect(terminals: &[u8], p: usize, n: usize, code: u8) -> Read
+    ensures { λ r. ⌜ Expects code (now (terminals .entry)) p n r ⌝ }
+{
+    if p < terminals.len() {
+        if terminals[p] == code {
+            return Read::At(p + 1, n);
+        }
+    }
+    Read::Refused(p)
+}
+
+// A row in one word, each part as far as its bits go.
+fn packed(label: u64, token: usize, size: usize) -> u64
     ensures { λ r. ⌜ r ≡ word label token size ⌝ }
 {
-    label + 65536 * (token as u64) + 68719476736 * (size as u64)
+    label % TOKEN_UNIT + TOKEN_UNIT * (token as u64 % PLACES) + SIZE_UNIT * (size as u64 % PLACES)
 }
 
-// Stores a row; past the table's end nothing changes.
-pub fn put(rows: &mut [u64], at: usize, row: u64)
-    ensures { λ _. ⌜ now (rows .exit) ≡ set (now (rows .entry)) at row ⌝ }
+// Stores a row over the rows from `first` on, itself among them; past the table's end nothing changes.
+pub fn put_row(rows: &mut [u64], at: usize, first: usize, label: u64, name: usize)
+    ensures { λ _. ⌜ now (rows .exit) ≡ set (now (rows .entry)) at (word label name (at + 1 - first)) ⌝ }
 {
     if at < rows.len() {
-        rows[at] = row;
+        rows[at] = packed(label, name, columns::saturating_sub(at + 1, first));
     }
 }
 
-// A token of one terminal.
-pub fn expect(codes: &[u8], before: Read, code: u8) -> Read
-    requires { ⌜ (Sound (now codes) before) × (0 < code) ⌝ }
-    ensures { λ r. ⌜ Expects (now (codes .entry)) (code ∷ []) before r ⌝ }
-{
-    let Read::At(p, n) = before else {
-        return before;
-    };
-    if token(codes, p) == code {
-        return Read::At(p + 1, n);
-    }
-    Read::Refused(p)
-}
-
-// An identifier that leaves a row with nothing below it.
-pub fn leaf(codes: &[u8], rows: &mut [u64], before: Read, label: u64) -> Read
-    requires { ⌜ (Sound (now codes) before) × (label < 65536) ⌝ }
-    ensures { λ r. ⌜ Leaves (now (codes .entry)) label before r (now (rows .entry)) (now (rows .exit)) ⌝ }
-{
-    let Read::At(p, n) = before else {
-        return before;
-    };
-    if token(codes, p) == 1 {
-        put(rows, n, packed(label, p, 1));
-        return Read::At(p + 1, n + 1);
-    }
-    Read::Refused(p)
-}
-
-// The rows from `first` to the one at `last`.
-fn span(first: usize, last: usize) -> usize
-    requires { ⌜ last ≤ 65536 ⌝ }
-    ensures { λ r. ⌜ r ≡ last + 1 - first ⌝ }
-{
-    if last < first {
-        return 0;
-    }
-    last + 1 - first
-}
-
-// A row over all rows from `first` on.
-pub fn node(rows: &mut [u64], before: Read, first: usize, label: u64, name: usize) -> Read
-    requires { ⌜ (Counts before) × (label < 65536) × (name < 1048576) ⌝ }
-    ensures { λ r. ⌜ Noded first label name before r (now (rows .entry)) (now (rows .exit)) ⌝ }
-{
-    let Read::At(p, n) = before else {
-        return before;
-    };
-    put(rows, n, packed(label, name, span(first, n)));
-    Read::At(p, n + 1)
-}
-
-pub fn is_relation(c: u8) -> bool
+fn is_relation(c: u8) -> bool
     ensures { λ r. ⌜ r ≡ mem c relations ⌝ }
 {
     match c {
-        14 | 17 | 26 | 28 | 33 => true,
-        18 | 27 | 34 => true,
+        codes::EQUAL
+        | codes::LESS
+        | codes::LESS_EQUAL
+        | codes::GREATER_EQUAL
+        | codes::INSTANCE_EQUAL => true,
+        codes::GREATER | codes::UNEQUAL | codes::INSTANCE_UNEQUAL => true,
         _ => false,
     }
 }
 
-pub fn is_addition(c: u8) -> bool
+fn is_addition(c: u8) -> bool
     ensures { λ r. ⌜ r ≡ mem c additions ⌝ }
 {
     match c {
-        12 | 113 | 153 => true,
-        13 => true,
+        codes::PLUS | codes::OR | codes::XOR => true,
+        codes::MINUS => true,
         _ => false,
     }
 }
 
-pub fn is_multiplication(c: u8) -> bool
+fn is_multiplication(c: u8) -> bool
     ensures { λ r. ⌜ r ≡ mem c multiplications ⌝ }
 {
     match c {
-        11 | 16 | 40 | 58 | 104 => true,
+        codes::TIMES | codes::SLASH | codes::AND | codes::DIV | codes::MOD => true,
         _ => false,
     }
 }
 
-pub fn is_sign(c: u8) -> bool
+fn is_sign(c: u8) -> bool
     ensures { λ r. ⌜ r ≡ mem c signs ⌝ }
 {
     match c {
-        12 | 106 => true,
-        13 => true,
+        codes::PLUS | codes::NOT => true,
+        codes::MINUS => true,
         _ => false,
     }
 }
 
-pub fn is_comparison(c: u8) -> bool
+fn is_comparison(c: u8) -> bool
     ensures { λ r. ⌜ r ≡ mem c comparisons ⌝ }
 {
     match c {
-        17 | 26 => true,
+        codes::LESS | codes::LESS_EQUAL => true,
         _ => false,
     }
 }
 
 // Kind and role of the row of an atom; 0 where none begins.
-pub fn atom_label(c: u8) -> u64
+fn atom_label(c: u8) -> u64
     ensures { λ r. ⌜ r ≡ atom-label c ⌝ }
 {
     match c {
-        2 => 1,
-        5 => 2,
-        80 | 139 | 143 => 3,
-        6 => 4,
-        3 | 54 | 115 => 5,
-        4 => 5,
-        1 => 262,
-        127 => 8,
-        _ => 0,
+        codes::INTEGER_LITERAL => labels::INTEGER,
+        codes::BINARY_LITERAL => labels::BINARY,
+        codes::FALSE | codes::TRUE | codes::UNKNOWN => labels::LOGICAL,
+        codes::QUESTION => labels::INDETERMINATE,
+        codes::REAL_LITERAL | codes::CONST_E | codes::PI => labels::OTHER,
+        codes::STRING_LITERAL => labels::OTHER,
+        codes::IDENTIFIER => labels::NAME_IN_EXPRESSION,
+        codes::SELF => labels::SELF_REFERENCE,
+        _ => NO_LABEL,
     }
 }
 
 // expression = sum [ relation sum ]
-pub fn expression(codes: &[u8], rows: &mut [u64], p: usize, n: usize) -> Read
-    requires { ⌜ Ready (now codes) p n ⌝ }
-    ensures { λ r. ⌜ Reads expression (now (codes .entry)) p n r (now (rows .entry)) (now (rows .exit)) ⌝ }
+fn expression(terminals: &[u8], rows: &mut [u64], p: usize, n: usize) -> Read
+    requires { ⌜ Ready (now terminals) p n ⌝ }
+    ensures { λ r. ⌜ Reads expression (now (terminals .entry)) p n r (now (rows .entry)) (now (rows .exit)) ⌝ }
 {
-    let left = sum(codes, rows, p, n);
+    let left = sum(terminals, rows, p, n);
     let Read::At(q, m) = left else {
         return left;
     };
-    if is_relation(token(codes, q)) {
-        let right = sum(codes, rows, q + 1, m);
-        return node(rows, right, n, 10, q);
+    if !is_relation(token(terminals, q)) {
+        return Read::At(q, m);
     }
-    left
+    let right = sum(terminals, rows, q + 1, m);
+    let Read::At(q2, m2) = right else {
+        return right;
+    };
+    put_row(rows, m2, n, labels::TWO_OPERAND, q);
+    Read::At(q2, m2 + 1)
 }
 
 // The row over two operands and the operator between them, which stands before the second, at q; a first operand, at p, has none. The number of
 // rows then.
 fn combined(rows: &mut [u64], p: usize, q: usize, n: usize, m: usize) -> usize
-    requires { ⌜ (p ≤ q) × (q ≤ 65536) × (m ≤ 65536) ⌝ }
-    ensures { λ r. ⌜ Combined p q n m r (now (rows .entry)) (now (rows .exit)) ⌝ }
+    requires { ⌜ (p ≤ q) × (m ≤ 65536) ⌝ }
+    ensures { λ r. ⌜ Combines p q n m r (now (rows .entry)) (now (rows .exit)) ⌝ }
 {
     if q == p {
         return m;
     }
-    put(rows, m, packed(10, q - 1, span(n, m)));
+    put_row(rows, m, n, labels::TWO_OPERAND, q - 1);
     m + 1
 }
 
 // sum = term { ( '+' | '-' | OR | XOR ) term }
-fn sum(codes: &[u8], rows: &mut [u64], p: usize, n: usize) -> Read
-    requires { ⌜ Ready (now codes) p n ⌝ }
-    ensures { λ r. ⌜ Reads sum (now (codes .entry)) p n r (now (rows .entry)) (now (rows .exit)) ⌝ }
+fn sum(terminals: &[u8], rows: &mut [u64], p: usize, n: usize) -> Read
+    requires { ⌜ Ready (now terminals) p n ⌝ }
+    ensures { λ r. ⌜ Reads sum (now (terminals .entry)) p n r (now (rows .entry)) (now (rows .exit)) ⌝ }
 {
     let mut q = p;
     let mut m = n;
     loop {
-        let right = term(codes, rows, q, m);
+        let right = term(terminals, rows, q, m);
         let Read::At(q2, m2) = right else {
             return right;
         };
         m = combined(rows, p, q, n, m2);
-        if !is_addition(token(codes, q2)) {
+        if !is_addition(token(terminals, q2)) {
             return Read::At(q2, m);
         }
         q = q2 + 1;
@@ -216,19 +199,19 @@ fn sum(codes: &[u8], rows: &mut [u64], p: usize, n: usize) -> Read
 }
 
 // term = factor { ( '*' | '/' | DIV | MOD | AND ) factor }
-fn term(codes: &[u8], rows: &mut [u64], p: usize, n: usize) -> Read
-    requires { ⌜ Ready (now codes) p n ⌝ }
-    ensures { λ r. ⌜ Reads term (now (codes .entry)) p n r (now (rows .entry)) (now (rows .exit)) ⌝ }
+fn term(terminals: &[u8], rows: &mut [u64], p: usize, n: usize) -> Read
+    requires { ⌜ Ready (now terminals) p n ⌝ }
+    ensures { λ r. ⌜ Reads term (now (terminals .entry)) p n r (now (rows .entry)) (now (rows .exit)) ⌝ }
 {
     let mut q = p;
     let mut m = n;
     loop {
-        let right = factor(codes, rows, q, m);
+        let right = factor(terminals, rows, q, m);
         let Read::At(q2, m2) = right else {
             return right;
         };
         m = combined(rows, p, q, n, m2);
-        if !is_multiplication(token(codes, q2)) {
+        if !is_multiplication(token(terminals, q2)) {
             return Read::At(q2, m);
         }
         q = q2 + 1;
@@ -236,120 +219,155 @@ fn term(codes: &[u8], rows: &mut [u64], p: usize, n: usize) -> Read
 }
 
 // factor = operand [ '**' operand ]
-fn factor(codes: &[u8], rows: &mut [u64], p: usize, n: usize) -> Read
-    requires { ⌜ Ready (now codes) p n ⌝ }
-    ensures { λ r. ⌜ Reads factor (now (codes .entry)) p n r (now (rows .entry)) (now (rows .exit)) ⌝ }
+fn factor(terminals: &[u8], rows: &mut [u64], p: usize, n: usize) -> Read
+    requires { ⌜ Ready (now terminals) p n ⌝ }
+    ensures { λ r. ⌜ Reads factor (now (terminals .entry)) p n r (now (rows .entry)) (now (rows .exit)) ⌝ }
 {
-    let mut q = p;
-    let mut m = n;
-    loop {
-        let right = operand(codes, rows, q, m);
-        let Read::At(q2, m2) = right else {
-            return right;
-        };
-        m = combined(rows, p, q, n, m2);
-        if q > p {
-            return Read::At(q2, m);
-        }
-        if token(codes, q2) != 32 {
-            return Read::At(q2, m);
-        }
-        q = q2 + 1;
+    let left = operand(terminals, rows, p, n);
+    let Read::At(q, m) = left else {
+        return left;
+    };
+    if token(terminals, q) != codes::POWER {
+        return Read::At(q, m);
     }
+    let right = operand(terminals, rows, q + 1, m);
+    let Read::At(q2, m2) = right else {
+        return right;
+    };
+    put_row(rows, m2, n, labels::TWO_OPERAND, q);
+    Read::At(q2, m2 + 1)
 }
 
 // operand = id '.' id | interval | [ '+' | '-' | NOT ] atom
-fn operand(codes: &[u8], rows: &mut [u64], p: usize, n: usize) -> Read
-    requires { ⌜ Ready (now codes) p n ⌝ }
-    ensures { λ r. ⌜ Reads operand (now (codes .entry)) p n r (now (rows .entry)) (now (rows .exit)) ⌝ }
+fn operand(terminals: &[u8], rows: &mut [u64], p: usize, n: usize) -> Read
+    requires { ⌜ Ready (now terminals) p n ⌝ }
+    ensures { λ r. ⌜ Reads operand (now (terminals .entry)) p n r (now (rows .entry)) (now (rows .exit)) ⌝ }
 {
-    let c = token(codes, p);
-    if is_qualified(codes, p) {
-        return leaf(codes, rows, Read::At(p + 2, n), 7);
+    let c = token(terminals, p);
+    if is_qualified(terminals, p) {
+        return qualified(terminals, rows, p, n);
     }
-    if c == 21 {
-        return interval(codes, rows, p, n);
+    if c == codes::LBRACE {
+        return interval(terminals, rows, p, n);
     }
     if is_sign(c) {
-        return signed(codes, rows, p, n);
+        return signed(terminals, rows, p, n);
     }
-    atom(codes, rows, p, n)
-}
-
-// a sign, which is there, and an atom: no power and no type.item
-fn signed(codes: &[u8], rows: &mut [u64], p: usize, n: usize) -> Read
-    requires { ⌜ (Ready (now codes) p n) × (mem (getD (now codes) p 0) signs ≡ true) ⌝ }
-    ensures { λ r. ⌜ Reads operand (now (codes .entry)) p n r (now (rows .entry)) (now (rows .exit)) ⌝ }
-{
-    let inner = atom(codes, rows, p + 1, n);
-    let Read::At(q, m) = inner else {
-        return inner;
-    };
-    put(rows, m, packed(9, p, span(n, m)));
-    Read::At(q, m + 1)
+    atom(terminals, rows, p, n)
 }
 
 // id '.' stands here.
-fn is_qualified(codes: &[u8], p: usize) -> bool
+fn is_qualified(terminals: &[u8], p: usize) -> bool
     requires { ⌜ p ≤ 65536 ⌝ }
-    ensures { λ r. ⌜ r ≡ (mem (getD (now (codes .entry)) p 0) identifier && mem (getD (now (codes .entry)) (p + 1) 0) dot) ⌝ }
+    ensures { λ r. ⌜ r ≡ (mem (getD (now (terminals .entry)) p 0) identifier && mem (getD (now (terminals .entry)) (p + 1) 0) dot) ⌝ }
 {
-    if token(codes, p) == 1 {
-        return token(codes, p + 1) == 7;
+    if token(terminals, p) == codes::IDENTIFIER {
+        return token(terminals, p + 1) == codes::DOT;
     }
     false
 }
 
-// atom = '(' expression ')' | a literal, a name or SELF
-fn atom(codes: &[u8], rows: &mut [u64], p: usize, n: usize) -> Read
-    requires { ⌜ Ready (now codes) p n ⌝ }
-    ensures { λ r. ⌜ Reads atom (now (codes .entry)) p n r (now (rows .entry)) (now (rows .exit)) ⌝ }
+// id '.' id, of which the id and the dot are there
+fn qualified(terminals: &[u8], rows: &mut [u64], p: usize, n: usize) -> Read
+    requires { ⌜ (Ready (now terminals) p n) × ((mem (getD (now terminals) p 0) identifier && mem (getD (now terminals) (p + 1) 0) dot) ≡ true) ⌝ }
+    ensures { λ r. ⌜ Reads operand (now (terminals .entry)) p n r (now (rows .entry)) (now (rows .exit)) ⌝ }
 {
-    let c = token(codes, p);
-    if c == 24 {
-        let inner = expression(codes, rows, p + 1, n);
+    if token(terminals, p + 2) == codes::IDENTIFIER {
+        put_row(rows, n, n, labels::QUALIFIED_ITEM, p + 2);
+        return Read::At(p + 3, n + 1);
+    }
+    Read::Refused(p + 2)
+}
+
+// a sign, which is there, and an atom: no power and no type.item
+fn signed(terminals: &[u8], rows: &mut [u64], p: usize, n: usize) -> Read
+    requires { ⌜ (Ready (now terminals) p n) × (mem (getD (now terminals) p 0) signs ≡ true) ⌝ }
+    ensures { λ r. ⌜ Reads operand (now (terminals .entry)) p n r (now (rows .entry)) (now (rows .exit)) ⌝ }
+{
+    let inner = atom(terminals, rows, p + 1, n);
+    let Read::At(q, m) = inner else {
+        return inner;
+    };
+    put_row(rows, m, n, labels::UNARY, p);
+    Read::At(q, m + 1)
+}
+
+// atom = '(' expression ')' | a literal, a name or SELF
+fn atom(terminals: &[u8], rows: &mut [u64], p: usize, n: usize) -> Read
+    requires { ⌜ Ready (now terminals) p n ⌝ }
+    ensures { λ r. ⌜ Reads atom (now (terminals .entry)) p n r (now (rows .entry)) (now (rows .exit)) ⌝ }
+{
+    let c = token(terminals, p);
+    if c == codes::LPAREN {
+        let inner = expression(terminals, rows, p + 1, n);
         let Read::At(q, m) = inner else {
             return inner;
         };
-        if token(codes, q) == 25 {
-            return Read::At(q + 1, m);
-        }
-        return Read::Refused(q);
+        return expect(terminals, q, m, codes::RPAREN);
     }
     let label = atom_label(c);
-    if label == 0 {
+    if label == NO_LABEL {
         return Read::Refused(p);
     }
-    put(rows, n, packed(label, p, 1));
+    put_row(rows, n, n, label, p);
     Read::At(p + 1, n + 1)
 }
 
 // interval = '{' sum cmp sum cmp sum '}', of which the brace is there
-fn interval(codes: &[u8], rows: &mut [u64], p: usize, n: usize) -> Read
-    requires { ⌜ (Ready (now codes) p n) × (getD (now codes) p 0 ≡ 21) ⌝ }
-    ensures { λ r. ⌜ Reads interval (now (codes .entry)) p n r (now (rows .entry)) (now (rows .exit)) ⌝ }
+fn interval(terminals: &[u8], rows: &mut [u64], p: usize, n: usize) -> Read
+    requires { ⌜ (Ready (now terminals) p n) × (getD (now terminals) p 0 ≡ 21) ⌝ }
+    ensures { λ r. ⌜ Reads interval (now (terminals .entry)) p n r (now (rows .entry)) (now (rows .exit)) ⌝ }
 {
-    let low = sum(codes, rows, p + 1, n);
+    let low = sum(terminals, rows, p + 1, n);
     let Read::At(q, m) = low else {
         return low;
     };
-    let item = compared(codes, rows, q, m);
+    let item = compared(terminals, rows, q, m);
     let Read::At(q2, m2) = item else {
         return item;
     };
-    let high = compared(codes, rows, q2, m2);
-    let closed = expect(codes, high, 22);
-    node(rows, closed, n, 11, p)
+    let high = compared(terminals, rows, q2, m2);
+    let Read::At(q3, m3) = high else {
+        return high;
+    };
+    let end = expect(terminals, q3, m3, codes::RBRACE);
+    let Read::At(q4, m4) = end else {
+        return end;
+    };
+    put_row(rows, m4, n, labels::INTERVAL, p);
+    Read::At(q4, m4 + 1)
 }
 
 // cmp sum
-fn compared(codes: &[u8], rows: &mut [u64], p: usize, n: usize) -> Read
-    requires { ⌜ Ready (now codes) p n ⌝ }
-    ensures { λ r. ⌜ Compares (now (codes .entry)) p n r (now (rows .entry)) (now (rows .exit)) ⌝ }
+fn compared(terminals: &[u8], rows: &mut [u64], p: usize, n: usize) -> Read
+    requires { ⌜ Ready (now terminals) p n ⌝ }
+    ensures { λ r. ⌜ Compares (now (terminals .entry)) p n r (now (rows .entry)) (now (rows .exit)) ⌝ }
 {
-    if is_comparison(token(codes, p)) {
-        put(rows, n, packed(12, p, 1));
-        return sum(codes, rows, p + 1, n + 1);
+    if is_comparison(token(terminals, p)) {
+        put_row(rows, n, n, labels::INTERVAL_OPERATOR, p);
+        return sum(terminals, rows, p + 1, n + 1);
+    }
+    Read::Refused(p)
+}
+
+// A place that a reader may be given: within a list that is not too long, with no more rows before it than tokens.
+fn is_place(terminals: &[u8], p: usize, n: usize) -> bool
+    ensures { λ r. ⌜ r ≡ is-place (now (terminals .entry)) p n ⌝ }
+{
+    if terminals.len() <= MOST {
+        if p <= terminals.len() {
+            return n <= p;
+        }
+    }
+    false
+}
+
+// An expression from a place on; where that is no place, nothing is read.
+pub fn expression_at(terminals: &[u8], rows: &mut [u64], p: usize, n: usize) -> Read
+    ensures { λ r. ⌜ ReadsAnywhere expression (now (terminals .entry)) p n r (now (rows .entry)) (now (rows .exit)) ⌝ }
+{
+    if is_place(terminals, p, n) {
+        return expression(terminals, rows, p, n);
     }
     Read::Refused(p)
 }
@@ -363,27 +381,15 @@ pub enum Judgement {
     TooDeep(usize),
 }
 
-// The public answer: accepted, with the number of nodes; refused by 4 or 5 at a token; by 7, with the entries needed; or a list of more
-// terminals than a file has bytes.
+// The public answer: accepted, with the number of nodes; the token refused by 4 or by 5; the entries that 7 asks for; the words of scratch
+// that are needed; or a list of more terminals than a file has bytes, which is reply 1.
 pub enum Parsed {
     Accepted(usize),
-    Refused(u8, usize),
+    Unexpected(usize),
+    TooDeep(usize),
     Short(usize),
+    Scratch(usize),
     Long,
-}
-
-// How many brackets are open after each terminal where one is before it: 2 after an opening one, 0 after a closing one, else 1. A table has
-// no branch, and the limit is tested at every token.
-const STEPS: [u8; 256] =
-    *b"\x01\x01\x01\x01\x01\x01\x01\x01\x01\x01\x01\x01\x01\x01\x01\x01\x01\x01\x01\x01\x01\x02\x00\x01\x02\x00\x01\x01\x01\x01\x01\x01\x01\x01\x01\x01\x01\x01\x01\x01\x01\x01\x01\x01\x01\x01\x01\x01\x01\x01\x01\x01\x01\x01\x01\x01\x01\x01\x01\x01\x01\x01\x01\x01\x01\x01\x01\x01\x01\x01\x01\x01\x01\x01\x01\x01\x01\x01\x01\x01\x01\x01\x01\x01\x01\x01\x01\x01\x01\x01\x01\x01\x01\x01\x01\x01\x01\x01\x01\x01\x01\x01\x01\x01\x01\x01\x01\x01\x01\x01\x01\x01\x01\x01\x01\x01\x01\x01\x01\x01\x01\x01\x01\x01\x01\x01\x01\x01\x01\x01\x01\x01\x01\x01\x01\x01\x01\x01\x01\x01\x01\x01\x01\x01\x01\x01\x01\x01\x01\x01\x01\x01\x01\x01\x01\x01\x01\x01\x01\x01\x01\x01\x01\x01\x01\x01\x01\x01\x01\x01\x01\x01\x01\x01\x01\x01\x01\x01\x01\x01\x01\x01\x01\x01\x01\x01\x01\x01\x01\x01\x01\x01\x01\x01\x01\x01\x01\x01\x01\x01\x01\x01\x01\x01\x01\x01\x01\x01\x01\x01\x01\x01\x01\x01\x01\x01\x01\x01\x01\x01\x01\x01\x01\x01\x01\x01\x01\x01\x01\x01\x01\x01\x01\x01\x01\x01\x01\x01\x01\x01\x01\x01\x01\x01\x01\x01\x01\x01\x01\x01\x01\x01\x01\x01\x01\x01";
-
-fn predecessor(n: usize) -> usize
-    ensures { λ r. ⌜ r ≡ n - 1 ⌝ }
-{
-    if n < 1 {
-        return 0;
-    }
-    n - 1
 }
 
 // How many brackets are open after one more token.
@@ -391,20 +397,27 @@ fn nested(steps: &[u8; 256], depth: usize, c: u8) -> usize
     requires { ⌜ (now steps ≡ stepList) × (depth ≤ 64) ⌝ }
     ensures { λ r. ⌜ r ≡ opened opening closing depth c ⌝ }
 {
-    predecessor(depth + columns::byte_index(steps[columns::byte_index(c)]))
+    columns::saturating_sub(
+        depth + columns::byte_index(steps[columns::byte_index(c)]),
+        1,
+    )
 }
 
 // The first token that opens a parenthesis or an interval while 64 are open; the length where there is none.
-pub fn first_deep(codes: &[u8]) -> usize
-    ensures { λ r. ⌜ r ≡ deep-or-end (now (codes .entry)) ⌝ }
+pub fn first_deep(terminals: &[u8]) -> usize
+    ensures { λ r. ⌜ r ≡ deep-or-end (now (terminals .entry)) ⌝ }
 {
-    // A constant array is built anew wherever it is named: once here, and lent from here on.
-    let steps = STEPS;
+    // How many brackets are open after each terminal where one is before it. A table has no branch, and the limit is tested at every token.
+    let mut steps = [1u8; 256];
+    steps[columns::byte_index(codes::LPAREN)] = 2;
+    steps[columns::byte_index(codes::LBRACE)] = 2;
+    steps[columns::byte_index(codes::RPAREN)] = 0;
+    steps[columns::byte_index(codes::RBRACE)] = 0;
     let mut depth: usize = 0;
     let mut i: usize = 0;
-    while i < codes.len() {
-        depth = nested(&steps, depth, codes[i]);
-        if depth > 64 {
+    while i < terminals.len() {
+        depth = nested(&steps, depth, terminals[i]);
+        if depth > NESTING {
             return i;
         }
         i += 1;
@@ -446,13 +459,13 @@ pub fn judged(read: Read, deep: usize, end: usize) -> Judgement
 }
 
 // One whole expression, its rows in words.
-fn whole(codes: &[u8], words: &mut [u64]) -> Judgement
-    requires { ⌜ length (now codes) ≤ most ⌝ }
-    ensures { λ r. ⌜ Judging expression (now (codes .entry)) r (now (words .entry)) (now (words .exit)) ⌝ }
+fn whole(terminals: &[u8], rows: &mut [u64]) -> Judgement
+    requires { ⌜ length (now terminals) ≤ 65536 ⌝ }
+    ensures { λ r. ⌜ Judging expression (now (terminals .entry)) r (now (rows .entry)) (now (rows .exit)) ⌝ }
 {
-    let deep = first_deep(codes);
-    let end = end_of(deep, codes.len());
-    let read = expression(&codes[..end], words, 0, 0);
+    let deep = first_deep(terminals);
+    let end = end_of(deep, terminals.len());
+    let read = expression(&terminals[..end], rows, 0, 0);
     judged(read, deep, end)
 }
 
@@ -460,46 +473,68 @@ fn whole(codes: &[u8], words: &mut [u64]) -> Judgement
 fn kind_of(w: u64) -> u8
     ensures { λ r. ⌜ r ≡ kind-in w ⌝ }
 {
-    (w % 256) as u8
+    (w % ROLE_UNIT) as u8
 }
 
 fn role_of(w: u64) -> u32
     ensures { λ r. ⌜ r ≡ role-in w ⌝ }
 {
-    (w / 256 % 256) as u32
+    (w / ROLE_UNIT % ROLE_UNIT) as u32
 }
 
 fn token_of(w: u64) -> u32
     ensures { λ r. ⌜ r ≡ token-in w ⌝ }
 {
-    (w / 65536 % 1048576) as u32
+    (w / TOKEN_UNIT % PLACES) as u32
 }
 
 fn size_of(w: u64) -> u32
     ensures { λ r. ⌜ r ≡ size-in w ⌝ }
 {
-    (w / 68719476736 % 1048576) as u32
+    (w / SIZE_UNIT % PLACES) as u32
 }
 
-// The first n words, laid out in columns as far as they fit.
-pub fn unpack(
-    words: &[u64],
-    n: usize,
-    kinds: &mut [u8],
-    tokens: &mut [u32],
-    sizes: &mut [u32],
-    roles: &mut [u32],
-)
-    requires { ⌜ n ≤ length (now words) ⌝ }
-    ensures { λ _. ⌜ Unpacked (now (words .entry)) n (now (kinds .entry)) (now (tokens .entry)) (now (sizes .entry)) (now (roles .entry)) (now (kinds .exit)) (now (tokens .exit)) (now (sizes .exit)) (now (roles .exit)) ⌝ }
+// A part of each of the first n words, in a column as far as it goes: a column by itself is filled without a test at each entry.
+fn unpack_kinds(words: &[u64], n: usize, kinds: &mut [u8])
+    ensures { λ _. ⌜ now (kinds .exit) ≡ unpacked kind-in n (now (words .entry)) (now (kinds .entry)) ⌝ }
 {
+    let end = shorter(n, shorter(words.len(), kinds.len()));
     let mut i = 0;
-    while i < n {
-        let w = words[i];
-        put8(kinds, i, kind_of(w));
-        put32(tokens, i, token_of(w));
-        put32(sizes, i, size_of(w));
-        put32(roles, i, role_of(w));
+    while i < end {
+        kinds[i] = kind_of(words[i]);
+        i += 1;
+    }
+}
+
+fn unpack_tokens(words: &[u64], n: usize, tokens: &mut [u32])
+    ensures { λ _. ⌜ now (tokens .exit) ≡ unpacked token-in n (now (words .entry)) (now (tokens .entry)) ⌝ }
+{
+    let end = shorter(n, shorter(words.len(), tokens.len()));
+    let mut i = 0;
+    while i < end {
+        tokens[i] = token_of(words[i]);
+        i += 1;
+    }
+}
+
+fn unpack_sizes(words: &[u64], n: usize, sizes: &mut [u32])
+    ensures { λ _. ⌜ now (sizes .exit) ≡ unpacked size-in n (now (words .entry)) (now (sizes .entry)) ⌝ }
+{
+    let end = shorter(n, shorter(words.len(), sizes.len()));
+    let mut i = 0;
+    while i < end {
+        sizes[i] = size_of(words[i]);
+        i += 1;
+    }
+}
+
+fn unpack_roles(words: &[u64], n: usize, roles: &mut [u32])
+    ensures { λ _. ⌜ now (roles .exit) ≡ unpacked role-in n (now (words .entry)) (now (roles .entry)) ⌝ }
+{
+    let end = shorter(n, shorter(words.len(), roles.len()));
+    let mut i = 0;
+    while i < end {
+        roles[i] = role_of(words[i]);
         i += 1;
     }
 }
@@ -526,8 +561,8 @@ fn answered(judgement: Judgement, room: usize) -> Parsed
             }
             Parsed::Short(n)
         }
-        Judgement::Unexpected(j) => Parsed::Refused(4, j),
-        Judgement::TooDeep(k) => Parsed::Refused(5, k),
+        Judgement::Unexpected(j) => Parsed::Unexpected(j),
+        Judgement::TooDeep(k) => Parsed::TooDeep(k),
     }
 }
 
@@ -538,101 +573,63 @@ fn shortest(a: usize, b: usize, c: usize, d: usize) -> usize
     shorter(shorter(a, b), shorter(c, d))
 }
 
-// The answer, and the rows laid out in the columns as far as they fit.
-pub fn settle(
+// THE TAIL OF EVERY PARSE: the answer, and the rows laid out in the columns as far as they fit; the words are zeros then.
+pub fn lay_out(
     judgement: Judgement,
-    words: &[u64],
+    words: &mut [u64],
     kinds: &mut [u8],
     tokens: &mut [u32],
     sizes: &mut [u32],
     roles: &mut [u32],
 ) -> Parsed
-    requires { ⌜ count judgement ≤ length (now words) ⌝ }
-    ensures { λ r. ⌜ Settles judgement (now (words .entry)) r (now (kinds .entry)) (now (tokens .entry)) (now (sizes .entry)) (now (roles .entry)) (now (kinds .exit)) (now (tokens .exit)) (now (sizes .exit)) (now (roles .exit)) ⌝ }
+    ensures { λ r. ⌜ LaysOut judgement r (now (words .entry)) (now (kinds .entry)) (now (tokens .entry)) (now (sizes .entry)) (now (roles .entry))
+        (now (words .exit)) (now (kinds .exit)) (now (tokens .exit)) (now (sizes .exit)) (now (roles .exit)) ⌝ }
 {
     let room = shortest(kinds.len(), tokens.len(), sizes.len(), roles.len());
-    unpack(words, counted(judgement), kinds, tokens, sizes, roles);
+    let n = counted(judgement);
+    unpack_kinds(words, n, kinds);
+    unpack_tokens(words, n, tokens);
+    unpack_sizes(words, n, sizes);
+    unpack_roles(words, n, roles);
+    columns::clear_u64(words, 0);
     answered(judgement, room)
 }
 
-// The answer, by way of scratch with room for a word for each token: nodes never outnumber tokens.
+// The answer, by way of a word for each terminal: rows never outnumber tokens.
 fn parse_in(
+    terminals: &[u8],
     words: &mut [u64],
-    codes: &[u8],
     kinds: &mut [u8],
     tokens: &mut [u32],
     sizes: &mut [u32],
     roles: &mut [u32],
 ) -> Parsed
-    requires { ⌜ (length (now codes) ≤ most) × (length (now codes) ≤ length (now words)) ⌝ }
-    ensures { λ r. ⌜ Parsing expression (now (codes .entry)) r (now (kinds .entry)) (now (tokens .entry)) (now (sizes .entry)) (now (roles .entry)) (now (kinds .exit)) (now (tokens .exit)) (now (sizes .exit)) (now (roles .exit)) ⌝ }
+    requires { ⌜ (length (now terminals) ≤ 65536) × (length (now words) ≡ length (now terminals)) ⌝ }
+    ensures { λ r. ⌜ Parses expression (now (terminals .entry)) r (now (words .entry)) (now (kinds .entry)) (now (tokens .entry)) (now (sizes .entry)) (now (roles .entry))
+        (now (words .exit)) (now (kinds .exit)) (now (tokens .exit)) (now (sizes .exit)) (now (roles .exit)) ⌝ }
 {
-    let judgement = whole(codes, words);
-    settle(judgement, words, kinds, tokens, sizes, roles)
+    let judgement = whole(terminals, words);
+    lay_out(judgement, words, kinds, tokens, sizes, roles)
 }
 
-// Scratch comes in three sizes: a short list clears little, and 24,576 words hold the nodes of nearly every file of 64 KiB. Each has a function of
-// its own, so that the stack has room for one of them alone.
-fn parse_small(
-    codes: &[u8],
-    kinds: &mut [u8],
-    tokens: &mut [u32],
-    sizes: &mut [u32],
-    roles: &mut [u32],
-) -> Parsed
-    requires { ⌜ length (now codes) ≤ 1024 ⌝ }
-    ensures { λ r. ⌜ Parsing expression (now (codes .entry)) r (now (kinds .entry)) (now (tokens .entry)) (now (sizes .entry)) (now (roles .entry)) (now (kinds .exit)) (now (tokens .exit)) (now (sizes .exit)) (now (roles .exit)) ⌝ }
-{
-    let mut words = [0u64; 1024];
-    parse_in(&mut words, codes, kinds, tokens, sizes, roles)
-}
-
-fn parse_middle(
-    codes: &[u8],
-    kinds: &mut [u8],
-    tokens: &mut [u32],
-    sizes: &mut [u32],
-    roles: &mut [u32],
-) -> Parsed
-    requires { ⌜ length (now codes) ≤ 24576 ⌝ }
-    ensures { λ r. ⌜ Parsing expression (now (codes .entry)) r (now (kinds .entry)) (now (tokens .entry)) (now (sizes .entry)) (now (roles .entry)) (now (kinds .exit)) (now (tokens .exit)) (now (sizes .exit)) (now (roles .exit)) ⌝ }
-{
-    let mut words = [0u64; 24576];
-    parse_in(&mut words, codes, kinds, tokens, sizes, roles)
-}
-
-fn parse_large(
-    codes: &[u8],
-    kinds: &mut [u8],
-    tokens: &mut [u32],
-    sizes: &mut [u32],
-    roles: &mut [u32],
-) -> Parsed
-    requires { ⌜ length (now codes) ≤ 65536 ⌝ }
-    ensures { λ r. ⌜ Parsing expression (now (codes .entry)) r (now (kinds .entry)) (now (tokens .entry)) (now (sizes .entry)) (now (roles .entry)) (now (kinds .exit)) (now (tokens .exit)) (now (sizes .exit)) (now (roles .exit)) ⌝ }
-{
-    let mut words = [0u64; 65536];
-    parse_in(&mut words, codes, kinds, tokens, sizes, roles)
-}
-
-// One whole expression by itself.
+// One whole expression by itself: replies 4, 5 and 7, and the node table. The scratch that is used is zeros then.
 pub fn parse_expression(
-    codes: &[u8],
+    terminals: &[u8],
+    scratch: &mut [u64],
     kinds: &mut [u8],
     tokens: &mut [u32],
     sizes: &mut [u32],
     roles: &mut [u32],
 ) -> Parsed
-    ensures { λ r. ⌜ Parsing expression (now (codes .entry)) r (now (kinds .entry)) (now (tokens .entry)) (now (sizes .entry)) (now (roles .entry)) (now (kinds .exit)) (now (tokens .exit)) (now (sizes .exit)) (now (roles .exit)) ⌝ }
+    ensures { λ r. ⌜ Parsing expression (now (terminals .entry)) r (now (scratch .entry)) (now (kinds .entry)) (now (tokens .entry)) (now (sizes .entry)) (now (roles .entry))
+        (now (scratch .exit)) (now (kinds .exit)) (now (tokens .exit)) (now (sizes .exit)) (now (roles .exit)) ⌝ }
 {
-    if codes.len() > 65536 {
+    let n = terminals.len();
+    if n > MOST {
         return Parsed::Long;
     }
-    if codes.len() > 24576 {
-        return parse_large(codes, kinds, tokens, sizes, roles);
+    if scratch.len() < n {
+        return Parsed::Scratch(n);
     }
-    if codes.len() > 1024 {
-        return parse_middle(codes, kinds, tokens, sizes, roles);
-    }
-    parse_small(codes, kinds, tokens, sizes, roles)
+    parse_in(terminals, &mut scratch[..n], kinds, tokens, sizes, roles)
 }

@@ -77,8 +77,9 @@ fn steps(file: &[u8], rows: &[TokenRow]) -> [Timed; 4] {
         || symbols::intern(file, rows, &words),
     );
     let (mut nodes, mut names, mut sizes, mut roles) = (vec![0; rows.len()], column(), column(), column());
+    let mut scratch = vec![0; rows.len()];
     let parsed = best(
-        || parse(black_box(&out), &mut nodes, &mut names, &mut sizes, &mut roles),
+        || parse(black_box(&out), &mut scratch, &mut nodes, &mut names, &mut sizes, &mut roles),
         || parser::read(black_box(&words)),
     );
     [("scan", read), ("terminals", classified), ("intern", interned), ("parse", parsed)]

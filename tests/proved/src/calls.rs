@@ -37,6 +37,8 @@ extern "C" {
     fn woffulent_parse(
         codes: *const u8,
         codes_length: usize,
+        scratch: *mut u64,
+        scratch_length: usize,
         kinds: *mut u8,
         kinds_length: usize,
         tokens: *mut u32,
@@ -208,9 +210,11 @@ pub fn terminals(src: &[u8], kinds: &[u8], starts: &[u32], lengths: &[u32], out:
     }
 }
 
-/// The node rows of the terminals of a file, as far as the columns go; their number, or the refusal (by 4 and 5 at a token).
+/// The node rows of the terminals of a file, as far as the columns go; their number, or the refusal (by 4 and 5 at a token, by 255 with the
+/// words of scratch that are needed).
 pub fn parse(
     codes: &[u8],
+    scratch: &mut [u64],
     kinds: &mut [u8],
     tokens: &mut [u32],
     sizes: &mut [u32],
@@ -222,6 +226,8 @@ pub fn parse(
         woffulent_parse(
             codes.as_ptr(),
             codes.len(),
+            scratch.as_mut_ptr(),
+            scratch.len(),
             kinds.as_mut_ptr(),
             kinds.len(),
             tokens.as_mut_ptr(),

@@ -40,7 +40,8 @@ fn hold(seed: u64, codes: &[u8], expected: &Result<Vec<SyntaxRow>, Refusal>, len
     let [mut tokens, tokens_after] = column(lengths[1], word, rows.iter().map(|row| row.token));
     let [mut sizes, sizes_after] = column(lengths[2], word, rows.iter().map(|row| row.size));
     let [mut roles, roles_after] = column(lengths[3], word, rows.iter().map(|row| row.role.into()));
-    let outcome = parse(codes, &mut kinds, &mut tokens, &mut sizes, &mut roles);
+    let mut scratch: Vec<u64> = (0..codes.len() + 3).map(|i| !(i as u64)).collect();
+    let outcome = parse(codes, &mut scratch, &mut kinds, &mut tokens, &mut sizes, &mut roles);
     let room = lengths.into_iter().min().unwrap();
     let answer = match expected {
         Ok(rows) if rows.len() > room => Err(Refusal { reply: 7, number: rows.len() as u64 }),
@@ -48,6 +49,8 @@ fn hold(seed: u64, codes: &[u8], expected: &Result<Vec<SyntaxRow>, Refusal>, len
         Err(refusal) => Err(*refusal),
     };
     assert_eq!(outcome, answer, "seed {seed}, lengths {lengths:?}");
+    let cleared = |(i, &word): (usize, &u64)| word == if i < codes.len() { 0 } else { !(i as u64) };
+    assert!(scratch.iter().enumerate().all(cleared), "scratch, seed {seed}, lengths {lengths:?}");
     assert!(kinds == kinds_after, "kinds, seed {seed}, lengths {lengths:?}");
     assert!(tokens == tokens_after, "tokens, seed {seed}, lengths {lengths:?}");
     assert!(sizes == sizes_after, "sizes, seed {seed}, lengths {lengths:?}");
@@ -120,12 +123,12 @@ END_SCHEMA;
 fn any_codes() {
     let schema = [125, 1, 9, 73, 9];
     let none = &mut [][..];
-    assert_eq!(parse(&schema, none, &mut [], &mut [], &mut []), Err(Refusal { reply: 7, number: 2 }));
+    assert_eq!(parse(&schema, &mut [0; 5], none, &mut [], &mut [], &mut []), Err(Refusal { reply: 7, number: 2 }));
     for place in 0..=schema.len() {
         for code in 0..=255 {
             let mut codes = schema.to_vec();
             codes.insert(place, code);
-            let outcome = parse(&codes, &mut [0; 9], &mut [0; 9], &mut [0; 9], &mut [0; 9]);
+            let outcome = parse(&codes, &mut [0; 9], &mut [0; 9], &mut [0; 9], &mut [0; 9], &mut [0; 9]);
             if let Err(refusal) = outcome {
                 assert_eq!(refusal.reply, 4, "code {code} at {place}");
                 assert!(refusal.number as usize >= place, "code {code} at {place}: {refusal:?}");
@@ -138,6 +141,18 @@ fn any_codes() {
 #[test]
 fn long_lists_are_not_read() {
     let codes = vec![125; 65_537];
-    let outcome = parse(&codes, &mut [], &mut [], &mut [], &mut []);
+    let outcome = parse(&codes, &mut [], &mut [], &mut [], &mut [], &mut []);
     assert_eq!(outcome, Err(Refusal { reply: 1, number: 65_536 }));
+}
+
+/// Too little scratch is an answer of its own, and nothing is written.
+#[test]
+fn scratch_may_be_short() {
+    let schema = [125, 1, 9, 73, 9];
+    for length in 0..schema.len() {
+        let (mut scratch, mut kinds, mut column) = (vec![7; length], [7; 9], [7; 9]);
+        let outcome = parse(&schema, &mut scratch, &mut kinds, &mut column, &mut [7; 9], &mut [7; 9]);
+        assert_eq!(outcome, Err(Refusal { reply: 255, number: 5 }), "{length} words");
+        assert!(scratch.iter().all(|&word| word == 7) && kinds == [7; 9] && column == [7; 9], "{length} words");
+    }
 }

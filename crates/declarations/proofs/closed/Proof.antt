@@ -1,24 +1,52 @@
-use borrow.Author.Needs.{needs}
 use Rattle.declarations.proofs.closed.Statement.{statement}
 use Rattle.declarations.proofs.closed.Tie as tie
-use Rattle.declarations.proofs.closed.Reads as reads
-use Rattle.declarations.proofs.closed.Lts as lts
-use Rattle.expressions.proofs.expect.Reads as expect-reads
-use Rattle.expressions.proofs.node.Reads as node-reads
-use Rattle.expressions.proofs.Laws.{counts-sound}
-use Rattle.declarations.proofs.Laws.{closes}
+use borrow.Author.Needs.{needs}
+use native.Mathlib.Omega.{arith}
+use Rattle.expressions.proofs.Laws.{rows-few}
+use Rattle.expressions.proofs.Steps.{expect-ready}
+use Rattle.declarations.proofs.Laws.{closes-refused, closes-row}
 
 expect-requires : tie.Need-expect-requires
 expect-requires c κs = search needs
 
-node-requires : tie.Need-node-requires
-node-requires c κs = (counts-sound (c .before .before .before .before .args .codes .now) (c .before .expect .result) (c .before .expect .ensures .sound), c .before .before .before .before .pre .1, c .before .before .before .before .pre .2)
+enum-known-end : tie.Need-enum-known-end
+enum-known-end c = search needs
+
+enum-told : tie.Need-enum-told
+enum-told c = search needs
+
+returns : tie.Need-returns
+returns c = closes-refused (c .before .before .before .before .before .args .first) (c .before .before .expect .ensures) (c .enum-told .given .1)
+
+put-row-requires : tie.Need-put-row-requires
+put-row-requires c κs = search needs
+
+add-t14 : tie.Need-add-t14
+add-t14 c = omega (
+  arith,
+  rows-few (expect-ready (c .before .before .before .before .before .before .before .expect .ensures)
+      (c .before .before .before .before .before .before .before .before .before .before .pre .0) (c .before .before .before .before .before .end .given .1)),
+)
 
 same-length : tie.Need-same-length
 same-length c = search needs
 
-returns : tie.Need-returns
-returns c = closes (c .before .before .before .before .before .before .before .args .first) (c .before .before .before .before .before .before .before .args .label) (c .before .before .before .before .before .before .before .args .name) (c .before .before .before .before .before .before .before .args .codes .now) (c .before .before .before .before .before .before .before .args .before) (c .before .before .node .result) (c .before .before .before .before .expect .result) _ _ (c .before .before .before .before .before .before .before .pre .1) (c .before .before .before .before .before .before .before .pre .2) (c .before .before .before .before .expect .ensures) (c .before .before .node .ensures)
+returns-2 : tie.Need-returns-2
+returns-2 c = closes-row (c .before .before .before .before .before .before .before .before .before .before .args .first)
+    (c .before .before .before .before .before .before .before .expect .ensures) (c .before .before .before .before .before .before .before .before .before .before .pre .0)
+    (c .before .before .before .before .before .before .before .before .before .before .pre .1)
+    (c .before .before .before .before .before .before .before .before .before .before .pre .2) (c .before .before .before .before .before .end .given .1)
+    (c .before .before .put-row .ensures)
 
 pub closed-spec : {M : Type 1} → statement M
-closed-spec = tie.close (tie.spec expect-requires node-requires same-length returns)
+closed-spec =
+    tie.close
+    (tie.spec
+    expect-requires
+    enum-known-end
+    enum-told
+    returns
+    put-row-requires
+    add-t14
+    same-length
+    returns-2)

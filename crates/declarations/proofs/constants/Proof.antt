@@ -1,66 +1,109 @@
-use borrow.Author.Needs.{needs}
+-- By its rule in Clauses, which takes each step's answer.
 use Rattle.declarations.proofs.constants.Statement.{statement}
 use Rattle.declarations.proofs.constants.Tie as tie
-use Rattle.declarations.proofs.constants.Reads as reads
-use Rattle.declarations.proofs.constants.Lts as lts
-use Rattle.expressions.proofs.expect.Reads as expect-reads
-use Rattle.expressions.proofs.token.Reads as token-reads
-use Rattle.declarations.proofs.assignments.Reads as assignments-reads
-use mathlib.Core.Logic.{inl, inr}
+use borrow.Author.Needs.{needs}
+use mathlib.Core.Logic.{inl}
 use mathlib.Core.Path.{refl}
-use Rattle.expressions.proofs.Terminals.{seen-one, seen-other}
-use Rattle.expressions.proofs.Steps.{ready-at, onward, one-inside}
-use Rattle.declarations.proofs.Laws.{steps-refused, steps-at, opt-absent, opt-present, reads-goes}
-use Rattle.ebnf.specs.Grammar.{nt}
-use Rattle.express.specs.syntax.Grammar.{constants as constants′, opt}
-use Rattle.declarations.proofs.Clauses.{constants-reads}
 use native.Mathlib.Omega.{arith}
-
-enum-known-before : tie.Need-enum-known-before
-enum-known-before c = search needs
-
-enum-told : tie.Need-enum-told
-enum-told c = search needs
-
-returns : tie.Need-returns
-returns c = steps-refused (c .before .before .before .before .args .before) (opt (nt constants′)) (c .enum-told .given .1)
+use Rattle.expressions.proofs.Terminals.{seen-one, seen-other}
+use Rattle.expressions.proofs.Laws.{token-small}
+use Rattle.expressions.proofs.Steps.{onward, one-inside}
+use Rattle.declarations.proofs.Laws.{opt-absent, opt-reads}
+use Rattle.declarations.proofs.Clauses.{constants-list, constants-end, constants-reads}
 
 token-requires : tie.Need-token-requires
 token-requires c κs = search needs
 
-returns-2 : tie.Need-returns-2
-returns-2 c = steps-at (c .before .before .before .before .before .before .before .args .before) (c .before .before .before .before2 .given .1) (opt-absent (ready-at (c .before .before .before .before .before .before .before .args .codes .now) (c .before .before .before .before .before .before .before .args .before) (c .before .before .before .before .before .before .before .pre) (c .before .before .before .before2 .given .1)) (seen-other (c .before .before .before .before .before .before .before .args .codes .now) (c .before .before .before .before2 .given .0 .0) 53 (c .before .token .ensures) (c .if1 .taken)))
+returns : tie.Need-returns
+returns c = opt-absent (c .before .before .before .before .pre) (seen-other (c .before .before .before .before .args .terminals .now)
+    (c .before .before .before .before .args .p) 53 (c .before .token .ensures) (c .if1 .taken))
 
 add-assignments : tie.Need-add-assignments
-add-assignments c = omega (arith, (ready-at (c .before .before .before .before .before .before .before .before .args .codes .now) (c .before .before .before .before .before .before .before .before .args .before) (c .before .before .before .before .before .before .before .before .pre) (c .before .before .before .before .before2 .given .1)) .small, (ready-at (c .before .before .before .before .before .before .before .before .args .codes .now) (c .before .before .before .before .before .before .before .before .args .before) (c .before .before .before .before .before .before .before .before .pre) (c .before .before .before .before .before2 .given .1)) .within)
+add-assignments c = omega (arith, token-small (c .before .before .before .before .before .pre))
 
 assignments-requires : tie.Need-assignments-requires
-assignments-requires c κs = ((onward (ready-at (c .before .before .before .before .before .before .before .before .args .codes .now) (c .before .before .before .before .before .before .before .before .args .before) (c .before .before .before .before .before .before .before .before .pre) (c .before .before .before .before .before2 .given .1)) (one-inside (c .before .before .before .before .before .before .before .before .args .codes .now) (c .before .before .before .before .before2 .given .0 .0) (c .before .before .token .result) 53 (c .before .before .token .ensures) (c .before .if1 .left) (omega arith))), inl refl)
+assignments-requires c κs = (
+  onward (c .before .before .before .before .before .pre) (one-inside (c .before .before .before .before .before .args .terminals .now)
+      (c .before .before .before .before .before .args .p) (c .before .before .token .result) 53 (c .before .before .token .ensures) (c .before .if1 .left) (omega arith)),
+  inl refl,
+)
 
-expect-requires : tie.Need-expect-requires
-expect-requires c κs = search needs
+enum-known-list : tie.Need-enum-known-list
+enum-known-list c = search needs
 
-expect-requires-2 : tie.Need-expect-requires-2
-expect-requires-2 c κs = search needs
+enum-told : tie.Need-enum-told
+enum-told c = search needs
 
 same-length : tie.Need-same-length
 same-length c = search needs
 
+returns-2 : tie.Need-returns-2
+returns-2 c =
+    let t = seen-one (c .before .before .before .before .before .before .before .before .before .before .args .terminals .now)
+    (c .before .before .before .before .before .before .before .before .before .before .args .p) 53
+    (c .before .before .before .before .before .before .before .token .ensures) (c .before .before .before .before .before .before .if1 .left) in
+    opt-reads (c .before .before .before .before .before .before .before .before .before .before .pre) t (constants-list
+    (c .before .before .before .before .before .before .before .before .before .before .pre) t (c .before .before .before .before .assignments .ensures)
+    (c .enum-told .given .1))
+
+expect-requires : tie.Need-expect-requires
+expect-requires c κs = search needs
+
+enum-known-end : tie.Need-enum-known-end
+enum-known-end c = search needs
+
+enum-told-2 : tie.Need-enum-told-2
+enum-told-2 c = search needs
+
+same-length-2 : tie.Need-same-length-2
+same-length-2 c = search needs
+
 returns-3 : tie.Need-returns-3
-returns-3 c = steps-at (c .before .before .before .before .before .before .before .before .before .before .before .before .before .args .before) (c .before .before .before .before .before .before .before .before .before .before2 .given .1) (opt-present (seen-one (c .before .before .before .before .before .before .before .before .before .before .before .before .before .args .codes .now) (c .before .before .before .before .before .before .before .before .before .before2 .given .0 .0) 53 (c .before .before .before .before .before .before .before .token .ensures) (c .before .before .before .before .before .before .if1 .left)) (c .expect2 .ensures .sound) (reads-goes (constants-reads (ready-at (c .before .before .before .before .before .before .before .before .before .before .before .before .before .args .codes .now) (c .before .before .before .before .before .before .before .before .before .before .before .before .before .args .before) (c .before .before .before .before .before .before .before .before .before .before .before .before .before .pre) (c .before .before .before .before .before .before .before .before .before .before2 .given .1)) (seen-one (c .before .before .before .before .before .before .before .before .before .before .before .before .before .args .codes .now) (c .before .before .before .before .before .before .before .before .before .before2 .given .0 .0) 53 (c .before .before .before .before .before .before .before .token .ensures) (c .before .before .before .before .before .before .if1 .left)) (c .before .before .before .before .assignments .ensures) (c .before .expect .ensures) (c .expect2 .ensures))))
+returns-3 c =
+    let t = seen-one (c .before .before .before .before .before .before .before .before .before .before .before .before .before .before .args .terminals .now)
+    (c .before .before .before .before .before .before .before .before .before .before .before .before .before .before .args .p) 53
+    (c .before .before .before .before .before .before .before .before .before .before .before .token .ensures)
+    (c .before .before .before .before .before .before .before .before .before .before .if1 .left) in
+    opt-reads (c .before .before .before .before .before .before .before .before .before .before .before .before .before .before .pre) t (constants-end
+    (c .before .before .before .before .before .before .before .before .before .before .before .before .before .before .pre) t
+    (c .before .before .before .before .before .before .before .before .assignments .ensures) (c .before .before .before .before .list .given .1)
+    (c .before .before .expect .ensures) (c .enum-told2 .given .1))
+
+expect-requires-2 : tie.Need-expect-requires-2
+expect-requires-2 c κs = search needs
+
+same-length-3 : tie.Need-same-length-3
+same-length-3 c = search needs
+
+returns-4 : tie.Need-returns-4
+returns-4 c =
+    let t = seen-one (c .before .before .before .before .before .before .before .before .before .before .before .before .before .before .before .before .args .terminals .now)
+    (c .before .before .before .before .before .before .before .before .before .before .before .before .before .before .before .before .args .p) 53
+    (c .before .before .before .before .before .before .before .before .before .before .before .before .before .token .ensures)
+    (c .before .before .before .before .before .before .before .before .before .before .before .before .if1 .left) in
+    opt-reads (c .before .before .before .before .before .before .before .before .before .before .before .before .before .before .before .before .pre) t (constants-reads
+    (c .before .before .before .before .before .before .before .before .before .before .before .before .before .before .before .before .pre) t
+    (c .before .before .before .before .before .before .before .before .before .before .assignments .ensures)
+    (c .before .before .before .before .before .before .list .given .1) (c .before .before .before .before .expect .ensures) (c .before .before .end .given .1)
+    (c .expect2 .ensures))
 
 pub constants-spec : {M : Type 1} → statement M
 constants-spec =
     tie.close
     (tie.spec
-    enum-known-before
-    enum-told
-    returns
     token-requires
-    returns-2
+    returns
     add-assignments
     assignments-requires
-    expect-requires
-    expect-requires-2
+    enum-known-list
+    enum-told
     same-length
-    returns-3)
+    returns-2
+    expect-requires
+    enum-known-end
+    enum-told-2
+    same-length-2
+    returns-3
+    expect-requires-2
+    same-length-3
+    returns-4)

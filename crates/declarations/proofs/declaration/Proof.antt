@@ -1,11 +1,6 @@
-use borrow.Author.Needs.{needs}
 use Rattle.declarations.proofs.declaration.Statement.{statement}
 use Rattle.declarations.proofs.declaration.Tie as tie
-use Rattle.declarations.proofs.declaration.Reads as reads
-use Rattle.declarations.proofs.declaration.Lts as lts
-use Rattle.expressions.proofs.token.Reads as token-reads
-use Rattle.declarations.proofs.entity.Reads as entity-reads
-use Rattle.declarations.proofs.type_declaration.Reads as type-declaration-reads
+use borrow.Author.Needs.{needs}
 use Rattle.expressions.proofs.Terminals.{seen-one, seen-other}
 use Rattle.declarations.proofs.Clauses.{declared-type, declared-entity}
 
@@ -19,7 +14,9 @@ same-length : tie.Need-same-length
 same-length c = search needs
 
 returns : tie.Need-returns
-returns c = declared-type (seen-one (c .before .before .before .before .before .before .before .before .args .codes .now) (c .before .before .before .before .before .before .before .before .args .p) 140 (c .before .before .before .before .before .token .ensures) (c .before .before .before .before .if1 .taken)) (c .before .before .type-declaration .ensures)
+returns c = declared-type (seen-one (c .before .before .before .before .before .before .before .before .args .terminals .now)
+    (c .before .before .before .before .before .before .before .before .args .p) 140 (c .before .before .before .before .before .token .ensures)
+    (c .before .before .before .before .if1 .taken)) (c .before .before .type-declaration .ensures)
 
 entity-requires : tie.Need-entity-requires
 entity-requires c κs = search needs
@@ -28,7 +25,9 @@ same-length-2 : tie.Need-same-length-2
 same-length-2 c = search needs
 
 returns-2 : tie.Need-returns-2
-returns-2 c = declared-entity (seen-other (c .before .before .before .before .before .before .before .before .args .codes .now) (c .before .before .before .before .before .before .before .before .args .p) 140 (c .before .before .before .before .before .token .ensures) (c .before .before .before .before .if1 .left)) (c .before .before .entity .ensures)
+returns-2 c = declared-entity (seen-other (c .before .before .before .before .before .before .before .before .args .terminals .now)
+    (c .before .before .before .before .before .before .before .before .args .p) 140 (c .before .before .before .before .before .token .ensures)
+    (c .before .before .before .before .if1 .left)) (c .before .before .entity .ensures)
 
 pub declaration-spec : {M : Type 1} → statement M
 declaration-spec =

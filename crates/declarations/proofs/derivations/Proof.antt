@@ -1,58 +1,50 @@
-use borrow.Author.Needs.{needs}
+-- By its rule in Clauses, which takes each step's answer.
 use Rattle.declarations.proofs.derivations.Statement.{statement}
 use Rattle.declarations.proofs.derivations.Tie as tie
-use Rattle.declarations.proofs.derivations.Reads as reads
-use Rattle.declarations.proofs.derivations.Lts as lts
-use Rattle.expressions.proofs.token.Reads as token-reads
-use Rattle.declarations.proofs.assignments.Reads as assignments-reads
-use mathlib.Core.Logic.{inl, inr}
+use borrow.Author.Needs.{needs}
+use mathlib.Core.Logic.{inr}
 use mathlib.Core.Path.{refl}
-use Rattle.expressions.proofs.Terminals.{seen-one, seen-other}
-use Rattle.expressions.proofs.Steps.{ready-at, onward, one-inside}
-use Rattle.declarations.proofs.Laws.{steps-refused, steps-at, opt-absent, opt-present, reads-goes}
-use Rattle.ebnf.specs.Grammar.{nt, star}
-use Rattle.express.specs.tokens.Terminal.{DERIVE}
-use Rattle.express.specs.syntax.Grammar.{derived, opt, tok, _·_}
-use Rattle.declarations.proofs.Clauses.{derivations-go}
 use native.Mathlib.Omega.{arith}
-
-enum-known-before : tie.Need-enum-known-before
-enum-known-before c = search needs
-
-enum-told : tie.Need-enum-told
-enum-told c = search needs
-
-returns : tie.Need-returns
-returns c = steps-refused (c .before .before .before .before .args .before) (opt (tok DERIVE · nt derived · star (nt derived))) (c .enum-told .given .1)
+use Rattle.expressions.proofs.Terminals.{seen-one, seen-other}
+use Rattle.expressions.proofs.Laws.{token-small}
+use Rattle.expressions.proofs.Steps.{onward, one-inside}
+use Rattle.declarations.proofs.Laws.{opt-absent, opt-present}
+use Rattle.declarations.proofs.Clauses.{derivations-go}
 
 token-requires : tie.Need-token-requires
 token-requires c κs = search needs
 
-returns-2 : tie.Need-returns-2
-returns-2 c = steps-at (c .before .before .before .before .before .before .before .args .before) (c .before .before .before .before2 .given .1) (opt-absent (ready-at (c .before .before .before .before .before .before .before .args .codes .now) (c .before .before .before .before .before .before .before .args .before) (c .before .before .before .before .before .before .before .pre) (c .before .before .before .before2 .given .1)) (seen-other (c .before .before .before .before .before .before .before .args .codes .now) (c .before .before .before .before2 .given .0 .0) 57 (c .before .token .ensures) (c .if1 .taken)))
+returns : tie.Need-returns
+returns c = opt-absent (c .before .before .before .before .pre) (seen-other (c .before .before .before .before .args .terminals .now)
+    (c .before .before .before .before .args .p) 57 (c .before .token .ensures) (c .if1 .taken))
 
 add-assignments : tie.Need-add-assignments
-add-assignments c = omega (arith, (ready-at (c .before .before .before .before .before .before .before .before .args .codes .now) (c .before .before .before .before .before .before .before .before .args .before) (c .before .before .before .before .before .before .before .before .pre) (c .before .before .before .before .before2 .given .1)) .small, (ready-at (c .before .before .before .before .before .before .before .before .args .codes .now) (c .before .before .before .before .before .before .before .before .args .before) (c .before .before .before .before .before .before .before .before .pre) (c .before .before .before .before .before2 .given .1)) .within)
+add-assignments c = omega (arith, token-small (c .before .before .before .before .before .pre))
 
 assignments-requires : tie.Need-assignments-requires
-assignments-requires c κs = ((onward (ready-at (c .before .before .before .before .before .before .before .before .args .codes .now) (c .before .before .before .before .before .before .before .before .args .before) (c .before .before .before .before .before .before .before .before .pre) (c .before .before .before .before .before2 .given .1)) (one-inside (c .before .before .before .before .before .before .before .before .args .codes .now) (c .before .before .before .before .before2 .given .0 .0) (c .before .before .token .result) 57 (c .before .before .token .ensures) (c .before .if1 .left) (omega arith))), inr refl)
+assignments-requires c κs = (
+  onward (c .before .before .before .before .before .pre) (one-inside (c .before .before .before .before .before .args .terminals .now)
+      (c .before .before .before .before .before .args .p) (c .before .before .token .result) 57 (c .before .before .token .ensures) (c .before .if1 .left) (omega arith)),
+  inr refl,
+)
 
 same-length : tie.Need-same-length
 same-length c = search needs
 
-returns-3 : tie.Need-returns-3
-returns-3 c = steps-at (c .before .before .before .before .before .before .before .before .before .before .before .args .before) (c .before .before .before .before .before .before .before .before2 .given .1) (opt-present (seen-one (c .before .before .before .before .before .before .before .before .before .before .before .args .codes .now) (c .before .before .before .before .before .before .before .before2 .given .0 .0) 57 (c .before .before .before .before .before .token .ensures) (c .before .before .before .before .if1 .left)) (c .before .before .assignments .ensures .sound) (derivations-go (seen-one (c .before .before .before .before .before .before .before .before .before .before .before .args .codes .now) (c .before .before .before .before .before .before .before .before2 .given .0 .0) 57 (c .before .before .before .before .before .token .ensures) (c .before .before .before .before .if1 .left)) (c .before .before .assignments .ensures)))
+returns-2 : tie.Need-returns-2
+returns-2 c =
+    let t = seen-one (c .before .before .before .before .before .before .before .before .args .terminals .now)
+    (c .before .before .before .before .before .before .before .before .args .p) 57 (c .before .before .before .before .before .token .ensures)
+    (c .before .before .before .before .if1 .left) in
+    opt-present t (c .before .before .assignments .ensures .sound) (derivations-go t (c .before .before .assignments .ensures))
 
 pub derivations-spec : {M : Type 1} → statement M
 derivations-spec =
     tie.close
     (tie.spec
-    enum-known-before
-    enum-told
-    returns
     token-requires
-    returns-2
+    returns
     add-assignments
     assignments-requires
     same-length
-    returns-3)
+    returns-2)

@@ -1,4 +1,4 @@
-use mathlib.Core.List.{[], _∷_, _++_}
+use mathlib.Core.List.{[], _∷_}
 use mathlib.Core.Path.{refl}
 use Rattle.ebnf.specs.Set.{mem, subset}
 use Rattle.express.specs.syntax.Grammar.{simple-types}

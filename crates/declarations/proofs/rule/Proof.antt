@@ -1,56 +1,125 @@
-use borrow.Author.Needs.{needs}
+-- By its rule in Clauses, which takes each step's answer.
 use Rattle.declarations.proofs.rule.Statement.{statement}
 use Rattle.declarations.proofs.rule.Tie as tie
-use Rattle.declarations.proofs.rule.Reads as reads
-use Rattle.declarations.proofs.rule.Lts as lts
-use Rattle.expressions.proofs.expression.Reads as expression-reads
-use Rattle.declarations.proofs.closed.Reads as closed-reads
-use Rattle.declarations.proofs.is_labelled.Reads as is-labelled-reads
-use Rattle.expressions.proofs.Laws.{sound-of}
-use Rattle.declarations.proofs.Clauses.{label-ready, rule-labelled, rule-plain}
+use borrow.Author.Needs.{needs}
 use native.Mathlib.Omega.{arith}
+use Rattle.expressions.proofs.Laws.{ready-of, token-small}
+use Rattle.declarations.proofs.Clauses.{label-ready, labelled-refused, labelled-reads, plain-refused, plain-reads}
 
 is-labelled-requires : tie.Need-is-labelled-requires
-is-labelled-requires c κs = search needs
+is-labelled-requires c κs = token-small (c .before .before .pre)
 
-add-expression : tie.Need-add-expression
-add-expression c = search needs
+add-expression-at : tie.Need-add-expression-at
+add-expression-at c = omega (arith, token-small (c .before .before .before .before .before .pre))
 
-expression-requires : tie.Need-expression-requires
-expression-requires c κs = label-ready (c .before .before .before .before .before .pre) (c .before .before .is-labelled .result) (c .before .before .is-labelled .ensures) (c .before .if1 .taken)
+expression-at-requires : tie.Need-expression-at-requires
+expression-at-requires c κs = search needs
 
-closed-requires : tie.Need-closed-requires
-closed-requires c κs = (sound-of (c .before .before .before .expression .result) (label-ready (c .before .before .before .before .before .before .before .before .before .pre) (c .before .before .before .before .before .before .is-labelled .result) (c .before .before .before .before .before .before .is-labelled .ensures) (c .before .before .before .before .before .if1 .taken)) (c .before .before .before .expression .ensures .ahead), omega arith, omega (arith, c .before .before .before .before .before .before .before .before .before .pre .small, c .before .before .before .before .before .before .before .before .before .pre .within))
+enum-known-named : tie.Need-enum-known-named
+enum-known-named c = search needs
+
+enum-told : tie.Need-enum-told
+enum-told c = search needs
 
 same-length : tie.Need-same-length
 same-length c = search needs
 
 returns : tie.Need-returns
-returns c = rule-labelled (c .before .before .before .before .before .before .before .before .before .before .before .before .pre) (c .before .before .before .before .before .before .before .before .before .is-labelled .result) (c .before .before .before .before .before .before .before .before .before .is-labelled .ensures) (c .before .before .before .before .before .before .before .before .if1 .taken) (c .before .before .before .before .before .before .expression .ensures) (c .before .before .closed .ensures)
+returns c =
+    let g = label-ready (c .before .before .before .before .before .before .before .before .before .before .pre)
+    (c .before .before .before .before .before .before .before .is-labelled .result) (c .before .before .before .before .before .before .before .is-labelled .ensures)
+    (c .before .before .before .before .before .before .if1 .taken) in
+    labelled-refused (c .before .before .before .before .before .before .before .before .before .before .pre)
+    (c .before .before .before .before .before .before .before .is-labelled .result) (c .before .before .before .before .before .before .before .is-labelled .ensures)
+    (c .before .before .before .before .before .before .if1 .taken) (c .before .before .before .before .expression-at .ensures .reads g) (c .enum-told .given .1)
 
-expression-requires-2 : tie.Need-expression-requires-2
-expression-requires-2 c κs = search needs
-
-closed-requires-2 : tie.Need-closed-requires-2
-closed-requires-2 c κs = (sound-of (c .before .before .before .expression2 .result) (c .before .before .before .before .before .before .before .before .before .pre) (c .before .before .before .expression2 .ensures .ahead), omega arith, omega (arith, c .before .before .before .before .before .before .before .before .before .pre .small, c .before .before .before .before .before .before .before .before .before .pre .within))
+closed-requires : tie.Need-closed-requires
+closed-requires c κs =
+    let g = label-ready (c .before .before .before .before .before .before .before .before .before .before .before .before .pre)
+    (c .before .before .before .before .before .before .before .before .before .is-labelled .result)
+    (c .before .before .before .before .before .before .before .before .before .is-labelled .ensures)
+    (c .before .before .before .before .before .before .before .before .if1 .taken) in (
+      ready-of g ((c .before .before .before .before .before .before .expression-at .ensures .reads g) .ahead) (c .before .before .named .given .1),
+      omega arith,
+      omega
+          (arith, token-small (c .before .before .before .before .before .before .before .before .before .before .before .before .pre)),
+    )
 
 same-length-2 : tie.Need-same-length-2
 same-length-2 c = search needs
 
 returns-2 : tie.Need-returns-2
-returns-2 c = rule-plain (c .before .before .before .before .before .before .before .before .before .before .before .before .pre) (c .before .before .before .before .before .before .before .before .before .is-labelled .result) (c .before .before .before .before .before .before .before .before .before .is-labelled .ensures) (c .before .before .before .before .before .before .before .before .if1 .left) (c .before .before .before .before .before .before .expression2 .ensures) (c .before .before .closed2 .ensures)
+returns-2 c =
+    let g = label-ready (c .before .before .before .before .before .before .before .before .before .before .before .before .before .before .before .pre)
+    (c .before .before .before .before .before .before .before .before .before .before .before .before .is-labelled .result)
+    (c .before .before .before .before .before .before .before .before .before .before .before .before .is-labelled .ensures)
+    (c .before .before .before .before .before .before .before .before .before .before .before .if1 .taken) in
+    labelled-reads (c .before .before .before .before .before .before .before .before .before .before .before .before .before .before .before .pre)
+    (c .before .before .before .before .before .before .before .before .before .before .before .before .is-labelled .result)
+    (c .before .before .before .before .before .before .before .before .before .before .before .before .is-labelled .ensures)
+    (c .before .before .before .before .before .before .before .before .before .before .before .if1 .taken)
+    (c .before .before .before .before .before .before .before .before .before .expression-at .ensures .reads g) (c .before .before .before .before .before .named .given .1)
+    (c .before .before .closed .ensures)
+
+expression-at-requires-2 : tie.Need-expression-at-requires-2
+expression-at-requires-2 c κs = search needs
+
+enum-known-plain : tie.Need-enum-known-plain
+enum-known-plain c = search needs
+
+enum-told-2 : tie.Need-enum-told-2
+enum-told-2 c = search needs
+
+same-length-3 : tie.Need-same-length-3
+same-length-3 c = search needs
+
+returns-3 : tie.Need-returns-3
+returns-3 c = plain-refused (c .before .before .before .before .before .before .before .before .before .before .pre)
+    (c .before .before .before .before .before .before .before .is-labelled .result) (c .before .before .before .before .before .before .before .is-labelled .ensures)
+    (c .before .before .before .before .before .before .if1 .left) (c .before .before .before .before .expression-at2 .ensures .reads
+    (c .before .before .before .before .before .before .before .before .before .before .pre)) (c .enum-told2 .given .1)
+
+closed-requires-2 : tie.Need-closed-requires-2
+closed-requires-2 c κs = (
+  ready-of (c .before .before .before .before .before .before .before .before .before .before .before .before .pre)
+      ((c .before .before .before .before .before .before .expression-at2 .ensures .reads
+      (c .before .before .before .before .before .before .before .before .before .before .before .before .pre)) .ahead) (c .before .before .plain .given .1),
+  omega arith,
+  omega
+      (arith, token-small (c .before .before .before .before .before .before .before .before .before .before .before .before .pre)),
+)
+
+same-length-4 : tie.Need-same-length-4
+same-length-4 c = search needs
+
+returns-4 : tie.Need-returns-4
+returns-4 c = plain-reads (c .before .before .before .before .before .before .before .before .before .before .before .before .before .before .before .pre)
+    (c .before .before .before .before .before .before .before .before .before .before .before .before .is-labelled .result)
+    (c .before .before .before .before .before .before .before .before .before .before .before .before .is-labelled .ensures)
+    (c .before .before .before .before .before .before .before .before .before .before .before .if1 .left)
+    (c .before .before .before .before .before .before .before .before .before .expression-at2 .ensures .reads
+    (c .before .before .before .before .before .before .before .before .before .before .before .before .before .before .before .pre))
+    (c .before .before .before .before .before .plain .given .1) (c .before .before .closed2 .ensures)
 
 pub rule-spec : {M : Type 1} → statement M
 rule-spec =
     tie.close
     (tie.spec
     is-labelled-requires
-    add-expression
-    expression-requires
-    closed-requires
+    add-expression-at
+    expression-at-requires
+    enum-known-named
+    enum-told
     same-length
     returns
-    expression-requires-2
-    closed-requires-2
+    closed-requires
     same-length-2
-    returns-2)
+    returns-2
+    expression-at-requires-2
+    enum-known-plain
+    enum-told-2
+    same-length-3
+    returns-3
+    closed-requires-2
+    same-length-4
+    returns-4)

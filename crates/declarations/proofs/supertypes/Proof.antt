@@ -1,63 +1,73 @@
-use borrow.Author.Needs.{needs}
+-- By its rule in Clauses, which takes each step's answer.
 use Rattle.declarations.proofs.supertypes.Statement.{statement}
 use Rattle.declarations.proofs.supertypes.Tie as tie
-use Rattle.declarations.proofs.supertypes.Reads as reads
-use Rattle.declarations.proofs.supertypes.Lts as lts
-use Rattle.expressions.proofs.expect.Reads as expect-reads
-use Rattle.expressions.proofs.token.Reads as token-reads
-use Rattle.declarations.proofs.ids.Reads as ids-reads
-use mathlib.Core.Logic.{inl, inr}
-use mathlib.Core.Path.{refl}
-use Rattle.expressions.proofs.Terminals.{seen-one, seen-other}
-use Rattle.expressions.proofs.Steps.{ready-at, onward, one-inside}
-use Rattle.declarations.proofs.Laws.{steps-refused, steps-at, opt-absent, opt-present, reads-goes}
-use Rattle.express.specs.tokens.Terminal.{OF, SUBTYPE}
-use Rattle.express.specs.syntax.Grammar.{opt, tok, _·_, ids as ids′}
-use Rattle.declarations.specs.Declares.{id-of}
-use Rattle.declarations.proofs.Clauses.{supertypes-go}
+use borrow.Author.Needs.{needs}
 use native.Mathlib.Omega.{arith}
-
-enum-known-before : tie.Need-enum-known-before
-enum-known-before c = search needs
-
-enum-told : tie.Need-enum-told
-enum-told c = search needs
-
-returns : tie.Need-returns
-returns c = steps-refused (c .before .before .before .before .args .before) (opt (tok SUBTYPE · tok OF · ids′ (id-of 1286))) (c .enum-told .given .1)
+use Rattle.expressions.proofs.Terminals.{seen-one, seen-other}
+use Rattle.expressions.proofs.Laws.{token-small}
+use Rattle.expressions.proofs.Steps.{onward, one-inside, expect-ready}
+use Rattle.declarations.proofs.Laws.{refused-sound, opt-absent, opt-present}
+use Rattle.declarations.proofs.Clauses.{supertypes-stopped, supertypes-go}
 
 token-requires : tie.Need-token-requires
 token-requires c κs = search needs
 
-returns-2 : tie.Need-returns-2
-returns-2 c = steps-at (c .before .before .before .before .before .before .before .args .before) (c .before .before .before .before2 .given .1) (opt-absent (ready-at (c .before .before .before .before .before .before .before .args .codes .now) (c .before .before .before .before .before .before .before .args .before) (c .before .before .before .before .before .before .before .pre) (c .before .before .before .before2 .given .1)) (seen-other (c .before .before .before .before .before .before .before .args .codes .now) (c .before .before .before .before2 .given .0 .0) 134 (c .before .token .ensures) (c .if1 .taken)))
+returns : tie.Need-returns
+returns c = opt-absent (c .before .before .before .before .pre) (seen-other (c .before .before .before .before .args .terminals .now)
+    (c .before .before .before .before .args .p) 134 (c .before .token .ensures) (c .if1 .taken))
 
-add-t9 : tie.Need-add-t9
-add-t9 c = omega (arith, (ready-at (c .before .before .before .before .before .before .before .args .codes .now) (c .before .before .before .before .before .before .before .args .before) (c .before .before .before .before .before .before .before .pre) (c .before .before .before .before2 .given .1)) .small, (ready-at (c .before .before .before .before .before .before .before .args .codes .now) (c .before .before .before .before .before .before .before .args .before) (c .before .before .before .before .before .before .before .pre) (c .before .before .before .before2 .given .1)) .within)
+add-expect : tie.Need-add-expect
+add-expect c = omega (arith, token-small (c .before .before .before .before .pre))
 
 expect-requires : tie.Need-expect-requires
-expect-requires c κs = ((onward (ready-at (c .before .before .before .before .before .before .before .args .codes .now) (c .before .before .before .before .before .before .before .args .before) (c .before .before .before .before .before .before .before .pre) (c .before .before .before .before2 .given .1)) (one-inside (c .before .before .before .before .before .before .before .args .codes .now) (c .before .before .before .before2 .given .0 .0) (c .before .token .result) 134 (c .before .token .ensures) (c .if1 .left) (omega arith))), omega arith)
+expect-requires c κs = search needs
+
+enum-known-of : tie.Need-enum-known-of
+enum-known-of c = search needs
+
+enum-told : tie.Need-enum-told
+enum-told c = search needs
+
+returns-2 : tie.Need-returns-2
+returns-2 c =
+    let t = seen-one (c .before .before .before .before .before .before .before .args .terminals .now) (c .before .before .before .before .before .before .before .args .p) 134
+    (c .before .before .before .before .token .ensures) (c .before .before .before .if1 .left) in
+    opt-present t (refused-sound (c .before .before .before .before .before .before .before .args .terminals .now) (c .before .before .expect .result) (c .enum-told .given .1))
+    (supertypes-stopped t (c .before .before .expect .ensures) (c .enum-told .given .1))
 
 ids-requires : tie.Need-ids-requires
-ids-requires c κs = search needs
+ids-requires c κs =
+    let l = one-inside (c .before .before .before .before .before .before .before .before .before .args .terminals .now)
+    (c .before .before .before .before .before .before .before .before .before .args .p) (c .before .before .before .before .before .before .token .result) 134
+    (c .before .before .before .before .before .before .token .ensures) (c .before .before .before .before .before .if1 .left) (omega arith) in (
+      expect-ready (c .before .before .before .before .expect .ensures) (onward (c .before .before .before .before .before .before .before .before .before .pre) l)
+          (c .before .before .of .given .1),
+      omega arith,
+    )
 
 same-length : tie.Need-same-length
 same-length c = search needs
 
 returns-3 : tie.Need-returns-3
-returns-3 c = steps-at (c .before .before .before .before .before .before .before .before .before .before .before .before .args .before) (c .before .before .before .before .before .before .before .before .before2 .given .1) (opt-present (seen-one (c .before .before .before .before .before .before .before .before .before .before .before .before .args .codes .now) (c .before .before .before .before .before .before .before .before .before2 .given .0 .0) 134 (c .before .before .before .before .before .before .token .ensures) (c .before .before .before .before .before .if1 .left)) (c .before .before .ids .ensures .sound) (supertypes-go (seen-one (c .before .before .before .before .before .before .before .before .before .before .before .before .args .codes .now) (c .before .before .before .before .before .before .before .before .before2 .given .0 .0) 134 (c .before .before .before .before .before .before .token .ensures) (c .before .before .before .before .before .if1 .left)) (c .before .before .before .before .expect .ensures) (c .before .before .ids .ensures)))
+returns-3 c =
+    let t = seen-one (c .before .before .before .before .before .before .before .before .before .before .before .before .args .terminals .now)
+    (c .before .before .before .before .before .before .before .before .before .before .before .before .args .p) 134
+    (c .before .before .before .before .before .before .before .before .before .token .ensures)
+    (c .before .before .before .before .before .before .before .before .if1 .left) in
+    opt-present t (c .before .before .ids .ensures .sound) (supertypes-go t (c .before .before .before .before .before .before .before .expect .ensures)
+    (c .before .before .before .before .before .of .given .1) (c .before .before .ids .ensures))
 
 pub supertypes-spec : {M : Type 1} → statement M
 supertypes-spec =
     tie.close
     (tie.spec
-    enum-known-before
-    enum-told
-    returns
     token-requires
-    returns-2
-    add-t9
+    returns
+    add-expect
     expect-requires
+    enum-known-of
+    enum-told
+    returns-2
     ids-requires
     same-length
     returns-3)

@@ -1,4 +1,5 @@
-use Prim.Native.Nat.{ℕ, _<_, _+_, _-_, _*_, _≤_}
+-- The readers of expressions, which call each other: each call is nearer to the end of the list, or at the same token one level further in. By Operators and Operands.
+use Prim.Native.Nat.{ℕ, _<_, _+_, _-_, _*_}
 use borrow.Fn.Kinds.{In}
 use borrow.Fn.PlainCycle.{Measures, is, falls, and}
 use Rattle.expressions.proofs.atom.Reads as atom
@@ -37,11 +38,8 @@ use Rattle.expressions.proofs.is_multiplication.Reads as is-multiplicat
 use Rattle.expressions.proofs.is_qualified.Reads as is-qualified-reads
 use Rattle.expressions.proofs.is_relation.Reads as is-relation-reads
 use Rattle.expressions.proofs.is_sign.Reads as is-sign-reads
-use Rattle.expressions.proofs.leaf.Reads as leaf-reads
-use Rattle.expressions.proofs.node.Reads as node-reads
-use Rattle.expressions.proofs.packed.Reads as packed-reads
-use Rattle.expressions.proofs.put.Reads as put-reads
-use Rattle.expressions.proofs.span.Reads as span-reads
+use Rattle.expressions.proofs.put_row.Reads as put-row-reads
+use Rattle.expressions.proofs.qualified.Reads as qualified-reads
 use Rattle.expressions.proofs.token.Reads as token-reads
 use Rattle.expressions.proofs.+atom+compared+expression+factor+interval+operand+signed+sum+term.{
   statement,
@@ -49,22 +47,23 @@ use Rattle.expressions.proofs.+atom+compared+expression+factor+interval
 use Rattle.expressions.proofs.+atom+compared+expression+factor+interval+operand+signed+sum+term.Tie.{
   close,
 }
-use Rattle.expressions.proofs.Operators.{Before, before-first, again, combinable, often-refused, often-ends, often-again, turned-refused, turned-both, turned-alone, turned-again, once-refused, once-alone, once-both}
 use mathlib.Core.Path.{_≡_, refl, sym, _∙_}
+use native.Mathlib.Omega.{arith}
+use borrow.Author.Needs.{needs}
+use borrow.Author.Tests.{not-true, not-false}
 use lib.ListN.{length, getD}
 use Rattle.ebnf.specs.Set.{mem}
 use Rattle.express.specs.tokens.Terminal.{power}
 use Rattle.express.specs.syntax.Grammar.{expression as expression′, sum as sum′, term as term′, factor as factor′, operand as operand′, relations, additions, multiplications, signs}
 use Rattle.express.proofs.syntax.Syntax.{express}
-use Rattle.expressions.proofs.Terminals.{inside, seen, seen-one, seen-other}
-use Rattle.expressions.proofs.Steps.{onward, onward-row, one-inside, expects-refused, expects-there, expects-not}
-use Rattle.expressions.proofs.Laws.{reads-at, compares-at, ready-of, sound-of, counts-of, counts-sound}
-use Rattle.expressions.proofs.Atoms.{label-small}
-use Rattle.expressions.proofs.Operands.{atom-nested, atom-row, atom-none, item-ready, operand-item, operand-interval, sign-ready, sign-count, signed-refused, signed-row, operand-plain, comparison-inside, compared-there, compared-not, low-refused, item-refused, interval-whole}
-use borrow.Author.Needs.{needs}
-use native.Mathlib.Omega.{arith}
-use borrow.Author.Tests.{not-true, not-false}
-use Rattle.ebnf.specs.Grammar.{none}
+use Rattle.expressions.proofs.Operators.{Before, before-first, again, combinable, often-refused, often-ends}
+use Rattle.expressions.proofs.Operators.{often-again, once-refused, once-alone, once-ready, once-stopped, once-both}
+use Rattle.expressions.proofs.Terminals.{seen, seen-one, seen-other}
+use Rattle.expressions.proofs.Steps.{onward, onward-row, one-inside}
+use Rattle.expressions.proofs.Laws.{reads-at, compares-at, ready-of, rows-few, token-small}
+use Rattle.expressions.proofs.Operands.{atom-nested, atom-refused, atom-row, atom-none, operand-interval, sign-ready, sign-count, signed-refused, signed-row, operand-plain}
+use Rattle.expressions.proofs.Operands.{comparison-inside, compared-there, compared-not, brace-inside, low-refused}
+use Rattle.expressions.proofs.Operands.{item-refused, high-refused, end-refused, interval-count, interval-whole}
 
 abbrev μ-atom : Measures 2 atom-kinds.ps ℕ
 μ-atom κs a = 8 * (length (a .0 .now) - a .1 .1 .0) + 0
@@ -151,1597 +150,861 @@ term-at t = and 2 term-kinds.ps (is 2 term-kinds.ps μ-term t) term.Pre
 abbrev term-below : ℕ → In 2 term-kinds.ps
 term-below t = and 2 term-kinds.ps (falls 2 term-kinds.ps _<_ μ-term t) term.Pre
 
-atom-token-requires : (t : ℕ) → atom-lts.Need-token-requires (
+abbrev atom-calls : ℕ → atom-lts.Claims
+atom-calls t = (
   token-reads.Asked,
   token-reads.Learnt,
   expression-below t,
   expression.Post,
+  expect-reads.Asked,
+  expect-reads.Learnt,
   atom-label-reads.Asked,
   atom-label-reads.Learnt,
-  packed-reads.Asked,
-  packed-reads.Learnt,
-  put-reads.Asked,
-  put-reads.Learnt,
-) (atom-at t) atom.Post
+  put-row-reads.Asked,
+  put-row-reads.Learnt,
+)
+
+abbrev compared-calls : ℕ → compared-lts.Claims
+compared-calls t = (
+  token-reads.Asked,
+  token-reads.Learnt,
+  is-comparison-reads.Asked,
+  is-comparison-reads.Learnt,
+  put-row-reads.Asked,
+  put-row-reads.Learnt,
+  sum-below t,
+  sum.Post,
+)
+
+abbrev expression-calls : ℕ → expression-lts.Claims
+expression-calls t = (
+  sum-below t,
+  sum.Post,
+  token-reads.Asked,
+  token-reads.Learnt,
+  is-relation-reads.Asked,
+  is-relation-reads.Learnt,
+  put-row-reads.Asked,
+  put-row-reads.Learnt,
+)
+
+abbrev factor-calls : ℕ → factor-lts.Claims
+factor-calls t = (operand-below t, operand.Post, token-reads.Asked, token-reads.Learnt, put-row-reads.Asked, put-row-reads.Learnt)
+
+abbrev interval-calls : ℕ → interval-lts.Claims
+interval-calls t = (sum-below t, sum.Post, compared-below t, compared.Post, expect-reads.Asked, expect-reads.Learnt, put-row-reads.Asked, put-row-reads.Learnt)
+
+abbrev operand-calls : ℕ → operand-lts.Claims
+operand-calls t = (
+  token-reads.Asked,
+  token-reads.Learnt,
+  is-qualified-reads.Asked,
+  is-qualified-reads.Learnt,
+  qualified-reads.Asked,
+  qualified-reads.Learnt,
+  interval-below t,
+  interval.Post,
+  is-sign-reads.Asked,
+  is-sign-reads.Learnt,
+  signed-below t,
+  signed.Post,
+  atom-below t,
+  atom.Post,
+)
+
+abbrev signed-calls : ℕ → signed-lts.Claims
+signed-calls t = (atom-below t, atom.Post, put-row-reads.Asked, put-row-reads.Learnt)
+
+abbrev sum-calls : ℕ → sum-lts.Claims
+sum-calls t = (
+  term-below t,
+  term.Post,
+  combined-reads.Asked,
+  combined-reads.Learnt,
+  token-reads.Asked,
+  token-reads.Learnt,
+  is-addition-reads.Asked,
+  is-addition-reads.Learnt,
+)
+
+abbrev term-calls : ℕ → term-lts.Claims
+term-calls t = (
+  factor-below t,
+  factor.Post,
+  combined-reads.Asked,
+  combined-reads.Learnt,
+  token-reads.Asked,
+  token-reads.Learnt,
+  is-multiplication-reads.Asked,
+  is-multiplication-reads.Learnt,
+)
+
+atom-token-requires : (t : ℕ) → atom-lts.Need-token-requires (atom-calls t) (atom-at t) atom.Post
 atom-token-requires t c κs = search needs
 
-atom-add-expression : (t : ℕ) → atom-lts.Need-add-expression (
-  token-reads.Asked,
-  token-reads.Learnt,
-  expression-below t,
-  expression.Post,
-  atom-label-reads.Asked,
-  atom-label-reads.Learnt,
-  packed-reads.Asked,
-  packed-reads.Learnt,
-  put-reads.Asked,
-  put-reads.Learnt,
-) (atom-at t) atom.Post
-atom-add-expression t c = omega (arith, c .before .before .before .before .before .pre .1 .small, c .before .before .before .before .before .pre .1 .within)
+atom-add-expression : (t : ℕ) → atom-lts.Need-add-expression (atom-calls t) (atom-at t) atom.Post
+atom-add-expression t c = omega (arith, token-small (c .before .before .before .before .before .pre .1))
 
-atom-expression-requires : (t : ℕ) → atom-lts.Need-expression-requires (
-  token-reads.Asked,
-  token-reads.Learnt,
-  expression-below t,
-  expression.Post,
-  atom-label-reads.Asked,
-  atom-label-reads.Learnt,
-  packed-reads.Asked,
-  packed-reads.Learnt,
-  put-reads.Asked,
-  put-reads.Learnt,
-) (atom-at t) atom.Post
-atom-expression-requires t c κs = (omega (arith, c .before .before .before .before .before .pre .0, (one-inside (c .before .before .before .before .before .args .codes .now) (c .before .before .before .before .before .args .p) (c .before .before .token .result) 24 (c .before .before .token .ensures) (c .before .if1 .taken) (omega arith))), onward (c .before .before .before .before .before .pre .1) (one-inside (c .before .before .before .before .before .args .codes .now) (c .before .before .before .before .before .args .p) (c .before .before .token .result) 24 (c .before .before .token .ensures) (c .before .if1 .taken) (omega arith)))
+atom-expression-requires : (t : ℕ) → atom-lts.Need-expression-requires (atom-calls t) (atom-at t) atom.Post
+atom-expression-requires t c κs =
+    let l = one-inside (c .before .before .before .before .before .args .terminals .now) (c .before .before .before .before .before .args .p)
+    (c .before .before .token .result) 24 (c .before .before .token .ensures) (c .before .if1 .taken) (omega arith) in
+    (omega (arith, c .before .before .before .before .before .pre .0, l), onward (c .before .before .before .before .before .pre .1) l)
 
-atom-enum-known-inner : (t : ℕ) → atom-lts.Need-enum-known-inner (
-  token-reads.Asked,
-  token-reads.Learnt,
-  expression-below t,
-  expression.Post,
-  atom-label-reads.Asked,
-  atom-label-reads.Learnt,
-  packed-reads.Asked,
-  packed-reads.Learnt,
-  put-reads.Asked,
-  put-reads.Learnt,
-) (atom-at t) atom.Post
+atom-enum-known-inner : (t : ℕ) → atom-lts.Need-enum-known-inner (atom-calls t) (atom-at t) atom.Post
 atom-enum-known-inner t c = search needs
 
-atom-enum-told : (t : ℕ) → atom-lts.Need-enum-told (
-  token-reads.Asked,
-  token-reads.Learnt,
-  expression-below t,
-  expression.Post,
-  atom-label-reads.Asked,
-  atom-label-reads.Learnt,
-  packed-reads.Asked,
-  packed-reads.Learnt,
-  put-reads.Asked,
-  put-reads.Learnt,
-) (atom-at t) atom.Post
+atom-enum-told : (t : ℕ) → atom-lts.Need-enum-told (atom-calls t) (atom-at t) atom.Post
 atom-enum-told t c = search needs
 
-atom-same-length : (t : ℕ) → atom-lts.Need-same-length (
-  token-reads.Asked,
-  token-reads.Learnt,
-  expression-below t,
-  expression.Post,
-  atom-label-reads.Asked,
-  atom-label-reads.Learnt,
-  packed-reads.Asked,
-  packed-reads.Learnt,
-  put-reads.Asked,
-  put-reads.Learnt,
-) (atom-at t) atom.Post
+atom-same-length : (t : ℕ) → atom-lts.Need-same-length (atom-calls t) (atom-at t) atom.Post
 atom-same-length t c = search needs
 
-atom-returns : (t : ℕ) → atom-lts.Need-returns (
-  token-reads.Asked,
-  token-reads.Learnt,
-  expression-below t,
-  expression.Post,
-  atom-label-reads.Asked,
-  atom-label-reads.Learnt,
-  packed-reads.Asked,
-  packed-reads.Learnt,
-  put-reads.Asked,
-  put-reads.Learnt,
-) (atom-at t) atom.Post
-atom-returns t c = atom-nested (c .before .before .before .before .before .before .before .before .before .before .pre .1) (c .before .before .before .before .before .before .before .token .result) (c .before .before .before .before .before .before .before .token .ensures) (c .before .before .before .before .before .before .if1 .taken) (c .before .before .before .before .expression .ensures) (expects-refused (c .before .before .before .before .before .before .before .before .before .before .args .codes .now) (c .before .before .before .before .expression .result) 25 (c .enum-told .given .1))
+atom-returns : (t : ℕ) → atom-lts.Need-returns (atom-calls t) (atom-at t) atom.Post
+atom-returns t c = atom-refused (c .before .before .before .before .before .before .before .before .before .before .pre .1)
+    (c .before .before .before .before .before .before .before .token .result) (c .before .before .before .before .before .before .before .token .ensures)
+    (c .before .before .before .before .before .before .if1 .taken) (c .before .before .before .before .expression .ensures) (c .enum-told .given .1)
 
-atom-token-requires-2 : (t : ℕ) → atom-lts.Need-token-requires-2 (
-  token-reads.Asked,
-  token-reads.Learnt,
-  expression-below t,
-  expression.Post,
-  atom-label-reads.Asked,
-  atom-label-reads.Learnt,
-  packed-reads.Asked,
-  packed-reads.Learnt,
-  put-reads.Asked,
-  put-reads.Learnt,
-) (atom-at t) atom.Post
-atom-token-requires-2 t c κs = search needs
+atom-expect-requires : (t : ℕ) → atom-lts.Need-expect-requires (atom-calls t) (atom-at t) atom.Post
+atom-expect-requires t c κs = search needs
 
-atom-add-t16 : (t : ℕ) → atom-lts.Need-add-t16 (
-  token-reads.Asked,
-  token-reads.Learnt,
-  expression-below t,
-  expression.Post,
-  atom-label-reads.Asked,
-  atom-label-reads.Learnt,
-  packed-reads.Asked,
-  packed-reads.Learnt,
-  put-reads.Asked,
-  put-reads.Learnt,
-) (atom-at t) atom.Post
-atom-add-t16 t c = omega (arith, c .before .before .before .before .before .before .before .before .before .before .before .before .before .pre .1 .small, reads-at (c .before .before .before .before .before .before .before .expression .ensures) (c .before .before .before .inner .given .1))
-
-atom-same-length-2 : (t : ℕ) → atom-lts.Need-same-length-2 (
-  token-reads.Asked,
-  token-reads.Learnt,
-  expression-below t,
-  expression.Post,
-  atom-label-reads.Asked,
-  atom-label-reads.Learnt,
-  packed-reads.Asked,
-  packed-reads.Learnt,
-  put-reads.Asked,
-  put-reads.Learnt,
-) (atom-at t) atom.Post
+atom-same-length-2 : (t : ℕ) → atom-lts.Need-same-length-2 (atom-calls t) (atom-at t) atom.Post
 atom-same-length-2 t c = search needs
 
-atom-returns-2 : (t : ℕ) → atom-lts.Need-returns-2 (
-  token-reads.Asked,
-  token-reads.Learnt,
-  expression-below t,
-  expression.Post,
-  atom-label-reads.Asked,
-  atom-label-reads.Learnt,
-  packed-reads.Asked,
-  packed-reads.Learnt,
-  put-reads.Asked,
-  put-reads.Learnt,
-) (atom-at t) atom.Post
-atom-returns-2 t c = atom-nested (c .before .before .before .before .before .before .before .before .before .before .before .before .before .pre .1) (c .before .before .before .before .before .before .before .before .before .before .token .result) (c .before .before .before .before .before .before .before .before .before .before .token .ensures) (c .before .before .before .before .before .before .before .before .before .if1 .taken) (c .before .before .before .before .before .before .before .expression .ensures) (expects-there (c .before .before .before .before .before .before .before .before .before .before .before .before .before .args .codes .now) (c .before .before .before .before .before .before .before .expression .result) 25 (c .before .before .before .inner .given .1) (c .before .token2 .result) (c .before .token2 .ensures) (omega arith) (sound-of (c .before .before .before .before .before .before .before .expression .result) (onward (c .before .before .before .before .before .before .before .before .before .before .before .before .before .pre .1) (one-inside (c .before .before .before .before .before .before .before .before .before .before .before .before .before .args .codes .now) (c .before .before .before .before .before .before .before .before .before .before .before .before .before .args .p) (c .before .before .before .before .before .before .before .before .before .before .token .result) 24 (c .before .before .before .before .before .before .before .before .before .before .token .ensures) (c .before .before .before .before .before .before .before .before .before .if1 .taken) (omega arith))) (c .before .before .before .before .before .before .before .expression .ensures .ahead)) (c .if2 .taken))
+atom-returns-2 : (t : ℕ) → atom-lts.Need-returns-2 (atom-calls t) (atom-at t) atom.Post
+atom-returns-2 t c = atom-nested (c .before .before .before .before .before .before .before .before .before .before .before .before .pre .1)
+    (c .before .before .before .before .before .before .before .before .before .token .result)
+    (c .before .before .before .before .before .before .before .before .before .token .ensures) (c .before .before .before .before .before .before .before .before .if1 .taken)
+    (c .before .before .before .before .before .before .expression .ensures) (c .before .before .inner .given .1) (c .expect .ensures)
 
-atom-same-length-3 : (t : ℕ) → atom-lts.Need-same-length-3 (
-  token-reads.Asked,
-  token-reads.Learnt,
-  expression-below t,
-  expression.Post,
-  atom-label-reads.Asked,
-  atom-label-reads.Learnt,
-  packed-reads.Asked,
-  packed-reads.Learnt,
-  put-reads.Asked,
-  put-reads.Learnt,
-) (atom-at t) atom.Post
-atom-same-length-3 t c = search needs
-
-atom-returns-3 : (t : ℕ) → atom-lts.Need-returns-3 (
-  token-reads.Asked,
-  token-reads.Learnt,
-  expression-below t,
-  expression.Post,
-  atom-label-reads.Asked,
-  atom-label-reads.Learnt,
-  packed-reads.Asked,
-  packed-reads.Learnt,
-  put-reads.Asked,
-  put-reads.Learnt,
-) (atom-at t) atom.Post
-atom-returns-3 t c = atom-nested (c .before .before .before .before .before .before .before .before .before .before .before .before .before .pre .1) (c .before .before .before .before .before .before .before .before .before .before .token .result) (c .before .before .before .before .before .before .before .before .before .before .token .ensures) (c .before .before .before .before .before .before .before .before .before .if1 .taken) (c .before .before .before .before .before .before .before .expression .ensures) (expects-not (c .before .before .before .before .before .before .before .before .before .before .before .before .before .args .codes .now) (c .before .before .before .before .before .before .before .expression .result) 25 (c .before .before .before .inner .given .1) (c .before .token2 .result) (c .before .token2 .ensures) (c .if2 .left))
-
-atom-atom-label-requires : (t : ℕ) → atom-lts.Need-atom-label-requires (
-  token-reads.Asked,
-  token-reads.Learnt,
-  expression-below t,
-  expression.Post,
-  atom-label-reads.Asked,
-  atom-label-reads.Learnt,
-  packed-reads.Asked,
-  packed-reads.Learnt,
-  put-reads.Asked,
-  put-reads.Learnt,
-) (atom-at t) atom.Post
+atom-atom-label-requires : (t : ℕ) → atom-lts.Need-atom-label-requires (atom-calls t) (atom-at t) atom.Post
 atom-atom-label-requires t c κs = search needs
 
-atom-returns-4 : (t : ℕ) → atom-lts.Need-returns-4 (
-  token-reads.Asked,
-  token-reads.Learnt,
-  expression-below t,
-  expression.Post,
-  atom-label-reads.Asked,
-  atom-label-reads.Learnt,
-  packed-reads.Asked,
-  packed-reads.Learnt,
-  put-reads.Asked,
-  put-reads.Learnt,
-) (atom-at t) atom.Post
-atom-returns-4 t c = atom-none (c .before .before .before .before .before .before .pre .1) (c .before .before .before .token .result) (c .before .before .before .token .ensures) (c .before .atom-label .result) (c .before .before .if1 .left) (c .before .atom-label .ensures) (c .if3 .taken)
+atom-returns-3 : (t : ℕ) → atom-lts.Need-returns-3 (atom-calls t) (atom-at t) atom.Post
+atom-returns-3 t c = atom-none (c .before .before .before .before .before .before .pre .1) (c .before .before .before .token .result) (c .before .before .before .token .ensures)
+    (c .before .atom-label .result) (c .before .before .if1 .left) (c .before .atom-label .ensures) (c .if2 .taken)
 
-atom-packed-requires : (t : ℕ) → atom-lts.Need-packed-requires (
-  token-reads.Asked,
-  token-reads.Learnt,
-  expression-below t,
-  expression.Post,
-  atom-label-reads.Asked,
-  atom-label-reads.Learnt,
-  packed-reads.Asked,
-  packed-reads.Learnt,
-  put-reads.Asked,
-  put-reads.Learnt,
-) (atom-at t) atom.Post
-atom-packed-requires t c κs = (label-small (c .before .before .atom-label .result) (c .before .before .before .before .token .result) (c .before .before .atom-label .ensures), omega (arith, c .before .before .before .before .before .before .before .pre .1 .small, c .before .before .before .before .before .before .before .pre .1 .within), omega arith)
+atom-put-row-requires : (t : ℕ) → atom-lts.Need-put-row-requires (atom-calls t) (atom-at t) atom.Post
+atom-put-row-requires t c κs = search needs
 
-atom-put-requires : (t : ℕ) → atom-lts.Need-put-requires (
-  token-reads.Asked,
-  token-reads.Learnt,
-  expression-below t,
-  expression.Post,
-  atom-label-reads.Asked,
-  atom-label-reads.Learnt,
-  packed-reads.Asked,
-  packed-reads.Learnt,
-  put-reads.Asked,
-  put-reads.Learnt,
-) (atom-at t) atom.Post
-atom-put-requires t c κs = search needs
+atom-add-t17 : (t : ℕ) → atom-lts.Need-add-t17 (atom-calls t) (atom-at t) atom.Post
+atom-add-t17 t c = omega (
+  arith,
+  token-small (c .before .before .before .before .before .before .before .before .before .before .pre .1),
+  rows-few
+      (c .before .before .before .before .before .before .before .before .before .before .pre .1),
+)
 
-atom-add-t21 : (t : ℕ) → atom-lts.Need-add-t21 (
-  token-reads.Asked,
-  token-reads.Learnt,
-  expression-below t,
-  expression.Post,
-  atom-label-reads.Asked,
-  atom-label-reads.Learnt,
-  packed-reads.Asked,
-  packed-reads.Learnt,
-  put-reads.Asked,
-  put-reads.Learnt,
-) (atom-at t) atom.Post
-atom-add-t21 t c = omega (arith, c .before .before .before .before .before .before .before .before .before .before .before .pre .1 .small, c .before .before .before .before .before .before .before .before .before .before .before .pre .1 .within, c .before .before .before .before .before .before .before .before .before .before .before .pre .1 .behind)
+atom-add-t18 : (t : ℕ) → atom-lts.Need-add-t18 (atom-calls t) (atom-at t) atom.Post
+atom-add-t18 t c = omega (
+  arith,
+  token-small (c .before .before .before .before .before .before .before .before .before .before .pre .1),
+  rows-few
+      (c .before .before .before .before .before .before .before .before .before .before .pre .1),
+)
 
-atom-add-t22 : (t : ℕ) → atom-lts.Need-add-t22 (
-  token-reads.Asked,
-  token-reads.Learnt,
-  expression-below t,
-  expression.Post,
-  atom-label-reads.Asked,
-  atom-label-reads.Learnt,
-  packed-reads.Asked,
-  packed-reads.Learnt,
-  put-reads.Asked,
-  put-reads.Learnt,
-) (atom-at t) atom.Post
-atom-add-t22 t c = omega (arith, c .before .before .before .before .before .before .before .before .before .before .before .pre .1 .small, c .before .before .before .before .before .before .before .before .before .before .before .pre .1 .within, c .before .before .before .before .before .before .before .before .before .before .before .pre .1 .behind)
+atom-same-length-3 : (t : ℕ) → atom-lts.Need-same-length-3 (atom-calls t) (atom-at t) atom.Post
+atom-same-length-3 t c = search needs
 
-atom-same-length-4 : (t : ℕ) → atom-lts.Need-same-length-4 (
-  token-reads.Asked,
-  token-reads.Learnt,
-  expression-below t,
-  expression.Post,
-  atom-label-reads.Asked,
-  atom-label-reads.Learnt,
-  packed-reads.Asked,
-  packed-reads.Learnt,
-  put-reads.Asked,
-  put-reads.Learnt,
-) (atom-at t) atom.Post
-atom-same-length-4 t c = search needs
+atom-returns-4 : (t : ℕ) → atom-lts.Need-returns-4 (atom-calls t) (atom-at t) atom.Post
+atom-returns-4 t c = atom-row (c .before .before .before .before .before .before .before .before .before .before .pre .1)
+    (c .before .before .before .before .before .before .before .token .result) (c .before .before .before .before .before .before .before .token .ensures)
+    (c .before .before .before .before .before .atom-label .result) (c .before .before .before .before .before .before .if1 .left)
+    (c .before .before .before .before .before .atom-label .ensures) (c .before .before .before .before .if2 .left) (c .before .before .put-row .ensures)
 
-atom-returns-5 : (t : ℕ) → atom-lts.Need-returns-5 (
-  token-reads.Asked,
-  token-reads.Learnt,
-  expression-below t,
-  expression.Post,
-  atom-label-reads.Asked,
-  atom-label-reads.Learnt,
-  packed-reads.Asked,
-  packed-reads.Learnt,
-  put-reads.Asked,
-  put-reads.Learnt,
-) (atom-at t) atom.Post
-atom-returns-5 t c = atom-row (c .before .before .before .before .before .before .before .before .before .before .before .pre .1) (c .before .before .before .before .before .before .before .before .token .result) (c .before .before .before .before .before .before .before .before .token .ensures) (c .before .before .before .before .before .before .atom-label .result) (c .before .before .before .packed .result) (c .before .before .before .before .before .before .before .if1 .left) (c .before .before .before .before .before .before .atom-label .ensures) (c .before .before .before .before .before .if3 .left) (c .before .before .before .packed .ensures) (c .before .before .put .ensures)
-
-compared-token-requires : (t : ℕ) → compared-lts.Need-token-requires (
-  token-reads.Asked,
-  token-reads.Learnt,
-  is-comparison-reads.Asked,
-  is-comparison-reads.Learnt,
-  packed-reads.Asked,
-  packed-reads.Learnt,
-  put-reads.Asked,
-  put-reads.Learnt,
-  sum-below t,
-  sum.Post,
-) (compared-at t) compared.Post
+compared-token-requires : (t : ℕ) → compared-lts.Need-token-requires (compared-calls t) (compared-at t) compared.Post
 compared-token-requires t c κs = search needs
 
-compared-is-comparison-requires : (t : ℕ) → compared-lts.Need-is-comparison-requires (
-  token-reads.Asked,
-  token-reads.Learnt,
-  is-comparison-reads.Asked,
-  is-comparison-reads.Learnt,
-  packed-reads.Asked,
-  packed-reads.Learnt,
-  put-reads.Asked,
-  put-reads.Learnt,
-  sum-below t,
-  sum.Post,
-) (compared-at t) compared.Post
+compared-is-comparison-requires : (t : ℕ) → compared-lts.Need-is-comparison-requires (compared-calls t) (compared-at t) compared.Post
 compared-is-comparison-requires t c κs = search needs
 
-compared-packed-requires : (t : ℕ) → compared-lts.Need-packed-requires (
-  token-reads.Asked,
-  token-reads.Learnt,
-  is-comparison-reads.Asked,
-  is-comparison-reads.Learnt,
-  packed-reads.Asked,
-  packed-reads.Learnt,
-  put-reads.Asked,
-  put-reads.Learnt,
-  sum-below t,
-  sum.Post,
-) (compared-at t) compared.Post
-compared-packed-requires t c κs = (omega arith, omega (arith, c .before .before .before .before .before .before .pre .1 .small, c .before .before .before .before .before .before .pre .1 .within), omega arith)
+compared-put-row-requires : (t : ℕ) → compared-lts.Need-put-row-requires (compared-calls t) (compared-at t) compared.Post
+compared-put-row-requires t c κs = search needs
 
-compared-put-requires : (t : ℕ) → compared-lts.Need-put-requires (
-  token-reads.Asked,
-  token-reads.Learnt,
-  is-comparison-reads.Asked,
-  is-comparison-reads.Learnt,
-  packed-reads.Asked,
-  packed-reads.Learnt,
-  put-reads.Asked,
-  put-reads.Learnt,
-  sum-below t,
-  sum.Post,
-) (compared-at t) compared.Post
-compared-put-requires t c κs = search needs
+compared-add-sum : (t : ℕ) → compared-lts.Need-add-sum (compared-calls t) (compared-at t) compared.Post
+compared-add-sum t c = omega (
+  arith,
+  token-small (c .before .before .before .before .before .before .before .before .before .before .pre .1),
+  rows-few
+      (c .before .before .before .before .before .before .before .before .before .before .pre .1),
+)
 
-compared-add-sum : (t : ℕ) → compared-lts.Need-add-sum (
-  token-reads.Asked,
-  token-reads.Learnt,
-  is-comparison-reads.Asked,
-  is-comparison-reads.Learnt,
-  packed-reads.Asked,
-  packed-reads.Learnt,
-  put-reads.Asked,
-  put-reads.Learnt,
-  sum-below t,
-  sum.Post,
-) (compared-at t) compared.Post
-compared-add-sum t c = omega (arith, c .before .before .before .before .before .before .before .before .before .before .before .pre .1 .small, c .before .before .before .before .before .before .before .before .before .before .before .pre .1 .within, c .before .before .before .before .before .before .before .before .before .before .before .pre .1 .behind)
+compared-add-sum-2 : (t : ℕ) → compared-lts.Need-add-sum-2 (compared-calls t) (compared-at t) compared.Post
+compared-add-sum-2 t c = omega (
+  arith,
+  token-small (c .before .before .before .before .before .before .before .before .before .before .pre .1),
+  rows-few
+      (c .before .before .before .before .before .before .before .before .before .before .pre .1),
+)
 
-compared-add-sum-2 : (t : ℕ) → compared-lts.Need-add-sum-2 (
-  token-reads.Asked,
-  token-reads.Learnt,
-  is-comparison-reads.Asked,
-  is-comparison-reads.Learnt,
-  packed-reads.Asked,
-  packed-reads.Learnt,
-  put-reads.Asked,
-  put-reads.Learnt,
-  sum-below t,
-  sum.Post,
-) (compared-at t) compared.Post
-compared-add-sum-2 t c = omega (arith, c .before .before .before .before .before .before .before .before .before .before .before .pre .1 .small, c .before .before .before .before .before .before .before .before .before .before .before .pre .1 .within, c .before .before .before .before .before .before .before .before .before .before .before .pre .1 .behind)
+compared-sum-requires : (t : ℕ) → compared-lts.Need-sum-requires (compared-calls t) (compared-at t) compared.Post
+compared-sum-requires t c κs =
+    let l = comparison-inside (c .before .before .before .before .before .before .before .before .before .before .pre .1)
+    (c .before .before .before .before .before .before .is-comparison .result) (c .before .before .before .before .before .before .before .token .result)
+    (c .before .before .before .before .before .before .before .token .ensures) (c .before .before .before .before .before .before .is-comparison .ensures)
+    (c .before .before .before .before .before .if1 .taken) in (
+      omega (arith, c .before .before .before .before .before .before .before .before .before .before .pre .0, l),
+      onward-row
+          (c .before .before .before .before .before .before .before .before .before .before .pre .1) l,
+    )
 
-compared-sum-requires : (t : ℕ) → compared-lts.Need-sum-requires (
-  token-reads.Asked,
-  token-reads.Learnt,
-  is-comparison-reads.Asked,
-  is-comparison-reads.Learnt,
-  packed-reads.Asked,
-  packed-reads.Learnt,
-  put-reads.Asked,
-  put-reads.Learnt,
-  sum-below t,
-  sum.Post,
-) (compared-at t) compared.Post
-compared-sum-requires t c κs = (omega (arith, c .before .before .before .before .before .before .before .before .before .before .before .pre .0, (comparison-inside (c .before .before .before .before .before .before .before .before .before .before .before .pre .1) (c .before .before .before .before .before .before .before .is-comparison .result) (c .before .before .before .before .before .before .before .before .token .result) (c .before .before .before .before .before .before .before .before .token .ensures) (c .before .before .before .before .before .before .before .is-comparison .ensures) (c .before .before .before .before .before .before .if1 .taken))), onward-row (c .before .before .before .before .before .before .before .before .before .before .before .pre .1) (comparison-inside (c .before .before .before .before .before .before .before .before .before .before .before .pre .1) (c .before .before .before .before .before .before .before .is-comparison .result) (c .before .before .before .before .before .before .before .before .token .result) (c .before .before .before .before .before .before .before .before .token .ensures) (c .before .before .before .before .before .before .before .is-comparison .ensures) (c .before .before .before .before .before .before .if1 .taken)))
-
-compared-same-length : (t : ℕ) → compared-lts.Need-same-length (
-  token-reads.Asked,
-  token-reads.Learnt,
-  is-comparison-reads.Asked,
-  is-comparison-reads.Learnt,
-  packed-reads.Asked,
-  packed-reads.Learnt,
-  put-reads.Asked,
-  put-reads.Learnt,
-  sum-below t,
-  sum.Post,
-) (compared-at t) compared.Post
+compared-same-length : (t : ℕ) → compared-lts.Need-same-length (compared-calls t) (compared-at t) compared.Post
 compared-same-length t c = search needs
 
-compared-returns : (t : ℕ) → compared-lts.Need-returns (
-  token-reads.Asked,
-  token-reads.Learnt,
-  is-comparison-reads.Asked,
-  is-comparison-reads.Learnt,
-  packed-reads.Asked,
-  packed-reads.Learnt,
-  put-reads.Asked,
-  put-reads.Learnt,
-  sum-below t,
-  sum.Post,
-) (compared-at t) compared.Post
-compared-returns t c = compared-there (c .before .before .before .before .before .before .before .before .before .before .before .before .before .before .pre .1) (c .before .before .before .before .before .before .before .before .before .before .is-comparison .result) (c .before .before .before .before .before .before .before .before .before .before .before .token .result) (c .before .before .before .before .before .before .before .before .before .before .before .token .ensures) (c .before .before .before .before .before .before .before .before .before .before .is-comparison .ensures) (c .before .before .before .before .before .before .before .packed .result) (c .before .before .before .before .before .before .before .before .before .if1 .taken) (c .before .before .before .before .before .before .before .packed .ensures) (c .before .before .before .before .before .before .put .ensures) (c .before .before .sum .ensures)
+compared-returns : (t : ℕ) → compared-lts.Need-returns (compared-calls t) (compared-at t) compared.Post
+compared-returns t c = compared-there (c .before .before .before .before .before .before .before .before .before .before .before .before .before .pre .1)
+    (c .before .before .before .before .before .before .before .before .before .is-comparison .result)
+    (c .before .before .before .before .before .before .before .before .before .before .token .result)
+    (c .before .before .before .before .before .before .before .before .before .before .token .ensures)
+    (c .before .before .before .before .before .before .before .before .before .is-comparison .ensures)
+    (c .before .before .before .before .before .before .before .before .if1 .taken) (c .before .before .before .before .before .before .put-row .ensures)
+    (c .before .before .sum .ensures)
 
-compared-returns-2 : (t : ℕ) → compared-lts.Need-returns-2 (
-  token-reads.Asked,
-  token-reads.Learnt,
-  is-comparison-reads.Asked,
-  is-comparison-reads.Learnt,
-  packed-reads.Asked,
-  packed-reads.Learnt,
-  put-reads.Asked,
-  put-reads.Learnt,
-  sum-below t,
-  sum.Post,
-) (compared-at t) compared.Post
-compared-returns-2 t c = compared-not (c .before .before .before .before .before .pre .1) (c .before .is-comparison .result) (c .before .before .token .result) (c .before .before .token .ensures) (c .before .is-comparison .ensures) (c .if1 .left)
+compared-returns-2 : (t : ℕ) → compared-lts.Need-returns-2 (compared-calls t) (compared-at t) compared.Post
+compared-returns-2 t c = compared-not (c .before .before .before .before .before .pre .1) (c .before .is-comparison .result) (c .before .before .token .result)
+    (c .before .before .token .ensures) (c .before .is-comparison .ensures) (c .if1 .left)
 
-expression-sum-requires : (t : ℕ) → expression-lts.Need-sum-requires (
-  sum-below t,
-  sum.Post,
-  token-reads.Asked,
-  token-reads.Learnt,
-  is-relation-reads.Asked,
-  is-relation-reads.Learnt,
-  node-reads.Asked,
-  node-reads.Learnt,
-) (expression-at t) expression.Post
+expression-sum-requires : (t : ℕ) → expression-lts.Need-sum-requires (expression-calls t) (expression-at t) expression.Post
 expression-sum-requires t c κs = (omega (arith, c .before .before .before .pre .0), c .before .before .before .pre .1)
 
-expression-enum-known-left : (t : ℕ) → expression-lts.Need-enum-known-left (
-  sum-below t,
-  sum.Post,
-  token-reads.Asked,
-  token-reads.Learnt,
-  is-relation-reads.Asked,
-  is-relation-reads.Learnt,
-  node-reads.Asked,
-  node-reads.Learnt,
-) (expression-at t) expression.Post
+expression-enum-known-left : (t : ℕ) → expression-lts.Need-enum-known-left (expression-calls t) (expression-at t) expression.Post
 expression-enum-known-left t c = search needs
 
-expression-enum-told : (t : ℕ) → expression-lts.Need-enum-told (
-  sum-below t,
-  sum.Post,
-  token-reads.Asked,
-  token-reads.Learnt,
-  is-relation-reads.Asked,
-  is-relation-reads.Learnt,
-  node-reads.Asked,
-  node-reads.Learnt,
-) (expression-at t) expression.Post
+expression-enum-told : (t : ℕ) → expression-lts.Need-enum-told (expression-calls t) (expression-at t) expression.Post
 expression-enum-told t c = search needs
 
-expression-same-length : (t : ℕ) → expression-lts.Need-same-length (
-  sum-below t,
-  sum.Post,
-  token-reads.Asked,
-  token-reads.Learnt,
-  is-relation-reads.Asked,
-  is-relation-reads.Learnt,
-  node-reads.Asked,
-  node-reads.Learnt,
-) (expression-at t) expression.Post
+expression-same-length : (t : ℕ) → expression-lts.Need-same-length (expression-calls t) (expression-at t) expression.Post
 expression-same-length t c = search needs
 
-expression-returns : (t : ℕ) → expression-lts.Need-returns (
-  sum-below t,
-  sum.Post,
-  token-reads.Asked,
-  token-reads.Learnt,
-  is-relation-reads.Asked,
-  is-relation-reads.Learnt,
-  node-reads.Asked,
-  node-reads.Learnt,
-) (expression-at t) expression.Post
-expression-returns t c = once-refused expression′ sum′ relations refl (c .before .before .before .before .before .before .before .before .pre .1) (c .before .before .before .before .sum .ensures) (c .enum-told .given .1)
+expression-returns : (t : ℕ) → expression-lts.Need-returns (expression-calls t) (expression-at t) expression.Post
+expression-returns t c = once-refused expression′ sum′ relations refl (c .before .before .before .before .before .before .before .before .pre .1)
+    (c .before .before .before .before .sum .ensures) (c .enum-told .given .1)
 
-expression-token-requires : (t : ℕ) → expression-lts.Need-token-requires (
-  sum-below t,
-  sum.Post,
-  token-reads.Asked,
-  token-reads.Learnt,
-  is-relation-reads.Asked,
-  is-relation-reads.Learnt,
-  node-reads.Asked,
-  node-reads.Learnt,
-) (expression-at t) expression.Post
+expression-token-requires : (t : ℕ) → expression-lts.Need-token-requires (expression-calls t) (expression-at t) expression.Post
 expression-token-requires t c κs = search needs
 
-expression-is-relation-requires : (t : ℕ) → expression-lts.Need-is-relation-requires (
-  sum-below t,
-  sum.Post,
-  token-reads.Asked,
-  token-reads.Learnt,
-  is-relation-reads.Asked,
-  is-relation-reads.Learnt,
-  node-reads.Asked,
-  node-reads.Learnt,
-) (expression-at t) expression.Post
+expression-is-relation-requires : (t : ℕ) → expression-lts.Need-is-relation-requires (expression-calls t) (expression-at t) expression.Post
 expression-is-relation-requires t c κs = search needs
 
-expression-add-sum : (t : ℕ) → expression-lts.Need-add-sum (
-  sum-below t,
-  sum.Post,
-  token-reads.Asked,
-  token-reads.Learnt,
-  is-relation-reads.Asked,
-  is-relation-reads.Learnt,
-  node-reads.Asked,
-  node-reads.Learnt,
-) (expression-at t) expression.Post
-expression-add-sum t c = omega (arith, c .before .before .before .before .before .before .before .before .before .before .before .before .before .pre .1 .small, reads-at (c .before .before .before .before .before .before .before .before .before .sum .ensures) (c .before .before .before .before .before .left .given .1))
-
-expression-sum-requires-2 : (t : ℕ) → expression-lts.Need-sum-requires-2 (
-  sum-below t,
-  sum.Post,
-  token-reads.Asked,
-  token-reads.Learnt,
-  is-relation-reads.Asked,
-  is-relation-reads.Learnt,
-  node-reads.Asked,
-  node-reads.Learnt,
-) (expression-at t) expression.Post
-unfolding mem
-expression-sum-requires-2 t c κs = (omega (arith, c .before .before .before .before .before .before .before .before .before .before .before .before .before .pre .0, reads-at (c .before .before .before .before .before .before .before .before .before .sum .ensures) (c .before .before .before .before .before .left .given .1), (inside (c .before .before .before .before .before .before .before .before .before .before .before .before .before .args .codes .now) relations (c .before .before .before .before .before .left .given .0 .0) refl (seen (c .before .before .before .before .before .before .before .before .before .before .before .before .before .args .codes .now) (c .before .before .before .before .before .left .given .0 .0) relations (c .before .before .before .token .ensures) (c .before .before .is-relation .ensures) (c .before .if1 .taken)))), onward (ready-of (c .before .before .before .before .before .before .before .before .before .before .before .before .before .pre .1) (c .before .before .before .before .before .before .before .before .before .sum .ensures .ahead) (c .before .before .before .before .before .left .given .1)) (inside (c .before .before .before .before .before .before .before .before .before .before .before .before .before .args .codes .now) relations (c .before .before .before .before .before .left .given .0 .0) refl (seen (c .before .before .before .before .before .before .before .before .before .before .before .before .before .args .codes .now) (c .before .before .before .before .before .left .given .0 .0) relations (c .before .before .before .token .ensures) (c .before .before .is-relation .ensures) (c .before .if1 .taken))))
-
-expression-node-requires : (t : ℕ) → expression-lts.Need-node-requires (
-  sum-below t,
-  sum.Post,
-  token-reads.Asked,
-  token-reads.Learnt,
-  is-relation-reads.Asked,
-  is-relation-reads.Learnt,
-  node-reads.Asked,
-  node-reads.Learnt,
-) (expression-at t) expression.Post
-unfolding mem
-expression-node-requires t c κs = (counts-of (c .before .before .before .sum2 .result) (onward (ready-of (c .before .before .before .before .before .before .before .before .before .before .before .before .before .before .before .before .before .pre .1) (c .before .before .before .before .before .before .before .before .before .before .before .before .before .sum .ensures .ahead) (c .before .before .before .before .before .before .before .before .before .left .given .1)) (inside (c .before .before .before .before .before .before .before .before .before .before .before .before .before .before .before .before .before .args .codes .now) relations (c .before .before .before .before .before .before .before .before .before .left .given .0 .0) refl (seen (c .before .before .before .before .before .before .before .before .before .before .before .before .before .before .before .before .before .args .codes .now) (c .before .before .before .before .before .before .before .before .before .left .given .0 .0) relations (c .before .before .before .before .before .before .before .token .ensures) (c .before .before .before .before .before .before .is-relation .ensures) (c .before .before .before .before .before .if1 .taken)))) (c .before .before .before .sum2 .ensures .ahead), omega arith, omega (arith, c .before .before .before .before .before .before .before .before .before .before .before .before .before .before .before .before .before .pre .1 .small, reads-at (c .before .before .before .before .before .before .before .before .before .before .before .before .before .sum .ensures) (c .before .before .before .before .before .before .before .before .before .left .given .1)))
-
-expression-same-length-2 : (t : ℕ) → expression-lts.Need-same-length-2 (
-  sum-below t,
-  sum.Post,
-  token-reads.Asked,
-  token-reads.Learnt,
-  is-relation-reads.Asked,
-  is-relation-reads.Learnt,
-  node-reads.Asked,
-  node-reads.Learnt,
-) (expression-at t) expression.Post
+expression-same-length-2 : (t : ℕ) → expression-lts.Need-same-length-2 (expression-calls t) (expression-at t) expression.Post
 expression-same-length-2 t c = search needs
 
-expression-returns-2 : (t : ℕ) → expression-lts.Need-returns-2 (
-  sum-below t,
-  sum.Post,
-  token-reads.Asked,
-  token-reads.Learnt,
-  is-relation-reads.Asked,
-  is-relation-reads.Learnt,
-  node-reads.Asked,
-  node-reads.Learnt,
-) (expression-at t) expression.Post
-unfolding mem
-expression-returns-2 t c = once-both expression′ sum′ relations refl (c .before .before .before .before .before .before .before .before .before .before .before .before .before .before .before .before .before .before .before .before .pre .1) (c .before .before .before .before .before .before .before .before .before .before .before .before .before .before .before .before .sum .ensures) (c .before .before .before .before .before .before .before .before .before .before .before .before .left .given .1) (seen (c .before .before .before .before .before .before .before .before .before .before .before .before .before .before .before .before .before .before .before .before .args .codes .now) (c .before .before .before .before .before .before .before .before .before .before .before .before .left .given .0 .0) relations (c .before .before .before .before .before .before .before .before .before .before .token .ensures) (c .before .before .before .before .before .before .before .before .before .is-relation .ensures) (c .before .before .before .before .before .before .before .before .if1 .taken)) (omega (arith, (inside (c .before .before .before .before .before .before .before .before .before .before .before .before .before .before .before .before .before .before .before .before .args .codes .now) relations (c .before .before .before .before .before .before .before .before .before .before .before .before .left .given .0 .0) refl (seen (c .before .before .before .before .before .before .before .before .before .before .before .before .before .before .before .before .before .before .before .before .args .codes .now) (c .before .before .before .before .before .before .before .before .before .before .before .before .left .given .0 .0) relations (c .before .before .before .before .before .before .before .before .before .before .token .ensures) (c .before .before .before .before .before .before .before .before .before .is-relation .ensures) (c .before .before .before .before .before .before .before .before .if1 .taken))))) (c .before .before .before .before .before .before .sum2 .ensures) (c .before .before .node .ensures)
+expression-returns-2 : (t : ℕ) → expression-lts.Need-returns-2 (expression-calls t) (expression-at t) expression.Post
+expression-returns-2 t c =
+    once-alone expression′ sum′ relations refl (c .before .before .before .before .before .before .before .before .before .before .before .before .pre .1)
+    (c .before .before .before .before .before .before .before .before .sum .ensures) (c .before .before .before .before .left .given .1)
+    (seen (c .before .before .before .before .before .before .before .before .before .before .before .before .args .terminals .now)
+    (c .before .before .before .before .left .given .0 .0) relations (c .before .before .token .ensures) (c .before .is-relation .ensures) (not-true
+    (c .before .is-relation .result) (c .if1 .taken)))
 
-expression-same-length-3 : (t : ℕ) → expression-lts.Need-same-length-3 (
-  sum-below t,
-  sum.Post,
-  token-reads.Asked,
-  token-reads.Learnt,
-  is-relation-reads.Asked,
-  is-relation-reads.Learnt,
-  node-reads.Asked,
-  node-reads.Learnt,
-) (expression-at t) expression.Post
+expression-add-sum : (t : ℕ) → expression-lts.Need-add-sum (expression-calls t) (expression-at t) expression.Post
+expression-add-sum t c = omega (
+  arith,
+  c .before .before .before .before .before .before .before .before .before .before .before .before .before .pre .1 .small,
+  reads-at
+      (c .before .before .before .before .before .before .before .before .before .sum .ensures) (c .before .before .before .before .before .left .given .1),
+)
+
+expression-sum-requires-2 : (t : ℕ) → expression-lts.Need-sum-requires-2 (expression-calls t) (expression-at t) expression.Post
+unfolding mem
+expression-sum-requires-2 t c κs =
+    let t = seen (c .before .before .before .before .before .before .before .before .before .before .before .before .before .args .terminals .now)
+    (c .before .before .before .before .before .left .given .0 .0) relations (c .before .before .before .token .ensures) (c .before .before .is-relation .ensures) (not-false
+    (c .before .before .is-relation .result) (c .before .if1 .left)) in
+    let g = once-ready expression′ sum′ relations refl (c .before .before .before .before .before .before .before .before .before .before .before .before .before .pre .1)
+    (c .before .before .before .before .before .before .before .before .before .sum .ensures) (c .before .before .before .before .before .left .given .1) t refl in (
+      omega (
+        arith,
+        c .before .before .before .before .before .before .before .before .before .before .before .before .before .pre .0,
+        reads-at
+            (c .before .before .before .before .before .before .before .before .before .sum .ensures) (c .before .before .before .before .before .left .given .1),
+        g .within,
+      ),
+      g,
+    )
+
+expression-enum-known-right : (t : ℕ) → expression-lts.Need-enum-known-right (expression-calls t) (expression-at t) expression.Post
+expression-enum-known-right t c = search needs
+
+expression-enum-told-2 : (t : ℕ) → expression-lts.Need-enum-told-2 (expression-calls t) (expression-at t) expression.Post
+expression-enum-told-2 t c = search needs
+
+expression-same-length-3 : (t : ℕ) → expression-lts.Need-same-length-3 (expression-calls t) (expression-at t) expression.Post
 expression-same-length-3 t c = search needs
 
-expression-returns-3 : (t : ℕ) → expression-lts.Need-returns-3 (
-  sum-below t,
-  sum.Post,
-  token-reads.Asked,
-  token-reads.Learnt,
-  is-relation-reads.Asked,
-  is-relation-reads.Learnt,
-  node-reads.Asked,
-  node-reads.Learnt,
-) (expression-at t) expression.Post
-expression-returns-3 t c = once-alone expression′ sum′ relations refl (c .before .before .before .before .before .before .before .before .before .before .before .before .pre .1) (c .before .before .before .before .before .before .before .before .sum .ensures) (c .before .before .before .before .left .given .1) (seen (c .before .before .before .before .before .before .before .before .before .before .before .before .args .codes .now) (c .before .before .before .before .left .given .0 .0) relations (c .before .before .token .ensures) (c .before .is-relation .ensures) (c .if1 .left))
+expression-returns-3 : (t : ℕ) → expression-lts.Need-returns-3 (expression-calls t) (expression-at t) expression.Post
+expression-returns-3 t c =
+    once-stopped expression′ sum′ relations refl (c .before .before .before .before .before .before .before .before .before .before .before .before .before .before .before
+    .before .before .before .pre .1) (c .before .before .before .before .before .before .before .before .before .before .before .before .before .before .sum .ensures)
+    (c .before .before .before .before .before .before .before .before .before .before .left .given .1)
+    (seen (c .before .before .before .before .before .before .before .before .before .before .before .before .before .before .before .before .before .before .args .terminals
+    .now) (c .before .before .before .before .before .before .before .before .before .before .left .given .0 .0) relations
+    (c .before .before .before .before .before .before .before .before .token .ensures) (c .before .before .before .before .before .before .before .is-relation .ensures)
+    (not-false (c .before .before .before .before .before .before .before .is-relation .result) (c .before .before .before .before .before .before .if1 .left)))
+    (c .before .before .before .before .sum2 .ensures) (c .enum-told2 .given .1)
 
-abbrev factor-Inv-loop : factor-lts.InvT-loop
-factor-Inv-loop codes rows₀ p n q₀ m₀ rows q m = (length rows ≡ length rows₀) × Before factor′ operand′ power none codes p n rows₀ q m rows
+expression-put-row-requires : (t : ℕ) → expression-lts.Need-put-row-requires (expression-calls t) (expression-at t) expression.Post
+expression-put-row-requires t c κs = search needs
 
-abbrev factor-μ-loop : factor-lts.MeasureT-loop
-factor-μ-loop codes rows₀ p n q₀ m₀ rows q m = length codes - q
+expression-add-t18 : (t : ℕ) → expression-lts.Need-add-t18 (expression-calls t) (expression-at t) expression.Post
+expression-add-t18 t c = omega (
+  arith,
+  c .before .before .before .before .before .before .before .before .before .before .before .before .before .before .before .before .before
+      .before .before .before .before .before .before .pre .1 .small,
+  c .before .before .before .before .before .before .before .before .before .before .before .before .before
+      .before .before .before .before .before .before .before .before .before .before .pre .1 .behind,
+  reads-at
+      (c .before .before .before .before .before .before .before .before .before .before .before .before .before .before .before .before .before .before .before .sum .ensures)
+      (c .before .before .before .before .before .before .before .before .before .before .before .before .before .before .before .left .given .1),
+  reads-at
+      (c .before .before .before .before .before .before .before .before .before .sum2 .ensures) (c .before .before .before .before .before .right .given .1),
+)
 
-factor-loop-holds : (t : ℕ) → factor-lts.Need-loop-holds (
-  operand-below t,
-  operand.Post,
-  combined-reads.Asked,
-  combined-reads.Learnt,
-  token-reads.Asked,
-  token-reads.Learnt,
-) (factor-at t) factor.Post factor-Inv-loop factor-μ-loop
-factor-loop-holds t c = (refl, before-first (c .before .before .pre .1))
+expression-same-length-4 : (t : ℕ) → expression-lts.Need-same-length-4 (expression-calls t) (expression-at t) expression.Post
+expression-same-length-4 t c = search needs
 
-factor-operand-requires : (t : ℕ) → factor-lts.Need-operand-requires (
-  operand-below t,
-  operand.Post,
-  combined-reads.Asked,
-  combined-reads.Learnt,
-  token-reads.Asked,
-  token-reads.Learnt,
-) (factor-at t) factor.Post factor-Inv-loop factor-μ-loop
-factor-operand-requires t c κs = (omega (arith, c .before .before .before .before .pre .0, c .before .loop .inv .1 .from), c .before .loop .inv .1 .ready)
+expression-returns-4 : (t : ℕ) → expression-lts.Need-returns-4 (expression-calls t) (expression-at t) expression.Post
+expression-returns-4 t c =
+    once-both expression′ sum′ relations refl (c .before .before .before .before .before .before .before .before .before .before .before .before .before .before .before .before
+    .before .before .before .before .before .before .before .pre .1)
+    (c .before .before .before .before .before .before .before .before .before .before .before .before .before .before .before .before .before .before .before .sum .ensures)
+    (c .before .before .before .before .before .before .before .before .before .before .before .before .before .before .before .left .given .1)
+    (seen (c .before .before .before .before .before .before .before .before .before .before .before .before .before .before .before .before .before .before .before .before
+    .before .before .before .args .terminals .now) (c .before .before .before .before .before .before .before .before .before .before .before .before .before .before .before
+    .left .given .0 .0) relations (c .before .before .before .before .before .before .before .before .before .before .before .before .before .token .ensures)
+    (c .before .before .before .before .before .before .before .before .before .before .before .before .is-relation .ensures) (not-false
+    (c .before .before .before .before .before .before .before .before .before .before .before .before .is-relation .result)
+    (c .before .before .before .before .before .before .before .before .before .before .before .if1 .left)))
+    (c .before .before .before .before .before .before .before .before .before .sum2 .ensures) (c .before .before .before .before .before .right .given .1) (c .before .before .put-row .ensures)
 
-factor-enum-known-right : (t : ℕ) → factor-lts.Need-enum-known-right (
-  operand-below t,
-  operand.Post,
-  combined-reads.Asked,
-  combined-reads.Learnt,
-  token-reads.Asked,
-  token-reads.Learnt,
-) (factor-at t) factor.Post factor-Inv-loop factor-μ-loop
-factor-enum-known-right t c = search needs
+factor-operand-requires : (t : ℕ) → factor-lts.Need-operand-requires (factor-calls t) (factor-at t) factor.Post
+factor-operand-requires t c κs = (omega (arith, c .before .before .before .pre .0), c .before .before .before .pre .1)
 
-factor-enum-told : (t : ℕ) → factor-lts.Need-enum-told (
-  operand-below t,
-  operand.Post,
-  combined-reads.Asked,
-  combined-reads.Learnt,
-  token-reads.Asked,
-  token-reads.Learnt,
-) (factor-at t) factor.Post factor-Inv-loop factor-μ-loop
+factor-enum-known-left : (t : ℕ) → factor-lts.Need-enum-known-left (factor-calls t) (factor-at t) factor.Post
+factor-enum-known-left t c = search needs
+
+factor-enum-told : (t : ℕ) → factor-lts.Need-enum-told (factor-calls t) (factor-at t) factor.Post
 factor-enum-told t c = search needs
 
-factor-same-length : (t : ℕ) → factor-lts.Need-same-length (
-  operand-below t,
-  operand.Post,
-  combined-reads.Asked,
-  combined-reads.Learnt,
-  token-reads.Asked,
-  token-reads.Learnt,
-) (factor-at t) factor.Post factor-Inv-loop factor-μ-loop
+factor-same-length : (t : ℕ) → factor-lts.Need-same-length (factor-calls t) (factor-at t) factor.Post
 factor-same-length t c = search needs
 
-factor-returns : (t : ℕ) → factor-lts.Need-returns (
-  operand-below t,
-  operand.Post,
-  combined-reads.Asked,
-  combined-reads.Learnt,
-  token-reads.Asked,
-  token-reads.Learnt,
-) (factor-at t) factor.Post factor-Inv-loop factor-μ-loop
-factor-returns t c = turned-refused factor′ operand′ power refl (c .before .before .before .before .before .before .before .before .before .pre .1) (c .before .before .before .before .before .before .loop .inv .1) (c .before .before .before .before .operand .ensures) (c .enum-told .given .1)
+factor-returns : (t : ℕ) → factor-lts.Need-returns (factor-calls t) (factor-at t) factor.Post
+factor-returns t c = once-refused factor′ operand′ power refl (c .before .before .before .before .before .before .before .before .pre .1)
+    (c .before .before .before .before .operand .ensures) (c .enum-told .given .1)
 
-factor-combined-requires : (t : ℕ) → factor-lts.Need-combined-requires (
-  operand-below t,
-  operand.Post,
-  combined-reads.Asked,
-  combined-reads.Learnt,
-  token-reads.Asked,
-  token-reads.Learnt,
-) (factor-at t) factor.Post factor-Inv-loop factor-μ-loop
-factor-combined-requires t c κs = combinable (c .before .before .before .before .before .before .before .before .loop .inv .1) (c .before .before .before .before .before .before .operand .ensures) (c .before .before .right .given .1)
-
-factor-same-length-2 : (t : ℕ) → factor-lts.Need-same-length-2 (
-  operand-below t,
-  operand.Post,
-  combined-reads.Asked,
-  combined-reads.Learnt,
-  token-reads.Asked,
-  token-reads.Learnt,
-) (factor-at t) factor.Post factor-Inv-loop factor-μ-loop
-factor-same-length-2 t c = search needs
-
-factor-returns-2 : (t : ℕ) → factor-lts.Need-returns-2 (
-  operand-below t,
-  operand.Post,
-  combined-reads.Asked,
-  combined-reads.Learnt,
-  token-reads.Asked,
-  token-reads.Learnt,
-) (factor-at t) factor.Post factor-Inv-loop factor-μ-loop
-factor-returns-2 t c = turned-both factor′ operand′ power refl (c .before .before .before .before .before .before .before .before .before .before .before .before .before .before .before .pre .1) (c .before .before .before .before .before .before .before .before .before .before .before .before .loop .inv .1) (c .before .before .before .before .before .before .before .before .before .before .operand .ensures) (c .before .before .before .before .before .before .right .given .1) (c .before .before .before .combined .ensures) (c .if1 .taken)
-
-factor-token-requires : (t : ℕ) → factor-lts.Need-token-requires (
-  operand-below t,
-  operand.Post,
-  combined-reads.Asked,
-  combined-reads.Learnt,
-  token-reads.Asked,
-  token-reads.Learnt,
-) (factor-at t) factor.Post factor-Inv-loop factor-μ-loop
+factor-token-requires : (t : ℕ) → factor-lts.Need-token-requires (factor-calls t) (factor-at t) factor.Post
 factor-token-requires t c κs = search needs
 
-factor-same-length-3 : (t : ℕ) → factor-lts.Need-same-length-3 (
-  operand-below t,
-  operand.Post,
-  combined-reads.Asked,
-  combined-reads.Learnt,
-  token-reads.Asked,
-  token-reads.Learnt,
-) (factor-at t) factor.Post factor-Inv-loop factor-μ-loop
+factor-same-length-2 : (t : ℕ) → factor-lts.Need-same-length-2 (factor-calls t) (factor-at t) factor.Post
+factor-same-length-2 t c = search needs
+
+factor-returns-2 : (t : ℕ) → factor-lts.Need-returns-2 (factor-calls t) (factor-at t) factor.Post
+factor-returns-2 t c =
+    once-alone factor′ operand′ power refl (c .before .before .before .before .before .before .before .before .before .before .before .pre .1)
+    (c .before .before .before .before .before .before .before .operand .ensures) (c .before .before .before .left .given .1)
+    (seen-other (c .before .before .before .before .before .before .before .before .before .before .before .args .terminals .now)
+    (c .before .before .before .left .given .0 .0) 32 (c .before .token .ensures) (c .if1 .taken))
+
+factor-add-operand : (t : ℕ) → factor-lts.Need-add-operand (factor-calls t) (factor-at t) factor.Post
+factor-add-operand t c = omega (
+  arith,
+  c .before .before .before .before .before .before .before .before .before .before .before .before .pre .1 .small,
+  reads-at
+      (c .before .before .before .before .before .before .before .before .operand .ensures) (c .before .before .before .before .left .given .1),
+)
+
+factor-operand-requires-2 : (t : ℕ) → factor-lts.Need-operand-requires-2 (factor-calls t) (factor-at t) factor.Post
+unfolding mem
+factor-operand-requires-2 t c κs =
+    let t = seen-one (c .before .before .before .before .before .before .before .before .before .before .before .before .args .terminals .now)
+    (c .before .before .before .before .left .given .0 .0) 32 (c .before .before .token .ensures) (c .before .if1 .left) in
+    let g = once-ready factor′ operand′ power refl (c .before .before .before .before .before .before .before .before .before .before .before .before .pre .1)
+    (c .before .before .before .before .before .before .before .before .operand .ensures) (c .before .before .before .before .left .given .1) t refl in (
+      omega (
+        arith,
+        c .before .before .before .before .before .before .before .before .before .before .before .before .pre .0,
+        reads-at
+            (c .before .before .before .before .before .before .before .before .operand .ensures) (c .before .before .before .before .left .given .1),
+        g .within,
+      ),
+      g,
+    )
+
+factor-enum-known-right : (t : ℕ) → factor-lts.Need-enum-known-right (factor-calls t) (factor-at t) factor.Post
+factor-enum-known-right t c = search needs
+
+factor-enum-told-2 : (t : ℕ) → factor-lts.Need-enum-told-2 (factor-calls t) (factor-at t) factor.Post
+factor-enum-told-2 t c = search needs
+
+factor-same-length-3 : (t : ℕ) → factor-lts.Need-same-length-3 (factor-calls t) (factor-at t) factor.Post
 factor-same-length-3 t c = search needs
 
-factor-returns-3 : (t : ℕ) → factor-lts.Need-returns-3 (
-  operand-below t,
-  operand.Post,
-  combined-reads.Asked,
-  combined-reads.Learnt,
-  token-reads.Asked,
-  token-reads.Learnt,
-) (factor-at t) factor.Post factor-Inv-loop factor-μ-loop
-factor-returns-3 t c = turned-alone factor′ operand′ power refl (c .before .before .before .before .before .before .before .before .before .before .before .before .before .before .before .before .before .pre .1) (c .before .before .before .before .before .before .before .before .before .before .before .before .before .before .loop .inv .1) (c .before .before .before .before .before .before .before .before .before .before .before .before .operand .ensures) (c .before .before .before .before .before .before .before .before .right .given .1) (c .before .before .before .before .before .combined .ensures) (c .before .before .if1 .left) (seen-other (c .before .before .before .before .before .before .before .before .before .before .before .before .before .before .before .before .before .args .codes .now) (c .before .before .before .before .before .before .before .before .right .given .0 .0) 32 (c .before .token .ensures) (c .if2 .taken))
+factor-returns-3 : (t : ℕ) → factor-lts.Need-returns-3 (factor-calls t) (factor-at t) factor.Post
+factor-returns-3 t c =
+    once-stopped factor′ operand′ power refl (c .before .before .before .before .before .before .before .before .before .before .before .before .before .before .before .before
+    .before .pre .1) (c .before .before .before .before .before .before .before .before .before .before .before .before .before .operand .ensures)
+    (c .before .before .before .before .before .before .before .before .before .left .given .1)
+    (seen-one (c .before .before .before .before .before .before .before .before .before .before .before .before .before .before .before .before .before .args .terminals .now)
+    (c .before .before .before .before .before .before .before .before .before .left .given .0 .0) 32
+    (c .before .before .before .before .before .before .before .token .ensures) (c .before .before .before .before .before .before .if1 .left))
+    (c .before .before .before .before .operand2 .ensures) (c .enum-told2 .given .1)
 
-factor-add-q : (t : ℕ) → factor-lts.Need-add-q (
-  operand-below t,
-  operand.Post,
-  combined-reads.Asked,
-  combined-reads.Learnt,
-  token-reads.Asked,
-  token-reads.Learnt,
-) (factor-at t) factor.Post factor-Inv-loop factor-μ-loop
-factor-add-q t c = omega (arith, c .before .before .before .before .before .before .before .before .before .before .before .before .before .before .before .before .before .pre .1 .small, reads-at (c .before .before .before .before .before .before .before .before .before .before .before .before .operand .ensures) (c .before .before .before .before .before .before .before .before .right .given .1))
+factor-put-row-requires : (t : ℕ) → factor-lts.Need-put-row-requires (factor-calls t) (factor-at t) factor.Post
+factor-put-row-requires t c κs = search needs
 
-factor-loop-less : (t : ℕ) → factor-lts.Need-loop-less (
-  operand-below t,
-  operand.Post,
-  combined-reads.Asked,
-  combined-reads.Learnt,
-  token-reads.Asked,
-  token-reads.Learnt,
-) (factor-at t) factor.Post factor-Inv-loop factor-μ-loop
-factor-loop-less t c = omega (arith, reads-at (c .before .before .before .before .before .before .before .before .before .before .before .before .operand .ensures) (c .before .before .before .before .before .before .before .before .right .given .1))
+factor-add-t17 : (t : ℕ) → factor-lts.Need-add-t17 (factor-calls t) (factor-at t) factor.Post
+factor-add-t17 t c = omega (
+  arith,
+  c .before .before .before .before .before .before .before .before .before .before .before .before .before .before .before .before .before
+      .before .before .before .before .before .pre .1 .small,
+  c .before .before .before .before .before .before .before .before .before .before .before .before .before .before
+      .before .before .before .before .before .before .before .before .pre .1 .behind,
+  reads-at
+      (c .before .before .before .before .before .before .before .before .before .before .before .before .before .before .before .before .before .before .operand .ensures)
+      (c .before .before .before .before .before .before .before .before .before .before .before .before .before .before .left .given .1),
+  reads-at
+      (c .before .before .before .before .before .before .before .before .before .operand2 .ensures) (c .before .before .before .before .before .right .given .1),
+)
 
-factor-loop-again : (t : ℕ) → factor-lts.Need-loop-again (
-  operand-below t,
-  operand.Post,
-  combined-reads.Asked,
-  combined-reads.Learnt,
-  token-reads.Asked,
-  token-reads.Learnt,
-) (factor-at t) factor.Post factor-Inv-loop factor-μ-loop
-unfolding mem
-factor-loop-again t c = (search needs, turned-again factor′ operand′ power refl (c .before .before .before .before .before .before .before .before .before .before .before .before .before .before .before .before .before .pre .1) (c .before .before .before .before .before .before .before .before .before .before .before .before .before .before .loop .inv .1) (c .before .before .before .before .before .before .before .before .before .before .before .before .operand .ensures) (c .before .before .before .before .before .before .before .before .right .given .1) (c .before .before .before .before .before .combined .ensures) (c .before .before .if1 .left) refl (seen-one (c .before .before .before .before .before .before .before .before .before .before .before .before .before .before .before .before .before .args .codes .now) (c .before .before .before .before .before .before .before .before .right .given .0 .0) 32 (c .before .token .ensures) (c .if2 .left)))
+factor-same-length-4 : (t : ℕ) → factor-lts.Need-same-length-4 (factor-calls t) (factor-at t) factor.Post
+factor-same-length-4 t c = search needs
 
-interval-add-sum : (t : ℕ) → interval-lts.Need-add-sum (
-  sum-below t,
-  sum.Post,
-  compared-below t,
-  compared.Post,
-  expect-reads.Asked,
-  expect-reads.Learnt,
-  node-reads.Asked,
-  node-reads.Learnt,
-) (interval-at t) interval.Post
-interval-add-sum t c = omega (arith, c .before .before .before .pre .1 .0 .small, c .before .before .before .pre .1 .0 .within)
+factor-returns-4 : (t : ℕ) → factor-lts.Need-returns-4 (factor-calls t) (factor-at t) factor.Post
+factor-returns-4 t c =
+    once-both factor′ operand′ power refl (c .before .before .before .before .before .before .before .before .before .before .before .before .before .before .before .before
+    .before .before .before .before .before .before .pre .1) (c .before .before .before .before .before .before .before .before .before .before .before .before .before
+    .before .before .before .before .before .operand .ensures) (c .before .before .before .before .before .before .before .before .before .before .before .before .before
+    .before .left .given .1)
+    (seen-one (c .before .before .before .before .before .before .before .before .before .before .before .before .before .before .before .before .before .before .before .before
+    .before .before .args .terminals .now) (c .before .before .before .before .before .before .before .before .before .before .before .before .before .before .left .given .0
+    .0) 32 (c .before .before .before .before .before .before .before .before .before .before .before .before .token .ensures)
+    (c .before .before .before .before .before .before .before .before .before .before .before .if1 .left))
+    (c .before .before .before .before .before .before .before .before .before .operand2 .ensures) (c .before .before .before .before .before .right .given .1) (c .before .before .put-row .ensures)
 
-interval-sum-requires : (t : ℕ) → interval-lts.Need-sum-requires (
-  sum-below t,
-  sum.Post,
-  compared-below t,
-  compared.Post,
-  expect-reads.Asked,
-  expect-reads.Learnt,
-  node-reads.Asked,
-  node-reads.Learnt,
-) (interval-at t) interval.Post
-interval-sum-requires t c κs = (omega (arith, c .before .before .before .pre .0, (one-inside (c .before .before .before .args .codes .now) (c .before .before .before .args .p) (getD (c .before .before .before .args .codes .now) (c .before .before .before .args .p) 0) 21 refl (c .before .before .before .pre .1 .1) (omega arith))), onward (c .before .before .before .pre .1 .0) (one-inside (c .before .before .before .args .codes .now) (c .before .before .before .args .p) (getD (c .before .before .before .args .codes .now) (c .before .before .before .args .p) 0) 21 refl (c .before .before .before .pre .1 .1) (omega arith)))
+interval-add-sum : (t : ℕ) → interval-lts.Need-add-sum (interval-calls t) (interval-at t) interval.Post
+interval-add-sum t c = omega (arith, token-small (c .before .before .before .pre .1 .0))
 
-interval-enum-known-low : (t : ℕ) → interval-lts.Need-enum-known-low (
-  sum-below t,
-  sum.Post,
-  compared-below t,
-  compared.Post,
-  expect-reads.Asked,
-  expect-reads.Learnt,
-  node-reads.Asked,
-  node-reads.Learnt,
-) (interval-at t) interval.Post
+interval-sum-requires : (t : ℕ) → interval-lts.Need-sum-requires (interval-calls t) (interval-at t) interval.Post
+interval-sum-requires t c κs =
+    let l = one-inside (c .before .before .before .args .terminals .now) (c .before .before .before .args .p) (getD (c .before .before .before .args .terminals .now)
+    (c .before .before .before .args .p) 0) 21 refl (c .before .before .before .pre .1 .1) (omega arith) in
+    (omega (arith, c .before .before .before .pre .0, l), onward (c .before .before .before .pre .1 .0) l)
+
+interval-enum-known-low : (t : ℕ) → interval-lts.Need-enum-known-low (interval-calls t) (interval-at t) interval.Post
 interval-enum-known-low t c = search needs
 
-interval-enum-told : (t : ℕ) → interval-lts.Need-enum-told (
-  sum-below t,
-  sum.Post,
-  compared-below t,
-  compared.Post,
-  expect-reads.Asked,
-  expect-reads.Learnt,
-  node-reads.Asked,
-  node-reads.Learnt,
-) (interval-at t) interval.Post
+interval-enum-told : (t : ℕ) → interval-lts.Need-enum-told (interval-calls t) (interval-at t) interval.Post
 interval-enum-told t c = search needs
 
-interval-same-length : (t : ℕ) → interval-lts.Need-same-length (
-  sum-below t,
-  sum.Post,
-  compared-below t,
-  compared.Post,
-  expect-reads.Asked,
-  expect-reads.Learnt,
-  node-reads.Asked,
-  node-reads.Learnt,
-) (interval-at t) interval.Post
+interval-same-length : (t : ℕ) → interval-lts.Need-same-length (interval-calls t) (interval-at t) interval.Post
 interval-same-length t c = search needs
 
-interval-returns : (t : ℕ) → interval-lts.Need-returns (
-  sum-below t,
-  sum.Post,
-  compared-below t,
-  compared.Post,
-  expect-reads.Asked,
-  expect-reads.Learnt,
-  node-reads.Asked,
-  node-reads.Learnt,
-) (interval-at t) interval.Post
-interval-returns t c = low-refused (c .before .before .before .before .before .before .before .before .pre .1 .0) (c .before .before .before .before .before .before .before .before .pre .1 .1) (c .before .before .before .before .sum .ensures) (c .enum-told .given .1)
+interval-returns : (t : ℕ) → interval-lts.Need-returns (interval-calls t) (interval-at t) interval.Post
+interval-returns t c = low-refused (c .before .before .before .before .before .before .before .before .pre .1 .0)
+    (c .before .before .before .before .before .before .before .before .pre .1 .1) (c .before .before .before .before .sum .ensures) (c .enum-told .given .1)
 
-interval-compared-requires : (t : ℕ) → interval-lts.Need-compared-requires (
-  sum-below t,
-  sum.Post,
-  compared-below t,
-  compared.Post,
-  expect-reads.Asked,
-  expect-reads.Learnt,
-  node-reads.Asked,
-  node-reads.Learnt,
-) (interval-at t) interval.Post
-interval-compared-requires t c κs = (omega (arith, c .before .before .before .before .before .before .before .before .before .before .pre .0, reads-at (c .before .before .before .before .before .before .sum .ensures) (c .before .before .low .given .1)), (ready-of (onward (c .before .before .before .before .before .before .before .before .before .before .pre .1 .0) (one-inside (c .before .before .before .before .before .before .before .before .before .before .args .codes .now) (c .before .before .before .before .before .before .before .before .before .before .args .p) (getD (c .before .before .before .before .before .before .before .before .before .before .args .codes .now) (c .before .before .before .before .before .before .before .before .before .before .args .p) 0) 21 refl (c .before .before .before .before .before .before .before .before .before .before .pre .1 .1) (omega arith))) (c .before .before .before .before .before .before .sum .ensures .ahead) (c .before .before .low .given .1)))
+interval-compared-requires : (t : ℕ) → interval-lts.Need-compared-requires (interval-calls t) (interval-at t) interval.Post
+interval-compared-requires t c κs =
+    let g = onward (c .before .before .before .before .before .before .before .before .before .before .pre .1 .0) (brace-inside
+    (c .before .before .before .before .before .before .before .before .before .before .pre .1 .0)
+    (c .before .before .before .before .before .before .before .before .before .before .pre .1 .1) (c .before .before .before .before .before .before .sum .ensures)) in (
+      omega (
+        arith,
+        c .before .before .before .before .before .before .before .before .before .before .pre .0,
+        reads-at
+            (c .before .before .before .before .before .before .sum .ensures) (c .before .before .low .given .1),
+      ),
+      ready-of g
+          (c .before .before .before .before .before .before .sum .ensures .ahead) (c .before .before .low .given .1),
+    )
 
-interval-enum-known-item : (t : ℕ) → interval-lts.Need-enum-known-item (
-  sum-below t,
-  sum.Post,
-  compared-below t,
-  compared.Post,
-  expect-reads.Asked,
-  expect-reads.Learnt,
-  node-reads.Asked,
-  node-reads.Learnt,
-) (interval-at t) interval.Post
+interval-enum-known-item : (t : ℕ) → interval-lts.Need-enum-known-item (interval-calls t) (interval-at t) interval.Post
 interval-enum-known-item t c = search needs
 
-interval-enum-told-2 : (t : ℕ) → interval-lts.Need-enum-told-2 (
-  sum-below t,
-  sum.Post,
-  compared-below t,
-  compared.Post,
-  expect-reads.Asked,
-  expect-reads.Learnt,
-  node-reads.Asked,
-  node-reads.Learnt,
-) (interval-at t) interval.Post
+interval-enum-told-2 : (t : ℕ) → interval-lts.Need-enum-told-2 (interval-calls t) (interval-at t) interval.Post
 interval-enum-told-2 t c = search needs
 
-interval-same-length-2 : (t : ℕ) → interval-lts.Need-same-length-2 (
-  sum-below t,
-  sum.Post,
-  compared-below t,
-  compared.Post,
-  expect-reads.Asked,
-  expect-reads.Learnt,
-  node-reads.Asked,
-  node-reads.Learnt,
-) (interval-at t) interval.Post
+interval-same-length-2 : (t : ℕ) → interval-lts.Need-same-length-2 (interval-calls t) (interval-at t) interval.Post
 interval-same-length-2 t c = search needs
 
-interval-returns-2 : (t : ℕ) → interval-lts.Need-returns-2 (
-  sum-below t,
-  sum.Post,
-  compared-below t,
-  compared.Post,
-  expect-reads.Asked,
-  expect-reads.Learnt,
-  node-reads.Asked,
-  node-reads.Learnt,
-) (interval-at t) interval.Post
-interval-returns-2 t c = item-refused (c .before .before .before .before .before .before .before .before .before .before .before .before .before .before .before .pre .1 .0) (c .before .before .before .before .before .before .before .before .before .before .before .before .before .before .before .pre .1 .1) (c .before .before .before .before .before .before .before .before .before .before .before .sum .ensures) (c .before .before .before .before .before .before .before .low .given .1) (c .before .before .before .before .compared .ensures) (c .enum-told2 .given .1)
+interval-returns-2 : (t : ℕ) → interval-lts.Need-returns-2 (interval-calls t) (interval-at t) interval.Post
+interval-returns-2 t c = item-refused (c .before .before .before .before .before .before .before .before .before .before .before .before .before .before .before .pre .1 .0)
+    (c .before .before .before .before .before .before .before .before .before .before .before .before .before .before .before .pre .1 .1)
+    (c .before .before .before .before .before .before .before .before .before .before .before .sum .ensures)
+    (c .before .before .before .before .before .before .before .low .given .1) (c .before .before .before .before .compared .ensures) (c .enum-told2 .given .1)
 
-interval-compared-requires-2 : (t : ℕ) → interval-lts.Need-compared-requires-2 (
-  sum-below t,
-  sum.Post,
-  compared-below t,
-  compared.Post,
-  expect-reads.Asked,
-  expect-reads.Learnt,
-  node-reads.Asked,
-  node-reads.Learnt,
-) (interval-at t) interval.Post
-interval-compared-requires-2 t c κs = (omega (arith, c .before .before .before .before .before .before .before .before .before .before .before .before .before .before .before .before .before .pre .0, reads-at (c .before .before .before .before .before .before .before .before .before .before .before .before .before .sum .ensures) (c .before .before .before .before .before .before .before .before .before .low .given .1), compares-at (c .before .before .before .before .before .before .compared .ensures) (c .before .before .item .given .1)), (ready-of (ready-of (onward (c .before .before .before .before .before .before .before .before .before .before .before .before .before .before .before .before .before .pre .1 .0) (one-inside (c .before .before .before .before .before .before .before .before .before .before .before .before .before .before .before .before .before .args .codes .now) (c .before .before .before .before .before .before .before .before .before .before .before .before .before .before .before .before .before .args .p) (getD (c .before .before .before .before .before .before .before .before .before .before .before .before .before .before .before .before .before .args .codes .now) (c .before .before .before .before .before .before .before .before .before .before .before .before .before .before .before .before .before .args .p) 0) 21 refl (c .before .before .before .before .before .before .before .before .before .before .before .before .before .before .before .before .before .pre .1 .1) (omega arith))) (c .before .before .before .before .before .before .before .before .before .before .before .before .before .sum .ensures .ahead) (c .before .before .before .before .before .before .before .before .before .low .given .1)) (c .before .before .before .before .before .before .compared .ensures .ahead) (c .before .before .item .given .1)))
+interval-compared-requires-2 : (t : ℕ) → interval-lts.Need-compared-requires-2 (interval-calls t) (interval-at t) interval.Post
+interval-compared-requires-2 t c κs =
+    let g = onward (c .before .before .before .before .before .before .before .before .before .before .before .before .before .before .before .before .before .pre .1 .0)
+    (brace-inside (c .before .before .before .before .before .before .before .before .before .before .before .before .before .before .before .before .before .pre .1 .0)
+    (c .before .before .before .before .before .before .before .before .before .before .before .before .before .before .before .before .before .pre .1 .1)
+    (c .before .before .before .before .before .before .before .before .before .before .before .before .before .sum .ensures)) in
+    let h = ready-of g (c .before .before .before .before .before .before .before .before .before .before .before .before .before .sum .ensures .ahead)
+    (c .before .before .before .before .before .before .before .before .before .low .given .1) in (
+      omega (
+        arith,
+        c .before .before .before .before .before .before .before .before .before .before .before .before .before .before .before .before .before .pre .0,
+        reads-at
+            (c .before .before .before .before .before .before .before .before .before .before .before .before .before .sum .ensures)
+            (c .before .before .before .before .before .before .before .before .before .low .given .1),
+        compares-at
+            (c .before .before .before .before .before .before .compared .ensures) (c .before .before .item .given .1),
+      ),
+      ready-of h
+          (c .before .before .before .before .before .before .compared .ensures .ahead) (c .before .before .item .given .1),
+    )
 
-interval-expect-requires : (t : ℕ) → interval-lts.Need-expect-requires (
-  sum-below t,
-  sum.Post,
-  compared-below t,
-  compared.Post,
-  expect-reads.Asked,
-  expect-reads.Learnt,
-  node-reads.Asked,
-  node-reads.Learnt,
-) (interval-at t) interval.Post
-interval-expect-requires t c κs = (sound-of (c .before .before .compared2 .result) (ready-of (ready-of (onward (c .before .before .before .before .before .before .before .before .before .before .before .before .before .before .before .before .before .before .before .before .pre .1 .0) (one-inside (c .before .before .before .before .before .before .before .before .before .before .before .before .before .before .before .before .before .before .before .before .args .codes .now) (c .before .before .before .before .before .before .before .before .before .before .before .before .before .before .before .before .before .before .before .before .args .p) (getD (c .before .before .before .before .before .before .before .before .before .before .before .before .before .before .before .before .before .before .before .before .args .codes .now) (c .before .before .before .before .before .before .before .before .before .before .before .before .before .before .before .before .before .before .before .before .args .p) 0) 21 refl (c .before .before .before .before .before .before .before .before .before .before .before .before .before .before .before .before .before .before .before .before .pre .1 .1) (omega arith))) (c .before .before .before .before .before .before .before .before .before .before .before .before .before .before .before .before .sum .ensures .ahead) (c .before .before .before .before .before .before .before .before .before .before .before .before .low .given .1)) (c .before .before .before .before .before .before .before .before .before .compared .ensures .ahead) (c .before .before .before .before .before .item .given .1)) (c .before .before .compared2 .ensures .ahead), omega arith)
+interval-enum-known-high : (t : ℕ) → interval-lts.Need-enum-known-high (interval-calls t) (interval-at t) interval.Post
+interval-enum-known-high t c = search needs
 
-interval-node-requires : (t : ℕ) → interval-lts.Need-node-requires (
-  sum-below t,
-  sum.Post,
-  compared-below t,
-  compared.Post,
-  expect-reads.Asked,
-  expect-reads.Learnt,
-  node-reads.Asked,
-  node-reads.Learnt,
-) (interval-at t) interval.Post
-interval-node-requires t c κs = (counts-sound (c .before .before .before .before .before .before .before .before .before .before .before .before .before .before .before .before .before .before .before .before .before .before .args .codes .now) (c .before .expect .result) (c .before .expect .ensures .sound), omega arith, omega (arith, c .before .before .before .before .before .before .before .before .before .before .before .before .before .before .before .before .before .before .before .before .before .before .pre .1 .0 .small, c .before .before .before .before .before .before .before .before .before .before .before .before .before .before .before .before .before .before .before .before .before .before .pre .1 .0 .within))
+interval-enum-told-3 : (t : ℕ) → interval-lts.Need-enum-told-3 (interval-calls t) (interval-at t) interval.Post
+interval-enum-told-3 t c = search needs
 
-interval-same-length-3 : (t : ℕ) → interval-lts.Need-same-length-3 (
-  sum-below t,
-  sum.Post,
-  compared-below t,
-  compared.Post,
-  expect-reads.Asked,
-  expect-reads.Learnt,
-  node-reads.Asked,
-  node-reads.Learnt,
-) (interval-at t) interval.Post
+interval-same-length-3 : (t : ℕ) → interval-lts.Need-same-length-3 (interval-calls t) (interval-at t) interval.Post
 interval-same-length-3 t c = search needs
 
-interval-returns-3 : (t : ℕ) → interval-lts.Need-returns-3 (
-  sum-below t,
-  sum.Post,
-  compared-below t,
-  compared.Post,
-  expect-reads.Asked,
-  expect-reads.Learnt,
-  node-reads.Asked,
-  node-reads.Learnt,
-) (interval-at t) interval.Post
-interval-returns-3 t c = interval-whole (c .before .before .before .before .before .before .before .before .before .before .before .before .before .before .before .before .before .before .before .before .before .before .before .before .before .pre .1 .0) (c .before .before .before .before .before .before .before .before .before .before .before .before .before .before .before .before .before .before .before .before .before .before .before .before .before .pre .1 .1) (c .before .before .before .before .before .before .before .before .before .before .before .before .before .before .before .before .before .before .before .before .before .sum .ensures) (c .before .before .before .before .before .before .before .before .before .before .before .before .before .before .before .before .before .low .given .1) (c .before .before .before .before .before .before .before .before .before .before .before .before .before .before .compared .ensures) (c .before .before .before .before .before .before .before .before .before .before .item .given .1) (c .before .before .before .before .before .before .before .compared2 .ensures) (c .before .before .before .before .expect .ensures) (c .before .before .node .ensures) (counts-sound (c .before .before .before .before .before .before .before .before .before .before .before .before .before .before .before .before .before .before .before .before .before .before .before .before .before .args .codes .now) (c .before .before .before .before .expect .result) (c .before .before .before .before .expect .ensures .sound))
+interval-returns-3 : (t : ℕ) → interval-lts.Need-returns-3 (interval-calls t) (interval-at t) interval.Post
+interval-returns-3 t c = high-refused (c .before .before .before .before .before .before .before .before .before .before .before .before .before .before .before .before .before
+    .before .before .before .before .before .pre .1 .0) (c .before .before .before .before .before .before .before .before .before .before .before .before .before .before .before
+    .before .before .before .before .before .before .before .pre .1 .1)
+    (c .before .before .before .before .before .before .before .before .before .before .before .before .before .before .before .before .before .before .sum .ensures)
+    (c .before .before .before .before .before .before .before .before .before .before .before .before .before .before .low .given .1)
+    (c .before .before .before .before .before .before .before .before .before .before .before .compared .ensures)
+    (c .before .before .before .before .before .before .before .item .given .1) (c .before .before .before .before .compared2 .ensures) (c .enum-told3 .given .1)
 
-operand-token-requires : (t : ℕ) → operand-lts.Need-token-requires (
-  token-reads.Asked,
-  token-reads.Learnt,
-  is-qualified-reads.Asked,
-  is-qualified-reads.Learnt,
-  leaf-reads.Asked,
-  leaf-reads.Learnt,
-  interval-below t,
-  interval.Post,
-  is-sign-reads.Asked,
-  is-sign-reads.Learnt,
-  signed-below t,
-  signed.Post,
-  atom-below t,
-  atom.Post,
-) (operand-at t) operand.Post
+interval-expect-requires : (t : ℕ) → interval-lts.Need-expect-requires (interval-calls t) (interval-at t) interval.Post
+interval-expect-requires t c κs = search needs
+
+interval-enum-known-end : (t : ℕ) → interval-lts.Need-enum-known-end (interval-calls t) (interval-at t) interval.Post
+interval-enum-known-end t c = search needs
+
+interval-enum-told-4 : (t : ℕ) → interval-lts.Need-enum-told-4 (interval-calls t) (interval-at t) interval.Post
+interval-enum-told-4 t c = search needs
+
+interval-same-length-4 : (t : ℕ) → interval-lts.Need-same-length-4 (interval-calls t) (interval-at t) interval.Post
+interval-same-length-4 t c = search needs
+
+interval-returns-4 : (t : ℕ) → interval-lts.Need-returns-4 (interval-calls t) (interval-at t) interval.Post
+interval-returns-4 t c =
+    end-refused (c .before .before .before .before .before .before .before .before .before .before .before .before .before .before .before .before .before .before .before .before
+    .before .before .before .before .before .before .pre .1 .0) (c .before .before .before .before .before .before .before .before .before .before .before .before .before
+    .before .before .before .before .before .before .before .before .before .before .before .before .before .pre .1 .1)
+    (c .before .before .before .before .before .before .before .before .before .before .before .before .before .before .before .before .before .before .before .before .before
+    .before .sum .ensures) (c .before .before .before .before .before .before .before .before .before .before .before .before .before .before .before .before .before .before
+    .low .given .1) (c .before .before .before .before .before .before .before .before .before .before .before .before .before .before .before .compared .ensures)
+    (c .before .before .before .before .before .before .before .before .before .before .before .item .given .1)
+    (c .before .before .before .before .before .before .before .before .compared2 .ensures) (c .before .before .before .before .high .given .1)
+    (c .before .before .expect .ensures) (c .enum-told4 .given .1)
+
+interval-put-row-requires : (t : ℕ) → interval-lts.Need-put-row-requires (interval-calls t) (interval-at t) interval.Post
+interval-put-row-requires t c κs = search needs
+
+interval-add-t19 : (t : ℕ) → interval-lts.Need-add-t19 (interval-calls t) (interval-at t) interval.Post
+interval-add-t19 t c =
+    let l = interval-count (c .before .before .before .before .before .before .before .before .before .before .before .before .before .before .before .before .before .before
+    .before .before .before .before .before .before .before .before .before .before .before .before .before .pre .1 .0)
+    (c .before .before .before .before .before .before .before .before .before .before .before .before .before .before .before .before .before .before .before .before .before
+    .before .before .before .before .before .before .before .before .before .before .pre .1 .1)
+    (c .before .before .before .before .before .before .before .before .before .before .before .before .before .before .before .before .before .before .before .before .before
+    .before .before .before .before .before .before .sum .ensures)
+    (c .before .before .before .before .before .before .before .before .before .before .before .before .before .before .before .before .before .before .before .before .before
+    .before .before .low .given .1) (c .before .before .before .before .before .before .before .before .before .before .before .before .before .before .before .before .before
+    .before .before .before .compared .ensures) (c .before .before .before .before .before .before .before .before .before .before .before .before .before .before .before
+    .before .item .given .1) (c .before .before .before .before .before .before .before .before .before .before .before .before .before .compared2 .ensures)
+    (c .before .before .before .before .before .before .before .before .before .high .given .1)
+    (c .before .before .before .before .before .before .before .expect .ensures) (c .before .before .before .before .before .end .given .1) in
+    omega (arith, l)
+
+interval-same-length-5 : (t : ℕ) → interval-lts.Need-same-length-5 (interval-calls t) (interval-at t) interval.Post
+interval-same-length-5 t c = c .before .before .put-row .kept .0 ∙
+    (c .before .before .before .before .before .before .before .before .before .before .before .before .before .compared2 .kept .1 .0 ∙
+    (c .before .before .before .before .before .before .before .before .before .before .before .before .before .before .before .before .before .before .before .before .compared
+    .kept .1 .0 ∙ c .before .before .before .before .before .before .before .before .before .before .before .before .before .before .before .before .before .before .before
+    .before .before .before .before .before .before .before .before .sum .kept .1 .0))
+
+interval-returns-5 : (t : ℕ) → interval-lts.Need-returns-5 (interval-calls t) (interval-at t) interval.Post
+interval-returns-5 t c =
+    interval-whole (c .before .before .before .before .before .before .before .before .before .before .before .before .before .before .before .before .before .before .before
+    .before .before .before .before .before .before .before .before .before .before .before .before .pre .1 .0)
+    (c .before .before .before .before .before .before .before .before .before .before .before .before .before .before .before .before .before .before .before .before .before
+    .before .before .before .before .before .before .before .before .before .before .pre .1 .1)
+    (c .before .before .before .before .before .before .before .before .before .before .before .before .before .before .before .before .before .before .before .before .before
+    .before .before .before .before .before .before .sum .ensures)
+    (c .before .before .before .before .before .before .before .before .before .before .before .before .before .before .before .before .before .before .before .before .before
+    .before .before .low .given .1) (c .before .before .before .before .before .before .before .before .before .before .before .before .before .before .before .before .before
+    .before .before .before .compared .ensures) (c .before .before .before .before .before .before .before .before .before .before .before .before .before .before .before
+    .before .item .given .1) (c .before .before .before .before .before .before .before .before .before .before .before .before .before .compared2 .ensures)
+    (c .before .before .before .before .before .before .before .before .before .high .given .1)
+    (c .before .before .before .before .before .before .before .expect .ensures) (c .before .before .before .before .before .end .given .1) (c .before .before .put-row .ensures)
+
+operand-token-requires : (t : ℕ) → operand-lts.Need-token-requires (operand-calls t) (operand-at t) operand.Post
 operand-token-requires t c κs = search needs
 
-operand-is-qualified-requires : (t : ℕ) → operand-lts.Need-is-qualified-requires (
-  token-reads.Asked,
-  token-reads.Learnt,
-  is-qualified-reads.Asked,
-  is-qualified-reads.Learnt,
-  leaf-reads.Asked,
-  leaf-reads.Learnt,
-  interval-below t,
-  interval.Post,
-  is-sign-reads.Asked,
-  is-sign-reads.Learnt,
-  signed-below t,
-  signed.Post,
-  atom-below t,
-  atom.Post,
-) (operand-at t) operand.Post
-operand-is-qualified-requires t c κs = omega (arith, c .before .before .before .pre .1 .small, c .before .before .before .pre .1 .within)
+operand-is-qualified-requires : (t : ℕ) → operand-lts.Need-is-qualified-requires (operand-calls t) (operand-at t) operand.Post
+operand-is-qualified-requires t c κs = token-small (c .before .before .before .pre .1)
 
-operand-add-t9 : (t : ℕ) → operand-lts.Need-add-t9 (
-  token-reads.Asked,
-  token-reads.Learnt,
-  is-qualified-reads.Asked,
-  is-qualified-reads.Learnt,
-  leaf-reads.Asked,
-  leaf-reads.Learnt,
-  interval-below t,
-  interval.Post,
-  is-sign-reads.Asked,
-  is-sign-reads.Learnt,
-  signed-below t,
-  signed.Post,
-  atom-below t,
-  atom.Post,
-) (operand-at t) operand.Post
-operand-add-t9 t c = omega (arith, c .before .before .before .before .before .before .pre .1 .small, c .before .before .before .before .before .before .pre .1 .within)
+operand-qualified-requires : (t : ℕ) → operand-lts.Need-qualified-requires (operand-calls t) (operand-at t) operand.Post
+operand-qualified-requires t c κs = (c .before .before .before .before .before .before .pre .1, sym (c .before .before .is-qualified .ensures) ∙ c .before .if1 .taken)
 
-operand-leaf-requires : (t : ℕ) → operand-lts.Need-leaf-requires (
-  token-reads.Asked,
-  token-reads.Learnt,
-  is-qualified-reads.Asked,
-  is-qualified-reads.Learnt,
-  leaf-reads.Asked,
-  leaf-reads.Learnt,
-  interval-below t,
-  interval.Post,
-  is-sign-reads.Asked,
-  is-sign-reads.Learnt,
-  signed-below t,
-  signed.Post,
-  atom-below t,
-  atom.Post,
-) (operand-at t) operand.Post
-operand-leaf-requires t c κs = (item-ready (c .before .before .before .before .before .before .pre .1) (c .before .before .is-qualified .result) (c .before .before .is-qualified .ensures) (c .before .if1 .taken), omega arith)
-
-operand-same-length : (t : ℕ) → operand-lts.Need-same-length (
-  token-reads.Asked,
-  token-reads.Learnt,
-  is-qualified-reads.Asked,
-  is-qualified-reads.Learnt,
-  leaf-reads.Asked,
-  leaf-reads.Learnt,
-  interval-below t,
-  interval.Post,
-  is-sign-reads.Asked,
-  is-sign-reads.Learnt,
-  signed-below t,
-  signed.Post,
-  atom-below t,
-  atom.Post,
-) (operand-at t) operand.Post
+operand-same-length : (t : ℕ) → operand-lts.Need-same-length (operand-calls t) (operand-at t) operand.Post
 operand-same-length t c = search needs
 
-operand-returns : (t : ℕ) → operand-lts.Need-returns (
-  token-reads.Asked,
-  token-reads.Learnt,
-  is-qualified-reads.Asked,
-  is-qualified-reads.Learnt,
-  leaf-reads.Asked,
-  leaf-reads.Learnt,
-  interval-below t,
-  interval.Post,
-  is-sign-reads.Asked,
-  is-sign-reads.Learnt,
-  signed-below t,
-  signed.Post,
-  atom-below t,
-  atom.Post,
-) (operand-at t) operand.Post
-operand-returns t c = operand-item (c .before .before .before .before .before .before .before .before .before .pre .1) (c .before .before .before .before .before .is-qualified .result) (c .before .before .before .before .before .is-qualified .ensures) (c .before .before .before .before .if1 .taken) (c .before .before .leaf .ensures)
+operand-returns : (t : ℕ) → operand-lts.Need-returns (operand-calls t) (operand-at t) operand.Post
+operand-returns t c = c .before .before .qualified .ensures
 
-operand-interval-requires : (t : ℕ) → operand-lts.Need-interval-requires (
-  token-reads.Asked,
-  token-reads.Learnt,
-  is-qualified-reads.Asked,
-  is-qualified-reads.Learnt,
-  leaf-reads.Asked,
-  leaf-reads.Learnt,
-  interval-below t,
-  interval.Post,
-  is-sign-reads.Asked,
-  is-sign-reads.Learnt,
-  signed-below t,
-  signed.Post,
-  atom-below t,
-  atom.Post,
-) (operand-at t) operand.Post
-operand-interval-requires t c κs = (omega (arith, c .before .before .before .before .before .before .before .pre .0), (c .before .before .before .before .before .before .before .pre .1, sym (c .before .before .before .before .token .ensures) ∙ c .before .if2 .taken))
+operand-interval-requires : (t : ℕ) → operand-lts.Need-interval-requires (operand-calls t) (operand-at t) operand.Post
+operand-interval-requires t c κs = (
+  omega (arith, c .before .before .before .before .before .before .before .pre .0),
+  (c .before .before .before .before .before .before .before .pre .1, sym (c .before .before .before .before .token .ensures) ∙ c .before .if2 .taken),
+)
 
-operand-same-length-2 : (t : ℕ) → operand-lts.Need-same-length-2 (
-  token-reads.Asked,
-  token-reads.Learnt,
-  is-qualified-reads.Asked,
-  is-qualified-reads.Learnt,
-  leaf-reads.Asked,
-  leaf-reads.Learnt,
-  interval-below t,
-  interval.Post,
-  is-sign-reads.Asked,
-  is-sign-reads.Learnt,
-  signed-below t,
-  signed.Post,
-  atom-below t,
-  atom.Post,
-) (operand-at t) operand.Post
+operand-same-length-2 : (t : ℕ) → operand-lts.Need-same-length-2 (operand-calls t) (operand-at t) operand.Post
 operand-same-length-2 t c = search needs
 
-operand-returns-2 : (t : ℕ) → operand-lts.Need-returns-2 (
-  token-reads.Asked,
-  token-reads.Learnt,
-  is-qualified-reads.Asked,
-  is-qualified-reads.Learnt,
-  leaf-reads.Asked,
-  leaf-reads.Learnt,
-  interval-below t,
-  interval.Post,
-  is-sign-reads.Asked,
-  is-sign-reads.Learnt,
-  signed-below t,
-  signed.Post,
-  atom-below t,
-  atom.Post,
-) (operand-at t) operand.Post
-operand-returns-2 t c = operand-interval (c .before .before .before .before .before .before .before .before .before .before .pre .1) (c .before .before .before .before .before .before .is-qualified .result) (c .before .before .before .before .before .before .is-qualified .ensures) (c .before .before .before .before .before .if1 .left) (c .before .before .before .before .before .before .before .token .result) (c .before .before .before .before .before .before .before .token .ensures) (c .before .before .before .before .if2 .taken) (c .before .before .interval .ensures)
+operand-returns-2 : (t : ℕ) → operand-lts.Need-returns-2 (operand-calls t) (operand-at t) operand.Post
+operand-returns-2 t c = operand-interval (c .before .before .before .before .before .before .before .before .before .before .pre .1)
+    (c .before .before .before .before .before .before .is-qualified .result) (c .before .before .before .before .before .before .is-qualified .ensures)
+    (c .before .before .before .before .before .if1 .left) (c .before .before .before .before .before .before .before .token .result)
+    (c .before .before .before .before .before .before .before .token .ensures) (c .before .before .before .before .if2 .taken) (c .before .before .interval .ensures)
 
-operand-is-sign-requires : (t : ℕ) → operand-lts.Need-is-sign-requires (
-  token-reads.Asked,
-  token-reads.Learnt,
-  is-qualified-reads.Asked,
-  is-qualified-reads.Learnt,
-  leaf-reads.Asked,
-  leaf-reads.Learnt,
-  interval-below t,
-  interval.Post,
-  is-sign-reads.Asked,
-  is-sign-reads.Learnt,
-  signed-below t,
-  signed.Post,
-  atom-below t,
-  atom.Post,
-) (operand-at t) operand.Post
+operand-is-sign-requires : (t : ℕ) → operand-lts.Need-is-sign-requires (operand-calls t) (operand-at t) operand.Post
 operand-is-sign-requires t c κs = search needs
 
-operand-signed-requires : (t : ℕ) → operand-lts.Need-signed-requires (
-  token-reads.Asked,
-  token-reads.Learnt,
-  is-qualified-reads.Asked,
-  is-qualified-reads.Learnt,
-  leaf-reads.Asked,
-  leaf-reads.Learnt,
-  interval-below t,
-  interval.Post,
-  is-sign-reads.Asked,
-  is-sign-reads.Learnt,
-  signed-below t,
-  signed.Post,
-  atom-below t,
-  atom.Post,
-) (operand-at t) operand.Post
-operand-signed-requires t c κs = (omega (arith, c .before .before .before .before .before .before .before .before .before .pre .0), (c .before .before .before .before .before .before .before .before .before .pre .1, seen (c .before .before .before .before .before .before .before .before .before .args .codes .now) (c .before .before .before .before .before .before .before .before .before .args .p) signs (c .before .before .before .before .before .before .token .ensures) (c .before .before .is-sign .ensures) (c .before .if3 .taken)))
+operand-signed-requires : (t : ℕ) → operand-lts.Need-signed-requires (operand-calls t) (operand-at t) operand.Post
+operand-signed-requires t c κs = (
+  omega (arith, c .before .before .before .before .before .before .before .before .before .pre .0),
+  (
+    c .before .before .before .before .before .before .before .before .before .pre .1,
+    seen
+        (c .before .before .before .before .before .before .before .before .before .args .terminals .now)
+        (c .before .before .before .before .before .before .before .before .before .args .p) signs (c .before .before .before .before .before .before .token .ensures)
+        (c .before .before .is-sign .ensures) (c .before .if3 .taken),
+  ),
+)
 
-operand-same-length-3 : (t : ℕ) → operand-lts.Need-same-length-3 (
-  token-reads.Asked,
-  token-reads.Learnt,
-  is-qualified-reads.Asked,
-  is-qualified-reads.Learnt,
-  leaf-reads.Asked,
-  leaf-reads.Learnt,
-  interval-below t,
-  interval.Post,
-  is-sign-reads.Asked,
-  is-sign-reads.Learnt,
-  signed-below t,
-  signed.Post,
-  atom-below t,
-  atom.Post,
-) (operand-at t) operand.Post
+operand-same-length-3 : (t : ℕ) → operand-lts.Need-same-length-3 (operand-calls t) (operand-at t) operand.Post
 operand-same-length-3 t c = search needs
 
-operand-returns-3 : (t : ℕ) → operand-lts.Need-returns-3 (
-  token-reads.Asked,
-  token-reads.Learnt,
-  is-qualified-reads.Asked,
-  is-qualified-reads.Learnt,
-  leaf-reads.Asked,
-  leaf-reads.Learnt,
-  interval-below t,
-  interval.Post,
-  is-sign-reads.Asked,
-  is-sign-reads.Learnt,
-  signed-below t,
-  signed.Post,
-  atom-below t,
-  atom.Post,
-) (operand-at t) operand.Post
+operand-returns-3 : (t : ℕ) → operand-lts.Need-returns-3 (operand-calls t) (operand-at t) operand.Post
 operand-returns-3 t c = c .before .before .signed .ensures
 
-operand-atom-requires : (t : ℕ) → operand-lts.Need-atom-requires (
-  token-reads.Asked,
-  token-reads.Learnt,
-  is-qualified-reads.Asked,
-  is-qualified-reads.Learnt,
-  leaf-reads.Asked,
-  leaf-reads.Learnt,
-  interval-below t,
-  interval.Post,
-  is-sign-reads.Asked,
-  is-sign-reads.Learnt,
-  signed-below t,
-  signed.Post,
-  atom-below t,
-  atom.Post,
-) (operand-at t) operand.Post
-operand-atom-requires t c κs = (omega (arith, c .before .before .before .before .before .before .before .before .before .pre .0), c .before .before .before .before .before .before .before .before .before .pre .1)
+operand-atom-requires : (t : ℕ) → operand-lts.Need-atom-requires (operand-calls t) (operand-at t) operand.Post
+operand-atom-requires t c κs = (
+  omega (arith, c .before .before .before .before .before .before .before .before .before .pre .0),
+  c .before .before .before .before .before
+      .before .before .before .before .pre .1,
+)
 
-operand-same-length-4 : (t : ℕ) → operand-lts.Need-same-length-4 (
-  token-reads.Asked,
-  token-reads.Learnt,
-  is-qualified-reads.Asked,
-  is-qualified-reads.Learnt,
-  leaf-reads.Asked,
-  leaf-reads.Learnt,
-  interval-below t,
-  interval.Post,
-  is-sign-reads.Asked,
-  is-sign-reads.Learnt,
-  signed-below t,
-  signed.Post,
-  atom-below t,
-  atom.Post,
-) (operand-at t) operand.Post
+operand-same-length-4 : (t : ℕ) → operand-lts.Need-same-length-4 (operand-calls t) (operand-at t) operand.Post
 operand-same-length-4 t c = search needs
 
-operand-returns-4 : (t : ℕ) → operand-lts.Need-returns-4 (
-  token-reads.Asked,
-  token-reads.Learnt,
-  is-qualified-reads.Asked,
-  is-qualified-reads.Learnt,
-  leaf-reads.Asked,
-  leaf-reads.Learnt,
-  interval-below t,
-  interval.Post,
-  is-sign-reads.Asked,
-  is-sign-reads.Learnt,
-  signed-below t,
-  signed.Post,
-  atom-below t,
-  atom.Post,
-) (operand-at t) operand.Post
-operand-returns-4 t c = operand-plain (c .before .before .before .before .before .before .before .before .before .before .before .before .pre .1) (c .before .before .before .before .before .before .before .before .is-qualified .result) (c .before .before .before .before .before .before .before .before .is-qualified .ensures) (c .before .before .before .before .before .before .before .if1 .left) (c .before .before .before .before .before .before .before .before .before .token .result) (c .before .before .before .before .before .before .before .before .before .token .ensures) (c .before .before .before .before .before .before .if2 .left) (c .before .before .before .before .before .is-sign .result) (c .before .before .before .before .before .is-sign .ensures) (c .before .before .before .before .if3 .left) (c .before .before .atom .ensures)
+operand-returns-4 : (t : ℕ) → operand-lts.Need-returns-4 (operand-calls t) (operand-at t) operand.Post
+operand-returns-4 t c =
+    operand-plain (c .before .before .before .before .before .before .before .before .before .before .before .before .pre .1)
+    (c .before .before .before .before .before .before .before .before .is-qualified .result)
+    (c .before .before .before .before .before .before .before .before .is-qualified .ensures) (c .before .before .before .before .before .before .before .if1 .left)
+    (c .before .before .before .before .before .before .before .before .before .token .result)
+    (c .before .before .before .before .before .before .before .before .before .token .ensures) (c .before .before .before .before .before .before .if2 .left)
+    (c .before .before .before .before .before .is-sign .result) (c .before .before .before .before .before .is-sign .ensures) (c .before .before .before .before .if3 .left)
+    (c .before .before .atom .ensures)
+
+signed-add-atom : (t : ℕ) → signed-lts.Need-add-atom (signed-calls t) (signed-at t) signed.Post
+signed-add-atom t c = omega (arith, token-small (c .before .before .before .pre .1 .0))
+
+signed-atom-requires : (t : ℕ) → signed-lts.Need-atom-requires (signed-calls t) (signed-at t) signed.Post
+signed-atom-requires t c κs =
+    let g = sign-ready (c .before .before .before .pre .1 .0) (c .before .before .before .pre .1 .1) in
+    (omega (arith, c .before .before .before .pre .0, g .within), g)
+
+signed-enum-known-inner : (t : ℕ) → signed-lts.Need-enum-known-inner (signed-calls t) (signed-at t) signed.Post
+signed-enum-known-inner t c = search needs
+
+signed-enum-told : (t : ℕ) → signed-lts.Need-enum-told (signed-calls t) (signed-at t) signed.Post
+signed-enum-told t c = search needs
+
+signed-same-length : (t : ℕ) → signed-lts.Need-same-length (signed-calls t) (signed-at t) signed.Post
+signed-same-length t c = search needs
+
+signed-returns : (t : ℕ) → signed-lts.Need-returns (signed-calls t) (signed-at t) signed.Post
+signed-returns t c = signed-refused (c .before .before .before .before .before .before .before .before .pre .1 .0)
+    (c .before .before .before .before .before .before .before .before .pre .1 .1) (c .before .before .before .before .atom .ensures) (c .enum-told .given .1)
+
+signed-put-row-requires : (t : ℕ) → signed-lts.Need-put-row-requires (signed-calls t) (signed-at t) signed.Post
+signed-put-row-requires t c κs = search needs
+
+signed-add-t10 : (t : ℕ) → signed-lts.Need-add-t10 (signed-calls t) (signed-at t) signed.Post
+signed-add-t10 t c = omega (
+  arith,
+  sign-count (c .before .before .before .before .before .before .before .before .before .before .before .before .before .pre .1 .0)
+      (c .before .before .before .before .before .before .before .before .before .before .before .before .before .pre .1 .1)
+      (c .before .before .before .before .before .before .before .before .before .atom .ensures) (c .before .before .before .before .before .inner .given .1),
+)
+
+signed-same-length-2 : (t : ℕ) → signed-lts.Need-same-length-2 (signed-calls t) (signed-at t) signed.Post
+signed-same-length-2 t c = search needs
+
+signed-returns-2 : (t : ℕ) → signed-lts.Need-returns-2 (signed-calls t) (signed-at t) signed.Post
+signed-returns-2 t c = signed-row (c .before .before .before .before .before .before .before .before .before .before .before .before .before .pre .1 .0)
+    (c .before .before .before .before .before .before .before .before .before .before .before .before .before .pre .1 .1)
+    (c .before .before .before .before .before .before .before .before .before .atom .ensures) (c .before .before .before .before .before .inner .given .1)
+    (c .before .before .put-row .ensures)
 
 abbrev sum-Inv-loop : sum-lts.InvT-loop
-sum-Inv-loop codes rows₀ p n q₀ m₀ rows q m = (length rows ≡ length rows₀) × Before sum′ term′ additions (again additions term′) codes p n rows₀ q m rows
+sum-Inv-loop terminals rows₀ p n q₀ m₀ rows q m = (length rows ≡ length rows₀) × Before sum′ term′ additions (again additions term′) terminals p n rows₀ q m rows
 
 abbrev sum-μ-loop : sum-lts.MeasureT-loop
-sum-μ-loop codes rows₀ p n q₀ m₀ rows q m = length codes - q
+sum-μ-loop terminals rows₀ p n q₀ m₀ rows q m = length terminals - q
 
-sum-loop-holds : (t : ℕ) → sum-lts.Need-loop-holds (
-  term-below t,
-  term.Post,
-  combined-reads.Asked,
-  combined-reads.Learnt,
-  token-reads.Asked,
-  token-reads.Learnt,
-  is-addition-reads.Asked,
-  is-addition-reads.Learnt,
-) (sum-at t) sum.Post sum-Inv-loop sum-μ-loop
+sum-loop-holds : (t : ℕ) → sum-lts.Need-loop-holds (sum-calls t) (sum-at t) sum.Post sum-Inv-loop sum-μ-loop
 sum-loop-holds t c = (refl, before-first (c .before .before .pre .1))
 
-sum-term-requires : (t : ℕ) → sum-lts.Need-term-requires (
-  term-below t,
-  term.Post,
-  combined-reads.Asked,
-  combined-reads.Learnt,
-  token-reads.Asked,
-  token-reads.Learnt,
-  is-addition-reads.Asked,
-  is-addition-reads.Learnt,
-) (sum-at t) sum.Post sum-Inv-loop sum-μ-loop
+sum-term-requires : (t : ℕ) → sum-lts.Need-term-requires (sum-calls t) (sum-at t) sum.Post sum-Inv-loop sum-μ-loop
 sum-term-requires t c κs = (omega (arith, c .before .before .before .before .pre .0, c .before .loop .inv .1 .from), c .before .loop .inv .1 .ready)
 
-sum-enum-known-right : (t : ℕ) → sum-lts.Need-enum-known-right (
-  term-below t,
-  term.Post,
-  combined-reads.Asked,
-  combined-reads.Learnt,
-  token-reads.Asked,
-  token-reads.Learnt,
-  is-addition-reads.Asked,
-  is-addition-reads.Learnt,
-) (sum-at t) sum.Post sum-Inv-loop sum-μ-loop
+sum-enum-known-right : (t : ℕ) → sum-lts.Need-enum-known-right (sum-calls t) (sum-at t) sum.Post sum-Inv-loop sum-μ-loop
 sum-enum-known-right t c = search needs
 
-sum-enum-told : (t : ℕ) → sum-lts.Need-enum-told (
-  term-below t,
-  term.Post,
-  combined-reads.Asked,
-  combined-reads.Learnt,
-  token-reads.Asked,
-  token-reads.Learnt,
-  is-addition-reads.Asked,
-  is-addition-reads.Learnt,
-) (sum-at t) sum.Post sum-Inv-loop sum-μ-loop
+sum-enum-told : (t : ℕ) → sum-lts.Need-enum-told (sum-calls t) (sum-at t) sum.Post sum-Inv-loop sum-μ-loop
 sum-enum-told t c = search needs
 
-sum-same-length : (t : ℕ) → sum-lts.Need-same-length (
-  term-below t,
-  term.Post,
-  combined-reads.Asked,
-  combined-reads.Learnt,
-  token-reads.Asked,
-  token-reads.Learnt,
-  is-addition-reads.Asked,
-  is-addition-reads.Learnt,
-) (sum-at t) sum.Post sum-Inv-loop sum-μ-loop
+sum-same-length : (t : ℕ) → sum-lts.Need-same-length (sum-calls t) (sum-at t) sum.Post sum-Inv-loop sum-μ-loop
 sum-same-length t c = search needs
 
-sum-returns : (t : ℕ) → sum-lts.Need-returns (
-  term-below t,
-  term.Post,
-  combined-reads.Asked,
-  combined-reads.Learnt,
-  token-reads.Asked,
-  token-reads.Learnt,
-  is-addition-reads.Asked,
-  is-addition-reads.Learnt,
-) (sum-at t) sum.Post sum-Inv-loop sum-μ-loop
-sum-returns t c = often-refused sum′ term′ additions refl (express .ok sum′ .1) (c .before .before .before .before .before .before .before .before .before .pre .1) (c .before .before .before .before .before .before .loop .inv .1) (c .before .before .before .before .term .ensures) (c .enum-told .given .1)
+sum-returns : (t : ℕ) → sum-lts.Need-returns (sum-calls t) (sum-at t) sum.Post sum-Inv-loop sum-μ-loop
+sum-returns t c = often-refused sum′ term′ additions refl (express .ok sum′ .1) (c .before .before .before .before .before .before .before .before .before .pre .1)
+    (c .before .before .before .before .before .before .loop .inv .1) (c .before .before .before .before .term .ensures) (c .enum-told .given .1)
 
-sum-combined-requires : (t : ℕ) → sum-lts.Need-combined-requires (
-  term-below t,
-  term.Post,
-  combined-reads.Asked,
-  combined-reads.Learnt,
-  token-reads.Asked,
-  token-reads.Learnt,
-  is-addition-reads.Asked,
-  is-addition-reads.Learnt,
-) (sum-at t) sum.Post sum-Inv-loop sum-μ-loop
-sum-combined-requires t c κs = combinable (c .before .before .before .before .before .before .before .before .loop .inv .1) (c .before .before .before .before .before .before .term .ensures) (c .before .before .right .given .1)
+sum-combined-requires : (t : ℕ) → sum-lts.Need-combined-requires (sum-calls t) (sum-at t) sum.Post sum-Inv-loop sum-μ-loop
+sum-combined-requires t c κs = combinable (c .before .before .before .before .before .before .before .before .loop .inv .1)
+    (c .before .before .before .before .before .before .term .ensures) (c .before .before .right .given .1)
 
-sum-token-requires : (t : ℕ) → sum-lts.Need-token-requires (
-  term-below t,
-  term.Post,
-  combined-reads.Asked,
-  combined-reads.Learnt,
-  token-reads.Asked,
-  token-reads.Learnt,
-  is-addition-reads.Asked,
-  is-addition-reads.Learnt,
-) (sum-at t) sum.Post sum-Inv-loop sum-μ-loop
+sum-token-requires : (t : ℕ) → sum-lts.Need-token-requires (sum-calls t) (sum-at t) sum.Post sum-Inv-loop sum-μ-loop
 sum-token-requires t c κs = search needs
 
-sum-is-addition-requires : (t : ℕ) → sum-lts.Need-is-addition-requires (
-  term-below t,
-  term.Post,
-  combined-reads.Asked,
-  combined-reads.Learnt,
-  token-reads.Asked,
-  token-reads.Learnt,
-  is-addition-reads.Asked,
-  is-addition-reads.Learnt,
-) (sum-at t) sum.Post sum-Inv-loop sum-μ-loop
+sum-is-addition-requires : (t : ℕ) → sum-lts.Need-is-addition-requires (sum-calls t) (sum-at t) sum.Post sum-Inv-loop sum-μ-loop
 sum-is-addition-requires t c κs = search needs
 
-sum-same-length-2 : (t : ℕ) → sum-lts.Need-same-length-2 (
-  term-below t,
-  term.Post,
-  combined-reads.Asked,
-  combined-reads.Learnt,
-  token-reads.Asked,
-  token-reads.Learnt,
-  is-addition-reads.Asked,
-  is-addition-reads.Learnt,
-) (sum-at t) sum.Post sum-Inv-loop sum-μ-loop
+sum-same-length-2 : (t : ℕ) → sum-lts.Need-same-length-2 (sum-calls t) (sum-at t) sum.Post sum-Inv-loop sum-μ-loop
 sum-same-length-2 t c = search needs
 
-sum-returns-2 : (t : ℕ) → sum-lts.Need-returns-2 (
-  term-below t,
-  term.Post,
-  combined-reads.Asked,
-  combined-reads.Learnt,
-  token-reads.Asked,
-  token-reads.Learnt,
-  is-addition-reads.Asked,
-  is-addition-reads.Learnt,
-) (sum-at t) sum.Post sum-Inv-loop sum-μ-loop
-sum-returns-2 t c = often-ends sum′ term′ additions refl (express .ok sum′ .1) (c .before .before .before .before .before .before .before .before .before .before .before .before .before .before .before .before .before .pre .1) (c .before .before .before .before .before .before .before .before .before .before .before .before .before .before .loop .inv .1) (c .before .before .before .before .before .before .before .before .before .before .before .before .term .ensures) (c .before .before .before .before .before .before .before .before .right .given .1) (c .before .before .before .before .before .combined .ensures) (seen (c .before .before .before .before .before .before .before .before .before .before .before .before .before .before .before .before .before .args .codes .now) (c .before .before .before .before .before .before .before .before .right .given .0 .0) additions (c .before .before .token .ensures) (c .before .is-addition .ensures) (not-true (c .before .is-addition .result) (c .if1 .taken)))
+sum-returns-2 : (t : ℕ) → sum-lts.Need-returns-2 (sum-calls t) (sum-at t) sum.Post sum-Inv-loop sum-μ-loop
+sum-returns-2 t c =
+    often-ends sum′ term′ additions refl (express .ok sum′ .1) (c .before .before .before .before .before .before .before .before .before .before .before .before .before .before
+    .before .before .before .pre .1) (c .before .before .before .before .before .before .before .before .before .before .before .before .before .before .loop .inv .1)
+    (c .before .before .before .before .before .before .before .before .before .before .before .before .term .ensures)
+    (c .before .before .before .before .before .before .before .before .right .given .1) (c .before .before .before .before .before .combined .ensures)
+    (seen (c .before .before .before .before .before .before .before .before .before .before .before .before .before .before .before .before .before .args .terminals .now)
+    (c .before .before .before .before .before .before .before .before .right .given .0 .0) additions (c .before .before .token .ensures) (c .before .is-addition .ensures)
+    (not-true (c .before .is-addition .result) (c .if1 .taken)))
 
-sum-add-q : (t : ℕ) → sum-lts.Need-add-q (
-  term-below t,
-  term.Post,
-  combined-reads.Asked,
-  combined-reads.Learnt,
-  token-reads.Asked,
-  token-reads.Learnt,
-  is-addition-reads.Asked,
-  is-addition-reads.Learnt,
-) (sum-at t) sum.Post sum-Inv-loop sum-μ-loop
-sum-add-q t c = omega (arith, c .before .before .before .before .before .before .before .before .before .before .before .before .before .before .before .before .before .pre .1 .small, reads-at (c .before .before .before .before .before .before .before .before .before .before .before .before .term .ensures) (c .before .before .before .before .before .before .before .before .right .given .1))
+sum-add-q : (t : ℕ) → sum-lts.Need-add-q (sum-calls t) (sum-at t) sum.Post sum-Inv-loop sum-μ-loop
+sum-add-q t c = omega (
+  arith,
+  c .before .before .before .before .before .before .before .before .before .before .before .before .before .before .before .before .before .pre .1
+      .small,
+  reads-at (c .before .before .before .before .before .before .before .before .before .before .before .before .term .ensures)
+      (c .before .before .before .before .before .before .before .before .right .given .1),
+)
 
-sum-loop-less : (t : ℕ) → sum-lts.Need-loop-less (
-  term-below t,
-  term.Post,
-  combined-reads.Asked,
-  combined-reads.Learnt,
-  token-reads.Asked,
-  token-reads.Learnt,
-  is-addition-reads.Asked,
-  is-addition-reads.Learnt,
-) (sum-at t) sum.Post sum-Inv-loop sum-μ-loop
-sum-loop-less t c = omega (arith, reads-at (c .before .before .before .before .before .before .before .before .before .before .before .before .term .ensures) (c .before .before .before .before .before .before .before .before .right .given .1))
+sum-loop-less : (t : ℕ) → sum-lts.Need-loop-less (sum-calls t) (sum-at t) sum.Post sum-Inv-loop sum-μ-loop
+sum-loop-less t c = omega (
+  arith,
+  reads-at (c .before .before .before .before .before .before .before .before .before .before .before .before .term .ensures)
+      (c .before .before .before .before .before .before .before .before .right .given .1),
+)
 
-sum-loop-again : (t : ℕ) → sum-lts.Need-loop-again (
-  term-below t,
-  term.Post,
-  combined-reads.Asked,
-  combined-reads.Learnt,
-  token-reads.Asked,
-  token-reads.Learnt,
-  is-addition-reads.Asked,
-  is-addition-reads.Learnt,
-) (sum-at t) sum.Post sum-Inv-loop sum-μ-loop
+sum-loop-again : (t : ℕ) → sum-lts.Need-loop-again (sum-calls t) (sum-at t) sum.Post sum-Inv-loop sum-μ-loop
 unfolding mem
-sum-loop-again t c = (search needs, often-again sum′ term′ additions refl (express .ok sum′ .1) (c .before .before .before .before .before .before .before .before .before .before .before .before .before .before .before .before .before .pre .1) (c .before .before .before .before .before .before .before .before .before .before .before .before .before .before .loop .inv .1) (c .before .before .before .before .before .before .before .before .before .before .before .before .term .ensures) (c .before .before .before .before .before .before .before .before .right .given .1) (c .before .before .before .before .before .combined .ensures) refl (seen (c .before .before .before .before .before .before .before .before .before .before .before .before .before .before .before .before .before .args .codes .now) (c .before .before .before .before .before .before .before .before .right .given .0 .0) additions (c .before .before .token .ensures) (c .before .is-addition .ensures) (not-false (c .before .is-addition .result) (c .if1 .left))))
+sum-loop-again t c = (
+  search needs,
+  often-again sum′ term′ additions refl (express .ok sum′ .1) (c .before .before .before .before .before .before .before .before .before .before .before .before .before .before
+      .before .before .before .pre .1) (c .before .before .before .before .before .before .before .before .before .before .before .before .before .before .loop .inv .1)
+      (c .before .before .before .before .before .before .before .before .before .before .before .before .term .ensures)
+      (c .before .before .before .before .before .before .before .before .right .given .1) (c .before .before .before .before .before .combined .ensures) refl
+      (seen (c .before .before .before .before .before .before .before .before .before .before .before .before .before .before .before .before .before .args .terminals .now)
+      (c .before .before .before .before .before .before .before .before .right .given .0 .0) additions (c .before .before .token .ensures) (c .before .is-addition .ensures)
+      (not-false (c .before .is-addition .result) (c .if1 .left))),
+)
 
 abbrev term-Inv-loop : term-lts.InvT-loop
-term-Inv-loop codes rows₀ p n q₀ m₀ rows q m = (length rows ≡ length rows₀) × Before term′ factor′ multiplications (again multiplications factor′) codes p n rows₀ q m rows
+term-Inv-loop terminals rows₀ p n q₀ m₀ rows q m = (length rows ≡ length rows₀) × Before term′ factor′ multiplications (again multiplications factor′) terminals p n rows₀ q m rows
 
 abbrev term-μ-loop : term-lts.MeasureT-loop
-term-μ-loop codes rows₀ p n q₀ m₀ rows q m = length codes - q
+term-μ-loop terminals rows₀ p n q₀ m₀ rows q m = length terminals - q
 
-term-loop-holds : (t : ℕ) → term-lts.Need-loop-holds (
-  factor-below t,
-  factor.Post,
-  combined-reads.Asked,
-  combined-reads.Learnt,
-  token-reads.Asked,
-  token-reads.Learnt,
-  is-multiplication-reads.Asked,
-  is-multiplication-reads.Learnt,
-) (term-at t) term.Post term-Inv-loop term-μ-loop
+term-loop-holds : (t : ℕ) → term-lts.Need-loop-holds (term-calls t) (term-at t) term.Post term-Inv-loop term-μ-loop
 term-loop-holds t c = (refl, before-first (c .before .before .pre .1))
 
-term-factor-requires : (t : ℕ) → term-lts.Need-factor-requires (
-  factor-below t,
-  factor.Post,
-  combined-reads.Asked,
-  combined-reads.Learnt,
-  token-reads.Asked,
-  token-reads.Learnt,
-  is-multiplication-reads.Asked,
-  is-multiplication-reads.Learnt,
-) (term-at t) term.Post term-Inv-loop term-μ-loop
+term-factor-requires : (t : ℕ) → term-lts.Need-factor-requires (term-calls t) (term-at t) term.Post term-Inv-loop term-μ-loop
 term-factor-requires t c κs = (omega (arith, c .before .before .before .before .pre .0, c .before .loop .inv .1 .from), c .before .loop .inv .1 .ready)
 
-term-enum-known-right : (t : ℕ) → term-lts.Need-enum-known-right (
-  factor-below t,
-  factor.Post,
-  combined-reads.Asked,
-  combined-reads.Learnt,
-  token-reads.Asked,
-  token-reads.Learnt,
-  is-multiplication-reads.Asked,
-  is-multiplication-reads.Learnt,
-) (term-at t) term.Post term-Inv-loop term-μ-loop
+term-enum-known-right : (t : ℕ) → term-lts.Need-enum-known-right (term-calls t) (term-at t) term.Post term-Inv-loop term-μ-loop
 term-enum-known-right t c = search needs
 
-term-enum-told : (t : ℕ) → term-lts.Need-enum-told (
-  factor-below t,
-  factor.Post,
-  combined-reads.Asked,
-  combined-reads.Learnt,
-  token-reads.Asked,
-  token-reads.Learnt,
-  is-multiplication-reads.Asked,
-  is-multiplication-reads.Learnt,
-) (term-at t) term.Post term-Inv-loop term-μ-loop
+term-enum-told : (t : ℕ) → term-lts.Need-enum-told (term-calls t) (term-at t) term.Post term-Inv-loop term-μ-loop
 term-enum-told t c = search needs
 
-term-same-length : (t : ℕ) → term-lts.Need-same-length (
-  factor-below t,
-  factor.Post,
-  combined-reads.Asked,
-  combined-reads.Learnt,
-  token-reads.Asked,
-  token-reads.Learnt,
-  is-multiplication-reads.Asked,
-  is-multiplication-reads.Learnt,
-) (term-at t) term.Post term-Inv-loop term-μ-loop
+term-same-length : (t : ℕ) → term-lts.Need-same-length (term-calls t) (term-at t) term.Post term-Inv-loop term-μ-loop
 term-same-length t c = search needs
 
-term-returns : (t : ℕ) → term-lts.Need-returns (
-  factor-below t,
-  factor.Post,
-  combined-reads.Asked,
-  combined-reads.Learnt,
-  token-reads.Asked,
-  token-reads.Learnt,
-  is-multiplication-reads.Asked,
-  is-multiplication-reads.Learnt,
-) (term-at t) term.Post term-Inv-loop term-μ-loop
-term-returns t c = often-refused term′ factor′ multiplications refl (express .ok term′ .1) (c .before .before .before .before .before .before .before .before .before .pre .1) (c .before .before .before .before .before .before .loop .inv .1) (c .before .before .before .before .factor .ensures) (c .enum-told .given .1)
+term-returns : (t : ℕ) → term-lts.Need-returns (term-calls t) (term-at t) term.Post term-Inv-loop term-μ-loop
+term-returns t c = often-refused term′ factor′ multiplications refl (express .ok term′ .1) (c .before .before .before .before .before .before .before .before .before .pre .1)
+    (c .before .before .before .before .before .before .loop .inv .1) (c .before .before .before .before .factor .ensures) (c .enum-told .given .1)
 
-term-combined-requires : (t : ℕ) → term-lts.Need-combined-requires (
-  factor-below t,
-  factor.Post,
-  combined-reads.Asked,
-  combined-reads.Learnt,
-  token-reads.Asked,
-  token-reads.Learnt,
-  is-multiplication-reads.Asked,
-  is-multiplication-reads.Learnt,
-) (term-at t) term.Post term-Inv-loop term-μ-loop
-term-combined-requires t c κs = combinable (c .before .before .before .before .before .before .before .before .loop .inv .1) (c .before .before .before .before .before .before .factor .ensures) (c .before .before .right .given .1)
+term-combined-requires : (t : ℕ) → term-lts.Need-combined-requires (term-calls t) (term-at t) term.Post term-Inv-loop term-μ-loop
+term-combined-requires t c κs = combinable (c .before .before .before .before .before .before .before .before .loop .inv .1)
+    (c .before .before .before .before .before .before .factor .ensures) (c .before .before .right .given .1)
 
-term-token-requires : (t : ℕ) → term-lts.Need-token-requires (
-  factor-below t,
-  factor.Post,
-  combined-reads.Asked,
-  combined-reads.Learnt,
-  token-reads.Asked,
-  token-reads.Learnt,
-  is-multiplication-reads.Asked,
-  is-multiplication-reads.Learnt,
-) (term-at t) term.Post term-Inv-loop term-μ-loop
+term-token-requires : (t : ℕ) → term-lts.Need-token-requires (term-calls t) (term-at t) term.Post term-Inv-loop term-μ-loop
 term-token-requires t c κs = search needs
 
-term-is-multiplication-requires : (t : ℕ) → term-lts.Need-is-multiplication-requires (
-  factor-below t,
-  factor.Post,
-  combined-reads.Asked,
-  combined-reads.Learnt,
-  token-reads.Asked,
-  token-reads.Learnt,
-  is-multiplication-reads.Asked,
-  is-multiplication-reads.Learnt,
-) (term-at t) term.Post term-Inv-loop term-μ-loop
+term-is-multiplication-requires : (t : ℕ) → term-lts.Need-is-multiplication-requires (term-calls t) (term-at t) term.Post term-Inv-loop term-μ-loop
 term-is-multiplication-requires t c κs = search needs
 
-term-same-length-2 : (t : ℕ) → term-lts.Need-same-length-2 (
-  factor-below t,
-  factor.Post,
-  combined-reads.Asked,
-  combined-reads.Learnt,
-  token-reads.Asked,
-  token-reads.Learnt,
-  is-multiplication-reads.Asked,
-  is-multiplication-reads.Learnt,
-) (term-at t) term.Post term-Inv-loop term-μ-loop
+term-same-length-2 : (t : ℕ) → term-lts.Need-same-length-2 (term-calls t) (term-at t) term.Post term-Inv-loop term-μ-loop
 term-same-length-2 t c = search needs
 
-term-returns-2 : (t : ℕ) → term-lts.Need-returns-2 (
-  factor-below t,
-  factor.Post,
-  combined-reads.Asked,
-  combined-reads.Learnt,
-  token-reads.Asked,
-  token-reads.Learnt,
-  is-multiplication-reads.Asked,
-  is-multiplication-reads.Learnt,
-) (term-at t) term.Post term-Inv-loop term-μ-loop
-term-returns-2 t c = often-ends term′ factor′ multiplications refl (express .ok term′ .1) (c .before .before .before .before .before .before .before .before .before .before .before .before .before .before .before .before .before .pre .1) (c .before .before .before .before .before .before .before .before .before .before .before .before .before .before .loop .inv .1) (c .before .before .before .before .before .before .before .before .before .before .before .before .factor .ensures) (c .before .before .before .before .before .before .before .before .right .given .1) (c .before .before .before .before .before .combined .ensures) (seen (c .before .before .before .before .before .before .before .before .before .before .before .before .before .before .before .before .before .args .codes .now) (c .before .before .before .before .before .before .before .before .right .given .0 .0) multiplications (c .before .before .token .ensures) (c .before .is-multiplication .ensures) (not-true (c .before .is-multiplication .result) (c .if1 .taken)))
+term-returns-2 : (t : ℕ) → term-lts.Need-returns-2 (term-calls t) (term-at t) term.Post term-Inv-loop term-μ-loop
+term-returns-2 t c =
+    often-ends term′ factor′ multiplications refl (express .ok term′ .1)
+    (c .before .before .before .before .before .before .before .before .before .before .before .before .before .before .before .before .before .pre .1)
+    (c .before .before .before .before .before .before .before .before .before .before .before .before .before .before .loop .inv .1)
+    (c .before .before .before .before .before .before .before .before .before .before .before .before .factor .ensures)
+    (c .before .before .before .before .before .before .before .before .right .given .1) (c .before .before .before .before .before .combined .ensures)
+    (seen (c .before .before .before .before .before .before .before .before .before .before .before .before .before .before .before .before .before .args .terminals .now)
+    (c .before .before .before .before .before .before .before .before .right .given .0 .0) multiplications (c .before .before .token .ensures)
+    (c .before .is-multiplication .ensures) (not-true (c .before .is-multiplication .result) (c .if1 .taken)))
 
-term-add-q : (t : ℕ) → term-lts.Need-add-q (
-  factor-below t,
-  factor.Post,
-  combined-reads.Asked,
-  combined-reads.Learnt,
-  token-reads.Asked,
-  token-reads.Learnt,
-  is-multiplication-reads.Asked,
-  is-multiplication-reads.Learnt,
-) (term-at t) term.Post term-Inv-loop term-μ-loop
-term-add-q t c = omega (arith, c .before .before .before .before .before .before .before .before .before .before .before .before .before .before .before .before .before .pre .1 .small, reads-at (c .before .before .before .before .before .before .before .before .before .before .before .before .factor .ensures) (c .before .before .before .before .before .before .before .before .right .given .1))
+term-add-q : (t : ℕ) → term-lts.Need-add-q (term-calls t) (term-at t) term.Post term-Inv-loop term-μ-loop
+term-add-q t c = omega (
+  arith,
+  c .before .before .before .before .before .before .before .before .before .before .before .before .before .before .before .before .before .pre .1
+      .small,
+  reads-at (c .before .before .before .before .before .before .before .before .before .before .before .before .factor .ensures)
+      (c .before .before .before .before .before .before .before .before .right .given .1),
+)
 
-term-loop-less : (t : ℕ) → term-lts.Need-loop-less (
-  factor-below t,
-  factor.Post,
-  combined-reads.Asked,
-  combined-reads.Learnt,
-  token-reads.Asked,
-  token-reads.Learnt,
-  is-multiplication-reads.Asked,
-  is-multiplication-reads.Learnt,
-) (term-at t) term.Post term-Inv-loop term-μ-loop
-term-loop-less t c = omega (arith, reads-at (c .before .before .before .before .before .before .before .before .before .before .before .before .factor .ensures) (c .before .before .before .before .before .before .before .before .right .given .1))
+term-loop-less : (t : ℕ) → term-lts.Need-loop-less (term-calls t) (term-at t) term.Post term-Inv-loop term-μ-loop
+term-loop-less t c = omega (
+  arith,
+  reads-at (c .before .before .before .before .before .before .before .before .before .before .before .before .factor .ensures)
+      (c .before .before .before .before .before .before .before .before .right .given .1),
+)
 
-term-loop-again : (t : ℕ) → term-lts.Need-loop-again (
-  factor-below t,
-  factor.Post,
-  combined-reads.Asked,
-  combined-reads.Learnt,
-  token-reads.Asked,
-  token-reads.Learnt,
-  is-multiplication-reads.Asked,
-  is-multiplication-reads.Learnt,
-) (term-at t) term.Post term-Inv-loop term-μ-loop
+term-loop-again : (t : ℕ) → term-lts.Need-loop-again (term-calls t) (term-at t) term.Post term-Inv-loop term-μ-loop
 unfolding mem
-term-loop-again t c = (search needs, often-again term′ factor′ multiplications refl (express .ok term′ .1) (c .before .before .before .before .before .before .before .before .before .before .before .before .before .before .before .before .before .pre .1) (c .before .before .before .before .before .before .before .before .before .before .before .before .before .before .loop .inv .1) (c .before .before .before .before .before .before .before .before .before .before .before .before .factor .ensures) (c .before .before .before .before .before .before .before .before .right .given .1) (c .before .before .before .before .before .combined .ensures) refl (seen (c .before .before .before .before .before .before .before .before .before .before .before .before .before .before .before .before .before .args .codes .now) (c .before .before .before .before .before .before .before .before .right .given .0 .0) multiplications (c .before .before .token .ensures) (c .before .is-multiplication .ensures) (not-false (c .before .is-multiplication .result) (c .if1 .left))))
+term-loop-again t c = (
+  search needs,
+  often-again term′ factor′ multiplications refl (express .ok term′ .1)
+      (c .before .before .before .before .before .before .before .before .before .before .before .before .before .before .before .before .before .pre .1)
+      (c .before .before .before .before .before .before .before .before .before .before .before .before .before .before .loop .inv .1)
+      (c .before .before .before .before .before .before .before .before .before .before .before .before .factor .ensures)
+      (c .before .before .before .before .before .before .before .before .right .given .1) (c .before .before .before .before .before .combined .ensures) refl
+      (seen (c .before .before .before .before .before .before .before .before .before .before .before .before .before .before .before .before .before .args .terminals .now)
+      (c .before .before .before .before .before .before .before .before .right .given .0 .0) multiplications (c .before .before .token .ensures)
+      (c .before .is-multiplication .ensures) (not-false (c .before .is-multiplication .result) (c .if1 .left))),
+)
 
 pub +atom+compared+expression+factor+interval+operand+signed+sum+term-spec :
     {M : Type 1} → statement M
@@ -1756,18 +1019,7 @@ pub +atom+compared+expression+factor+interval+operand+signed+sum+term-spec :
     μ-signed
     μ-sum
     μ-term
-    (λ t. atom-lts.spec (
-      token-reads.Asked,
-      token-reads.Learnt,
-      expression-below t,
-      expression.Post,
-      atom-label-reads.Asked,
-      atom-label-reads.Learnt,
-      packed-reads.Asked,
-      packed-reads.Learnt,
-      put-reads.Asked,
-      put-reads.Learnt,
-    )
+    (λ t. atom-lts.spec (atom-calls t)
     (atom-at t)
     atom.Post
     (atom-token-requires t)
@@ -1777,54 +1029,29 @@ pub +atom+compared+expression+factor+interval+operand+signed+sum+term-spec :
     (atom-enum-told t)
     (atom-same-length t)
     (atom-returns t)
-    (atom-token-requires-2 t)
-    (atom-add-t16 t)
+    (atom-expect-requires t)
     (atom-same-length-2 t)
     (atom-returns-2 t)
-    (atom-same-length-3 t)
-    (atom-returns-3 t)
     (atom-atom-label-requires t)
-    (atom-returns-4 t)
-    (atom-packed-requires t)
-    (atom-put-requires t)
-    (atom-add-t21 t)
-    (atom-add-t22 t)
-    (atom-same-length-4 t)
-    (atom-returns-5 t))
-    (λ t. compared-lts.spec (
-      token-reads.Asked,
-      token-reads.Learnt,
-      is-comparison-reads.Asked,
-      is-comparison-reads.Learnt,
-      packed-reads.Asked,
-      packed-reads.Learnt,
-      put-reads.Asked,
-      put-reads.Learnt,
-      sum-below t,
-      sum.Post,
-    )
+    (atom-returns-3 t)
+    (atom-put-row-requires t)
+    (atom-add-t17 t)
+    (atom-add-t18 t)
+    (atom-same-length-3 t)
+    (atom-returns-4 t))
+    (λ t. compared-lts.spec (compared-calls t)
     (compared-at t)
     compared.Post
     (compared-token-requires t)
     (compared-is-comparison-requires t)
-    (compared-packed-requires t)
-    (compared-put-requires t)
+    (compared-put-row-requires t)
     (compared-add-sum t)
     (compared-add-sum-2 t)
     (compared-sum-requires t)
     (compared-same-length t)
     (compared-returns t)
     (compared-returns-2 t))
-    (λ t. expression-lts.spec (
-      sum-below t,
-      sum.Post,
-      token-reads.Asked,
-      token-reads.Learnt,
-      is-relation-reads.Asked,
-      is-relation-reads.Learnt,
-      node-reads.Asked,
-      node-reads.Learnt,
-    )
+    (λ t. expression-lts.spec (expression-calls t)
     (expression-at t)
     expression.Post
     (expression-sum-requires t)
@@ -1834,50 +1061,40 @@ pub +atom+compared+expression+factor+interval+operand+signed+sum+term-spec :
     (expression-returns t)
     (expression-token-requires t)
     (expression-is-relation-requires t)
-    (expression-add-sum t)
-    (expression-sum-requires-2 t)
-    (expression-node-requires t)
     (expression-same-length-2 t)
     (expression-returns-2 t)
+    (expression-add-sum t)
+    (expression-sum-requires-2 t)
+    (expression-enum-known-right t)
+    (expression-enum-told-2 t)
     (expression-same-length-3 t)
-    (expression-returns-3 t))
-    (λ t. factor-lts.spec (
-      operand-below t,
-      operand.Post,
-      combined-reads.Asked,
-      combined-reads.Learnt,
-      token-reads.Asked,
-      token-reads.Learnt,
-    )
+    (expression-returns-3 t)
+    (expression-put-row-requires t)
+    (expression-add-t18 t)
+    (expression-same-length-4 t)
+    (expression-returns-4 t))
+    (λ t. factor-lts.spec (factor-calls t)
     (factor-at t)
     factor.Post
-    factor-Inv-loop
-    factor-μ-loop
-    (factor-loop-holds t)
     (factor-operand-requires t)
-    (factor-enum-known-right t)
+    (factor-enum-known-left t)
     (factor-enum-told t)
     (factor-same-length t)
     (factor-returns t)
-    (factor-combined-requires t)
+    (factor-token-requires t)
     (factor-same-length-2 t)
     (factor-returns-2 t)
-    (factor-token-requires t)
+    (factor-add-operand t)
+    (factor-operand-requires-2 t)
+    (factor-enum-known-right t)
+    (factor-enum-told-2 t)
     (factor-same-length-3 t)
     (factor-returns-3 t)
-    (factor-add-q t)
-    (factor-loop-less t)
-    (factor-loop-again t))
-    (λ t. interval-lts.spec (
-      sum-below t,
-      sum.Post,
-      compared-below t,
-      compared.Post,
-      expect-reads.Asked,
-      expect-reads.Learnt,
-      node-reads.Asked,
-      node-reads.Learnt,
-    )
+    (factor-put-row-requires t)
+    (factor-add-t17 t)
+    (factor-same-length-4 t)
+    (factor-returns-4 t))
+    (λ t. interval-lts.spec (interval-calls t)
     (interval-at t)
     interval.Post
     (interval-add-sum t)
@@ -1892,32 +1109,25 @@ pub +atom+compared+expression+factor+interval+operand+signed+sum+term-spec :
     (interval-same-length-2 t)
     (interval-returns-2 t)
     (interval-compared-requires-2 t)
-    (interval-expect-requires t)
-    (interval-node-requires t)
+    (interval-enum-known-high t)
+    (interval-enum-told-3 t)
     (interval-same-length-3 t)
-    (interval-returns-3 t))
-    (λ t. operand-lts.spec (
-      token-reads.Asked,
-      token-reads.Learnt,
-      is-qualified-reads.Asked,
-      is-qualified-reads.Learnt,
-      leaf-reads.Asked,
-      leaf-reads.Learnt,
-      interval-below t,
-      interval.Post,
-      is-sign-reads.Asked,
-      is-sign-reads.Learnt,
-      signed-below t,
-      signed.Post,
-      atom-below t,
-      atom.Post,
-    )
+    (interval-returns-3 t)
+    (interval-expect-requires t)
+    (interval-enum-known-end t)
+    (interval-enum-told-4 t)
+    (interval-same-length-4 t)
+    (interval-returns-4 t)
+    (interval-put-row-requires t)
+    (interval-add-t19 t)
+    (interval-same-length-5 t)
+    (interval-returns-5 t))
+    (λ t. operand-lts.spec (operand-calls t)
     (operand-at t)
     operand.Post
     (operand-token-requires t)
     (operand-is-qualified-requires t)
-    (operand-add-t9 t)
-    (operand-leaf-requires t)
+    (operand-qualified-requires t)
     (operand-same-length t)
     (operand-returns t)
     (operand-interval-requires t)
@@ -1930,41 +1140,21 @@ pub +atom+compared+expression+factor+interval+operand+signed+sum+term-spec :
     (operand-atom-requires t)
     (operand-same-length-4 t)
     (operand-returns-4 t))
-    -- Answers that name no callee behind the sign: of another reader there (must-fail) it is what it promises that is refused.
-    (λ t. signed-lts.spec (
-      atom-below t,
-      atom.Post,
-      span-reads.Asked,
-      span-reads.Learnt,
-      packed-reads.Asked,
-      packed-reads.Learnt,
-      put-reads.Asked,
-      put-reads.Learnt,
-    )
+    (λ t. signed-lts.spec
+    (atom-below t, atom.Post, put-row-reads.Asked, put-row-reads.Learnt)
     (signed-at t)
     signed.Post
-    (λ c. omega (arith, c .before .before .before .pre .1 .0 .small, c .before .before .before .pre .1 .0 .within))
-    (λ c κs. (omega (arith, c .before .before .before .pre .0, (sign-ready (c .before .before .before .pre .1 .0) (c .before .before .before .pre .1 .1)) .within), sign-ready (c .before .before .before .pre .1 .0) (c .before .before .before .pre .1 .1)))
-    (λ c. search needs)
-    (λ c. search needs)
-    (λ c. search needs)
-    (λ c. signed-refused (c .before .before .before .before .before .before .before .before .pre .1 .0) (c .before .before .before .before .before .before .before .before .pre .1 .1) (search needs) (c .enum-told .given .1))
-    (λ c κs. sign-count (c .before .before .before .before .before .before .before .before .before .before .pre .1 .0) (c .before .before .before .before .before .before .before .before .before .before .pre .1 .1) (search needs) (c .before .before .inner .given .1))
-    (λ c κs. let l = sign-count (c .before .before .before .before .before .before .before .before .before .before .before .pre .1 .0) (c .before .before .before .before .before .before .before .before .before .before .before .pre .1 .1) (search needs) (c .before .before .before .inner .given .1) in (omega arith, omega (arith, c .before .before .before .before .before .before .before .before .before .before .before .pre .1 .0 .small, c .before .before .before .before .before .before .before .before .before .before .before .pre .1 .0 .within), omega (arith, c .span .ensures)))
-    (λ c κs. search needs)
-    (λ c. let l = sign-count (c .before .before .before .before .before .before .before .before .before .before .before .before .before .before .before .pre .1 .0) (c .before .before .before .before .before .before .before .before .before .before .before .before .before .before .before .pre .1 .1) (search needs) (c .before .before .before .before .before .before .before .inner .given .1) in omega arith)
-    (λ c. search needs)
-    (λ c. search (signed-row (c .before .before .before .before .before .before .before .before .before .before .before .before .before .before .before .pre .1 .0) (c .before .before .before .before .before .before .before .before .before .before .before .before .before .before .before .pre .1 .1) (c .before .before .before .before .before .before .before .inner .given .1) (c .before .before .before .before .span .ensures) (c .before .before .before .packed .ensures), c .before .before .put .ensures)))
-    (λ t. sum-lts.spec (
-      term-below t,
-      term.Post,
-      combined-reads.Asked,
-      combined-reads.Learnt,
-      token-reads.Asked,
-      token-reads.Learnt,
-      is-addition-reads.Asked,
-      is-addition-reads.Learnt,
-    )
+    (signed-add-atom t)
+    (signed-atom-requires t)
+    (signed-enum-known-inner t)
+    (signed-enum-told t)
+    (signed-same-length t)
+    (signed-returns t)
+    (signed-put-row-requires t)
+    (signed-add-t10 t)
+    (signed-same-length-2 t)
+    (signed-returns-2 t))
+    (λ t. sum-lts.spec (sum-calls t)
     (sum-at t)
     sum.Post
     sum-Inv-loop
@@ -1983,16 +1173,7 @@ pub +atom+compared+expression+factor+interval+operand+signed+sum+term-spec :
     (sum-add-q t)
     (sum-loop-less t)
     (sum-loop-again t))
-    λ t. term-lts.spec (
-      factor-below t,
-      factor.Post,
-      combined-reads.Asked,
-      combined-reads.Learnt,
-      token-reads.Asked,
-      token-reads.Learnt,
-      is-multiplication-reads.Asked,
-      is-multiplication-reads.Learnt,
-    )
+    λ t. term-lts.spec (term-calls t)
     (term-at t)
     term.Post
     term-Inv-loop

@@ -1,8 +1,6 @@
 use borrow.Author.Needs.{needs}
 use Rattle.expressions.proofs.answered.Statement.{statement}
 use Rattle.expressions.proofs.answered.Tie as tie
-use Rattle.expressions.proofs.answered.Reads as reads
-use Rattle.expressions.proofs.answered.Lts as lts
 use mathlib.Core.Path.{refl}
 use borrow.Author.Tests.{le-leb, lt-leb}
 use native.Mathlib.Omega.{arith}

@@ -40,7 +40,12 @@ unfolding mem
 returns-8 c = by-key atom-label 8 (127 ∷ []) (c .before .args .c) (refl, tt) (c .match .keys8)
 
 returns-9 : tie.Need-returns-9
-returns-9 c = no-label (c .before .args .c) (out-both (2 ∷ []) (5 ∷ 80 ∷ 139 ∷ 143 ∷ 6 ∷ 3 ∷ 54 ∷ 115 ∷ 4 ∷ 1 ∷ 127 ∷ []) (c .before .args .c) (c .match .rest .0 .0 .0 .0 .0 .0 .0 .1) (out-both (5 ∷ []) (80 ∷ 139 ∷ 143 ∷ 6 ∷ 3 ∷ 54 ∷ 115 ∷ 4 ∷ 1 ∷ 127 ∷ []) (c .before .args .c) (c .match .rest .0 .0 .0 .0 .0 .0 .1) (out-both (80 ∷ 139 ∷ 143 ∷ []) (6 ∷ 3 ∷ 54 ∷ 115 ∷ 4 ∷ 1 ∷ 127 ∷ []) (c .before .args .c) (c .match .rest .0 .0 .0 .0 .0 .1) (out-both (6 ∷ []) (3 ∷ 54 ∷ 115 ∷ 4 ∷ 1 ∷ 127 ∷ []) (c .before .args .c) (c .match .rest .0 .0 .0 .0 .1) (out-both (3 ∷ 54 ∷ 115 ∷ []) (4 ∷ 1 ∷ 127 ∷ []) (c .before .args .c) (c .match .rest .0 .0 .0 .1) (out-both (4 ∷ []) (1 ∷ 127 ∷ []) (c .before .args .c) (c .match .rest .0 .0 .1) (out-both (1 ∷ []) (127 ∷ []) (c .before .args .c) (c .match .rest .0 .1) (none-of (127 ∷ []) (c .before .args .c) (c .match .rest .1)))))))))
+returns-9 c = no-label (c .before .args .c) (out-both (2 ∷ []) (5 ∷ 80 ∷ 139 ∷ 143 ∷ 6 ∷ 3 ∷ 54 ∷ 115 ∷ 4 ∷ 1 ∷ 127 ∷ []) (c .before .args .c)
+    (c .match .rest .0 .0 .0 .0 .0 .0 .0 .1) (out-both (5 ∷ []) (80 ∷ 139 ∷ 143 ∷ 6 ∷ 3 ∷ 54 ∷ 115 ∷ 4 ∷ 1 ∷ 127 ∷ []) (c .before .args .c) (c .match .rest .0 .0 .0 .0 .0 .0 .1)
+    (out-both (80 ∷ 139 ∷ 143 ∷ []) (6 ∷ 3 ∷ 54 ∷ 115 ∷ 4 ∷ 1 ∷ 127 ∷ []) (c .before .args .c) (c .match .rest .0 .0 .0 .0 .0 .1) (out-both (6 ∷ [])
+    (3 ∷ 54 ∷ 115 ∷ 4 ∷ 1 ∷ 127 ∷ []) (c .before .args .c) (c .match .rest .0 .0 .0 .0 .1) (out-both (3 ∷ 54 ∷ 115 ∷ []) (4 ∷ 1 ∷ 127 ∷ []) (c .before .args .c)
+    (c .match .rest .0 .0 .0 .1) (out-both (4 ∷ []) (1 ∷ 127 ∷ []) (c .before .args .c) (c .match .rest .0 .0 .1) (out-both (1 ∷ []) (127 ∷ []) (c .before .args .c)
+    (c .match .rest .0 .1) (none-of (127 ∷ []) (c .before .args .c) (c .match .rest .1)))))))))
 
 pub atom-label-spec : {M : Type 1} → statement M
 atom-label-spec = tie.close (tie.spec returns returns-2 returns-3 returns-4 returns-5 returns-6 returns-7 returns-8 returns-9)

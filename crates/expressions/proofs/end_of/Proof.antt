@@ -1,8 +1,6 @@
 use borrow.Author.Needs.{needs}
 use Rattle.expressions.proofs.end_of.Statement.{statement}
 use Rattle.expressions.proofs.end_of.Tie as tie
-use Rattle.expressions.proofs.end_of.Reads as reads
-use Rattle.expressions.proofs.end_of.Lts as lts
 use mathlib.Core.Path.{refl}
 use borrow.Author.Tests.{lt-ltb, le-ltb}
 use native.Mathlib.Omega.{arith}

@@ -1,34 +1,22 @@
 use borrow.Author.Needs.{needs}
 use Rattle.expressions.proofs.expect.Statement.{statement}
 use Rattle.expressions.proofs.expect.Tie as tie
-use Rattle.expressions.proofs.expect.Reads as reads
-use Rattle.expressions.proofs.expect.Lts as lts
-use Rattle.expressions.proofs.token.Reads as token-reads
-use Rattle.expressions.proofs.Steps.{ready-at, one-inside, expects-refused, expects-there, expects-not}
-use native.Mathlib.Omega.{arith}
+use Rattle.expressions.proofs.Steps.{expects-there, expects-other, expects-past}
 
-enum-known-before : tie.Need-enum-known-before
-enum-known-before c = search needs
+shared-slice-read-if2 : tie.Need-shared-slice-read-if2
+shared-slice-read-if2 c = search needs
 
-enum-told : tie.Need-enum-told
-enum-told c = search needs
+add-t10 : tie.Need-add-t10
+add-t10 c = search needs
 
 returns : tie.Need-returns
-returns c = expects-refused (c .before .before .before .args .codes .now) (c .before .before .before .args .before) (c .before .before .before .args .code) (c .enum-told .given .1)
-
-token-requires : tie.Need-token-requires
-token-requires c κs = search needs
-
-add-t8 : tie.Need-add-t8
-add-t8 c = omega (arith, (ready-at (c .before .before .before .before .before .before .args .codes .now) (c .before .before .before .before .before .before .args .before) (c .before .before .before .before .before .before .pre .0) (c .before .before .before .before2 .given .1)) .small, (ready-at (c .before .before .before .before .before .before .args .codes .now) (c .before .before .before .before .before .before .args .before) (c .before .before .before .before .before .before .pre .0) (c .before .before .before .before2 .given .1)) .within)
+returns c = expects-there (c .before .before .if1 .taken) (c .if2 .taken)
 
 returns-2 : tie.Need-returns-2
-returns-2 c = expects-there (c .before .before .before .before .before .before .args .codes .now) (c .before .before .before .before .before .before .args .before) (c .before .before .before .before .before .before .args .code) (c .before .before .before .before2 .given .1) (c .before .token .result) (c .before .token .ensures) (c .before .before .before .before .before .before .pre .1) (c .before .before .before .before .before .before .pre .0) (c .if1 .taken)
+returns-2 c = expects-other (c .if2 .left)
 
 returns-3 : tie.Need-returns-3
-returns-3 c = expects-not (c .before .before .before .before .before .before .args .codes .now) (c .before .before .before .before .before .before .args .before) (c .before .before .before .before .before .before .args .code) (c .before .before .before .before2 .given .1) (c .before .token .result) (c .before .token .ensures) (c .if1 .left)
+returns-3 c = expects-past (c .if1 .left)
 
 pub expect-spec : {M : Type 1} → statement M
-expect-spec =
-    tie.close
-    (tie.spec enum-known-before enum-told returns token-requires add-t8 returns-2 returns-3)
+expect-spec = tie.close (tie.spec shared-slice-read-if2 add-t10 returns returns-2 returns-3)

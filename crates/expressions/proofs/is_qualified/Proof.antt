@@ -1,9 +1,6 @@
 use borrow.Author.Needs.{needs}
 use Rattle.expressions.proofs.is_qualified.Statement.{statement}
 use Rattle.expressions.proofs.is_qualified.Tie as tie
-use Rattle.expressions.proofs.is_qualified.Reads as reads
-use Rattle.expressions.proofs.is_qualified.Lts as lts
-use Rattle.expressions.proofs.token.Reads as token-reads
 use Rattle.expressions.proofs.Steps.{two-there, two-not}
 
 token-requires : tie.Need-token-requires
@@ -16,10 +13,11 @@ token-requires-2 : tie.Need-token-requires-2
 token-requires-2 c κs = search needs
 
 returns : tie.Need-returns
-returns c = two-there (c .before .before .before .before .args .codes .now) (c .before .before .before .before .args .p) (c .before .before .token .result) (c .token2 .result) 1 7 (c .before .before .token .ensures) (c .before .if1 .taken) (c .token2 .ensures)
+returns c = two-there (c .before .before .before .before .args .terminals .now) (c .before .before .before .before .args .p) (c .before .before .token .result)
+    (c .token2 .result) 1 7 (c .before .before .token .ensures) (c .before .if1 .taken) (c .token2 .ensures)
 
 returns-2 : tie.Need-returns-2
-returns-2 c = two-not (c .before .before .before .args .codes .now) (c .before .before .before .args .p) (c .before .token .result) 1 7 (c .before .token .ensures) (c .if1 .left)
+returns-2 c = two-not (c .before .before .before .args .terminals .now) (c .before .before .before .args .p) (c .before .token .result) 1 7 (c .before .token .ensures) (c .if1 .left)
 
 pub is-qualified-spec : {M : Type 1} → statement M
 is-qualified-spec =

@@ -1,10 +1,6 @@
 use borrow.Author.Needs.{needs}
 use Rattle.expressions.proofs.nested.Statement.{statement}
 use Rattle.expressions.proofs.nested.Tie as tie
-use Rattle.expressions.proofs.nested.Reads as reads
-use Rattle.expressions.proofs.nested.Lts as lts
-use Rattle.expressions.proofs.predecessor.Reads as predecessor-reads
-use Rattle.columns.proofs.byte_index.Reads as byte-index-reads
 use Rattle.expressions.proofs.Limit.{opened-by}
 
 byte-index-requires : tie.Need-byte-index-requires
@@ -16,14 +12,15 @@ element-copy-out-byte-index c = search needs
 byte-index-requires-2 : tie.Need-byte-index-requires-2
 byte-index-requires-2 c κs = search needs
 
-add-predecessor : tie.Need-add-predecessor
-add-predecessor c = search needs
+add-saturating-sub : tie.Need-add-saturating-sub
+add-saturating-sub c = search needs
 
-predecessor-requires : tie.Need-predecessor-requires
-predecessor-requires c κs = search needs
+saturating-sub-requires : tie.Need-saturating-sub-requires
+saturating-sub-requires c κs = search needs
 
 returns : tie.Need-returns
-returns c = opened-by (c .before .before .before .before .args .depth) (c .before .before .before .before .pre .0) (c .before .before .before .byte-index .ensures .0) (c .before .before .before .byte-index .ensures .1) (c .before .byte-index2 .ensures .0) (c .predecessor .ensures)
+returns c = opened-by (c .before .before .before .before .args .depth) (c .before .before .before .before .pre .0) (c .before .before .before .byte-index .ensures .0)
+    (c .before .before .before .byte-index .ensures .1) (c .before .byte-index2 .ensures .0) (c .saturating-sub .ensures)
 
 pub nested-spec : {M : Type 1} → statement M
 nested-spec =
@@ -32,6 +29,6 @@ nested-spec =
     byte-index-requires
     element-copy-out-byte-index
     byte-index-requires-2
-    add-predecessor
-    predecessor-requires
+    add-saturating-sub
+    saturating-sub-requires
     returns)

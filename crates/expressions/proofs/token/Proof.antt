@@ -12,7 +12,7 @@ returns : tie.Need-returns
 returns c = search needs
 
 returns-2 : tie.Need-returns-2
-returns-2 c = sym (List·getD-eq-default (c .before .args .codes .now) 0 (omega arith))
+returns-2 c = sym (List·getD-eq-default (c .before .args .terminals .now) 0 (omega arith))
 
 pub token-spec : {M : Type 1} → statement M
 token-spec = tie.close (tie.spec shared-slice-read-result returns returns-2)

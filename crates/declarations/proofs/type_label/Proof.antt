@@ -1,9 +1,6 @@
 use borrow.Author.Needs.{needs}
-use Rattle.declarations.proofs.labelled.Statement.{statement}
-use Rattle.declarations.proofs.labelled.Tie as tie
-use Rattle.declarations.proofs.labelled.Reads as reads
-use Rattle.declarations.proofs.labelled.Lts as lts
-use Rattle.declarations.proofs.is_simple.Reads as is-simple-reads
+use Rattle.declarations.proofs.type_label.Statement.{statement}
+use Rattle.declarations.proofs.type_label.Tie as tie
 use mathlib.Core.Path.{refl, sym, _∙_}
 use Rattle.expressions.proofs.Terminals.{is-one, not-one}
 
@@ -19,5 +16,5 @@ returns-2 c = rw (sym (c .before .before .is-simple .ensures) ∙ c .before .if1
 returns-3 : tie.Need-returns-3
 returns-3 c = rw (sym (c .before .before .is-simple .ensures) ∙ c .before .if1 .left, not-one (c .before .before .before .args .c) 1 (c .if2 .left)) refl
 
-pub labelled-spec : {M : Type 1} → statement M
-labelled-spec = tie.close (tie.spec is-simple-requires returns returns-2 returns-3)
+pub type-label-spec : {M : Type 1} → statement M
+type-label-spec = tie.close (tie.spec is-simple-requires returns returns-2 returns-3)
