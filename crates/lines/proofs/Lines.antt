@@ -1,23 +1,23 @@
 -- Laws of whole lines: an answer by the kind of its record, the front of a constant's line, and the line feed at the end.
-use mathlib.Core.Path.{_≡_, refl, sym, ap, _∙_}
-use mathlib.Core.Bool.{cond}
+use mathlib.Core.Path.{_≡_, refl, ap, _∙_}
 use mathlib.Core.List.{List, [], _∷_, _++_, map}
-use Prim.Native.Nat.{ℕ, _+_, _≤_, _<_, _^_}
+use mathlib.Core.Logic.{⊎-elim}
+use Prim.Native.Nat.{ℕ, _+_, _≤_, _<_}
 use native.Mathlib.Omega.{arith}
-use borrow.Author.Tests.{eq-eqb, ne-eqb, le-leb, lt-leb}
-use lib.Dec.{leb}
-use lib.ListN.{length, set}
-use lib.Seq.{sets}
+use borrow.Author.Tests.{ne-eqb, le-leb, lt-leb}
+use lib.ListN.{length, set, take}
 use mir.Facts.{toZ-ofZ}
 use mir.Syntax.{w64}
 use mir.Val.{SFits, toZ, ofZ}
+use Rattle.columns.proofs.Laws.{take-rows}
+use Rattle.relations.proofs.Select.{le-or}
 use Rattle.express.specs.tokens.Terminal.{bytes}
 use Rattle.express.specs.syntax.Tree.{Table, schema-of}
 use Rattle.express.specs.kinds.Answer as express
 use Rattle.express.specs.kinds.Answer.{indeterminate, integer, logical, binary, item, end}
 use Rattle.express.specs.kinds.AnswerRow.{natural, ranked}
 use Rattle.express.specs.kinds.Bits.{bits}
-use Rattle.express.specs.whole.Listing.{decimal, signed, logical-name, bit-digit, name-of, printed, line}
+use Rattle.express.specs.whole.Listing.{decimal, signed, logical-name, bit-digit, name-of, printed, line, refused-line, accepted-line}
 use Rattle.records.specs.declared.Answer.{Answer}
 use Rattle.lines.specs.declared.Line.{Line}
 use Rattle.lines.specs.declared.Line.the-variants.{Written, Short}
@@ -75,14 +75,41 @@ titled {t} {c} {s} e p q r u =
 
 -- ---- the end of a line
 
-pub fits-all : {n m k : ℕ} → n ≡ k → n ≤ m → Written n ≡ fitted k m
-fits-all {n} {m} {k} e h = rw (← e, le-leb n m h)
+-- the line feed is stored, and the line fits or does not
+pub fits-all : {was have : List ℕ} {at n : ℕ} → Puts was at (10 ∷ []) have n → n ≤ length was
+    → (have ≡ set was at 10) × (Written n ≡ fitted (at + 1) (length was))
+fits-all {was} {n = n} p h = (p .put .is, rw (← p .put .moves, le-leb n (length was) h))
 
-pub fits-not : {n m k : ℕ} → n ≡ k → m < n → Short n ≡ fitted k m
-fits-not {n} {m} {k} e h = rw (← e, lt-leb n m h)
+pub fits-not : {was have : List ℕ} {at n : ℕ} → Puts was at (10 ∷ []) have n → length was < n
+    → (have ≡ set was at 10) × (Short n ≡ fitted (at + 1) (length was))
+fits-not {was} {n = n} p h = (p .put .is, rw (← p .put .moves, lt-leb n (length was) h))
 
 pub ended : {p was mid have : List ℕ} {m : ℕ} {r : Line} → Stored was 0 p mid m → have ≡ set mid m 10 → r ≡ fitted (m + 1) (length mid) → Prints (line p) was have r
 ended {p} {was} {mid} {have} {m} {r} s e f =
     let all : Stored was 0 (line p) have (m + 1) = then s (record { is = e; moves = refl }) in
     let size : m + 1 ≡ length (line p) = omega (arith, all .moves) in
     record { is = all .is; answer = f ∙ ap (λ (n : ℕ). fitted n (length mid)) size ∙ ap (λ (n : ℕ). fitted (length (line p)) n) (kept s) }
+
+-- ---- the lines, piece by piece
+
+pub refused-printed : (k p : ℕ) {was x y z w have : List ℕ} {a b d e : ℕ} {r : Line} → Puts was 0 (bytes "refused ") x a → Puts x a (decimal k) y b
+    → Puts y b (bytes " at ") z d → Puts z d (decimal p) w e → have ≡ set w e 10 → r ≡ fitted (e + 1) (length w) → Prints (refused-line k p) was have r
+refused-printed k p q₁ q₂ q₃ q₄ = ended (then (then (then (q₁ .put) (q₂ .put)) (q₃ .put)) (q₄ .put))
+
+pub accepted-printed : (n : ℕ) {was x y have : List ℕ} {a b : ℕ} {r : Line} → Puts was 0 (bytes "accepted ") x a → Puts x a (decimal n) y b
+    → have ≡ set y b 10 → r ≡ fitted (b + 1) (length y) → Prints (accepted-line n) was have r
+accepted-printed n q₁ q₂ = ended (then (q₁ .put) (q₂ .put))
+
+-- a line that is written stands at the buffer's start
+pub written-is : {l was have : List ℕ} {n : ℕ} → Prints l was have (Written n) → take n have ≡ l
+written-is {l} {was} {have} {n} p = ⊎-elim
+    (λ (h : length l ≤ length was).
+    let whole : fitted (length l) (length was) ≡ Written (length l) = rw (le-leb (length l) (length was) h) in
+    let answer : Written n ≡ fitted (length l) (length was) = p .answer in
+    let size : n ≡ length l = cc in
+    rw (size, p .is) (take-rows was l h))
+    (λ (h : length was < length l).
+    let over : fitted (length l) (length was) ≡ Short (length l) = rw (lt-leb (length l) (length was) h) in
+    let answer : Written n ≡ fitted (length l) (length was) = p .answer in
+    let z : _≡_ {A = ℕ} 0 1 = cc in absurd (omega arith))
+    (le-or (length l) (length was))

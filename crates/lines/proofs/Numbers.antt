@@ -1,17 +1,17 @@
 -- Laws of numbers in a line: decimal digits from the last on, signed integers read from their bits, and bits from the left.
 use mathlib.Core.Path.{_≡_, refl, sym, ap, _∙_}
-use mathlib.Core.Bool.{Bool, true, false, cond}
+use mathlib.Core.Bool.{Bool, true, false}
 use mathlib.Core.List.{List, [], _∷_, _++_, append-assoc, map}
-use Prim.Native.Nat.{ℕ, zero, suc, _+_, _-_, _*_, _/_, _%_, _^_, _≤_, _<_}
 use mathlib.Core.Logic.{⊎-elim}
+use Prim.Native.Nat.{ℕ, zero, suc, _+_, _-_, _*_, _/_, _%_, _^_, _≤_, _<_}
 use native.Mathlib.Nat.{div-lt-iff-lt-mul, pow-suc, lt-of-lt-of-le, div-eq-of-lt}
-use lib.Pow.{pow-mono}
 use native.Mathlib.Omega.{arith}
+use native.Mathlib.Numerals.{add-one}
 use borrow.Author.Tests.{lt-ltb, le-ltb, ne-eqb}
-use lib.Dec.{T, ltb, eqb}
+use lib.Pow.{pow-mono}
+use lib.Dec.{T, eqb}
 use lib.IntN.{ℤ, pos, negsuc, natAbs, _-ℤ_}
 use lib.ListN.{length, set, length-set, length-append, length-map}
-use lib.ListN as ListN
 use lib.Seq.{sets}
 use lib.Signed.{ltZ, mag, nonNeg}
 use mir.Facts.{toZ-ofZ}
@@ -22,10 +22,9 @@ use Rattle.express.specs.tokens.Terminal.{bytes}
 use Rattle.express.specs.kinds.AnswerRow.{natural, ranked}
 use Rattle.express.specs.kinds.Bits.{bits}
 use Rattle.express.proofs.kinds.Bits.{length-bits}
-use Rattle.lines.specs.Piece.{Stored, Puts}
-use Rattle.lines.proofs.Pieces.{then, spelled}
-use native.Mathlib.Numerals.{add-one}
 use Rattle.express.specs.whole.Listing.{digits, decimal, signed, logical-name, bit-digit}
+use Rattle.lines.specs.Piece.{Stored, Puts}
+use Rattle.lines.proofs.Pieces.{then, spelled, renamed}
 
 -- ---- decimal digits
 
@@ -133,7 +132,7 @@ module _ (z : ℤ) (f : SFits w64 z) where
     pub natural-casts : T (nonNeg (toZ w64 (ofZ w64 z))) × Fits w64 (natAbs (toZ w64 (ofZ w64 z)))
     natural-casts = (read (toZ w64 (ofZ w64 z)) (toZ-ofZ f) .0, record { fits = omega (arith, natural-is, natural-small) })
 
-    pub signed-plus : {n : ℕ} → n ≡ natural (toZ w64 (ofZ w64 z)) → decimal n ≡ signed z
+    signed-plus : {n : ℕ} → n ≡ natural (toZ w64 (ofZ w64 z)) → decimal n ≡ signed z
     signed-plus {n} is =
         let b = above e in
         let all : n ≡ natural z = is ∙ ap natural (toZ-ofZ f) in
@@ -146,7 +145,7 @@ module _ (z : ℤ) (f : SFits w64 z) where
     pub opposite-fits : SFits w64 (negsuc 0 -ℤ toZ w64 (ofZ w64 z))
     opposite-fits = rw opposite (record { sfits = f .sfits })
 
-    pub signed-minus : {n : ℕ} → n ≡ natural (toZ w64 (ofZ w64 (negsuc 0 -ℤ toZ w64 (ofZ w64 z)))) → bytes "-" ++ decimal (n + 1) ≡ signed z
+    signed-minus : {n : ℕ} → n ≡ natural (toZ w64 (ofZ w64 (negsuc 0 -ℤ toZ w64 (ofZ w64 z)))) → bytes "-" ++ decimal (n + 1) ≡ signed z
     signed-minus {n} is =
         let b = below e in
         let all : n ≡ mag z = is ∙ ap natural (toZ-ofZ opposite-fits ∙ opposite) in
@@ -156,6 +155,16 @@ module _ (z : ℤ) (f : SFits w64 z) where
 pub put-before : {was mid have : List ℕ} {at m next : ℕ} (t : List ℕ) (n : ℕ) → length t ≤ 20 → Puts was at t mid m → Puts mid m (decimal n) have next
     → Puts was at (t ++ decimal n) have next
 put-before t n h p q = spelled (t ++ decimal n) (then (p .put) (q .put)) refl (omega (arith, length-append t (decimal n), decimal-short n))
+
+-- an integer by its sign and its magnitude
+module _ {z : ℤ} (f : SFits w64 z) {was have : List ℕ} {at next n : ℕ} where
+  pub put-minus : {mid : List ℕ} {m : ℕ} → ltZ (toZ w64 (ofZ w64 z)) (pos 0) ≡ true → n ≡ natural (toZ w64 (ofZ w64 (negsuc 0 -ℤ toZ w64 (ofZ w64 z))))
+      → Puts was at (45 ∷ []) mid m → Puts mid m (decimal (n + 1)) have next → Puts was at (signed z) have next
+  put-minus e is p q = renamed (put-before (bytes "-") (n + 1) (omega arith) p q) (signed-minus z f e is)
+
+  pub put-plus : ltZ (toZ w64 (ofZ w64 z)) (pos 0) ≡ false → n ≡ natural (toZ w64 (ofZ w64 z)) → Puts was at (decimal n) have next
+      → Puts was at (signed z) have next
+  put-plus e is p = renamed p (signed-plus z f e is)
 
 -- ---- logicals by their ranks
 

@@ -2,13 +2,14 @@
 use mathlib.Core.Path.{_≡_, refl, sym, ap, _∙_, subst}
 use mathlib.Core.List.{List, [], _∷_, _++_, map}
 use mathlib.Core.Logic.{⊎-elim}
-use Prim.Native.Nat.{ℕ, zero, suc, _+_, _-_, _≤_, _<_, _^_, min}
+use Prim.Native.Nat.{ℕ, _+_, _-_, _≤_, _<_, _^_, min}
 use native.Mathlib.Numerals.{add-one}
 use native.Mathlib.Omega.{arith}
 use lib.ListN.{length, getD, set, take, drop, length-append, length-map, length-drop, drop-of-length-le}
 use lib.Seq.{sets, length-sets, length-take-le, take-suc, take-length, take-all, take-nil}
-use Rattle.relations.proofs.Select.{le-or}
 use Rattle.columns.proofs.Laws.{sets-append, sets-snoc}
+use Rattle.relations.proofs.Select.{le-or}
+use Rattle.express.specs.tokens.Bytes.{lower}
 use Rattle.lines.specs.Piece.{Stored, Puts}
 
 -- one piece after the other is the two joined
@@ -74,9 +75,19 @@ module _ {f : ℕ → ℕ} {text was : List ℕ} {at : ℕ} where
   copying-kept {have} {i} k = ap length (k .is) ∙ length-sets was at (map f (take i text))
 
 -- bytes as they are
-pub map-same : (xs : List ℕ) → map (λ (b : ℕ). b) xs ≡ xs
+abbrev pub same : ℕ → ℕ
+same b = b
+
+map-same : (xs : List ℕ) → map same xs ≡ xs
 map-same [] = refl
 map-same (x ∷ xs) = ap (λ (l : List ℕ). x ∷ l) (map-same xs)
+
+pub copied : {text was have : List ℕ} {at i : ℕ} → length text ≤ 2 ^ 32 → length text ≤ i → Copying same text was at have i → Puts was at text have (at + i)
+copied {text} short h k = spelled text (copying-ends h k) (map-same text) short
+
+pub lowered : {text was have : List ℕ} {at i : ℕ} → length text ≤ 2 ^ 32 → length text ≤ i → Copying lower text was at have i
+    → Puts was at (map lower text) have (at + i)
+lowered {text} short h k = spelled (map lower text) (copying-ends h k) refl (omega (arith, length-map text lower))
 
 -- ---- a part of a text, by its first byte and its length, both within the text
 
@@ -99,3 +110,7 @@ part-is text start n first m e d = ⊎-elim
     let none : first + m - first ≡ 0 = omega arith in
     rw (none, drop-of-length-le text {i = start} (omega arith)) (sym (take-nil n)))
     (le-or start (length text))
+
+pub put-part : (text : List ℕ) (start n first m : ℕ) {was have : List ℕ} {at next : ℕ} → Puts was at (map lower (take (first + m - first) (drop first text))) have next
+    → first ≡ min start (length text) → m ≡ min n (length text - first) → Puts was at (map lower (take n (drop start text))) have next
+put-part text start n first m p e d = renamed p (ap (map lower) (part-is text start n first m e d))

@@ -1,6 +1,11 @@
+-- `lines::put_decimal` meets its contract: the digits of a number are those of its tenth, and its last one (`decimal-more` of Numbers). Assumes nothing.
+use mathlib.Core.Path.{_∙_}
 use Prim.Native.Nat.{ℕ, _<_}
+use native.Mathlib.Omega.{arith}
 use borrow.Fn.Kinds.{In}
 use borrow.Fn.PlainCycle.{Measures, is, falls, and}
+use Rattle.lines.proofs.Pieces.{kept}
+use Rattle.lines.proofs.Numbers.{put-digit, put-more}
 use Rattle.lines.proofs.put_decimal.Reads as put-decimal
 use Rattle.lines.proofs.put_decimal.Kinds as put-decimal-kinds
 use Rattle.lines.proofs.+put_decimal.Lts-put_decimal as put-decimal-lts
@@ -8,11 +13,6 @@ use Rattle.lines.proofs.digit.Reads as digit-reads
 use Rattle.lines.proofs.put_byte.Reads as put-byte-reads
 use Rattle.lines.proofs.+put_decimal.{statement}
 use Rattle.lines.proofs.+put_decimal.Tie.{close}
-use Rattle.lines.specs.Piece.{Stored}
-use Rattle.lines.proofs.Pieces.{then, kept}
-use Rattle.lines.proofs.Numbers.{decimal-digit, decimal-more, decimal-short, put-digit, put-more}
-use native.Mathlib.Omega.{arith}
-use mathlib.Core.Path.{_∙_}
 
 abbrev μ-put-decimal : Measures 1 put-decimal-kinds.ps ℕ
 μ-put-decimal κs a = a .1 .1 .0
@@ -63,8 +63,7 @@ put-decimal-returns : (t : ℕ) → put-decimal-lts.Need-returns (
   put-decimal-below t,
   put-decimal.Post,
 ) (put-decimal-at t) put-decimal.Post
-put-decimal-returns t c = put-digit (c .before .before .before .before .before .if1 .taken) (c .before .before .before .digit .ensures)
-    (c .before .before .put-byte .ensures)
+put-decimal-returns t c = search put-digit
 
 put-decimal-put-decimal-requires : (t : ℕ) → put-decimal-lts.Need-put-decimal-requires (
   digit-reads.Asked,
@@ -115,10 +114,7 @@ put-decimal-returns-2 : (t : ℕ) → put-decimal-lts.Need-returns-2 (
   put-decimal-below t,
   put-decimal.Post,
 ) (put-decimal-at t) put-decimal.Post
-put-decimal-returns-2 t c = put-more (c .before .before .before .before .before .before .before .before .before .if1 .left)
-    (c .before .before .before .before .before .before .before .before .before .before .before .fits .n .fits)
-    (c .before .before .before .before .before .before .before .put-decimal .ensures) (c .before .before .before .digit2 .ensures)
-    (c .before .before .put-byte2 .ensures)
+put-decimal-returns-2 t c = search put-more
 
 pub +put-decimal-spec : {M : Type 1} → statement M
 +put-decimal-spec = close μ-put-decimal λ t. put-decimal-lts.spec (

@@ -1,8 +1,7 @@
 use borrow.Author.Needs.{needs}
+use Rattle.lines.proofs.Lines.{accepted-printed}
 use Rattle.lines.proofs.accepted.Statement.{statement}
 use Rattle.lines.proofs.accepted.Tie as tie
-use Rattle.lines.proofs.Pieces.{then}
-use Rattle.lines.proofs.Lines.{ended}
 
 slice-aggregate-put-text : tie.Need-slice-aggregate-put-text
 slice-aggregate-put-text c = search needs
@@ -20,9 +19,7 @@ same-length : tie.Need-same-length
 same-length c = search needs
 
 returns : tie.Need-returns
-returns c = ended (then (c .before .before .before .before .before .before .before .before .before .before .put-text .ensures .put)
-    (c .before .before .before .before .before .before .put-decimal .ensures .put)) (c .before .before .end-line .ensures .0)
-    (c .before .before .end-line .ensures .1)
+returns c = search accepted-printed
 
 pub accepted-spec : {M : Type 1} → statement M
 accepted-spec =

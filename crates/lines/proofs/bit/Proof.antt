@@ -1,8 +1,7 @@
 use borrow.Author.Needs.{needs}
+use Rattle.lines.proofs.Numbers.{bit-none, bit-set, bit-unset}
 use Rattle.lines.proofs.bit.Statement.{statement}
 use Rattle.lines.proofs.bit.Tie as tie
-use borrow.Author.Tests.{eq-eqb, ne-eqb}
-use Rattle.lines.proofs.Numbers.{bit-none, bit-set, bit-unset}
 
 returns : tie.Need-returns
 returns c = bit-none _ _ (c .before .fits .n .fits) (c .if1 .taken)

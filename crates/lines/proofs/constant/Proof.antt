@@ -1,9 +1,9 @@
 use borrow.Author.Needs.{needs}
-use Rattle.lines.proofs.constant.Statement.{statement}
-use Rattle.lines.proofs.constant.Tie as tie
+use Rattle.lines.specs.Print.{record-answer}
 use Rattle.lines.proofs.Pieces.{then, renamed}
 use Rattle.lines.proofs.Lines.{printed-kinds, ended}
-use Rattle.lines.specs.Print.{record-answer}
+use Rattle.lines.proofs.constant.Statement.{statement}
+use Rattle.lines.proofs.constant.Tie as tie
 
 put-title-requires : tie.Need-put-title-requires
 put-title-requires c κs = search needs

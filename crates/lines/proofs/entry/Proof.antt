@@ -1,9 +1,9 @@
+use mathlib.Core.Path.{sym}
+use native.Mathlib.Omega.{arith}
 use borrow.Author.Needs.{needs}
+use lib.ListN.{List·getD-eq-default}
 use Rattle.lines.proofs.entry.Statement.{statement}
 use Rattle.lines.proofs.entry.Tie as tie
-use mathlib.Core.Path.{sym}
-use lib.ListN.{List·getD-eq-default}
-use native.Mathlib.Omega.{arith}
 
 mul-index : tie.Need-mul-index
 mul-index c = search needs

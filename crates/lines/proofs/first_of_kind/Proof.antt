@@ -1,15 +1,16 @@
-use Rattle.lines.proofs.first_of_kind.Statement.{statement}
-use Rattle.lines.proofs.first_of_kind.Tie as tie
+-- `lines::first_of_kind` meets its contract: the first from the node on is the first from the start on. Assumes nothing.
 use mathlib.Core.Path.{_≡_, refl, sym, _∙_}
 use mathlib.Core.List.{[]}
 use Prim.Native.Nat.{_-_}
-use lib.ListN.{length}
+use native.Mathlib.Omega.{arith}
 use borrow.Author.Tests.{eq-eqb, ne-eqb}
-use Rattle.express.specs.syntax.Tree.{is}
+use lib.ListN.{length}
 use Rattle.relations.specs.Select.{first-from}
 use Rattle.relations.proofs.Select.{first-step, first-end}
+use Rattle.express.specs.syntax.Tree.{is}
 use Rattle.lines.specs.Print.{table-of}
-use native.Mathlib.Omega.{arith}
+use Rattle.lines.proofs.first_of_kind.Statement.{statement}
+use Rattle.lines.proofs.first_of_kind.Tie as tie
 
 abbrev Inv-loop : tie.InvT-loop
 Inv-loop kinds kind from node₀ node = first-from (is (table-of [] [] [] kinds []) kind) node (length kinds - node) ≡ first-from (is (table-of [] [] [] kinds []) kind) from (length kinds - from)

@@ -1,8 +1,8 @@
 use borrow.Author.Needs.{needs}
-use Rattle.lines.proofs.lowered.Statement.{statement}
-use Rattle.lines.proofs.lowered.Tie as tie
 use borrow.Author.Tests.{le-leb, lt-leb}
 use Rattle.express.specs.tokens.Bytes.{lower}
+use Rattle.lines.proofs.lowered.Statement.{statement}
+use Rattle.lines.proofs.lowered.Tie as tie
 
 sub-result : tie.Need-sub-result
 sub-result c = search needs

@@ -1,7 +1,7 @@
+use native.Mathlib.Omega.{arith}
+use Rattle.lines.proofs.Numbers.{natural-zero, natural-small, natural-is, natural-casts}
 use Rattle.lines.proofs.natural.Statement.{statement}
 use Rattle.lines.proofs.natural.Tie as tie
-use Rattle.lines.proofs.Numbers.{natural-zero, natural-small, natural-is, natural-casts}
-use native.Mathlib.Omega.{arith}
 
 returns : tie.Need-returns
 returns c = (natural-zero _ (c .before .fits .z) (c .if1 .taken), omega arith)

@@ -1,9 +1,9 @@
+-- `lines::put_answer` meets its contract, by the kind of the record. Assumes nothing.
 use borrow.Author.Needs.{needs}
-use Rattle.lines.proofs.put_answer.Statement.{statement}
-use Rattle.lines.proofs.put_answer.Tie as tie
-use mathlib.Core.Path.{_≡_, sym, ap, _∙_}
 use Rattle.lines.proofs.Pieces.{renamed}
 use Rattle.lines.proofs.Lines.{prints-indeterminate, prints-integer, prints-logical, prints-binary, prints-item, prints-end}
+use Rattle.lines.proofs.put_answer.Statement.{statement}
+use Rattle.lines.proofs.put_answer.Tie as tie
 
 put-byte-requires : tie.Need-put-byte-requires
 put-byte-requires c κs = search needs

@@ -1,8 +1,7 @@
 use borrow.Author.Needs.{needs}
+use Rattle.lines.proofs.Numbers.{put-binary}
 use Rattle.lines.proofs.put_binary.Statement.{statement}
 use Rattle.lines.proofs.put_binary.Tie as tie
-use Rattle.lines.proofs.Numbers.{put-binary}
-use native.Mathlib.Omega.{arith}
 
 put-byte-requires : tie.Need-put-byte-requires
 put-byte-requires c κs = search needs
@@ -14,7 +13,7 @@ same-length : tie.Need-same-length
 same-length c = search needs
 
 returns : tie.Need-returns
-returns c = put-binary _ _ (omega arith) (c .before .before .before .before .before .before .put-byte .ensures) (c .before .before .put-bits .ensures)
+returns c = search put-binary
 
 pub put-binary-spec : {M : Type 1} → statement M
 put-binary-spec = tie.close (tie.spec put-byte-requires put-bits-requires same-length returns)

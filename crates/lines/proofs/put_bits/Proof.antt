@@ -1,8 +1,9 @@
-use Rattle.lines.proofs.put_bits.Statement.{statement}
-use Rattle.lines.proofs.put_bits.Tie as tie
+-- `lines::put_bits` meets its contract: what is to come at each turn is `Remaining`. Assumes nothing.
+use native.Mathlib.Omega.{arith}
 use lib.ListN.{length}
 use Rattle.lines.proofs.Numbers.{Remaining, remaining-starts, remaining-goes-on, remaining-ends}
-use native.Mathlib.Omega.{arith}
+use Rattle.lines.proofs.put_bits.Statement.{statement}
+use Rattle.lines.proofs.put_bits.Tie as tie
 
 abbrev Inv-loop : tie.InvT-loop
 Inv-loop out₀ at n length left₀ next₀ out left next = Remaining n length out₀ at out left next
@@ -29,9 +30,7 @@ loop-less : tie.Need-loop-less Inv-loop μ-loop
 loop-less c = omega arith
 
 loop-again : tie.Need-loop-again Inv-loop μ-loop
-loop-again c = remaining-goes-on (c .before .before .before .before .before .loop-test .taken)
-    (c .before .before .before .before .before .before .loop .inv) (c .before .before .put8 .ensures)
-    (c .before .before .before .bit .ensures)
+loop-again c = search remaining-goes-on
 
 same-length : tie.Need-same-length Inv-loop μ-loop
 same-length c = c .before .loop .inv .long

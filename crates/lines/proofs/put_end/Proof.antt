@@ -1,10 +1,9 @@
+use native.Mathlib.Omega.{arith}
 use borrow.Author.Needs.{needs}
-use Rattle.lines.proofs.put_end.Statement.{statement}
-use Rattle.lines.proofs.put_end.Tie as tie
-use mathlib.Core.List.{[], _∷_}
 use Rattle.express.specs.tokens.Terminal.{bytes}
 use Rattle.lines.proofs.Numbers.{put-before}
-use native.Mathlib.Omega.{arith}
+use Rattle.lines.proofs.put_end.Statement.{statement}
+use Rattle.lines.proofs.put_end.Tie as tie
 
 slice-aggregate-put-text : tie.Need-slice-aggregate-put-text
 slice-aggregate-put-text c = search needs

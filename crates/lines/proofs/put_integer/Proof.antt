@@ -1,10 +1,8 @@
+-- `lines::put_integer` meets its contract: -1 - z fits where z is below 0, also for the least integer. Assumes nothing.
 use borrow.Author.Needs.{needs}
+use Rattle.lines.proofs.Numbers.{opposite-fits, put-minus, put-plus}
 use Rattle.lines.proofs.put_integer.Statement.{statement}
 use Rattle.lines.proofs.put_integer.Tie as tie
-use Rattle.lines.proofs.Pieces.{renamed}
-use Rattle.lines.proofs.Numbers.{put-before, opposite-fits, signed-plus, signed-minus}
-use Rattle.express.specs.tokens.Terminal.{bytes}
-use native.Mathlib.Omega.{arith}
 
 put-byte-requires : tie.Need-put-byte-requires
 put-byte-requires c κs = search needs
@@ -26,11 +24,7 @@ same-length : tie.Need-same-length
 same-length c = search needs
 
 returns : tie.Need-returns
-returns c = renamed (put-before (bytes "-") _ (omega arith) (c .before .before .before .before .before .before .before .put-byte .ensures)
-    (c .before .before .put-decimal .ensures)) (signed-minus _
-    (c .before .before .before .before .before .before .before .before .before .before .before .fits .z)
-    (c .before .before .before .before .before .before .before .before .before .if1 .taken)
-    (c .before .before .before .natural .ensures .0))
+returns c = search put-minus
 
 natural-requires-2 : tie.Need-natural-requires-2
 natural-requires-2 c κs = search needs
@@ -42,9 +36,7 @@ same-length-2 : tie.Need-same-length-2
 same-length-2 c = search needs
 
 returns-2 : tie.Need-returns-2
-returns-2 c = renamed (c .before .before .put-decimal2 .ensures) (signed-plus _
-    (c .before .before .before .before .before .before .before .fits .z) (c .before .before .before .before .before .if1 .left)
-    (c .before .before .before .natural2 .ensures .0))
+returns-2 c = search put-plus
 
 pub put-integer-spec : {M : Type 1} → statement M
 put-integer-spec =

@@ -1,8 +1,8 @@
 use borrow.Author.Needs.{needs}
-use Rattle.lines.proofs.put_logical.Statement.{statement}
-use Rattle.lines.proofs.put_logical.Tie as tie
 use Rattle.lines.proofs.Pieces.{renamed}
 use Rattle.lines.proofs.Numbers.{false-is, unknown-is, true-is}
+use Rattle.lines.proofs.put_logical.Statement.{statement}
+use Rattle.lines.proofs.put_logical.Tie as tie
 
 slice-aggregate-put-text : tie.Need-slice-aggregate-put-text
 slice-aggregate-put-text c = search needs

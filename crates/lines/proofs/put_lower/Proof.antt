@@ -1,12 +1,11 @@
+-- `lines::put_lower` meets its contract, by the laws of `Copying`. Assumes nothing.
+use Prim.Native.Nat.{_-_}
+use native.Mathlib.Omega.{arith}
+use lib.ListN.{length}
+use Rattle.express.specs.tokens.Bytes.{lower}
+use Rattle.lines.proofs.Pieces.{Copying, copying-starts, copying-goes-on, lowered, copying-kept}
 use Rattle.lines.proofs.put_lower.Statement.{statement}
 use Rattle.lines.proofs.put_lower.Tie as tie
-use Prim.Native.Nat.{ℕ, _-_}
-use lib.ListN.{length}
-use mathlib.Core.Path.{sym, _∙_, ap, subst}
-use Rattle.express.specs.tokens.Bytes.{lower}
-use Rattle.lines.specs.Piece.{Stored}
-use Rattle.lines.proofs.Pieces.{Copying, copying-starts, copying-goes-on, copying-ends, copying-kept}
-use native.Mathlib.Omega.{arith}
 
 abbrev Inv-loop : tie.InvT-loop
 Inv-loop out₀ at text i₀ out i = Copying lower text out₀ at out i
@@ -36,9 +35,7 @@ loop-less : tie.Need-loop-less Inv-loop μ-loop
 loop-less c = omega arith
 
 loop-again : tie.Need-loop-again Inv-loop μ-loop
-loop-again c = copying-goes-on (c .before .before .before .before .before .before .loop-test .taken)
-    (c .before .before .before .before .before .before .before .loop .inv) (c .before .before .put8 .ensures)
-    (c .before .before .before .lowered .ensures)
+loop-again c = search copying-goes-on
 
 add-result : tie.Need-add-result Inv-loop μ-loop
 add-result c = omega arith
@@ -47,7 +44,7 @@ same-length : tie.Need-same-length Inv-loop μ-loop
 same-length c = copying-kept (c .before .loop .inv)
 
 returns : tie.Need-returns Inv-loop μ-loop
-returns c = record { put = copying-ends (c .loop-test .left) (c .before .loop .inv); near = omega arith }
+returns c = search lowered
 
 pub put-lower-spec : {M : Type 1} → statement M
 put-lower-spec =

@@ -1,10 +1,8 @@
+-- `lines::put_name` meets its contract: a name is cut to the bytes as `take` and `drop` cut it (`part-is` of Pieces). Assumes nothing.
 use borrow.Author.Needs.{needs}
+use Rattle.lines.proofs.Pieces.{put-part}
 use Rattle.lines.proofs.put_name.Statement.{statement}
 use Rattle.lines.proofs.put_name.Tie as tie
-use mathlib.Core.Path.{ap}
-use mathlib.Core.List.{map}
-use Rattle.express.specs.tokens.Bytes.{lower}
-use Rattle.lines.proofs.Pieces.{renamed, part-is}
 
 shorter-requires : tie.Need-shorter-requires
 shorter-requires c κs = search needs
@@ -34,12 +32,7 @@ same-length : tie.Need-same-length
 same-length c = search needs
 
 returns : tie.Need-returns
-returns c = renamed (c .before .before .put-lower .ensures) (ap (map lower) (part-is
-    (c .before .before .before .before .before .before .before .before .before .args .text .now)
-    (c .before .before .before .before .before .before .before .before .before .args .start)
-    (c .before .before .before .before .before .before .before .before .before .args .length)
-    (c .before .before .before .before .before .before .shorter .result) (c .before .before .before .before .before .shorter2 .result)
-    (c .before .before .before .before .before .before .shorter .ensures) (c .before .before .before .before .before .shorter2 .ensures)))
+returns c = search put-part
 
 pub put-name-spec : {M : Type 1} → statement M
 put-name-spec =

@@ -1,7 +1,7 @@
 use borrow.Author.Needs.{needs}
+use Rattle.lines.proofs.Pieces.{renamed}
 use Rattle.lines.proofs.put_named.Statement.{statement}
 use Rattle.lines.proofs.put_named.Tie as tie
-use Rattle.lines.proofs.Pieces.{renamed}
 
 entry-requires : tie.Need-entry-requires
 entry-requires c κs = search needs

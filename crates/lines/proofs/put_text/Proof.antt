@@ -1,15 +1,13 @@
+-- `lines::put_text` meets its contract, by the laws of `Copying`. Assumes nothing.
+use Prim.Native.Nat.{_-_}
+use native.Mathlib.Omega.{arith}
+use lib.ListN.{length}
+use Rattle.lines.proofs.Pieces.{Copying, same, copying-starts, copying-goes-on, copied, copying-kept}
 use Rattle.lines.proofs.put_text.Statement.{statement}
 use Rattle.lines.proofs.put_text.Tie as tie
-use Prim.Native.Nat.{ℕ, _-_, _+_}
-use lib.ListN.{length}
-use mathlib.Core.Path.{sym, _∙_, ap, subst, refl}
-use mathlib.Core.List.{List}
-use Rattle.lines.specs.Piece.{Stored}
-use Rattle.lines.proofs.Pieces.{Copying, copying-starts, copying-goes-on, copying-ends, copying-kept, map-same}
-use native.Mathlib.Omega.{arith}
 
 abbrev Inv-loop : tie.InvT-loop
-Inv-loop out₀ at text i₀ out i = Copying (λ (b : ℕ). b) text out₀ at out i
+Inv-loop out₀ at text i₀ out i = Copying same text out₀ at out i
 
 abbrev μ-loop : tie.MeasureT-loop
 μ-loop out₀ at text i₀ out i = length text - i
@@ -33,8 +31,7 @@ loop-less : tie.Need-loop-less Inv-loop μ-loop
 loop-less c = omega arith
 
 loop-again : tie.Need-loop-again Inv-loop μ-loop
-loop-again c = copying-goes-on (c .before .before .before .before .before .loop-test .taken)
-    (c .before .before .before .before .before .before .loop .inv) (c .before .before .put8 .ensures) refl
+loop-again c = search copying-goes-on
 
 add-result : tie.Need-add-result Inv-loop μ-loop
 add-result c = omega arith
@@ -43,15 +40,7 @@ same-length : tie.Need-same-length Inv-loop μ-loop
 same-length c = copying-kept (c .before .loop .inv)
 
 returns : tie.Need-returns Inv-loop μ-loop
-returns c =
-    let all = copying-ends (c .loop-test .left) (c .before .loop .inv) in
-    let is : Stored (c .before .before .before .before .args .out .now) (c .before .before .before .before .args .at)
-    (c .before .before .before .before .args .text .now) (c .before .loop .out)
-    (c .before .before .before .before .args .at + c .before .loop .i) =
-    subst (λ (l : List ℕ). Stored (c .before .before .before .before .args .out .now) (c .before .before .before .before .args .at) l
-    (c .before .loop .out) (c .before .before .before .before .args .at + c .before .loop .i)) (map-same
-    (c .before .before .before .before .args .text .now)) all in
-    record { put = is; near = omega arith }
+returns c = search copied
 
 pub put-text-spec : {M : Type 1} → statement M
 put-text-spec =

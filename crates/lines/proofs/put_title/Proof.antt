@@ -1,8 +1,8 @@
 use borrow.Author.Needs.{needs}
-use Rattle.lines.proofs.put_title.Statement.{statement}
-use Rattle.lines.proofs.put_title.Tie as tie
 use Rattle.express.specs.syntax.Tree.{schema-of}
 use Rattle.lines.proofs.Lines.{titled}
+use Rattle.lines.proofs.put_title.Statement.{statement}
+use Rattle.lines.proofs.put_title.Tie as tie
 
 first-of-kind-requires : tie.Need-first-of-kind-requires
 first-of-kind-requires c κs = search needs
@@ -27,11 +27,7 @@ same-length c = search needs
 
 returns : tie.Need-returns
 unfolding schema-of
-returns c = titled
-    (c .before .before .before .before .before .before .before .before .before .before .before .before .before .before .before .before .before .first-of-kind .ensures)
-    (c .before .before .before .before .before .before .before .before .before .before .before .before .before .before .before .put-named .ensures)
-    (c .before .before .before .before .before .before .before .before .before .before .before .put-byte .ensures)
-    (c .before .before .before .before .before .before .before .put-named2 .ensures) (c .before .before .put-text .ensures)
+returns c = search titled
 
 pub put-title-spec : {M : Type 1} → statement M
 put-title-spec =

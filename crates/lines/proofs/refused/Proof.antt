@@ -1,8 +1,7 @@
 use borrow.Author.Needs.{needs}
+use Rattle.lines.proofs.Lines.{refused-printed}
 use Rattle.lines.proofs.refused.Statement.{statement}
 use Rattle.lines.proofs.refused.Tie as tie
-use Rattle.lines.proofs.Pieces.{then}
-use Rattle.lines.proofs.Lines.{ended}
 
 slice-aggregate-put-text : tie.Need-slice-aggregate-put-text
 slice-aggregate-put-text c = search needs
@@ -29,11 +28,13 @@ same-length : tie.Need-same-length
 same-length c = search needs
 
 returns : tie.Need-returns
-returns c = ended (then (then (then
-    (c .before .before .before .before .before .before .before .before .before .before .before .before .before .before .before .before .before .before .before .put-text .ensures .put)
-    (c .before .before .before .before .before .before .before .before .before .before .before .before .before .before .before .put-decimal .ensures .put))
-    (c .before .before .before .before .before .before .before .before .before .before .put-text2 .ensures .put))
-    (c .before .before .before .before .before .before .put-decimal2 .ensures .put)) (c .before .before .end-line .ensures .0)
+returns c =
+    refused-printed _ _
+    (c .before .before .before .before .before .before .before .before .before .before .before .before .before .before .before .before .before .before .before .put-text .ensures)
+    (c .before .before .before .before .before .before .before .before .before .before .before .before .before .before .before .put-decimal .ensures)
+    (c .before .before .before .before .before .before .before .before .before .before .put-text2 .ensures)
+    (c .before .before .before .before .before .before .put-decimal2 .ensures)
+    (c .before .before .end-line .ensures .0)
     (c .before .before .end-line .ensures .1)
 
 pub refused-spec : {M : Type 1} → statement M

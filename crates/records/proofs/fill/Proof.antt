@@ -2,7 +2,7 @@
 -- slice is opened before the loop and closed after it. A turn calls `record_at`, of which the contract alone is known, takes one record out of the
 -- row, stores to it and puts it back; what the turns leave is `Filling` of Laws. Assumes nothing.
 use mathlib.Core.Path.{_≡_, refl, sym, _∙_, ap, subst}
-use Prim.Native.Nat.{ℕ, _+_, _-_, _*_, _≤_, _<_, _^_}
+use Prim.Native.Nat.{ℕ, _-_, _*_, _<_, _^_}
 use native.Mathlib.Nat.{lt-of-le-of-lt}
 use native.Mathlib.Numerals.{add-one-dec}
 use native.Mathlib.Omega.{arith}
