@@ -21,7 +21,8 @@ length-rows (k ∷ ks) [] ls = omega arith
 length-rows (k ∷ ks) (n ∷ ns) [] = omega arith
 length-rows (k ∷ ks) (n ∷ ns) (l ∷ ls) = omega (arith, length-rows ks ns ls)
 
-pub rows-at : (ks : List ℕ) (ns : List ℤ) (ls : List ℕ) (i : ℕ) → i < length (rows ks ns ls) → getD (rows ks ns ls) i zeros ≡ record { kind = getD ks i 0; number = getD ns i (pos 0); length = getD ls i 0 }
+pub rows-at : (ks : List ℕ) (ns : List ℤ) (ls : List ℕ) (i : ℕ) → i < length (rows ks ns ls)
+    → getD (rows ks ns ls) i zeros ≡ record { kind = getD ks i 0; number = getD ns i (pos 0); length = getD ls i 0 }
 unfolding rows
 rows-at [] ns ls i h = absurd (omega arith)
 rows-at (k ∷ ks) [] ls i h = absurd (omega arith)
