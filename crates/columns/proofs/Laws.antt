@@ -53,6 +53,20 @@ module _ {A : Type 0} where
   pub length-padded : (z : A) (n : ℕ) (vs : List A) → length vs ≤ n → length (padded z n vs) ≡ n
   length-padded z n vs h = omega (arith, length-append vs (replicate (n - length vs) z), length-replicate (n - length vs) z)
 
+  -- read with zero as default, zeros behind the values change nothing
+  getD-zeros : (z : A) (n i : ℕ) → getD (replicate n z) i z ≡ z
+  getD-zeros z zero i = refl
+  getD-zeros z (suc n) zero = refl
+  getD-zeros z (suc n) (suc i) = getD-zeros z n i
+
+  getD-behind : (z : A) (n : ℕ) (vs : List A) (i : ℕ) → getD (vs ++ replicate n z) i z ≡ getD vs i z
+  getD-behind z n [] i = getD-zeros z n i
+  getD-behind z n (v ∷ vs) zero = refl
+  getD-behind z n (v ∷ vs) (suc i) = getD-behind z n vs i
+
+  pub getD-padded : (z : A) (n : ℕ) (vs : List A) (i : ℕ) → getD (padded z n vs) i z ≡ getD vs i z
+  getD-padded z n vs i = getD-behind z (n - length vs) vs i
+
   -- one zero more
   pub clear-more : (z : A) (c : List A) (i : ℕ) → i < length c → cleared z (i + 1) (set c i z) ≡ cleared z i c
   clear-more z c i h =

@@ -52,17 +52,23 @@ printed t (end e) = bytes "end " ++ decimal e
 abbrev pub line : List ℕ → List ℕ
 line s = s ++ (10 ∷ [])
 
--- schema.constant = answer, for the i-th constant c
+-- schema.constant = answer, for a constant c
+abbrev pub answer-line : Table → ℕ → Answer → List ℕ
+answer-line t c a = line (name-of t (schema-of t c) ++ bytes "." ++ name-of t c ++ bytes " = " ++ printed t a)
+
+-- for the i-th constant
 abbrev pub constant-line : Accepted → ℕ → List ℕ
-constant-line a i =
-    let t = a .table in
-    let c = getD (constants t) i 0 in
-    line (name-of t (schema-of t c) ++ bytes "." ++ name-of t c ++ bytes " = " ++ printed t (getD (a .answers) i indeterminate))
+constant-line a i = let t = a .table in answer-line t (getD (constants t) i 0) (getD (a .answers) i indeterminate)
+
+abbrev pub accepted-line : ℕ → List ℕ
+accepted-line n = line (bytes "accepted " ++ decimal n)
+
+abbrev pub refused-line : ℕ → ℕ → List ℕ
+refused-line k p = line (bytes "refused " ++ decimal k ++ bytes " at " ++ decimal p)
 
 unfoldable pub listing : Checked → List ℕ
-listing (refused k p) = line (bytes "refused " ++ decimal k ++ bytes " at " ++ decimal p)
-listing (accepted a) =
-    line (bytes "accepted " ++ decimal (length (a .answers))) ++ flatMap (constant-line a) (span 0 (length (a .answers)))
+listing (refused k p) = refused-line k p
+listing (accepted a) = accepted-line (length (a .answers)) ++ flatMap (constant-line a) (span 0 (length (a .answers)))
 
 -- the program, with the tables that it lends
 abbrev pub program : List ℕ → List ℕ
