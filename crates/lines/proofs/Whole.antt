@@ -1,5 +1,5 @@
 -- The lines that this crate prints from the lent columns of an accepted file, zeros behind their values and all, are the listing of the outcome
--- (`listing-is`); a loop that goes from one constant to the next meets them all, in the order of the text (`walking-goes-on`).
+-- (`accepted-listing`, `refused-listing`); a loop that goes from one constant to the next meets them all, in the order of the text (`walking-goes-on`).
 use mathlib.Core.Path.{_≡_, refl, sym, ap, _∙_}
 use mathlib.Core.List.{List, _++_, map, flatMap}
 use mathlib.Core.Logic.{⊎-elim}
@@ -20,10 +20,11 @@ use Rattle.express.specs.kinds.Answer as express
 use Rattle.express.specs.kinds.Answer.{indeterminate, integer, logical, binary, item, end}
 use Rattle.express.specs.kinds.Kind.{constants}
 use Rattle.express.specs.kinds.AnswerRow.{AnswerRow, row-of, row-answer}
-use Rattle.express.specs.whole.Reply.{Accepted, accepted, answer-rows, answer-kinds, answer-numbers, answer-lengths}
+use Rattle.express.specs.whole.Reply.{Accepted, accepted, refused, checked, answer-rows, answer-kinds, answer-numbers, answer-lengths}
 use Rattle.express.specs.whole.Acceptance.{Acceptable}
-use Rattle.express.specs.whole.Listing.{name-of, printed, answer-line, constant-line, accepted-line, listing}
+use Rattle.express.specs.whole.Listing.{name-of, printed, answer-line, constant-line, accepted-line, refused-line, listing}
 use Rattle.express.proofs.whole.AnswerRow.{row-back}
+use Rattle.express.proofs.theorems.Acceptance.{accepted-iff}
 use Rattle.records.specs.declared.Answer.{Answer}
 use Rattle.records.specs.Rows.{zeros, rows}
 use Rattle.records.proofs.Laws.{row-within}
@@ -138,27 +139,40 @@ unfolding span flatMap
 flat-same f g i zero h = refl
 flat-same f g i (suc d) h = rw (h i (omega arith), flat-same f g (suc i) d (λ k l. h k (omega arith)))
 
-module _ {s : List ℕ} {token-rows node-rows answer-rows : ℕ} {a : Accepted} (ok : Acceptable s token-rows node-rows answer-rows a)
-    (n₁ n₂ n₃ n₄ m₁ m₂ m₃ : ℕ) where
-  short : length (a .table .tokens) ≤ count (a .table)
-  short =
-      rw (ok .table-is)
-      (omega (arith, length-map (ok .rows) (λ (r : Row). r .token), length-map (ok .rows) (λ (r : Row). r .kind)))
+module _ (a : Accepted) (n₁ n₂ n₃ n₄ m₁ m₂ m₃ : ℕ) where
+  -- the line printed for the i-th constant, and all that is printed
+  abbrev pub printed-line : ℕ → List ℕ
+  printed-line i = answer-line (lent (a .table) n₁ n₂ n₃ n₄) (getD (constants (a .table)) i 0) (record-answer (record-lent a m₁ m₂ m₃ i))
 
-  -- the line printed for the i-th constant
-  abbrev pub line-lent-at : ℕ → List ℕ
-  line-lent-at i = answer-line (lent (a .table) n₁ n₂ n₃ n₄) (getD (constants (a .table)) i 0) (record-answer (record-lent a m₁ m₂ m₃ i))
+  abbrev pub printed-lines : List ℕ
+  printed-lines = accepted-line (length (a .answers)) ++ flatMap printed-line (span 0 (length (a .answers)))
 
-  pub line-is : (i : ℕ) → i < length (a .answers) → line-lent-at i ≡ constant-line a i
-  line-is i h =
-      line-lent (a .table) n₁ n₂ n₃ n₄ short (getD (constants (a .table)) i 0) (record-answer (record-lent a m₁ m₂ m₃ i))
-      ∙ ap (answer-line (a .table) (getD (constants (a .table)) i 0))
-      (answer-lent a m₁ m₂ m₃ i h ∙ row-back (ok .exact i (omega (arith, ok .as-many)) .holds))
+  module _ {s : List ℕ} {token-rows node-rows answer-rows : ℕ} (ok : Acceptable s token-rows node-rows answer-rows a) where
+    short : length (a .table .tokens) ≤ count (a .table)
+    short =
+        rw (ok .table-is)
+        (omega (arith, length-map (ok .rows) (λ (r : Row). r .token), length-map (ok .rows) (λ (r : Row). r .kind)))
 
-  -- THE LISTING: the line of acceptance, then one line for each constant
-  pub listing-is :
-      accepted-line (length (a .answers)) ++ flatMap line-lent-at (span 0 (length (a .answers))) ≡ listing (accepted a)
+    pub line-is : (i : ℕ) → i < length (a .answers) → printed-line i ≡ constant-line a i
+    line-is i h =
+        line-lent (a .table) n₁ n₂ n₃ n₄ short (getD (constants (a .table)) i 0) (record-answer (record-lent a m₁ m₂ m₃ i))
+        ∙ ap (answer-line (a .table) (getD (constants (a .table)) i 0))
+        (answer-lent a m₁ m₂ m₃ i h ∙ row-back (ok .exact i (omega (arith, ok .as-many)) .holds))
+
+    listing-is : printed-lines ≡ listing (accepted a)
+    unfolding listing
+    listing-is =
+        ap (λ (l : List ℕ). accepted-line (length (a .answers)) ++ l)
+        (flat-same printed-line (constant-line a) 0 (length (a .answers)) (λ k l. line-is k (omega arith)))
+
+-- THE LISTING, of a file and tables of three lengths: what is printed is that of the outcome, accepted or refused
+module _ (s : List ℕ) (token-rows node-rows answer-rows : ℕ) where
+  pub accepted-listing : (a : Accepted) (n₁ n₂ n₃ n₄ m₁ m₂ m₃ : ℕ) → checked s token-rows node-rows answer-rows ≡ accepted a
+      → printed-lines a n₁ n₂ n₃ n₄ m₁ m₂ m₃ ≡ listing (checked s token-rows node-rows answer-rows)
+  accepted-listing a n₁ n₂ n₃ n₄ m₁ m₂ m₃ e =
+      listing-is a n₁ n₂ n₃ n₄ m₁ m₂ m₃ (accepted-iff s token-rows node-rows answer-rows a .0 e) ∙ ap listing (sym e)
+
+  pub refused-listing : (k p : ℕ) → checked s token-rows node-rows answer-rows ≡ refused k p
+      → refused-line k p ≡ listing (checked s token-rows node-rows answer-rows)
   unfolding listing
-  listing-is =
-      ap (λ (l : List ℕ). accepted-line (length (a .answers)) ++ l)
-      (flat-same line-lent-at (constant-line a) 0 (length (a .answers)) (λ k l. line-is k (omega arith)))
+  refused-listing k p e = rw e
