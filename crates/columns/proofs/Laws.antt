@@ -12,7 +12,7 @@ use Rattle.columns.specs.Column.{cleared, cleared-before, padded, tabula
 module _ {A : Type 0} where
   -- ---- stores in a row
 
-  -- "as far as it fits": past the end nothing changes
+  -- past the end nothing changes
   pub sets-out : (c : List A) (at : ℕ) (vs : List A) → length c ≤ at → sets c at vs ≡ c
   sets-out c at [] h = refl
   sets-out c at (v ∷ vs) h =

@@ -1,4 +1,4 @@
--- Columns: a table lent as columns is as long as its shortest column, and what is past its rows is zero.
+-- Columns: what stores and clearing leave in them (R7).
 use Prim.Native.Nat.{ℕ, zero, suc, _+_, _-_}
 use mathlib.Core.List.{List, [], _∷_, _++_}
 use lib.ListN.{length, replicate, take, drop}

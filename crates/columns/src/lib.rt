@@ -26,7 +26,7 @@ pub fn byte_index(b: u8) -> usize
     b as usize
 }
 
-// The smaller of two lengths: a table lent as columns is as long as its shortest column.
+// The smaller of two lengths; a table has the entries of its shortest column (R9).
 pub fn shorter(a: usize, b: usize) -> usize
     ensures { λ r. ⌜ r ≡ min a b ⌝ }
 {

@@ -1,4 +1,4 @@
--- A limit on nesting: the parse stops at the first bracket that would nest too deep.
+-- A limit on nesting (G28, G29): the parse stops at the first bracket that would nest too deep.
 use mathlib.Core.Bool.{_&&_, cond, true}
 use mathlib.Core.Path.{_≡_}
 use mathlib.Core.List.{List, [], _∷_}

@@ -1,4 +1,4 @@
--- Derivations that make the rows of a node table, children before their parent.
+-- Derivations that make the rows of a node table, children before their parent (G30).
 use mathlib.Core.List.{List, [], _∷_, _++_}
 use Prim.Native.Nat.{ℕ, suc}
 use lib.ListN.{length}

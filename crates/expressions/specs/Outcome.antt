@@ -21,7 +21,7 @@ use Rattle.expressions.specs.declared.Parsed.the-variants.{Accepted, Une
 use Rattle.expressions.specs.Reading.{word-of, All-fit}
 use Rattle.expressions.specs.Parsing.{entries, answer, rows-of}
 
--- ---- the limit on nesting
+-- ---- the limit on nesting (G28)
 
 -- how many brackets are open after each terminal, where one is before it
 abbrev pub steps : List ℕ

@@ -25,7 +25,7 @@ reply (Short n) = 7
 reply (Scratch n) = 255
 reply Long = 1
 
--- A file has at most 65,536 bytes, so at most as many tokens: a longer list is not read.
+-- T1, G36: a file has at most as many tokens as it may have bytes; a longer list is not read
 abbrev pub most : ℕ
 most = 65536
 

@@ -20,7 +20,7 @@ use Rattle.expressions.specs.declared.Read.the-variants.{At, Refused}
 
 -- ---- rows in words
 
--- kind and role of a row in one number
+-- R19: kind and role of a row in one number
 abbrev pub labelled : ℕ → ℕ → ℕ
 labelled kind role = kind + 256 * role
 

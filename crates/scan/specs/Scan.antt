@@ -1,4 +1,4 @@
--- What the steps of the token reader mean, and what its calls promise.
+-- What the steps of the token reader mean, and what its calls promise (T1 to T18).
 use Prim.Native.Nat.{ℕ, min}
 use mathlib.Core.Bool.{Bool, cond}
 use mathlib.Core.Path.{_≡_}

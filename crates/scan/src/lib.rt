@@ -8,7 +8,7 @@ ghost use Rattle.express.specs.tokens.Lexis.{pair, either, run, end-of-remark, 
 ghost use Rattle.express.specs.tokens.Lexis.{end-of-string, end-of-binary, lone, size-of-symbol, end-of-symbol, lexed-to};
 ghost use Rattle.scan.specs.Scan.{reading, member, mark, word-table, lone-table, colon, TokenRead, Filled, ScanResult};
 
-// A reading step gives a new place, or a located refusal: its number and its place.
+// What a step comes to: the place behind what was read, or a refusal, its reply and its place.
 pub enum Step {
     At(usize),
     Refused(u8, usize),

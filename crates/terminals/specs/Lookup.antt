@@ -1,4 +1,4 @@
--- How a word or a symbol is looked up: by a perfect hash of its bytes, and one comparison.
+-- How a word or a symbol is looked up (T9, T15, T20): by a perfect hash of its bytes, and one comparison.
 use mathlib.Core.Bool.{Bool, true, false}
 use mathlib.Core.Path.{_≡_}
 use mathlib.Core.List.{List, [], _++_, map}
@@ -16,7 +16,7 @@ spellings = map (λ f. f .spelling) (symbols ++ reserved)
 abbrev pub spelling : ℕ → List ℕ
 spelling k = getD spellings k []
 
--- a word without its case; a symbol as it is
+-- T3: a word without its case; a symbol as it is
 abbrev pub folded : Bool → List ℕ → List ℕ
 folded true t = map upper t
 folded false t = t

@@ -7,7 +7,7 @@ ghost use Rattle.values.specs.Meaning.{end-number};
 
 // Why an evaluation ends without a value.
 pub enum End {
-    // outside 64 signed bits, or over 63 joined bits
+    // more than 64 signed bits, or than 63 bits of a join, can hold
     OutOfRange,
     ZeroDivisor,
     NegativePower,

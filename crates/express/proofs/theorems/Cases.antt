@@ -1,4 +1,4 @@
--- By computation, from the bytes on: the cases of the scope that are to be proved have their answers, and files of tests/cases their listings.
+-- By computation, from the bytes on: the cases of whole/Case have their answers, and files of tests/cases their listings.
 use mathlib.Core.Path.{_≡_, refl, ap, _∙_}
 use Prim.Native.Nat.{ℕ}
 use mathlib.Core.Option.{some}

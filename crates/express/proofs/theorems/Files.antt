@@ -1,5 +1,5 @@
 -- Files of tests/cases and what the program prints of them: each by its name there, the lengths of the three tables, its lines, and the text
--- after the last line feed. The first is the listing that the scope gives whole.
+-- after the last line feed.
 use mathlib.Core.List.{List, [], _∷_, _++_, flatMap}
 use Prim.Native.Nat.{ℕ}
 use Prim.Native.String.{String}

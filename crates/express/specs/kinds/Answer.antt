@@ -1,4 +1,4 @@
--- What an expression comes to.
+-- What an expression comes to (K12).
 use mathlib.Core.Bool.{Bool}
 use mathlib.Core.List.{List, [], _∷_}
 use Prim.Native.Nat.{ℕ}

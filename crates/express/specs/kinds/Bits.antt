@@ -1,4 +1,4 @@
--- Binaries: lists of bits, the leftmost bit first, `true` for 1.
+-- Binaries: lists of bits, the leftmost bit first, `true` for 1 (T19).
 use mathlib.Core.Bool.{Bool, true, false, cond}
 use mathlib.Core.List.{List, [], _∷_, _++_}
 use Prim.Native.Nat.{ℕ, zero, suc, _+_, _*_, _/_, _%_, _^_, compare, Ordering}

@@ -1,4 +1,4 @@
--- What a constant is declared with, seen through renamings.
+-- What a constant is declared with, seen through renamings (K2).
 use mathlib.Core.Bool.{Bool, cond, not, _&&_}
 use mathlib.Core.List.{List}
 use Prim.Native.Nat.{ℕ, zero, suc, _+_, _-_}
@@ -22,7 +22,7 @@ declaration b n = getD b n 0 - 1
 abbrev pub bound : Table → List ℕ → ℕ → ℕ → Bool
 bound t b k n = not (eqb (getD b n 0) 0) && is t k (declaration b n)
 
--- a simple type, by its word
+-- K2, K3: a simple type, by its word
 unfoldable pub simple : ℕ → Declared
 simple w =
     cond (eqb w (the word.INTEGER)) INTEGER
@@ -48,6 +48,6 @@ denoted-in (suc f) t b n =
 abbrev pub denoted : Table → List ℕ → ℕ → Declared
 denoted t b n = denoted-in (count t) t b n
 
--- the type that a constant is declared with
+-- K2: the type that a constant is declared with
 abbrev pub declared-type : Table → List ℕ → ℕ → Declared
 declared-type t b c = denoted t b (type-node t c)

@@ -1,4 +1,4 @@
--- Evaluation as a function: one expression, from the answers of the constants that are known; and the constants in a given order.
+-- Evaluation as a function (K12 to K26): one expression, from the answers of the constants that are known; and the constants in a given order.
 use mathlib.Core.List.{List, [], _∷_}
 use Prim.Native.Nat.{ℕ, suc}
 use lib.ListN.{getD, set, replicate}
@@ -11,13 +11,14 @@ use Rattle.express.specs.kinds.Shape.{operator, interval, interval-opera
 use Rattle.express.specs.kinds.Shape as shapes
 use Rattle.express.specs.kinds.Operate.{logical-in, given, combined, applied, between}
 
--- UNKNOWN for a BOOLEAN is an end
+-- K26: UNKNOWN for a BOOLEAN is an end
 abbrev pub boolean-answer : Logical → Answer
 boolean-answer FALSE = logical FALSE
 boolean-answer UNKNOWN = end unknown-boolean
 boolean-answer TRUE = logical TRUE
 
--- what a constant of a declared type holds, from the answer of its expression
+-- K26: what a constant of a declared type holds, from the answer of its expression
+-- K26: a constant's answer, from its declared type and the answer of its expression
 abbrev pub held : Declared → Answer → Answer
 held INTEGER a = a
 held BOOLEAN a = given (logical-in a) boolean-answer a
@@ -26,7 +27,7 @@ held BINARY a = a
 held (enumeration y) a = a
 held other a = a
 
--- The answer of a node n of a given shape in a table e: f gives those of its children, g those of the constants of the file
+-- K13 to K26: the answer of a node n of a given shape in a table e; f gives those of its children, g those of the constants of the file
 abbrev pub answer-in : Table → (ℕ → Answer) → (ℕ → Answer) → ℕ → Shape → Answer
 answer-in e f g n (integer-literal v) = integer (pos v)
 answer-in e f g n (logical-literal l) = logical l

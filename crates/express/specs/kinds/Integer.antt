@@ -1,4 +1,4 @@
--- Arithmetic on integers: exact results over ℤ, and the end of what 64 signed bits do not hold.
+-- Arithmetic on integers (K17 to K20): exact results over ℤ, and the end of what 64 signed bits do not hold.
 use mathlib.Core.Path.{_≡_}
 use mathlib.Core.Bool.{Bool, true, false, cond}
 use mathlib.Core.Logic.{_⊎_}
@@ -25,7 +25,7 @@ product a b = exact (a *ℤ b)
 abbrev pub negation : ℤ → Answer
 negation a = exact (negℤ a)
 
--- ---- DIV and MOD
+-- ---- DIV and MOD (K18)
 abbrev pub negative : ℤ → Bool
 negative (pos n) = false
 negative (negsuc n) = true
@@ -35,12 +35,12 @@ abbrev pub signed : Bool → ℤ → ℤ
 signed false z = z
 signed true z = negℤ z
 
--- what is left of a, when d is taken away or added until it lies from 0 to d - 1
+-- K18: what is left of a, when d is taken away or added until it lies from 0 to d - 1
 abbrev pub rest : ℤ → ℕ → ℕ
 rest (pos a) d = a % d
 rest (negsuc a) d = d - suc (a % d)
 
--- `shrZ a d` is a / d rounded down. For a negative divisor a DIV b is -(a DIV -b), and a MOD b is -(a MOD -b).
+-- K18: `shrZ a d` is a / d rounded down. For a negative divisor a DIV b is -(a DIV -b), and a MOD b is -(a MOD -b).
 unfoldable pub quotient : ℤ → ℤ → ℤ
 quotient a b = signed (negative b) (shrZ a (natAbs b))
 
@@ -65,7 +65,7 @@ unfoldable pub power : ℤ → ℤ → Answer
 power a (pos n) = exact (pow a n)
 power a (negsuc n) = end negative-power
 
--- ---- the order of two integers
+-- ---- the order of two integers (K22)
 abbrev pub compareℤ : ℤ → ℤ → Ordering
 compareℤ (pos m) (pos n) = compare m n
 compareℤ (pos m) (negsuc n) = Ordering·gt

@@ -1,4 +1,4 @@
--- Typing: a kind for each node of a constant, in node order, or the first fault, 14 or 15.
+-- Typing (K3 to K11): a kind for each node of a constant, in node order, or the first fault, 14 or 15.
 use mathlib.Core.Path.{_≡_}
 use mathlib.Core.Bool.{Bool, true, cond, _&&_}
 use mathlib.Core.List.{List, [], _∷_}
@@ -13,7 +13,7 @@ use Rattle.express.specs.kinds.Shape.{Operator, plus, arithmetic, relati
 use Rattle.express.specs.kinds.Shape.{binary-literal, question, item, name, unary, operator, interval, interval-operator, type, constant, unevaluated, shape-in, shape}
 use Rattle.express.specs.kinds.Operate.{Kind, integers, logicals, binaries, items, undetermined, untyped, takes, takes-one, comparable}
 
--- Kinds by number
+-- kinds by number (K4), to compare them
 abbrev pub kind-number : Kind → ℕ
 kind-number untyped = 0
 kind-number undetermined = 1
@@ -45,6 +45,7 @@ result (arithmetic o) k = integers
 result (relation o) k = logicals
 result (connective o) k = logicals
 
+-- K7: the kind that a sign or NOT gives
 abbrev pub result-of-one : Sign → Kind
 result-of-one positive = integers
 result-of-one negative = integers
@@ -63,8 +64,8 @@ if-fits p k = cond p (of-kind k) (fault 15)
 abbrev pub if-evaluated : Declared → Kind → Finding
 if-evaluated d k = cond (comparable (kind-of-type d)) (of-kind k) (fault 14)
 
--- At a node n of a given shape in a table e, from the kinds of its children; what names are bound to are nodes of the file's table t, whose names
--- are bound by b
+-- K3 to K10, at a node n of a given shape in a table e, from the kinds of its children; what names are bound to are nodes of the file's table t,
+-- whose names are bound by b
 abbrev pub finding-in : Table → List ℕ → Table → (ℕ → Kind) → ℕ → Shape → Finding
 finding-in t b e k n (integer-literal v) = of-kind integers
 finding-in t b e k n (logical-literal l) = of-kind logicals
@@ -118,7 +119,7 @@ unfoldable pub type-constants : Table → List ℕ → List ℕ → List Kind �
 type-constants t b [] ks = typed ks
 type-constants t b (d ∷ ds) ks = if-typed (type-expression-in t b t b d ks) (λ js. type-constants t b ds js)
 
--- the constants, in the order of the text
+-- K36: the constants, in the order of the text
 abbrev pub constants : Table → List ℕ
 constants t = keep (is t node.constant) (nodes t)
 
@@ -126,21 +127,21 @@ constants t = keep (is t node.constant) (nodes t)
 unfoldable pub typing : Table → List ℕ → Typing
 typing t b = type-constants t b (constants t) (replicate (count t) untyped)
 
--- ---- what the typing says, without the order in which it goes
+-- ---- what the typing says, without the order in which it goes (R17)
 
--- node n is a constant or lies in one
+-- K1: node n is a constant or lies in one
 abbrev pub Constant : Table → ℕ → Type 0
 Constant t n = in-constant t n ≡ true
 
 abbrev pub Fits : Table → List ℕ → (ℕ → Kind) → ℕ → Type 0
 Fits t b k n = finding t b k n (shape t b n) ≡ of-kind (k n)
 
--- accepted: kinds that fit at every node of a constant
+-- R17, accepted: kinds that fit at every node of a constant
 pub record WellTyped (t : Table) (b : List ℕ) : Type 0 where
   pub kinds : ℕ → Kind
   pub fits : (n : ℕ) → Constant t n → Fits t b kinds n
 
--- refused: f is found at node n, and kinds fit at every node of a constant before it
+-- K11, refused: f is found at node n, and kinds fit at every node of a constant before it
 pub record FirstFault (t : Table) (b : List ℕ) (f n : ℕ) : Type 0 where
   pub kinds : ℕ → Kind
   pub there : Constant t n

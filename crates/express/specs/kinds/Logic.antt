@@ -1,4 +1,4 @@
--- The logic of three values.
+-- The logic of three values (K22, K24).
 use mathlib.Core.Bool.{cond}
 use Prim.Native.Nat.{ℕ, compare, Ordering}
 use lib.Dec.{leb}

@@ -1,4 +1,4 @@
--- What operators take, and what they make of the answers of their operands.
+-- What operators take (K7), and what they make of the answers of their operands (K14 to K25).
 use mathlib.Core.Path.{_≡_}
 use mathlib.Core.Bool.{Bool, true, false}
 use mathlib.Core.Option.{Option, none, some}
@@ -31,6 +31,7 @@ pub data Of (t : Table) : Kind → Answer → Type 0 where
   of-binary : {s : List Bool} → Of t binaries (binary s)
   of-item : {m y : ℕ} → owner t m ≡ y → Of t (items y) (item m)
 
+-- K7: what arithmetic takes
 abbrev pub integral : Kind → Bool
 integral integers = true
 integral logicals = false
@@ -39,6 +40,7 @@ integral (items y) = false
 integral undetermined = true
 integral untyped = false
 
+-- K7: what AND, OR, XOR and NOT take
 abbrev pub truthful : Kind → Bool
 truthful integers = false
 truthful logicals = true
@@ -56,6 +58,7 @@ summable (items y) = false
 summable undetermined = true
 summable untyped = false
 
+-- K7: what a relation takes
 abbrev pub comparable : Kind → Bool
 comparable integers = true
 comparable logicals = true
@@ -71,6 +74,7 @@ takes (arithmetic o) k = integral k
 takes (relation o) k = comparable k
 takes (connective o) k = truthful k
 
+-- K7: the kinds that a sign or NOT takes
 abbrev pub takes-one : Sign → Kind → Bool
 takes-one positive k = integral k
 takes-one negative k = integral k
@@ -132,6 +136,7 @@ module _ {A B : Type 0} where
 
 -- ---- the operations
 
+-- K17 to K20
 abbrev pub computed : Arithmetic → ℤ → ℤ → Answer
 computed minus x y = difference x y
 computed times x y = product x y
@@ -139,6 +144,7 @@ computed divide x y = DIV x y
 computed modulo x y = MOD x y
 computed power x y = int.power x y
 
+-- K24
 abbrev pub combined-logicals : Connective → Logical → Logical → Logical
 combined-logicals and l m = AND l m
 combined-logicals or l m = OR l m

@@ -1,4 +1,4 @@
--- An order of the constants in which each stands after all that it reaches.
+-- An order of the constants in which each stands after all that it reaches (N17): evaluation needs one, and any will do.
 use mathlib.Core.Path.{_≡_}
 use mathlib.Core.List.{List, [], flatMap, List·Memᴰ}
 use Prim.Native.Nat.{ℕ, suc, _≤_, _<_}

@@ -1,8 +1,8 @@
--- Relations, from the order of their two operands: once for all kinds.
+-- Relations, from the order of their two operands (K23): once for all kinds.
 use Prim.Native.Nat.{Ordering, Ordering·lt, Ordering·eq, Ordering·gt}
 use Rattle.express.specs.kinds.Answer.{Logical, FALSE, TRUE}
 
--- `<`, `>`, `<=`, `>=`, `<>`, `=`, `:<>:`, `:=:`
+-- G15: `<`, `>`, `<=`, `>=`, `<>`, `=`, `:<>:`, `:=:`
 pub data Relation : Type 0 where
   less-than greater-than at-most at-least unequal equal instance-unequal instance-equal : Relation
 

@@ -1,4 +1,4 @@
--- THE RULES of demand 3: which answers the nodes of expressions and constants have. They use no result of typing.
+-- THE RULES of demand 3 (K28 to K33): which answers the nodes of expressions and constants have. They use no result of typing.
 use mathlib.Core.Path.{_≡_}
 use mathlib.Core.Logic.{_↔_}
 use mathlib.Core.Bool.{Bool, true}
@@ -25,7 +25,7 @@ pub data Member (t : Table) : Declared → Answer → Type 0 where
   a-binary : {s : List Bool} → 1 ≤ length s → length s ≤ 63 → Member t BINARY (binary s)
   an-item : {m y : ℕ} → kind t m ≡ enumeration-item → owner t m ≡ y → Member t (enumeration y) (item m)
 
--- `?`, one of the ends, or a member of the declared type
+-- K32: `?`, one of the ends (R4), or a member of the declared type (K27)
 pub data Holds (t : Table) (d : Declared) : Answer → Type 0 where
   no-value : Holds t d indeterminate
   an-end : {e : ℕ} → List·Memᴰ e ends → Holds t d (end e)
@@ -38,7 +38,7 @@ pub record Fit (t : Table) (takes : Kind → Bool) (x y : Answer) : Type 0 where
   pub first : Of t one-kind x
   pub second : Of t one-kind y
 
--- Node n of the table t, whose names are bound by b, has the answer a.
+-- K28: node n of the table t, whose names are bound by b, has the answer a.
 pub data Gives (t : Table) (b : List ℕ) : ℕ → Answer → Type 0 where
   -- K29: leaves
   an-integer-literal : {n v : ℕ} → shape t b n ≡ integer-literal v → Gives t b n (integer (pos v))
@@ -61,7 +61,7 @@ pub data Gives (t : Table) (b : List ℕ) : ℕ → Answer → Type 0 where
   a-constant : {n : ℕ} {d : Declared} {a : Answer} → shape t b n ≡ constant d → Gives t b (last n) a → Holds t d a → Gives t b n a
   an-unknown-boolean : {n : ℕ} → shape t b n ≡ constant BOOLEAN → Gives t b (last n) (logical UNKNOWN) → Gives t b n (end unknown-boolean)
 
--- THE PROMISE: the rules give constant c the answer a and no other, and a is `?`, an end or a member of the type that c is declared with.
+-- THE PROMISE (K34): the rules give constant c the answer a and no other, and it is one that a constant of c's type may have.
 pub record Exactly (t : Table) (b : List ℕ) (c : ℕ) (a : Answer) : Type 0 where
   pub only : (x : Answer) → Gives t b c x ↔ (x ≡ a)
   pub holds : Holds t (declared-type t b c) a

@@ -1,4 +1,4 @@
--- What a node of an expression or a constant is: its row decoded, once, for the rules, the typing and the evaluation.
+-- What a node of an expression or a constant is: its row (G31) decoded, once, for the rules, the typing and the evaluation.
 use mathlib.Core.Path.{_≡_}
 use mathlib.Core.Bool.{Bool, cond, _||_}
 use mathlib.Core.Option.{Option, none, some}
@@ -15,20 +15,22 @@ use Rattle.express.specs.syntax.NodeKind as node
 use Rattle.express.specs.syntax.Tree.{Table, kind, token, terminal, is, lower, upper}
 use Rattle.express.specs.kinds.Declared.{Declared, declaration, bound, denoted, declared-type}
 
--- the operators that take integers alone
+-- K7: the operators that take integers alone
 pub data Arithmetic : Type 0 where
   minus times divide modulo power : Arithmetic
 
+-- K7: the operators that take logicals
 pub data Connective : Type 0 where
   and or xor : Connective
 
--- The two-operand operators, in classes; `+`, which adds integers and joins binaries, is one by itself.
+-- K7: the two-operand operators, in classes; `+`, which adds integers and joins binaries, is one by itself
 pub data Operator : Type 0 where
   plus : Operator
   arithmetic : Arithmetic → Operator
   relation : Relation → Operator
   connective : Connective → Operator
 
+-- G19: `+`, `-` and NOT before an atom
 pub data Sign : Type 0 where
   positive negative not : Sign
 
@@ -47,7 +49,7 @@ pub data Shape : Type 0 where
   -- a simple type or a type's name
   type : Declared → Shape
   constant : Declared → Shape
-  -- `/`, and leaves that are not evaluated
+  -- K10: `/`, and leaves that are not evaluated
   unevaluated : Shape
 
 -- the bytes of a node's naming token
@@ -91,7 +93,7 @@ evaluated (some o) = operator o
 
 -- A node n of a table e, whose names are bound by b to nodes of the file's table t: e is that table itself for the expressions of the file, and
 -- another for a text that is read by itself.
--- a name, or `type.item`: an item, a constant, or else a type
+-- a name, or `type.item`, by what it is bound to (N18): an item, a constant, or else a type
 abbrev pub name-shape-in : Table → Table → List ℕ → ℕ → Shape
 name-shape-in t e b n =
     cond (bound t b node.enumeration-item n) (item (declaration b n))

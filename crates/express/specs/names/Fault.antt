@@ -1,4 +1,4 @@
--- Faults 9 to 13: what is wrong with a node, for each stage.
+-- Replies 9 to 13: what is wrong with a node, for each stage (N19).
 use mathlib.Core.Bool.{Bool, true, cond, not, _&&_, _||_}
 use mathlib.Core.List.{List, [], _∷_}
 use Prim.Native.Nat.{ℕ}
@@ -9,7 +9,7 @@ use Rattle.express.specs.syntax.Tree.{Table, role, symbol, place, place-
 use Rattle.relations.specs.Reach.{Edge, reaches}
 use Rattle.express.specs.names.Scope.{Meaning, none, one, several, means, is-use, inherited, edges, type-token, type-meant}
 
--- a number of the table of replies and a start byte; number 0: no fault
+-- a reply (R2) and a place; reply 0: no fault
 pub record Fault : Type 0 where
   pub number : ℕ
   pub place : ℕ
@@ -46,14 +46,15 @@ sort t n =
     (cond (is-declaration t n) declaration-sort
     (cond (is t enumeration-item n) item-sort (cond (is-scope-member t n) member-sort (cond (is-name-in t supertype-name n) supertype-sort no-sort))))
 
--- and the node in which it must differ from all of its sort: the file, the schema, or the type or entity
+-- N2: and the scope in which it must differ from all of its sort: the file, the schema, or the type or entity
 unfoldable pub scope : Table → ℕ → ℕ
 scope t n = cond (leb (sort t n) schema-sort) 0 (cond (eqb (sort t n) declaration-sort) (schema-of t n) (owner t n))
 
+-- N2: two of one scope that are spelled alike
 abbrev pub alike : Table → ℕ → ℕ → Bool
 alike t n k = eqb (symbol t k) (symbol t n) && eqb (sort t k) (sort t n) && eqb (scope t k) (scope t n)
 
--- at the later of the two: of two nodes of one sort the later stands later in the text (`repeated-iff` of proofs/names/Later)
+-- N3: at the later of the two; of two nodes of one sort the later stands later in the text (`repeated-iff` of proofs/names/Later)
 unfoldable pub repeated : Table → ℕ → Fault
 repeated t n = cond (not (eqb (sort t n) no-sort) && any (alike t n) (span 0 n)) (fault 9 (place t n)) fine
 
@@ -71,13 +72,14 @@ is-value t k = is-attribute t k || is t constant k || is t enumeration-item k
 abbrev pub suits : Table → ℕ → ℕ → Bool
 suits t r k = cond (eqb r renamed-type) (is t type k) (cond (eqb r supertype-name) (is t entity k) (is t type k || is t entity k))
 
--- WHAT THE NAME n MAY MEAN
+-- WHAT THE NAME n MAY MEAN (N6, N12)
 abbrev pub right : Table → ℕ → ℕ → Bool
 right t n k = cond (is-use t n) (is-value t k) (suits t (role t n) k)
 
 abbrev pub named-fault : Table → ℕ → Fault
 named-fault t n = judged (right t n) (means t n) (place t n)
 
+-- N5, N6
 unfoldable pub type-name-fault : Table → ℕ → Fault
 type-name-fault t n = cond (is t name n && not (is-use t n)) (named-fault t n) fine
 
@@ -85,7 +87,7 @@ type-name-fault t n = cond (is t name n && not (is-use t n)) (named-fault t n) f
 unfoldable pub cyclic : Table → (ℕ → Bool) → List Edge → ℕ → Fault
 cyclic t p es n = cond (p n && reaches es n n) (fault 13 (place t n)) fine
 
--- A type is declared as an enumeration if its first node is an item: the first node of no other type is one (`enumeration-iff` of
+-- N13: a type is declared as an enumeration if its first node is an item: the first node of no other type is one (`enumeration-iff` of
 -- proofs/names/Enumeration).
 abbrev pub is-enumeration : Table → ℕ → Bool
 is-enumeration t y = is t type y && is t enumeration-item (first t y)
@@ -95,6 +97,7 @@ abbrev pub or-later : Fault → Fault → Fault
 or-later f g = cond (eqb (f .number) 0) g f
 
 -- N13, N14: the type must be an enumeration, at its name; and the item is looked up in it
+-- N13 at the type's name, then N14 at the item
 unfoldable pub qualified : Table → ℕ → Fault
 qualified t n =
     or-later (judged (is-enumeration t) (type-meant t n) (place-at t (type-token t n))) (judged (λ k. true) (means t n) (place t n))
@@ -104,6 +107,7 @@ abbrev pub clashes : Table → ℕ → Bool
 clashes t n = is-scope-member t n && not (empty (inherited t (owner t n) (symbol t n)))
 
 -- of names in expressions, of SELF in a constant (N15), and of clashes
+-- the stage of expressions: N11 to N16
 unfoldable pub expression : Table → ℕ → Fault
 expression t n =
     cond (is-use t n) (named-fault t n)

@@ -1,4 +1,4 @@
--- What is said of the names of a file: the stages 9 to 13.
+-- What is said of the names of a file: the five stages of N19.
 use mathlib.Core.Path.{_≡_}
 use mathlib.Core.Logic.{_≢_}
 use mathlib.Core.Bool.{cond}
@@ -18,7 +18,7 @@ Stage = ℕ → Fault
 unfoldable pub stages : Table → List Stage
 stages t = repeated t ∷ type-name-fault t ∷ cyclic t (is-declaration t) (type-edges t) ∷ expression t ∷ cyclic t (is t constant) (constant-edges t) ∷ []
 
--- of two faults of a stage the one with the smaller place
+-- N19: of two faults of a stage the one with the smaller place
 abbrev pub sooner : Fault → Fault → Fault
 sooner f g = cond (eqb (f .number) 0) g (cond (eqb (g .number) 0) f (cond (leb (f .place) (g .place)) f g))
 
@@ -26,7 +26,7 @@ unfoldable pub least : Stage → List ℕ → Fault
 least s [] = fine
 least s (n ∷ ns) = sooner (s n) (least s ns)
 
--- the fault of the first stage that has one
+-- N19, R3: the fault of the first stage that has one
 unfoldable pub first-fault : List Stage → List ℕ → Fault
 first-fault [] ns = fine
 first-fault (s ∷ ss) ns = or-later (least s ns) (first-fault ss ns)
@@ -39,6 +39,7 @@ names t = first-fault (stages t) (nodes t)
 abbrev pub Passes : List ℕ → Stage → Type 0
 Passes ns s = (n : ℕ) → List·Memᴰ n ns → s n .number ≡ 0
 
+-- R17: no stage finds a fault
 pub record WellNamed (t : Table) : Type 0 where
   pub once : Passes (nodes t) (repeated t)
   pub types : Passes (nodes t) (type-name-fault t)

@@ -1,4 +1,4 @@
--- What a name means.
+-- What a name means (N1 to N18).
 use mathlib.Core.Bool.{Bool, cond, _&&_, _||_}
 use mathlib.Core.List.{List, [], _∷_, _++_, map, flatMap}
 use Prim.Native.Nat.{ℕ, _+_, _-_}
@@ -8,7 +8,7 @@ use Rattle.relations.specs.Select.{keep, nearest}
 use Rattle.express.specs.syntax.Tree.{Table, token, symbol, symbol-at, nodes, is, is-name-in, is-declaration, is-attribute, is-scope-member, owner, schema-of}
 use Rattle.relations.specs.Reach.{Edge, edge, reaches}
 
--- the nodes of a symbol s that pass a test
+-- N1: the nodes spelled like s that pass a test, wherever they stand in the text
 abbrev pub spelled : Table → ℕ → (ℕ → Bool) → List ℕ
 spelled t s p = keep (λ k. eqb (symbol t k) s && p k) (nodes t)
 
@@ -22,7 +22,7 @@ visible t h k = eqb (schema-of t k) h
 unfoldable pub declarations : Table → ℕ → ℕ → List ℕ
 declarations t h s = spelled t s (λ k. is-declaration t k && visible t h k)
 
--- the items of all its enumerations
+-- N10, the level `items`: those of all its enumerations
 unfoldable pub items : Table → ℕ → ℕ → List ℕ
 items t h s = spelled t s (λ k. is t enumeration-item k && visible t h k)
 
@@ -32,23 +32,23 @@ declarations-of t n = declarations t (schema-of t n) (symbol t n)
 
 -- ---- in a declaration
 
--- the attributes and labels of a declaration d itself
+-- N10, the level `own`: the attributes and labels of a declaration d itself
 unfoldable pub own : Table → ℕ → ℕ → List ℕ
 own t d s = spelled t s (λ k. is-scope-member t k && eqb (owner t k) d)
 
--- edges from the declarations in which some names stand to what these mean
+-- N7: edges from the declarations in which some names stand to what these mean
 abbrev pub edges : Table → (ℕ → Bool) → (ℕ → List ℕ) → List Edge
 edges t p meant = flatMap (λ n. map (edge (owner t n)) (meant n)) (keep p (nodes t))
 
--- from entities to their supertypes: inheritance goes by these alone, so that a select of an entity inherits nothing
+-- N7, N9: from entities to their supertypes; inheritance goes by these alone, so that a select of an entity inherits nothing
 unfoldable pub super-edges : Table → List Edge
 super-edges t = edges t (is-name-in t supertype-name) (declarations-of t)
 
--- from types to the types and entities that they rename or select
+-- N7: from types to the types and entities that they rename or select
 unfoldable pub renaming-edges : Table → List Edge
 renaming-edges t = edges t (λ n. is-name-in t renamed-type n || is-name-in t select-name n) (declarations-of t)
 
--- of both sorts: no cycle runs over both (`type-cycle` of proofs/names/TypeCycle)
+-- N8: of both sorts; no cycle runs over both (`type-cycle` of proofs/names/TypeCycle)
 unfoldable pub type-edges : Table → List Edge
 type-edges t = renaming-edges t ++ super-edges t
 
@@ -58,7 +58,7 @@ inherited t d s = spelled t s (λ k. is-attribute t k && reaches (super-edges t)
 
 -- ---- of a name in an expression
 
--- a name that stands for a value
+-- G35: a name that stands for a value
 abbrev pub is-use : Table → ℕ → Bool
 is-use t n = is-name-in t in-expression n
 
@@ -69,11 +69,12 @@ candidates t n s =
     nearest (own t (owner t n) s)
     (nearest (inherited t (owner t n) s) (nearest (declarations t (schema-of t n) s) (items t (schema-of t n) s)))
 
--- of some candidates, each of which stands in the list once: there is none, one, or there are several (proofs/names/Meaning)
+-- N11: of some candidates, each of which stands in the list once: there is none, one, or there are several (proofs/names/Meaning)
 pub data Meaning : Type 0 where
   none several : Meaning
   one : ℕ → Meaning
 
+-- N11: no declaration, one, or several
 abbrev pub meaning : List ℕ → Meaning
 meaning [] = none
 meaning (k ∷ []) = one k
@@ -83,9 +84,11 @@ meaning (k ∷ l ∷ ks) = several
 abbrev pub type-token : Table → ℕ → ℕ
 type-token t n = token t n - 2
 
+-- N13
 unfoldable pub type-meant : Table → ℕ → Meaning
 type-meant t n = meaning (declarations t (schema-of t n) (symbol-at t (type-token t n)))
 
+-- N14: the item is looked up in that enumeration alone
 unfoldable pub items-of : Table → ℕ → ℕ → List ℕ
 items-of t y s = spelled t s (λ k. is t enumeration-item k && eqb (owner t k) y)
 
@@ -102,7 +105,7 @@ value-meant t h s = meaning (nearest (declarations t h s) (items t h s))
 abbrev pub qualified-meant : Table → ℕ → ℕ → ℕ → Meaning
 qualified-meant t h y s = item-meant t s (meaning (declarations t h y))
 
--- the meaning of any name; other nodes mean nothing
+-- N5, N10, N14: the meaning of any name; other nodes mean nothing
 unfoldable pub means : Table → ℕ → Meaning
 means t n =
     cond (is-use t n) (meaning (candidates t n (symbol t n)))

@@ -1,4 +1,4 @@
--- The grammar: the rules of annex A as the scope narrows them, each with its number there and with the node that it leaves.
+-- The grammar (G1 to G25), each rule with its number in annex A of the standard, and with the nodes that it leaves (G2, G32).
 use mathlib.Core.List.{List, _++_}
 use Prim.Native.Nat.{ℕ}
 use Rattle.ebnf.specs.Grammar.{silent, here, node, leaf, Ebnf, none, mark, step, seq, alt, star, fork, nt}
@@ -29,7 +29,7 @@ opt a = alt a none
 abbrev pub tok : List ℕ → Ebnf Nonterminal
 tok cs = step silent cs none
 
--- a token of the set, which names the rule's next node. (Where a rule names none, its node is named by the rule's first token.)
+-- a token of the set, which names the rule's next node (where a rule names none, its node is named by the rule's first token)
 abbrev pub named : List ℕ → Ebnf Nonterminal
 named cs = step here cs none
 
@@ -45,11 +45,11 @@ row k = mark (node k 0)
 abbrev pub ahead : List ℕ → List ℕ → Ebnf Nonterminal → Ebnf Nonterminal → Ebnf Nonterminal
 ahead c d a b = fork here c d a b
 
--- a name, with the role that its rule gives it
+-- a name, with the role that its rule gives it (G35)
 abbrev pub name : ℕ → Ebnf Nonterminal
 name role = step (leaf kind.name role) identifier none
 
--- a rule of a WHERE, labelled or not
+-- a rule of a WHERE, labelled or not (G35)
 abbrev pub rule-row : ℕ → Ebnf Nonterminal
 rule-row role = mark (node kind.rule role)
 
@@ -59,89 +59,89 @@ ids id = tok lparen · id · star (tok comma · id) · tok rparen
 
 -- ---- sets of terminals
 
--- 289 simple_types, without width
+-- G7, 289 simple_types: without width
 abbrev pub simple-types : List ℕ
 simple-types = BINARY ++ BOOLEAN ++ INTEGER ++ LOGICAL ++ NUMBER ++ REAL ++ STRING
 
--- 268 rel_op
+-- G15, 268 rel_op
 abbrev pub relations : List ℕ
 relations = less ++ greater ++ less-equal ++ greater-equal ++ unequal ++ equal ++ instance-unequal ++ instance-equal
 
--- 158 add_like_op
+-- G16, 158 add_like_op
 abbrev pub additions : List ℕ
 additions = plus ++ minus ++ OR ++ XOR
 
--- 244 multiplication_like_op, without `||`
+-- G17, 244 multiplication_like_op: without `||`
 abbrev pub multiplications : List ℕ
 multiplications = times ++ slash ++ DIV ++ MOD ++ AND
 
--- 308 unary_op
+-- G19, 308 unary_op
 abbrev pub signs : List ℕ
 signs = plus ++ minus ++ NOT
 
--- 233 interval_op
+-- G21, 233 interval_op
 abbrev pub comparisons : List ℕ
 comparisons = less ++ less-equal
 
--- 242 logical_literal
+-- G20, 242 logical_literal
 abbrev pub logicals : List ℕ
 logicals = TRUE ++ FALSE ++ UNKNOWN
 
--- the literals and constants that are never evaluated
+-- G20: the literals and constants that are never evaluated (K10)
 abbrev pub others : List ℕ
 others = real ++ string ++ PI ++ CONST-E
 
 -- ---- the rules
 
 abbrev pub rules : Nonterminal → Ebnf Nonterminal
--- 302 syntax
+-- G3, 302 syntax
 rules file = nt schema · star (nt schema) · row kind.file
--- 281 schema_decl, 280 schema_body
+-- G4, 281 schema_decl, 280 schema_body
 rules schema =
     tok SCHEMA · named identifier · tok semicolon · opt (nt constants) · star (nt type-declaration ∣ nt entity) · tok END-SCHEMA · tok semicolon
     · row kind.schema
--- 185 constant_decl
+-- G5, 185 constant_decl
 rules constants = tok CONSTANT · nt constant · star (nt constant) · tok END-CONSTANT · tok semicolon
--- 184 constant_body
+-- G6, 184 constant_body
 rules constant = named identifier · tok colon · nt base · tok becomes · nt expression · tok semicolon · row kind.constant
--- 171 base_type: a simple type or a named one
+-- G7, 171 base_type: a simple type or a named one
 rules base = leaves simple-types kind.simple-type ∣ name kind.type-name
--- 304 type_decl
+-- G8, 304 type_decl
 rules type-declaration =
     tok TYPE · named identifier · tok equal · nt underlying · tok semicolon · opt (nt where-clause) · tok END-TYPE · tok semicolon · row kind.type
--- 309 underlying_type, 201 enumeration_type, 284 select_type
+-- G9, 309 underlying_type, 201 enumeration_type, 284 select_type
 rules underlying =
     leaves simple-types kind.simple-type
     ∣ name kind.renamed-type
     ∣ named ENUMERATION · tok OF · ids (leaves identifier kind.enumeration-item) · row kind.enumeration
     ∣ named SELECT · ids (name kind.select-name) · row kind.select
--- 315 where_clause
+-- G10, 315 where_clause
 rules where-clause = tok WHERE · nt domain-rule · star (nt domain-rule)
--- 192 domain_rule: labelled exactly when the second token is `:`
+-- G11, G24, 192 domain_rule: labelled exactly when the second token is `:`
 rules domain-rule =
     ahead identifier colon (nt expression · tok semicolon · rule-row kind.labelled) (nt expression · tok semicolon · rule-row kind.unlabelled)
--- 196 entity_decl, 197 entity_head, 194 entity_body, 296 subtype_declaration, 191 derive_clause
+-- G12, 196 entity_decl, 197 entity_head, 194 entity_body, 296 subtype_declaration, 191 derive_clause
 rules entity =
     tok ENTITY · named identifier · opt (tok SUBTYPE · tok OF · ids (name kind.supertype-name)) · tok semicolon · star (nt attributes)
     · opt (tok DERIVE · nt derived · star (nt derived)) · opt (nt where-clause) · tok END-ENTITY · tok semicolon · row kind.entity
--- 203 explicit_attr
+-- G13, 203 explicit_attr
 rules attributes =
     leaves identifier kind.attribute-name · star (tok comma · leaves identifier kind.attribute-name) · tok colon
     · (tok OPTIONAL · nt base · tok semicolon · row kind.optional-group ∣ nt base · tok semicolon · row kind.attribute-group)
--- 190 derived_attr
+-- G14, 190 derived_attr
 rules derived = named identifier · tok colon · nt base · tok becomes · nt expression · tok semicolon · row kind.derived-attribute
--- 204 expression
+-- G15, 204 expression
 rules expression = nt sum · opt (named relations · nt sum · row kind.two-operand)
--- 287 simple_expression: operators of one level group to the left
+-- G16, G22, 287 simple_expression: operators of one level group to the left
 rules sum = nt term · star (named additions · nt term · row kind.two-operand)
--- 303 term
+-- G17, 303 term
 rules term = nt factor · star (named multiplications · nt factor · row kind.two-operand)
--- 206 factor (205 in annex A)
+-- G18, G22, 206 factor (205 in annex A): a sign belongs to its operand
 rules factor = nt operand · opt (named power · nt operand · row kind.two-operand)
--- 288 simple_factor, 200 enumeration_reference: "No sign or NOT stands before a `type.item` or an interval."
+-- G19, G25, 288 simple_factor, 200 enumeration_reference: a sign or NOT goes with an atom alone
 rules operand =
     ahead identifier dot (leaves identifier kind.qualified-item) (nt interval ∣ named signs · nt atom · row kind.unary ∣ nt atom)
--- 288 simple_factor and 256 primary: "Parentheses leave no node."
+-- G20, G33, 288 simple_factor, 256 primary: of parentheses nothing is left
 rules atom =
     tok lparen · nt expression · tok rparen
     ∣ leaves integer kind.integer-literal
@@ -151,6 +151,6 @@ rules atom =
     ∣ leaves others kind.other-literal
     ∣ name kind.in-expression
     ∣ leaves SELF kind.self
--- 229 interval: "three simple expressions, `<` or `<=` between"
+-- G21, 229 interval: three sums and the two comparisons between them
 rules interval =
     named lbrace · nt sum · leaves comparisons kind.interval-operator · nt sum · leaves comparisons kind.interval-operator · nt sum · tok rbrace · row kind.interval

@@ -1,4 +1,4 @@
--- The lookahead tables of the grammar. Nothing here has to be believed: proofs/Syntax.antt holds them to the rules by computation.
+-- The lookahead tables of the grammar. Nothing here has to be believed: proofs/syntax/Syntax holds them to the rules by computation.
 use mathlib.Core.List.{List, [], _++_}
 use Prim.Native.Nat.{ℕ}
 use Rattle.ebnf.specs.Parse.{Tables}

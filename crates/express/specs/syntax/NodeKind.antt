@@ -1,4 +1,4 @@
--- The numbers of kinds and roles of nodes, by name.
+-- The numbers of kinds (G32) and roles (G35) of nodes, by name.
 use Prim.Native.Nat.{ℕ}
 
 -- The kinds of nodes (G32). First those of expressions: literals that are evaluated, `?`, other literals and PI and CONST_E, names, `type.item` (named by
@@ -81,7 +81,7 @@ schema = 25
 abbrev pub file : ℕ
 file = 26
 
--- one more than the greatest kind
+-- G32, G34: one more than the greatest kind
 abbrev pub kind-limit : ℕ
 kind-limit = 27
 
@@ -102,7 +102,7 @@ select-name = 4
 abbrev pub supertype-name : ℕ
 supertype-name = 5
 
--- the roles of a rule
+-- G35: the roles of a rule
 abbrev pub labelled : ℕ
 labelled = 1
 

@@ -1,4 +1,4 @@
--- What the grammar says of a list of terminals: the rows of its nodes, the first token that cannot stand, or the 65th bracket open at once.
+-- What the grammar says of a list of terminals: the rows of its nodes, the first token that cannot stand (G27), or the one that nests too deep (G28).
 -- The start symbol is `file` for a whole file, and `expression` for one expression by itself.
 use mathlib.Core.List.{List, _++_, map}
 use mathlib.Core.Path.{_≡_}
@@ -15,27 +15,27 @@ use Rattle.express.specs.syntax.Lookahead.{tables}
 abbrev pub whole : List Row → Rows
 whole s = record { name = 0; rows = s }
 
--- The tokens are a text of x, and its nodes have these rows.
+-- G1, G30: the tokens are a text of x, and its nodes have these rows.
 abbrev pub Parses : Nonterminal → List ℕ → List Row → Type 0
 Parses x ts s = Text in-rows rules x ts (whole s)
 
--- "For 5, parentheses of expressions and intervals are counted together; other parentheses never nest."
+-- G28: parentheses and braces are counted together
 abbrev pub opening : List ℕ
 opening = lparen ++ lbrace
 
 abbrev pub closing : List ℕ
 closing = rparen ++ rbrace
 
--- "the 65th parenthesis or interval open at once" is refused
+-- G28: how many may be open at once
 abbrev pub nesting : ℕ
 nesting = 64
 
--- What an outcome says of the tokens: accepted; 4 at a token, "no text of the grammar begins with the tokens through this one, or the input
--- stops early"; or 5 at a token, "the 65th parenthesis or interval open at once"; each the first in text, "4 comes before 5 at one token".
+-- What an outcome says of the tokens: they are a text; or 4 at the first token that cannot stand (G27); or 5 at the first that nests too deep
+-- (G28), where 4 goes first at the same token (G29).
 abbrev pub Holds : Nonterminal → List ℕ → Outcome Rows → Type 0
 Holds x ts o = Says in-rows rules x opening closing nesting ts o
 
--- the outcome, computed: it holds, and no other does (proofs/Syntax.antt)
+-- the outcome, computed: it holds, and no other does (`parsed-iff` of proofs/syntax/Syntax)
 unfoldable pub parsed : Nonterminal → List ℕ → Outcome Rows
 parsed x ts = outcome in-rows rules tables x opening closing nesting ts
 

@@ -1,4 +1,4 @@
--- The tables of a file: its bytes, a row for each token and a row for each node, as columns; nodes in post-order.
+-- The tables of a file: its bytes, a row for each token (T18) and a row for each node (G31), as columns; nodes in post-order (G30).
 use mathlib.Core.Bool.{Bool, _&&_, _||_}
 use mathlib.Core.List.{List}
 use Prim.Native.Nat.{ℕ, _+_, _-_}
@@ -9,12 +9,12 @@ use Rattle.relations.specs.Select.{span, first-from}
 
 pub record Table : Type 0 where
   pub bytes : List ℕ
-  -- of each token: its first byte, its length, its terminal, and the least token that is spelled alike, letters without case
+  -- of each token: its first byte, its length, its terminal (T20), and the least token that is spelled alike (T3)
   pub starts : List ℕ
   pub lengths : List ℕ
   pub terminals : List ℕ
   pub symbols : List ℕ
-  -- of each node: its kind, its naming token, the number of nodes of its subtree, itself included, and its role
+  -- of each node: its kind (G32), its naming token, its size (G31) and its role (G35)
   pub kinds : List ℕ
   pub tokens : List ℕ
   pub sizes : List ℕ
@@ -43,7 +43,7 @@ symbol-at t i = getD (t .symbols) i 0
 abbrev pub place-at : Table → ℕ → ℕ
 place-at t i = getD (t .starts) i 0
 
--- of a node's naming token: its terminal, its symbol, its place in the text
+-- of a node's naming token (G31): its terminal, its symbol, its place in the text
 abbrev pub terminal : Table → ℕ → ℕ
 terminal t n = getD (t .terminals) (token t n) 0
 
@@ -57,11 +57,11 @@ place t n = place-at t (token t n)
 abbrev pub last : ℕ → ℕ
 last n = n - 1
 
--- the child before a child
+-- G30: the child before a child
 abbrev pub before : Table → ℕ → ℕ
 before t n = n - size t n
 
--- the first node of a subtree
+-- G30: the first node of a subtree
 abbrev pub first : Table → ℕ → ℕ
 first t n = n + 1 - size t n
 
@@ -96,23 +96,24 @@ nodes t = span 0 (count t)
 abbrev pub is : Table → ℕ → ℕ → Bool
 is t k n = eqb (kind t n) k
 
--- a name in a role
+-- G35: a name in a role
 abbrev pub is-name-in : Table → ℕ → ℕ → Bool
 is-name-in t r n = is t name n && eqb (role t n) r
 
--- what a schema declares, beside the items of its enumerations
+-- N2: what a schema declares, beside the items of its enumerations
 abbrev pub is-declaration : Table → ℕ → Bool
 is-declaration t n = is t constant n || is t type n || is t entity n
 
+-- N2: an attribute, explicit or derived
 abbrev pub is-attribute : Table → ℕ → Bool
 is-attribute t n = is t attribute-name n || is t derived-attribute n
 
--- what an entity, or a type's WHERE, declares: attributes, and the labels of rules
+-- N2: what an entity or a type declares in itself: attributes, and the labels of rules
 abbrev pub is-scope-member : Table → ℕ → Bool
 is-scope-member t n = is-attribute t n || is t rule n && eqb (role t n) labelled
 
--- the constant, type or entity that a node is or lies in, and its schema: each stands after all that lies in it, and none lies in another of
--- its sort, so it is the first at or after the node; there is none at or after the number of nodes
+-- N2: the constant, type or entity that a node is or lies in, and its schema: each stands after all that lies in it (G30), and none lies in
+-- another of its sort, so it is the first at or after the node; there is none at or after the number of nodes
 unfoldable pub owner : Table → ℕ → ℕ
 owner t n = first-from (is-declaration t) n (count t - n)
 

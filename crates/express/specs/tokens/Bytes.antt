@@ -1,4 +1,4 @@
--- Classes of bytes.
+-- Classes of bytes: letters (T3), space (T4), what goes on with a word (T8), what a string holds (T13).
 use Prim.Native.Nat.{ℕ, _+_, _-_}
 use mathlib.Core.Bool.{Bool, cond, _&&_, _||_}
 use mathlib.Core.List.{List}
@@ -37,7 +37,7 @@ exponent-mark b = eqb b 101 || eqb b 69
 abbrev pub sign : ℕ → Bool
 sign b = eqb b 43 || eqb b 45
 
--- what a word goes on with
+-- T8: what a word goes on with
 unfoldable pub word-byte : ℕ → Bool
 word-byte b = letter b || (digit b || underscore b)
 

@@ -1,4 +1,4 @@
--- The tokens of a text. Its bytes are a list; a place is an index into it, and past its end the bytes count as 0.
+-- The tokens of a text (T1 to T19). Its bytes are a list; a place is an index into it, and past its end the bytes count as 0.
 use Prim.Native.Nat.{ℕ, zero, suc, _+_, _-_, _*_}
 use mathlib.Core.Bool.{Bool, true, false, cond, not, _&&_, _||_}
 use mathlib.Core.List.{List, [], _∷_, map}
@@ -26,7 +26,7 @@ run f s p = end-of-run f p (drop p s)
 abbrev pub pair : ℕ → ℕ → ℕ → ℕ → Bool
 pair x y b c = eqb b x && eqb c y
 
--- `(*`, `*)` and `--`
+-- T5, T6: `(*`, `*)` and `--`
 abbrev pub opens : ℕ → ℕ → Bool
 opens b c = pair 40 42 b c
 
@@ -70,7 +70,7 @@ skipped s p = skipped-in (length s + 1) s p
 
 -- ---- numbers
 
--- the number that digits stand for in a base, after digits that stand for v
+-- T19: the number that digits stand for in a base, after digits that stand for v
 unfoldable pub numeral : ℕ → ℕ → List ℕ → ℕ
 numeral base v [] = v
 numeral base v (b ∷ s) = numeral base (v * base + (b - 48)) s
@@ -98,7 +98,7 @@ pub record TokenRow : Type 0 where
   pub start : ℕ
   pub size : ℕ
 
--- the rows read so far, and how the reading stopped: at the end of the text, or refused
+-- the rows read so far, and how the reading stopped: at the end of the text, or refused (T17)
 pub record Lexed : Type 0 where
   pub rows : List TokenRow
   pub stop : Reading
@@ -128,7 +128,7 @@ longest-in (suc f) s p = longest-after-blank s (skipped s p) (λ q. longest-in f
 abbrev pub lexed-whole : List ℕ → Lexed
 lexed-whole s = longest-in (length s + 1) s 0
 
--- of a text with a limit on its bytes: a longer one is refused by 1
+-- T1: of a text with a limit on its bytes; a longer one is refused by 1
 abbrev pub lexed-to : ℕ → List ℕ → Lexed
 lexed-to n s = let all = lexed-whole s in cond (leb (length s) n) all (stopped (refused 1 n))
 
@@ -136,10 +136,11 @@ lexed-to n s = let all = lexed-whole s in cond (leb (length s) n) all (stopped (
 abbrev pub most : ℕ
 most = 65536
 
+-- T1, T2: the tokens of a file
 unfoldable pub lexed : List ℕ → Lexed
 lexed s = lexed-to most s
 
--- ---- what a table of tokens is
+-- ---- the columns of the token table (T18, R8)
 
 abbrev pub kinds : Lexed → List ℕ
 kinds l = map (λ r. r .kind) (l .rows)
@@ -158,7 +159,7 @@ counted (refused k o) n room = refused k o
 unfoldable pub tokens : Lexed → ℕ → Reading
 tokens l room = counted (l .stop) (length (l .rows)) room
 
--- ---- the values of literals, by the bytes of their tokens
+-- ---- T19: the values of literals, by the bytes of their tokens
 
 unfoldable pub integer-value : List ℕ → ℕ
 integer-value t = numeral 10 0 t
@@ -174,6 +175,7 @@ binary-value t = numeral 2 0 (drop 1 t)
 
 -- numbers
 
+-- T10: the end of the digits at p
 unfoldable pub end-of-integer : List ℕ → ℕ → Reading
 end-of-integer s p =
     let e = run digit s p in
@@ -182,7 +184,7 @@ end-of-integer s p =
 abbrev pub either : ℕ → ℕ → ℕ → Bool
 either x y b = eqb b x || eqb b y
 
--- `e` or `E`; `+` or `-`
+-- T12: `e` or `E`; `+` or `-`
 abbrev pub exponent-mark : ℕ → Bool
 exponent-mark b = bytes.exponent-mark b
 
@@ -227,7 +229,7 @@ end-of-binary s p =
 
 -- symbols
 
--- `?`, `( )`, `+ , - . /`, `;`, `=`, `[ \ ]`, `{` and `}`, which begin no longer symbol
+-- T15: `?`, `( )`, `+ , - . /`, `;`, `=`, `[ \ ]`, `{` and `}`, which begin no longer symbol
 unfoldable pub lone : ℕ → Bool
 lone b =
     eqb b 63 || (within 40 41 b || (within 43 47 b || (eqb b 59 || (eqb b 61 || (within 91 93 b || (eqb b 123 || eqb b 125))))))
@@ -242,6 +244,7 @@ size-of-symbol b c d e =
     (cond (eqb b 42) (cond (eqb c 42) 2 1)
     (cond (eqb b 124) (cond (eqb c 124) 2 1) 0)))))
 
+-- T16: what is no symbol either begins no token
 unfoldable pub end-of-symbol : List ℕ → ℕ → Reading
 end-of-symbol s p =
     let n = size-of-symbol (getD s p 0) (getD s (p + 1) 0) (getD s (p + 2) 0) (getD s (p + 3) 0) in
@@ -256,7 +259,7 @@ token-kind-at s p =
     let number : ℕ = cond (eqb (getD s (run digit s p) 0) 46) 3 2 in
     cond (letter b) 1 (cond (digit b) number (cond (eqb b 39) 4 (cond (eqb b 37) 5 6)))
 
--- the end of the token of a kind at p
+-- the end of the token of a kind at p, by the rule of its kind (T8, T10, T11, T13, T14, T15)
 unfoldable pub end-of-token : List ℕ → ℕ → ℕ → Reading
 end-of-token s p k =
     cond (eqb k 1) (at (run word-byte s p))

@@ -1,4 +1,4 @@
--- The token columns of a text.
+-- The token columns of a text: places and lengths (T18), terminals (T20), and which tokens are spelled alike (T3).
 use mathlib.Core.Path.{_≡_}
 use mathlib.Core.List.{List, [], map}
 use Prim.Native.Nat.{ℕ}

@@ -17,7 +17,7 @@ same [] (y ∷ ys) = false
 same (x ∷ xs) [] = false
 same (x ∷ xs) (y ∷ ys) = let rest = same xs ys in eqb x y && rest
 
--- the least token that is spelled like token i; equal exactly when the spellings are (`symbol-iff` of proofs/Spelling)
+-- the least token that is spelled like token i; equal exactly when the spellings are (`symbol-iff` of proofs/tokens/Spelling)
 unfoldable pub symbol-of : List ℕ → List ℕ → List ℕ → ℕ → ℕ
 symbol-of bytes starts lengths i = first-from (λ j. same (spelling bytes starts lengths j) (spelling bytes starts lengths i)) 0 i
 

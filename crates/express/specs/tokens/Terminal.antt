@@ -1,4 +1,4 @@
--- The terminals: each has a code, and 0 is no terminal. Those that the grammar uses have names, each the set of one code.
+-- The terminals (T20): each has a code, and 0 is no terminal. Those that the grammar uses have names, each the set of one code.
 use mathlib.Core.List.{List, [], _∷_, map}
 use Prim.Native.Nat.{ℕ, suc}
 use Prim.Native.Char.{code}
@@ -52,7 +52,7 @@ reserved =
 abbrev pub the : List ℕ → ℕ
 the set = getD set 0 0
 
--- a word that is not reserved, and the literals: codes 2 to 5 are the kinds of their tokens
+-- T20: a word that is not reserved, and the literals, whose codes are the kinds of their tokens
 abbrev pub identifier : List ℕ
 identifier = 1 ∷ []
 
@@ -68,7 +68,7 @@ string = 4 ∷ []
 abbrev pub binary : List ℕ
 binary = 5 ∷ []
 
--- symbols and reserved words: `names-are` of proofs/Terminal holds each name to its spelling
+-- symbols and reserved words: `names-are` of proofs/tokens/Terminal holds each name to its spelling
 abbrev pub question : List ℕ
 question = 6 ∷ []
 
@@ -254,14 +254,14 @@ word-terminal s = among reserved (map upper s) (the identifier)
 abbrev pub symbol-terminal : List ℕ → ℕ
 symbol-terminal s = among symbols s 0
 
--- the terminal of a token, by its kind (1 word, 2 integer, 3 real, 4 string, 5 binary, 6 symbol) and its spelling
+-- T20: the terminal of a token, by its kind (T18) and its spelling
 unfoldable pub terminal-of : ℕ → List ℕ → ℕ
 terminal-of kind s =
     cond (eqb kind 1) (word-terminal s)
     (cond (eqb kind 6) (symbol-terminal s)
     (cond (within 2 5 kind) kind 0))
 
--- the terminal of each token of a table, which is as long as its shortest column: of a kind, from a start on, so many bytes
+-- the terminal of each token of a table (R9): of a kind, from a start on, so many bytes
 unfoldable pub terminals : List ℕ → List ℕ → List ℕ → List ℕ → List ℕ
 terminals text [] starts sizes = []
 terminals text (k ∷ ks) [] sizes = []

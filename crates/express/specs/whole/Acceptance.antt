@@ -1,4 +1,4 @@
--- DEMAND 2, as a statement: when a file is accepted, and with what.
+-- DEMAND 2 (R17), as a statement: when a file is accepted, and with what.
 use mathlib.Core.Path.{_≡_}
 use mathlib.Core.List.{List}
 use Prim.Native.Nat.{ℕ, _≤_, _<_}
@@ -20,22 +20,22 @@ use Rattle.express.specs.whole.Reply.{Accepted}
 -- The tokens derive from the grammar, every name and type is right, and nothing is too large for the limits and the tables; the tree is that of
 -- the derivation, names are bound as they are looked up, and each constant has the answer that the rules give it (K34).
 pub record Acceptable (s : List ℕ) (token-rows node-rows answer-rows : ℕ) (a : Accepted) : Type 0 where
-  -- the bytes are tokens to the end, and there is room for them
+  -- T1, T17, R9: the bytes are tokens to the end, and there is room for them
   pub end : ℕ
   pub scanned : lexed s .stop ≡ at end
   pub tokens-are : a .tokens ≡ lexed s .rows
   pub token-room : length (lexed s .rows) ≤ token-rows
-  -- the tokens derive from the grammar, and the nodes are those of the derivation; nothing nests too deep
+  -- G1, G28, G30, R9: the tokens derive from the grammar, and the nodes are those of the derivation; nothing nests too deep
   pub rows : List Row
   pub parses : Parses file (token-table s .terminals) rows
   pub shallow : (i : ℕ) → ¬ (Deep opening closing nesting (token-table s .terminals) i)
   pub table-is : a .table ≡ with-rows (token-table s) rows
   pub node-room : count (a .table) ≤ node-rows
   pub answer-room : length (constants (a .table)) ≤ answer-rows
-  -- every name and type obeys the rules
+  -- N18, N19, K4 to K10: no name and no kind is at fault
   pub well-named : WellNamed (a .table)
   pub bound : a .bindings ≡ bindings (a .table)
   pub well-typed : WellTyped (a .table) (a .bindings)
-  -- an answer for each constant, in the order of the text: the one that the rules give
+  -- K34, K36: an answer for each constant, in the order of the text: the one that the rules give
   pub as-many : length (a .answers) ≡ length (constants (a .table))
   pub exact : (i : ℕ) → i < length (constants (a .table)) → Exactly (a .table) (a .bindings) (getD (constants (a .table)) i 0) (getD (a .answers) i indeterminate)

@@ -1,4 +1,4 @@
--- The cases of the scope that are to be proved, as one table: the type and the text of an expression, and the answer of a constant so declared.
+-- Cases of K13 to K25, as one table: the type and the text of an expression, and the answer of a constant so declared.
 use mathlib.Core.Option.{Option, none, some}
 use mathlib.Core.List.{List, [], _∷_, _++_}
 use Prim.Native.Nat.{ℕ}

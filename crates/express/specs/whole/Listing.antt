@@ -23,6 +23,7 @@ digits (suc f) n ds = let more = digits f (n / 10) ((48 + n % 10) ∷ ds) in con
 abbrev pub decimal : ℕ → List ℕ
 decimal n = digits 20 n []
 
+-- R15: an integer in decimal
 abbrev pub signed : ℤ → List ℕ
 signed (pos n) = decimal n
 signed (negsuc n) = bytes "-" ++ decimal (suc n)
@@ -66,6 +67,7 @@ accepted-line n = line (bytes "accepted " ++ decimal n)
 abbrev pub refused-line : ℕ → ℕ → List ℕ
 refused-line k p = line (bytes "refused " ++ decimal k ++ bytes " at " ++ decimal p)
 
+-- R13, R14
 unfoldable pub listing : Checked → List ℕ
 listing (refused k p) = refused-line k p
 listing (accepted a) = accepted-line (length (a .answers)) ++ flatMap (constant-line a) (span 0 (length (a .answers)))

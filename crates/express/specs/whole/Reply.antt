@@ -1,4 +1,4 @@
--- THE WHOLE: what is answered for the bytes of a file and tables of three lengths, in the order of the stages, and what every column then holds.
+-- THE WHOLE (R1 to R9): what is answered for the bytes of a file and tables of three lengths, stage by stage (R3), and what every column then holds.
 use mathlib.Core.Bool.{cond}
 use mathlib.Core.List.{List, [], _∷_, map}
 use Prim.Native.Nat.{ℕ, min}
@@ -73,7 +73,7 @@ module _ (s : List ℕ) (l : Lexed) (nodes rows : ℕ) where
 abbrev pub checked-with : List ℕ → Lexed → ℕ → ℕ → ℕ → Checked
 checked-with s l token-rows node-rows answer-rows = after-tokens s l node-rows answer-rows (tokens l token-rows)
 
--- The outcome for the bytes of a file, and a token, a node and an answer table of so many entries
+-- R3: the outcome for the bytes of a file, and a token, a node and an answer table of so many entries
 unfoldable pub checked : List ℕ → ℕ → ℕ → ℕ → Checked
 checked s token-rows node-rows answer-rows = checked-with s (lexed s) token-rows node-rows answer-rows
 
