@@ -85,9 +85,9 @@ map-same (x ∷ xs) = ap (λ (l : List ℕ). x ∷ l) (map-same xs)
 pub copied : {text was have : List ℕ} {at i : ℕ} → length text ≤ 2 ^ 32 → length text ≤ i → Copying same text was at have i → Puts was at text have (at + i)
 copied {text} short h k = spelled text (copying-ends h k) (map-same text) short
 
-pub lowered : {text was have : List ℕ} {at i : ℕ} → length text ≤ 2 ^ 32 → length text ≤ i → Copying lower text was at have i
+pub lower-copied : {text was have : List ℕ} {at i : ℕ} → length text ≤ 2 ^ 32 → length text ≤ i → Copying lower text was at have i
     → Puts was at (map lower text) have (at + i)
-lowered {text} short h k = spelled (map lower text) (copying-ends h k) refl (omega (arith, length-map text lower))
+lower-copied {text} short h k = spelled (map lower text) (copying-ends h k) refl (omega (arith, length-map text lower))
 
 -- ---- a part of a text, by its first byte and its length, both within the text
 

@@ -3,7 +3,7 @@ use Prim.Native.Nat.{_-_}
 use native.Mathlib.Omega.{arith}
 use lib.ListN.{length}
 use Rattle.express.specs.tokens.Bytes.{lower}
-use Rattle.lines.proofs.Pieces.{Copying, copying-starts, copying-goes-on, lowered, copying-kept}
+use Rattle.lines.proofs.Pieces.{Copying, copying-starts, copying-goes-on, lower-copied, copying-kept}
 use Rattle.lines.proofs.put_lower.Statement.{statement}
 use Rattle.lines.proofs.put_lower.Tie as tie
 
@@ -44,7 +44,7 @@ same-length : tie.Need-same-length Inv-loop μ-loop
 same-length c = copying-kept (c .before .loop .inv)
 
 returns : tie.Need-returns Inv-loop μ-loop
-returns c = search lowered
+returns c = search lower-copied
 
 pub put-lower-spec : {M : Type 1} → statement M
 put-lower-spec =
