@@ -1,11 +1,11 @@
 -- A reading step as two numbers: its reply, and the number beside it.
-use Prim.Native.Nat.{ℕ, min}
+use Prim.Native.Nat.{ℕ}
 use mathlib.Core.Path.{_≡_}
 use mathlib.Core.List.{List}
-use lib.ListN.{length}
 use lib.Seq.{sets}
 use Rattle.express.specs.tokens.Lexis as Lexis
 use Rattle.express.specs.syntax.Grammar.{file}
+use Rattle.express.specs.whole.Reply.{token-entries}
 use Rattle.expressions.specs.declared.Parsed.{Parsed}
 use Rattle.expressions.specs.Parsing as Parsing
 use Rattle.express.specs.tokens.Lexis.{Reading, at, refused, lexed-to, tokens}
@@ -22,8 +22,8 @@ number (refused k p) = p
 
 -- what `woffulent_scan` answers and leaves: the promise of `scan`, its step as two numbers
 pub record Scans (limit : ℕ) (src k₀ s₀ z₀ : List ℕ) (r n : ℕ) (k s z : List ℕ) : Type 0 where
-  pub replies : r ≡ reply (tokens (lexed-to limit src) (min (length k₀) (min (length s₀) (length z₀))))
-  pub counts : n ≡ number (tokens (lexed-to limit src) (min (length k₀) (min (length s₀) (length z₀))))
+  pub replies : r ≡ reply (tokens (lexed-to limit src) (token-entries k₀ s₀ z₀))
+  pub counts : n ≡ number (tokens (lexed-to limit src) (token-entries k₀ s₀ z₀))
   pub kinds : k ≡ sets k₀ 0 (Lexis.kinds (lexed-to limit src))
   pub starts : s ≡ sets s₀ 0 (Lexis.starts (lexed-to limit src))
   pub lengths : z ≡ sets z₀ 0 (Lexis.sizes (lexed-to limit src))

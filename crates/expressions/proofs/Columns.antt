@@ -24,7 +24,8 @@ use Rattle.expressions.specs.declared.Judgement.{Judgement}
 use Rattle.expressions.specs.declared.Judgement.the-variants.{Good, Unexpected, TooDeep}
 use Rattle.expressions.specs.declared.Parsed.{Parsed}
 use Rattle.expressions.specs.declared.Parsed.the-variants.{Scratch, Long}
-use Rattle.expressions.specs.Parsing.{most, entries, answer, rows-of, Parsing}
+use Rattle.express.specs.whole.Reply.{node-entries}
+use Rattle.expressions.specs.Parsing.{most, answer, rows-of, Parsing}
 use Rattle.expressions.specs.Reading.{word-of, Fits, All-fit, Ahead}
 use Rattle.expressions.specs.Outcome.{judged, Judges, kind-in, role-in, token-in, size-in, unpacked, count, Judging, answered, LaysOut, Parses}
 use Rattle.expressions.proofs.Laws.{map-length}
@@ -163,7 +164,7 @@ take-words a b rows l e =
 
 module _ (a : List ℕ) {j : Judgement} {b : List ℕ} {r : Parsed} {k t z o w k′ t′ z′ o′ : List ℕ} where
   laid-out : (out : Outcome Rows) → Judges out j a b → count j ≤ length a → LaysOut j r b k t z o w k′ t′ z′ o′ →
-      (r ≡ answer (entries k t z o) out) × (k′ ≡ sets k 0 (map (λ (r : Row). r .kind) (rows-of out))) × (t′ ≡ sets t 0 (map (λ (r : Row). r .token) (rows-of out)))
+      (r ≡ answer (node-entries k t z o) out) × (k′ ≡ sets k 0 (map (λ (r : Row). r .kind) (rows-of out))) × (t′ ≡ sets t 0 (map (λ (r : Row). r .token) (rows-of out)))
       × (z′ ≡ sets z 0 (map (λ (r : Row). r .size) (rows-of out))) × (o′ ≡ sets o 0 (map (λ (r : Row). r .role) (rows-of out)))
   laid-out (good s) h l u =
       let u₂ : LaysOut (Good (length (s .rows))) r b k t z o w k′ t′ z′ o′ = rw (h .0) at u in
@@ -234,7 +235,7 @@ judged-few ts (refused k) deep end r l e h = rw e (go (ltb deep k))
     go false = omega arith
 
 -- the tail, from what its calls gave
-pub lays-out : {j : Judgement} {r : Parsed} {n room : ℕ} {b k t z o w k′ t′ z′ o′ : List ℕ} → n ≡ count j → room ≡ entries k t z o → r ≡ answered room j →
+pub lays-out : {j : Judgement} {r : Parsed} {n room : ℕ} {b k t z o w k′ t′ z′ o′ : List ℕ} → n ≡ count j → room ≡ node-entries k t z o → r ≡ answered room j →
     k′ ≡ unpacked kind-in n b k → t′ ≡ unpacked token-in n b t → z′ ≡ unpacked size-in n b z → o′ ≡ unpacked role-in n b o → w ≡ cleared 0 0 b → LaysOut j r b k t z o w k′ t′ z′ o′
 lays-out {j} {b = b} {k = k} {t = t} {z = z} {o = o} e f g h₁ h₂ h₃ h₄ v =
     record {

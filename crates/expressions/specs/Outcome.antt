@@ -19,7 +19,8 @@ use Rattle.expressions.specs.declared.Judgement.the-variants.{Good, Unex
 use Rattle.expressions.specs.declared.Parsed.{Parsed}
 use Rattle.expressions.specs.declared.Parsed.the-variants.{Accepted, Unexpected as unexpected-at, TooDeep as too-deep-at, Short}
 use Rattle.expressions.specs.Reading.{word-of, All-fit}
-use Rattle.expressions.specs.Parsing.{entries, answer, rows-of}
+use Rattle.express.specs.whole.Reply.{node-entries}
+use Rattle.expressions.specs.Parsing.{answer, rows-of}
 
 -- ---- the limit on nesting (G28)
 
@@ -88,7 +89,7 @@ answered l (TooDeep k) = too-deep-at k
 
 -- The tail of a parse: from a judgement and its words to the answer, the columns and zeros.
 pub record LaysOut (j : Judgement) (r : Parsed) (words kinds tokens sizes roles words′ kinds′ tokens′ sizes′ roles′ : List ℕ) : Type 0 where
-  pub answers : r ≡ answered (entries kinds tokens sizes roles) j
+  pub answers : r ≡ answered (node-entries kinds tokens sizes roles) j
   pub kinds-are : kinds′ ≡ unpacked kind-in (count j) words kinds
   pub tokens-are : tokens′ ≡ unpacked token-in (count j) words tokens
   pub sizes-are : sizes′ ≡ unpacked size-in (count j) words sizes
@@ -97,7 +98,7 @@ pub record LaysOut (j : Judgement) (r : Parsed) (words kinds tokens sizes roles 
 
 -- The parse of a list that is read, by way of a word for each terminal.
 pub record Parses (x : Nonterminal) (ts : List ℕ) (r : Parsed) (words kinds tokens sizes roles words′ kinds′ tokens′ sizes′ roles′ : List ℕ) : Type 0 where
-  pub answers : r ≡ answer (entries kinds tokens sizes roles) (parsed x ts)
+  pub answers : r ≡ answer (node-entries kinds tokens sizes roles) (parsed x ts)
   pub kinds-are : kinds′ ≡ sets kinds 0 (map (λ (r : Row). r .kind) (rows-of (parsed x ts)))
   pub tokens-are : tokens′ ≡ sets tokens 0 (map (λ (r : Row). r .token) (rows-of (parsed x ts)))
   pub sizes-are : sizes′ ≡ sets sizes 0 (map (λ (r : Row). r .size) (rows-of (parsed x ts)))

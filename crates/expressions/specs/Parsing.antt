@@ -2,7 +2,7 @@
 use mathlib.Core.Bool.{Bool, _&&_, cond}
 use mathlib.Core.List.{List, [], _++_, map}
 use mathlib.Core.Path.{_≡_}
-use Prim.Native.Nat.{ℕ, _≤_, min}
+use Prim.Native.Nat.{ℕ, _≤_}
 use lib.ListN.{length, drop, replicate}
 use lib.Seq.{sets}
 use lib.Dec.{leb}
@@ -10,6 +10,7 @@ use Rattle.ebnf.specs.Rows.{Row, Rows}
 use Rattle.ebnf.specs.Depth.{Outcome, good, unexpected, too-deep}
 use Rattle.express.specs.syntax.Grammar.{Nonterminal}
 use Rattle.express.specs.syntax.Syntax.{parsed}
+use Rattle.express.specs.whole.Reply.{node-entries}
 use Rattle.expressions.specs.declared.Parsed.{Parsed}
 use Rattle.expressions.specs.declared.Parsed.the-variants.{Accepted, Unexpected, TooDeep, Short, Scratch, Long}
 
@@ -52,10 +53,6 @@ answer entries (good s) = cond (leb (length (s .rows)) entries) (Accepted (lengt
 answer entries (unexpected j) = Unexpected j
 answer entries (too-deep k) = TooDeep k
 
--- a table lent as columns is as long as its shortest column
-abbrev pub entries : List ℕ → List ℕ → List ℕ → List ℕ → ℕ
-entries kinds tokens sizes roles = min (min (length kinds) (length tokens)) (min (length sizes) (length roles))
-
 -- ---- what is read, and what scratch holds then
 
 -- a list that is not too long, with a word of scratch for each terminal
@@ -75,7 +72,7 @@ scratch-after ts scratch = cond (is-read ts scratch) (replicate (length ts) 0 ++
 -- THE PARSE of the terminals ts as a text of x: its answer, each column as it was with the rows written as far as they fit, and the scratch. (After a
 -- refusal by 4 or 5 there are no rows; after 7 there are all.)
 pub record Parsing (x : Nonterminal) (ts : List ℕ) (r : Parsed) (scratch kinds tokens sizes roles scratch′ kinds′ tokens′ sizes′ roles′ : List ℕ) : Type 0 where
-  pub answers : r ≡ answer-to x ts scratch (entries kinds tokens sizes roles)
+  pub answers : r ≡ answer-to x ts scratch (node-entries kinds tokens sizes roles)
   pub kinds-are : kinds′ ≡ sets kinds 0 (map (λ (r : Row). r .kind) (rows-to x ts scratch))
   pub tokens-are : tokens′ ≡ sets tokens 0 (map (λ (r : Row). r .token) (rows-to x ts scratch))
   pub sizes-are : sizes′ ≡ sets sizes 0 (map (λ (r : Row). r .size) (rows-to x ts scratch))

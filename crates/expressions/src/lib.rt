@@ -568,9 +568,9 @@ fn answered(judgement: Judgement, room: usize) -> Parsed
 
 // The shortest of four lengths.
 fn shortest(a: usize, b: usize, c: usize, d: usize) -> usize
-    ensures { λ r. ⌜ r ≡ min (min a b) (min c d) ⌝ }
+    ensures { λ r. ⌜ r ≡ min a (min b (min c d)) ⌝ }
 {
-    shorter(shorter(a, b), shorter(c, d))
+    shorter(a, shorter(b, shorter(c, d)))
 }
 
 // THE TAIL OF EVERY PARSE: the answer, and the rows laid out in the columns as far as they fit; the words are zeros then.

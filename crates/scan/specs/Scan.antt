@@ -1,5 +1,5 @@
 -- What the steps of the token reader mean, and what its calls promise (T1 to T18).
-use Prim.Native.Nat.{ℕ, min}
+use Prim.Native.Nat.{ℕ}
 use mathlib.Core.Bool.{Bool, cond}
 use mathlib.Core.Path.{_≡_}
 use mathlib.Core.List.{List}
@@ -9,6 +9,7 @@ use Rattle.columns.specs.Column.{tabulated}
 use Rattle.express.specs.tokens.Bytes.{digit, word-byte}
 use Rattle.express.specs.tokens.Lexis as Lexis
 use Rattle.express.specs.tokens.Lexis.{Reading, at, refused, Lexed, in-line, bit, lone, token-kind-at, end-of-token, lexed-to, tokens}
+use Rattle.express.specs.whole.Reply.{token-entries}
 use Rattle.scan.specs.declared.Step.{Step}
 use Rattle.scan.specs.declared.Step.the-variants.{At, Refused}
 use Rattle.scan.specs.declared.Class.{Class}
@@ -69,7 +70,7 @@ pub record Filled (l : Lexed) (k₀ s₀ z₀ : List ℕ) (r : Step) (k s z : Li
 
 -- what `scan` answers and leaves, for any limit, bytes and columns; the columns' table is as long as the shortest of them
 pub record ScanResult (limit : ℕ) (src k₀ s₀ z₀ : List ℕ) (r : Step) (k s z : List ℕ) : Type 0 where
-  pub is : reading r ≡ tokens (lexed-to limit src) (min (length k₀) (min (length s₀) (length z₀)))
+  pub is : reading r ≡ tokens (lexed-to limit src) (token-entries k₀ s₀ z₀)
   pub kinds : k ≡ sets k₀ 0 (Lexis.kinds (lexed-to limit src))
   pub starts : s ≡ sets s₀ 0 (Lexis.starts (lexed-to limit src))
   pub lengths : z ≡ sets z₀ 0 (Lexis.sizes (lexed-to limit src))

@@ -12,7 +12,7 @@ use crate::{AnswerRow, File};
 #[derive(Clone, Copy, Debug, PartialEq, Eq)]
 #[repr(u8)]
 pub enum End {
-    /// Outside 64 signed bits, or over 63 joined bits.
+    /// No 64-bit signed integer, or a joined binary of more than 63 bits.
     OutOfRange = 16,
     ZeroDivisor = 17,
     NegativePower = 18,

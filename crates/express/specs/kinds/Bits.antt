@@ -25,7 +25,7 @@ bits (suc l) n = eqb (n / 2 ^ l % 2) 1 ∷ bits l n
 unfoldable pub join : List Bool → List Bool → Answer
 join xs ys = cond (leb (length (xs ++ ys)) 63) (binary (xs ++ ys)) (end outside)
 
--- K22: binaries compare from the left, 0 below 1; a proper prefix is less
+-- K22: the leftmost bits that differ decide, and where there are none the shorter binary is less
 abbrev pub compare-bit : Bool → Bool → Ordering
 compare-bit x y = compare (bit x) (bit y)
 

@@ -72,7 +72,7 @@ is-binary (b ∷ w) = eqb b 37 && some-of bit w
 abbrev pub is-symbol : List ℕ → Bool
 is-symbol w = not (eqb (symbol-terminal w) 0)
 
--- the kind of token that bytes spell: 1 word, 2 integer, 3 real, 4 string, 5 binary, 6 symbol, 0 none
+-- T18: the kind of token that bytes spell, and 0 where they spell none
 unfoldable pub spelled-kind : List ℕ → ℕ
 spelled-kind w =
     cond (is-word w) 1

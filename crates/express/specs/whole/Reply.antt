@@ -134,7 +134,7 @@ answer-lengths a = map (λ (r : AnswerRow). r .length) (answer-rows a)
 
 -- ---- the ten lent columns
 
--- a table lent as columns is as long as its shortest column: of columns of these lengths
+-- R9: how many rows columns of these lengths hold
 abbrev pub shortest : List ℕ → ℕ
 shortest [] = 0
 shortest (n ∷ []) = n
