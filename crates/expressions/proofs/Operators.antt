@@ -202,3 +202,25 @@ module _ (x y : Nonterminal) (cs : List ℕ) (shape : rules x ≡ seq (nt y) (st
         let u = reads-at h e in
         let w = often-turn in
         record { from = omega arith; ready = turn-ready v h e k z t; stands = behind {i = q₂} (omega arith) t (record { name = w .name; reading = more o (u .1) (mem-nil _ cs true t) (w .reading) }) }
+
+-- ---- once, by turns
+
+module _ (x y : Nonterminal) (cs : List ℕ) (shape : rules x ≡ seq (nt y) (opt (next-operand cs y))) {ts : List ℕ} {p n : ℕ} (g : Ready ts p n)
+    {a : List ℕ} {q m : ℕ} {b : List ℕ} (v : Before x y cs none ts p n a q m b) {r : Read} {c : List ℕ} (h : Reads y ts q m r b c) where
+  pub turned-refused : {k : ℕ} → r ≡ Refused k → Reads x ts p n r a c
+  turned-refused e = turn-refused x y cs (opt (next-operand cs y)) none shape g v h e
+
+  module _ {q₂ m₂ m₃ : ℕ} {d : List ℕ} (e : r ≡ At q₂ m₂) (k : Combines p q n m₂ m₃ c d) where
+    pub turned-both : p < q → Reads x ts p n (At q₂ m₃) a d
+    turned-both l = reads x (g .within) (finish (turn-later x y cs (opt (next-operand cs y)) none shape g v h e k l .reading))
+
+    module _ (l : q ≤ p) where
+      pub turned-alone : mem (getD ts q₂ 0) cs ≡ false → Reads x ts p n (At q₂ m₃) a d
+      turned-alone t = reads x (g .within) (finish (nothing (right (mem-nil _ cs false t) (last (turn-first x y cs (opt (next-operand cs y)) none shape g v h e k l .reading)))))
+
+      pub turned-again : mem 0 cs ≡ false → mem (getD ts q₂ 0) cs ≡ true → Before x y cs none ts p n a (q₂ + 1) m₃ d
+      turned-again z t =
+          let f = v .from in
+          let u = reads-at h e in
+          let w = turn-first x y cs (opt (next-operand cs y)) none shape g v h e k l in
+          record { from = omega arith; ready = turn-ready v h e k z t; stands = behind {i = q₂} (omega arith) t (record { name = w .name; reading = left (mem-nil _ cs true t) (last (w .reading)) }) }

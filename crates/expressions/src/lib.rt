@@ -218,24 +218,27 @@ fn term(terminals: &[u8], rows: &mut [u64], p: usize, n: usize) -> Read
     }
 }
 
-// factor = operand [ '**' operand ]
+// factor = operand [ '**' operand ], in a loop of at most two turns: with one call of `operand` the compiler takes all below `sum` as one function.
 fn factor(terminals: &[u8], rows: &mut [u64], p: usize, n: usize) -> Read
     requires { ⌜ Ready (now terminals) p n ⌝ }
     ensures { λ r. ⌜ Reads factor (now (terminals .entry)) p n r (now (rows .entry)) (now (rows .exit)) ⌝ }
 {
-    let left = operand(terminals, rows, p, n);
-    let Read::At(q, m) = left else {
-        return left;
-    };
-    if token(terminals, q) != codes::POWER {
-        return Read::At(q, m);
+    let mut q = p;
+    let mut m = n;
+    loop {
+        let right = operand(terminals, rows, q, m);
+        let Read::At(q2, m2) = right else {
+            return right;
+        };
+        m = combined(rows, p, q, n, m2);
+        if q > p {
+            return Read::At(q2, m);
+        }
+        if token(terminals, q2) != codes::POWER {
+            return Read::At(q2, m);
+        }
+        q = q2 + 1;
     }
-    let right = operand(terminals, rows, q + 1, m);
-    let Read::At(q2, m2) = right else {
-        return right;
-    };
-    put_row(rows, m2, n, labels::TWO_OPERAND, q);
-    Read::At(q2, m2 + 1)
 }
 
 // operand = id '.' id | interval | [ '+' | '-' | NOT ] atom

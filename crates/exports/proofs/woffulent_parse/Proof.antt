@@ -29,8 +29,11 @@ same-length-3 c = search needs
 same-length-4 : tie.Need-same-length-4
 same-length-4 c = search needs
 
+same-length-5 : tie.Need-same-length-5
+same-length-5 c = search needs
+
 returns : tie.Need-returns
-returns c = parses (c .before .before .before .before .before .before .before .before .before .before .parse .ensures) (c .before .parse-number .ensures) (c .parse-reply .ensures)
+returns c = parses (c .before .before .before .before .before .before .before .before .before .before .before .before .parse .ensures) (c .before .parse-number .ensures) (c .parse-reply .ensures)
 
 pub woffulent-parse-spec : {M : Type 1} → statement M
 woffulent-parse-spec =
@@ -43,4 +46,5 @@ woffulent-parse-spec =
     same-length-2
     same-length-3
     same-length-4
+    same-length-5
     returns)

@@ -53,11 +53,12 @@ use borrow.Author.Needs.{needs}
 use borrow.Author.Tests.{not-true, not-false}
 use lib.ListN.{length, getD}
 use Rattle.ebnf.specs.Set.{mem}
+use Rattle.ebnf.specs.Grammar.{none}
 use Rattle.express.specs.tokens.Terminal.{power}
 use Rattle.express.specs.syntax.Grammar.{expression as expression′, sum as sum′, term as term′, factor as factor′, operand as operand′, relations, additions, multiplications, signs}
 use Rattle.express.proofs.syntax.Syntax.{express}
 use Rattle.expressions.proofs.Operators.{Before, before-first, again, combinable, often-refused, often-ends}
-use Rattle.expressions.proofs.Operators.{often-again, once-refused, once-alone, once-ready, once-stopped, once-both}
+use Rattle.expressions.proofs.Operators.{often-again, turned-refused, turned-both, turned-alone, turned-again, once-refused, once-alone, once-ready, once-stopped, once-both}
 use Rattle.expressions.proofs.Terminals.{seen, seen-one, seen-other}
 use Rattle.expressions.proofs.Steps.{onward, onward-row, one-inside}
 use Rattle.expressions.proofs.Laws.{reads-at, compares-at, ready-of, rows-few, token-small}
@@ -189,7 +190,7 @@ expression-calls t = (
 )
 
 abbrev factor-calls : ℕ → factor-lts.Claims
-factor-calls t = (operand-below t, operand.Post, token-reads.Asked, token-reads.Learnt, put-row-reads.Asked, put-row-reads.Learnt)
+factor-calls t = (operand-below t, operand.Post, combined-reads.Asked, combined-reads.Learnt, token-reads.Asked, token-reads.Learnt)
 
 abbrev interval-calls : ℕ → interval-lts.Claims
 interval-calls t = (sum-below t, sum.Post, compared-below t, compared.Post, expect-reads.Asked, expect-reads.Learnt, put-row-reads.Asked, put-row-reads.Learnt)
@@ -477,110 +478,88 @@ expression-returns-4 t c =
     (c .before .before .before .before .before .before .before .before .before .before .before .if1 .left)))
     (c .before .before .before .before .before .before .before .before .before .sum2 .ensures) (c .before .before .before .before .before .right .given .1) (c .before .before .put-row .ensures)
 
-factor-operand-requires : (t : ℕ) → factor-lts.Need-operand-requires (factor-calls t) (factor-at t) factor.Post
-factor-operand-requires t c κs = (omega (arith, c .before .before .before .pre .0), c .before .before .before .pre .1)
+abbrev factor-Inv-loop : factor-lts.InvT-loop
+factor-Inv-loop terminals rows₀ p n q₀ m₀ rows q m = (length rows ≡ length rows₀) × Before factor′ operand′ power none terminals p n rows₀ q m rows
 
-factor-enum-known-left : (t : ℕ) → factor-lts.Need-enum-known-left (factor-calls t) (factor-at t) factor.Post
-factor-enum-known-left t c = search needs
+abbrev factor-μ-loop : factor-lts.MeasureT-loop
+factor-μ-loop terminals rows₀ p n q₀ m₀ rows q m = length terminals - q
 
-factor-enum-told : (t : ℕ) → factor-lts.Need-enum-told (factor-calls t) (factor-at t) factor.Post
-factor-enum-told t c = search needs
+factor-loop-holds : (t : ℕ) → factor-lts.Need-loop-holds (factor-calls t) (factor-at t) factor.Post factor-Inv-loop factor-μ-loop
+factor-loop-holds t c = (refl, before-first (c .before .before .pre .1))
 
-factor-same-length : (t : ℕ) → factor-lts.Need-same-length (factor-calls t) (factor-at t) factor.Post
-factor-same-length t c = search needs
+factor-operand-requires : (t : ℕ) → factor-lts.Need-operand-requires (factor-calls t) (factor-at t) factor.Post factor-Inv-loop factor-μ-loop
+factor-operand-requires t c κs = (omega (arith, c .before .before .before .before .pre .0, c .before .loop .inv .1 .from), c .before .loop .inv .1 .ready)
 
-factor-returns : (t : ℕ) → factor-lts.Need-returns (factor-calls t) (factor-at t) factor.Post
-factor-returns t c = once-refused factor′ operand′ power refl (c .before .before .before .before .before .before .before .before .pre .1)
-    (c .before .before .before .before .operand .ensures) (c .enum-told .given .1)
-
-factor-token-requires : (t : ℕ) → factor-lts.Need-token-requires (factor-calls t) (factor-at t) factor.Post
-factor-token-requires t c κs = search needs
-
-factor-same-length-2 : (t : ℕ) → factor-lts.Need-same-length-2 (factor-calls t) (factor-at t) factor.Post
-factor-same-length-2 t c = search needs
-
-factor-returns-2 : (t : ℕ) → factor-lts.Need-returns-2 (factor-calls t) (factor-at t) factor.Post
-factor-returns-2 t c =
-    once-alone factor′ operand′ power refl (c .before .before .before .before .before .before .before .before .before .before .before .pre .1)
-    (c .before .before .before .before .before .before .before .operand .ensures) (c .before .before .before .left .given .1)
-    (seen-other (c .before .before .before .before .before .before .before .before .before .before .before .args .terminals .now)
-    (c .before .before .before .left .given .0 .0) 32 (c .before .token .ensures) (c .if1 .taken))
-
-factor-add-operand : (t : ℕ) → factor-lts.Need-add-operand (factor-calls t) (factor-at t) factor.Post
-factor-add-operand t c = omega (
-  arith,
-  c .before .before .before .before .before .before .before .before .before .before .before .before .pre .1 .small,
-  reads-at
-      (c .before .before .before .before .before .before .before .before .operand .ensures) (c .before .before .before .before .left .given .1),
-)
-
-factor-operand-requires-2 : (t : ℕ) → factor-lts.Need-operand-requires-2 (factor-calls t) (factor-at t) factor.Post
-unfolding mem
-factor-operand-requires-2 t c κs =
-    let t = seen-one (c .before .before .before .before .before .before .before .before .before .before .before .before .args .terminals .now)
-    (c .before .before .before .before .left .given .0 .0) 32 (c .before .before .token .ensures) (c .before .if1 .left) in
-    let g = once-ready factor′ operand′ power refl (c .before .before .before .before .before .before .before .before .before .before .before .before .pre .1)
-    (c .before .before .before .before .before .before .before .before .operand .ensures) (c .before .before .before .before .left .given .1) t refl in (
-      omega (
-        arith,
-        c .before .before .before .before .before .before .before .before .before .before .before .before .pre .0,
-        reads-at
-            (c .before .before .before .before .before .before .before .before .operand .ensures) (c .before .before .before .before .left .given .1),
-        g .within,
-      ),
-      g,
-    )
-
-factor-enum-known-right : (t : ℕ) → factor-lts.Need-enum-known-right (factor-calls t) (factor-at t) factor.Post
+factor-enum-known-right : (t : ℕ) → factor-lts.Need-enum-known-right (factor-calls t) (factor-at t) factor.Post factor-Inv-loop factor-μ-loop
 factor-enum-known-right t c = search needs
 
-factor-enum-told-2 : (t : ℕ) → factor-lts.Need-enum-told-2 (factor-calls t) (factor-at t) factor.Post
-factor-enum-told-2 t c = search needs
+factor-enum-told : (t : ℕ) → factor-lts.Need-enum-told (factor-calls t) (factor-at t) factor.Post factor-Inv-loop factor-μ-loop
+factor-enum-told t c = search needs
 
-factor-same-length-3 : (t : ℕ) → factor-lts.Need-same-length-3 (factor-calls t) (factor-at t) factor.Post
+factor-same-length : (t : ℕ) → factor-lts.Need-same-length (factor-calls t) (factor-at t) factor.Post factor-Inv-loop factor-μ-loop
+factor-same-length t c = search needs
+
+factor-returns : (t : ℕ) → factor-lts.Need-returns (factor-calls t) (factor-at t) factor.Post factor-Inv-loop factor-μ-loop
+factor-returns t c = turned-refused factor′ operand′ power refl (c .before .before .before .before .before .before .before .before .before .pre .1)
+    (c .before .before .before .before .before .before .loop .inv .1) (c .before .before .before .before .operand .ensures) (c .enum-told .given .1)
+
+factor-combined-requires : (t : ℕ) → factor-lts.Need-combined-requires (factor-calls t) (factor-at t) factor.Post factor-Inv-loop factor-μ-loop
+factor-combined-requires t c κs = combinable (c .before .before .before .before .before .before .before .before .loop .inv .1)
+    (c .before .before .before .before .before .before .operand .ensures) (c .before .before .right .given .1)
+
+factor-same-length-2 : (t : ℕ) → factor-lts.Need-same-length-2 (factor-calls t) (factor-at t) factor.Post factor-Inv-loop factor-μ-loop
+factor-same-length-2 t c = search needs
+
+factor-returns-2 : (t : ℕ) → factor-lts.Need-returns-2 (factor-calls t) (factor-at t) factor.Post factor-Inv-loop factor-μ-loop
+factor-returns-2 t c = turned-both factor′ operand′ power refl
+    (c .before .before .before .before .before .before .before .before .before .before .before .before .before .before .before .pre .1)
+    (c .before .before .before .before .before .before .before .before .before .before .before .before .loop .inv .1)
+    (c .before .before .before .before .before .before .before .before .before .before .operand .ensures) (c .before .before .before .before .before .before .right .given .1)
+    (c .before .before .before .combined .ensures) (c .if1 .taken)
+
+factor-token-requires : (t : ℕ) → factor-lts.Need-token-requires (factor-calls t) (factor-at t) factor.Post factor-Inv-loop factor-μ-loop
+factor-token-requires t c κs = search needs
+
+factor-same-length-3 : (t : ℕ) → factor-lts.Need-same-length-3 (factor-calls t) (factor-at t) factor.Post factor-Inv-loop factor-μ-loop
 factor-same-length-3 t c = search needs
 
-factor-returns-3 : (t : ℕ) → factor-lts.Need-returns-3 (factor-calls t) (factor-at t) factor.Post
-factor-returns-3 t c =
-    once-stopped factor′ operand′ power refl (c .before .before .before .before .before .before .before .before .before .before .before .before .before .before .before .before
-    .before .pre .1) (c .before .before .before .before .before .before .before .before .before .before .before .before .before .operand .ensures)
-    (c .before .before .before .before .before .before .before .before .before .left .given .1)
-    (seen-one (c .before .before .before .before .before .before .before .before .before .before .before .before .before .before .before .before .before .args .terminals .now)
-    (c .before .before .before .before .before .before .before .before .before .left .given .0 .0) 32
-    (c .before .before .before .before .before .before .before .token .ensures) (c .before .before .before .before .before .before .if1 .left))
-    (c .before .before .before .before .operand2 .ensures) (c .enum-told2 .given .1)
+factor-returns-3 : (t : ℕ) → factor-lts.Need-returns-3 (factor-calls t) (factor-at t) factor.Post factor-Inv-loop factor-μ-loop
+factor-returns-3 t c = turned-alone factor′ operand′ power refl
+    (c .before .before .before .before .before .before .before .before .before .before .before .before .before .before .before .before .before .pre .1)
+    (c .before .before .before .before .before .before .before .before .before .before .before .before .before .before .loop .inv .1)
+    (c .before .before .before .before .before .before .before .before .before .before .before .before .operand .ensures)
+    (c .before .before .before .before .before .before .before .before .right .given .1) (c .before .before .before .before .before .combined .ensures)
+    (c .before .before .if1 .left) (seen-other (c .before .before .before .before .before .before .before .before .before .before .before .before .before .before .before .before
+    .before .args .terminals .now) (c .before .before .before .before .before .before .before .before .right .given .0 .0) 32 (c .before .token .ensures) (c .if2 .taken))
 
-factor-put-row-requires : (t : ℕ) → factor-lts.Need-put-row-requires (factor-calls t) (factor-at t) factor.Post
-factor-put-row-requires t c κs = search needs
-
-factor-add-t17 : (t : ℕ) → factor-lts.Need-add-t17 (factor-calls t) (factor-at t) factor.Post
-factor-add-t17 t c = omega (
+factor-add-q : (t : ℕ) → factor-lts.Need-add-q (factor-calls t) (factor-at t) factor.Post factor-Inv-loop factor-μ-loop
+factor-add-q t c = omega (
   arith,
-  c .before .before .before .before .before .before .before .before .before .before .before .before .before .before .before .before .before
-      .before .before .before .before .before .pre .1 .small,
-  c .before .before .before .before .before .before .before .before .before .before .before .before .before .before
-      .before .before .before .before .before .before .before .before .pre .1 .behind,
-  reads-at
-      (c .before .before .before .before .before .before .before .before .before .before .before .before .before .before .before .before .before .before .operand .ensures)
-      (c .before .before .before .before .before .before .before .before .before .before .before .before .before .before .left .given .1),
-  reads-at
-      (c .before .before .before .before .before .before .before .before .before .operand2 .ensures) (c .before .before .before .before .before .right .given .1),
+  c .before .before .before .before .before .before .before .before .before .before .before .before .before .before .before .before .before .pre .1
+      .small,
+  reads-at (c .before .before .before .before .before .before .before .before .before .before .before .before .operand .ensures)
+      (c .before .before .before .before .before .before .before .before .right .given .1),
 )
 
-factor-same-length-4 : (t : ℕ) → factor-lts.Need-same-length-4 (factor-calls t) (factor-at t) factor.Post
-factor-same-length-4 t c = search needs
+factor-loop-less : (t : ℕ) → factor-lts.Need-loop-less (factor-calls t) (factor-at t) factor.Post factor-Inv-loop factor-μ-loop
+factor-loop-less t c = omega (
+  arith,
+  reads-at (c .before .before .before .before .before .before .before .before .before .before .before .before .operand .ensures)
+      (c .before .before .before .before .before .before .before .before .right .given .1),
+)
 
-factor-returns-4 : (t : ℕ) → factor-lts.Need-returns-4 (factor-calls t) (factor-at t) factor.Post
-factor-returns-4 t c =
-    once-both factor′ operand′ power refl (c .before .before .before .before .before .before .before .before .before .before .before .before .before .before .before .before
-    .before .before .before .before .before .before .pre .1) (c .before .before .before .before .before .before .before .before .before .before .before .before .before
-    .before .before .before .before .before .operand .ensures) (c .before .before .before .before .before .before .before .before .before .before .before .before .before
-    .before .left .given .1)
-    (seen-one (c .before .before .before .before .before .before .before .before .before .before .before .before .before .before .before .before .before .before .before .before
-    .before .before .args .terminals .now) (c .before .before .before .before .before .before .before .before .before .before .before .before .before .before .left .given .0
-    .0) 32 (c .before .before .before .before .before .before .before .before .before .before .before .before .token .ensures)
-    (c .before .before .before .before .before .before .before .before .before .before .before .if1 .left))
-    (c .before .before .before .before .before .before .before .before .before .operand2 .ensures) (c .before .before .before .before .before .right .given .1) (c .before .before .put-row .ensures)
+factor-loop-again : (t : ℕ) → factor-lts.Need-loop-again (factor-calls t) (factor-at t) factor.Post factor-Inv-loop factor-μ-loop
+unfolding mem
+factor-loop-again t c = (
+  search needs,
+  turned-again factor′ operand′ power refl
+      (c .before .before .before .before .before .before .before .before .before .before .before .before .before .before .before .before .before .pre .1)
+      (c .before .before .before .before .before .before .before .before .before .before .before .before .before .before .loop .inv .1)
+      (c .before .before .before .before .before .before .before .before .before .before .before .before .operand .ensures)
+      (c .before .before .before .before .before .before .before .before .right .given .1) (c .before .before .before .before .before .combined .ensures)
+      (c .before .before .if1 .left) refl (seen-one (c .before .before .before .before .before .before .before .before .before .before .before .before .before .before .before
+      .before .before .args .terminals .now) (c .before .before .before .before .before .before .before .before .right .given .0 .0) 32 (c .before .token .ensures) (c .if2 .left)),
+)
 
 interval-add-sum : (t : ℕ) → interval-lts.Need-add-sum (interval-calls t) (interval-at t) interval.Post
 interval-add-sum t c = omega (arith, token-small (c .before .before .before .pre .1 .0))
@@ -1076,24 +1055,23 @@ pub +atom+compared+expression+factor+interval+operand+signed+sum+term-spec :
     (λ t. factor-lts.spec (factor-calls t)
     (factor-at t)
     factor.Post
+    factor-Inv-loop
+    factor-μ-loop
+    (factor-loop-holds t)
     (factor-operand-requires t)
-    (factor-enum-known-left t)
+    (factor-enum-known-right t)
     (factor-enum-told t)
     (factor-same-length t)
     (factor-returns t)
-    (factor-token-requires t)
+    (factor-combined-requires t)
     (factor-same-length-2 t)
     (factor-returns-2 t)
-    (factor-add-operand t)
-    (factor-operand-requires-2 t)
-    (factor-enum-known-right t)
-    (factor-enum-told-2 t)
+    (factor-token-requires t)
     (factor-same-length-3 t)
     (factor-returns-3 t)
-    (factor-put-row-requires t)
-    (factor-add-t17 t)
-    (factor-same-length-4 t)
-    (factor-returns-4 t))
+    (factor-add-q t)
+    (factor-loop-less t)
+    (factor-loop-again t))
     (λ t. interval-lts.spec (interval-calls t)
     (interval-at t)
     interval.Post
