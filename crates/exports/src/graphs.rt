@@ -8,6 +8,13 @@ use cycles::Dependencies;
 use cycles::Grouping;
 use graph::Marking;
 
+// What is answered in the place of a vertex on a cycle: no number of a vertex.
+const NO_ROOM: usize = 18446744073709551613;
+
+const NO_CYCLE: usize = 18446744073709551614;
+
+const NO_GRAPH: usize = 18446744073709551615;
+
 fn is_marked(marking: Marking) -> bool
     ensures { λ r. ⌜ r ≡ marked marking ⌝ }
 {
@@ -23,10 +30,10 @@ fn vertex_of(dependencies: Dependencies) -> usize
 {
     match dependencies {
         Dependencies::Cyclic(v) => v,
-        Dependencies::ColumnShort(_) => 18446744073709551613,
-        Dependencies::ScratchShort(_) => 18446744073709551613,
-        Dependencies::Acyclic => 18446744073709551614,
-        Dependencies::Malformed => 18446744073709551615,
+        Dependencies::ColumnShort(_) => NO_ROOM,
+        Dependencies::ScratchShort(_) => NO_ROOM,
+        Dependencies::Acyclic => NO_CYCLE,
+        Dependencies::Malformed => NO_GRAPH,
     }
 }
 
@@ -49,7 +56,8 @@ pub extern "C" fn woffulent_reachable(
     mark: &mut [u32],
     queue: &mut [u32],
 ) -> bool
-    ensures { λ r. ⌜ Told marked (Answers (now (first .entry)) (now (to .entry)) from (graph-marks.lent (now (mark .entry)) (now (queue .entry))) (graph-marks.lent (now (mark .exit)) (now (queue .exit)))) r ⌝ }
+    ensures { λ r. ⌜ Told marked (Answers (now (first .entry)) (now (to .entry)) from
+        (graph-marks.lent (now (mark .entry)) (now (queue .entry))) (graph-marks.lent (now (mark .exit)) (now (queue .exit)))) r ⌝ }
 {
     is_marked(graph::reachable(first, to, from, mark, queue))
 }

@@ -21,7 +21,7 @@ fn reply_of(step: scan::Step) -> u8
     ensures { λ r. ⌜ r ≡ reply (reading step) ⌝ }
 {
     match step {
-        scan::Step::At(_) => 0,
+        scan::Step::At(_) => codes::replies::ACCEPTED,
         scan::Step::Refused(k, _) => k,
     }
 }
@@ -44,7 +44,8 @@ pub extern "C" fn woffulent_scan(
     lengths: &mut [u32],
     count: &mut usize,
 ) -> u8
-    ensures { λ r. ⌜ Scans limit (now (src .entry)) (now (kinds .entry)) (now (starts .entry)) (now (lengths .entry)) r (now (count .exit)) (now (kinds .exit)) (now (starts .exit)) (now (lengths .exit)) ⌝ }
+    ensures { λ r. ⌜ Scans limit (now (src .entry)) (now (kinds .entry)) (now (starts .entry)) (now (lengths .entry)) r
+        (now (count .exit)) (now (kinds .exit)) (now (starts .exit)) (now (lengths .exit)) ⌝ }
 {
     let step = scan::scan(src, limit, kinds, starts, lengths);
     *count = number_of(step);
@@ -117,7 +118,8 @@ pub extern "C" fn woffulent_parse(
     roles: &mut [u32],
     count: &mut usize,
 ) -> u8
-    ensures { λ r. ⌜ Parses (now (list .entry)) r (now (count .exit)) (now (scratch .entry)) (now (kinds .entry)) (now (tokens .entry)) (now (sizes .entry)) (now (roles .entry)) (now (scratch .exit)) (now (kinds .exit)) (now (tokens .exit)) (now (sizes .exit)) (now (roles .exit)) ⌝ }
+    ensures { λ r. ⌜ Parses (now (list .entry)) r (now (count .exit)) (now (scratch .entry)) (now (kinds .entry)) (now (tokens .entry)) (now (sizes .entry)) (now (roles .entry))
+        (now (scratch .exit)) (now (kinds .exit)) (now (tokens .exit)) (now (sizes .exit)) (now (roles .exit)) ⌝ }
 {
     let parsed = declarations::parse(list, scratch, kinds, tokens, sizes, roles);
     *count = parse_number(parsed);

@@ -16,12 +16,15 @@ fn is_done(outcome: Outcome) -> bool
     }
 }
 
+// What is answered where there is no entry.
+const NOTHING: usize = 18446744073709551615;
+
 fn entry_of(found: Found) -> usize
     ensures { λ r. ⌜ r ≡ entry found ⌝ }
 {
     match found {
         Found::At(i) => i,
-        Found::Nothing => 18446744073709551615,
+        Found::Nothing => NOTHING,
     }
 }
 
@@ -34,7 +37,8 @@ pub extern "C" fn woffulent_intern(
     heads: &mut [u32],
     next: &mut [u32],
 ) -> bool
-    ensures { λ r. ⌜ Told done (λ o. Interns (now (bytes .entry)) (now (starts .entry)) (now (lengths .entry)) (now (symbols .entry)) (now (heads .entry)) (now (next .entry)) o (now (symbols .exit)) (now (heads .exit)) (now (next .exit))) r ⌝ }
+    ensures { λ r. ⌜ Told done (λ o. Interns (now (bytes .entry)) (now (starts .entry)) (now (lengths .entry)) (now (symbols .entry)) (now (heads .entry)) (now (next .entry)) o
+        (now (symbols .exit)) (now (heads .exit)) (now (next .exit))) r ⌝ }
 {
     is_done(index::symbols::intern(bytes, starts, lengths, symbols, heads, next))
 }

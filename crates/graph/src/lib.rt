@@ -44,6 +44,9 @@ fn inside(to: &[u32], from: usize, end: usize, n: usize) -> bool
     true
 }
 
+// The most vertices: as many as a file can have nodes.
+const MOST: usize = 65536;
+
 // Are the two columns a graph?
 pub fn valid(first: &[u32], to: &[u32]) -> bool
     ensures { λ r. ⌜ Tells (Graph (now (first .entry)) (now (to .entry))) r ⌝ }
@@ -52,7 +55,7 @@ pub fn valid(first: &[u32], to: &[u32]) -> bool
         return false;
     }
     let n = first.len() - 1;
-    if 65536 < n {
+    if MOST < n {
         return false;
     }
     if !rising(first, n) {

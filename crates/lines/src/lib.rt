@@ -125,11 +125,14 @@ fn put_integer(out: &mut [u8], at: usize, z: i64) -> usize
     put_decimal(out, at, natural(z))
 }
 
+// The weight of the highest bit of a word.
+const LAST_BIT: u8 = 63;
+
 // `1` where the bit of that weight is set.
 fn bit(n: u64, weight: u8) -> u8
     ensures { λ r. ⌜ r ≡ bit-digit (eqb (n / 2 ^ weight % 2) 1) ⌝ }
 {
-    if 63 < weight {
+    if LAST_BIT < weight {
         return b'0';
     }
     if (n >> (weight as u64)) % 2 == 1 {

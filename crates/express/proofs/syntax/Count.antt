@@ -7,7 +7,8 @@ use lib.ListN.{length}
 use Rattle.ebnf.specs.Rows.{Rows}
 use Rattle.ebnf.specs.Parse.{Result}
 use Rattle.ebnf.proofs.Count as count
-use Rattle.express.specs.syntax.Grammar.{Nonterminal, file, schema, constants, constant, base, type-declaration, underlying, where-clause, domain-rule, entity, attributes, derived, expression, sum, term, factor, operand, atom, interval, rules}
+use Rattle.express.specs.syntax.Grammar.{Nonterminal, file, schema, constants, constant, base, type-declaration, underlying, where-clause, domain-rule, entity, attributes}
+use Rattle.express.specs.syntax.Grammar.{derived, expression, sum, term, factor, operand, atom, interval, rules}
 use Rattle.express.proofs.syntax.Syntax.{express}
 use Rattle.express.proofs.syntax.Descent.{phrase}
 

@@ -12,8 +12,12 @@ use Rattle.ebnf.specs.Parse.{Result, at, refused, bind, Verdict, verdict, parse
 use Rattle.ebnf.specs.Check.{ok}
 use Rattle.ebnf.specs.Depth.{first-deep, uncut, cut-at, outcome-to}
 use Rattle.ebnf.proofs.Predictive.{Ok, ok-of}
-use Rattle.express.specs.tokens.Terminal.{identifier, integer, binary, question, dot, comma, semicolon, colon, equal, lbrace, rbrace, lparen, rparen, becomes, power, CONSTANT, DERIVE, END-CONSTANT, END-ENTITY, END-SCHEMA, END-TYPE, ENTITY, ENUMERATION, OF, OPTIONAL, SCHEMA, SELECT, SELF, SUBTYPE, TYPE, WHERE}
-use Rattle.express.specs.syntax.Grammar.{Nonterminal, file, schema, constants, constant, base, type-declaration, underlying, where-clause, domain-rule, entity, attributes, derived, expression, sum, term, factor, operand, atom, interval, _·_, _∣_, tok, named, row, simple-types, relations, additions, multiplications, signs, comparisons, logicals, others, rules}
+use Rattle.express.specs.tokens.Terminal.{identifier, integer, binary, question, dot, comma, semicolon, colon, equal, lbrace, rbrace, lparen, rparen, becomes, power}
+use Rattle.express.specs.tokens.Terminal.{CONSTANT, DERIVE, END-CONSTANT, END-ENTITY, END-SCHEMA, END-TYPE, ENTITY, ENUMERATION, OF, OPTIONAL, SCHEMA, SELECT, SELF, SUBTYPE}
+use Rattle.express.specs.tokens.Terminal.{TYPE, WHERE}
+use Rattle.express.specs.syntax.Grammar.{Nonterminal, file, schema, constants, constant, base, type-declaration, underlying, where-clause, domain-rule, entity, attributes}
+use Rattle.express.specs.syntax.Grammar.{derived, expression, sum, term, factor, operand, atom, interval, _·_, _∣_, tok, named, row, simple-types, relations, additions}
+use Rattle.express.specs.syntax.Grammar.{multiplications, signs, comparisons, logicals, others, rules}
 use Rattle.express.specs.syntax.Lookahead.{tables}
 use Rattle.express.specs.syntax.Syntax.{opening, closing, nesting, parsed}
 use Rattle.express.proofs.syntax.Syntax.{express}

@@ -12,7 +12,8 @@ use Rattle.ebnf.specs.Check.{productive, passes}
 use Rattle.ebnf.specs.Depth.{Outcome, good}
 use Rattle.ebnf.proofs.Predictive.{Predictive, predictive}
 use Rattle.express.specs.syntax.Tree.{Table}
-use Rattle.express.specs.syntax.Grammar.{Nonterminal, file, schema, constants, constant, base, type-declaration, underlying, where-clause, domain-rule, entity, attributes, derived, expression, sum, term, factor, operand, atom, interval, rules}
+use Rattle.express.specs.syntax.Grammar.{Nonterminal, file, schema, constants, constant, base, type-declaration, underlying, where-clause, domain-rule, entity, attributes}
+use Rattle.express.specs.syntax.Grammar.{derived, expression, sum, term, factor, operand, atom, interval, rules}
 use Rattle.express.specs.syntax.Lookahead.{tables}
 use Rattle.express.specs.syntax.Syntax.{whole, Parses, opening, closing, nesting, Holds, parsed, Read, with-rows}
 use Rattle.ebnf.proofs.Exact as exact

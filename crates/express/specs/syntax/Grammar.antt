@@ -2,7 +2,10 @@
 use mathlib.Core.List.{List, _++_}
 use Prim.Native.Nat.{ℕ}
 use Rattle.ebnf.specs.Grammar.{silent, here, node, leaf, Ebnf, none, mark, step, seq, alt, star, fork, nt}
-use Rattle.express.specs.tokens.Terminal.{identifier, integer, real, string, binary, question, dot, comma, semicolon, colon, times, plus, minus, equal, slash, less, greater, lbrace, rbrace, lparen, rparen, less-equal, unequal, greater-equal, becomes, power, instance-equal, instance-unequal, AND, BINARY, BOOLEAN, CONSTANT, CONST-E, DERIVE, DIV, END-CONSTANT, END-ENTITY, END-SCHEMA, END-TYPE, ENTITY, ENUMERATION, FALSE, INTEGER, LOGICAL, MOD, NOT, NUMBER, OF, OPTIONAL, OR, PI, REAL, SCHEMA, SELECT, SELF, STRING, SUBTYPE, TRUE, TYPE, UNKNOWN, WHERE, XOR}
+use Rattle.express.specs.tokens.Terminal.{identifier, integer, real, string, binary, question, dot, comma, semicolon, colon, times, plus, minus, equal, slash, less, greater}
+use Rattle.express.specs.tokens.Terminal.{lbrace, rbrace, lparen, rparen, less-equal, unequal, greater-equal, becomes, power, instance-equal, instance-unequal, AND, BINARY}
+use Rattle.express.specs.tokens.Terminal.{BOOLEAN, CONSTANT, CONST-E, DERIVE, DIV, END-CONSTANT, END-ENTITY, END-SCHEMA, END-TYPE, ENTITY, ENUMERATION, FALSE, INTEGER}
+use Rattle.express.specs.tokens.Terminal.{LOGICAL, MOD, NOT, NUMBER, OF, OPTIONAL, OR, PI, REAL, SCHEMA, SELECT, SELF, STRING, SUBTYPE, TRUE, TYPE, UNKNOWN, WHERE, XOR}
 use Rattle.express.specs.syntax.NodeKind as kind
 
 pub data Nonterminal : Type 0 where

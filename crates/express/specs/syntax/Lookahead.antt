@@ -2,8 +2,11 @@
 use mathlib.Core.List.{List, [], _++_}
 use Prim.Native.Nat.{ℕ}
 use Rattle.ebnf.specs.Parse.{Tables}
-use Rattle.express.specs.tokens.Terminal.{identifier, integer, binary, question, dot, comma, semicolon, colon, lbrace, lparen, power, CONSTANT, ENTITY, ENUMERATION, OF, SCHEMA, SELECT, SELF, TYPE, WHERE}
-use Rattle.express.specs.syntax.Grammar.{Nonterminal, file, schema, constants, constant, base, type-declaration, underlying, where-clause, domain-rule, entity, attributes, derived, expression, sum, term, factor, operand, atom, interval, simple-types, relations, additions, multiplications, signs, logicals, others}
+use Rattle.express.specs.tokens.Terminal.{identifier, integer, binary, question, dot, comma, semicolon, colon, lbrace, lparen, power, CONSTANT, ENTITY, ENUMERATION, OF}
+use Rattle.express.specs.tokens.Terminal.{SCHEMA, SELECT, SELF, TYPE, WHERE}
+use Rattle.express.specs.syntax.Grammar.{Nonterminal, file, schema, constants, constant, base, type-declaration, underlying, where-clause, domain-rule, entity, attributes}
+use Rattle.express.specs.syntax.Grammar.{derived, expression, sum, term, factor, operand, atom, interval, simple-types, relations, additions, multiplications, signs}
+use Rattle.express.specs.syntax.Grammar.{logicals, others}
 
 -- an expression in parentheses or a primary; an operand; and so a factor, a term, a sum and an expression
 abbrev pub atom-begins : List ℕ
