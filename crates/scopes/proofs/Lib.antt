@@ -6,3 +6,4 @@ pub mod Numbering
 pub mod Repeated
 pub mod Checking
 pub mod Looking
+pub mod Preparing
