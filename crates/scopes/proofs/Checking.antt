@@ -25,9 +25,10 @@ pub room-decided :
 room-decided entries keys nodes heads next a b z p q =
     record {
       yes = λ e.
-        let l = leb-true entries b e in
-        record { keys-room = omega arith; nodes-room = omega arith; heads-room = omega (arith, z); next-room = omega arith };
-      no = λ e r. let l = leb-false entries b e in omega (arith, r .keys-room, r .nodes-room, r .next-room) }
+          let l = leb-true entries b e in
+          record { keys-room = omega arith; nodes-room = omega arith; heads-room = omega (arith, z); next-room = omega arith };
+      no = λ e r. let l = leb-false entries b e in omega (arith, r .keys-room, r .nodes-room, r .next-room);
+    }
 
 -- the nodes below i pass
 pub record Passing (t : Table) (i : ℕ) : Type 0 where

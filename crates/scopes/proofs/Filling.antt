@@ -111,7 +111,7 @@ pub entered-at :
 unfolding scope other-entries
 entered-at {f} {t} {i} {s} {y} {at} {h} {a} {b} S e k p E =
     let r : b ≡ sets (sets a (vertex t i) (map f (declared-by (sort t i) (own-entry t i)))) (place t i) (map f (other-entries t i)) =
-        rw (e, k, p, S .schema-is, S .owner-is, S .vertex-is) at (E .is)
+    rw (e, k, p, S .schema-is, S .owner-is, S .vertex-is) at (E .is)
     in
     r ∙ ap (λ (d : Bool). sets (sets a (vertex t i) (map f (cond d (own-entry t i ∷ []) []))) (place t i) (map f (other-entries t i))) (declared-sort t i)
 
@@ -130,13 +130,14 @@ module _ {f : Entry → ℕ} {t : Table} {was : List ℕ} where
   filling-goes-on {i} {column} {column′} l F e =
       record {
         is =
-          e
-          ∙ ap (λ (c : List ℕ). sets (sets c (vertex t i) (map f (mine t i))) (place t i) (map f (other-entries t i))) (F .is)
-          ∙ sets-both was (vertex t i) (vertex t (i + 1)) (place t i) (place t (i + 1)) (map f (mine t i)) (map f (declared-from t (i + 1))) (map f (other-entries t i)) (map f (others-from t (i + 1)))
+            e
+            ∙ ap (λ (c : List ℕ). sets (sets c (vertex t i) (map f (mine t i))) (place t i) (map f (other-entries t i))) (F .is)
+            ∙ sets-both was (vertex t i) (vertex t (i + 1)) (place t i) (place t (i + 1)) (map f (mine t i)) (map f (declared-from t (i + 1))) (map f (other-entries t i)) (map f (others-from t (i + 1)))
             (mine-long t i f)
             (omega (arith, length-map (other-entries t i) f, entries-count t i, others-step t i))
             (omega (arith, vertex-le t (i + 1) (count t) (omega arith)))
-          ∙ rw (declared-split t i f l, others-split t i f l) }
+            ∙ rw (declared-split t i f l, others-split t i f l);
+      }
 
   pub filling-ends : {i : ℕ} {column : List ℕ} → Filling f t was column i → i ≤ 0 → Filled f t was column
   filling-ends {i} {column} F l = record { is = whole }
@@ -165,7 +166,8 @@ enterable {t} {i} ok l S e k p =
       symbol-small = omega (arith, k, ok .small i l);
       node-small = omega (arith, ok .few);
       vertex-small = omega (arith, S .vertex-is, vertex-small t i, ok .few);
-      at-small = omega (arith, p, vertex-small t (count t), others-small t i, ok .few) }
+      at-small = omega (arith, p, vertex-small t (count t), others-small t i, ok .few);
+    }
 
 -- ---- the stores of one node, by its sort
 scope-small : (s schema owner : ℕ) → schema < radix → owner < radix → scope-by s schema owner < radix
@@ -208,12 +210,13 @@ module _ {s schema owner vertex at symbol node : ℕ} where
     entered-item e k m h g =
         record {
           is =
-            g
-            ∙ rw (h, k, m, add-one)
+              g
+              ∙ rw (h, k, m, add-one)
               (by (eqb s declared) (eqb s none || eqb s declared) (eqb s items-of-types) (ne-eqb s declared (λ q. omega (arith, q, e)))
               (Rattle.relations.proofs.Select.untrue (eqb s none || eqb s declared)
               (λ q. mathlib.Core.Logic.⊎-elim (λ p. let y = borrow.Author.Tests.eqb-true s none p in omega (arith, y, e)) (λ p. let y = borrow.Author.Tests.eqb-true s declared p in omega (arith, y, e)) (Rattle.relations.proofs.Select.or-cases (eqb s none) (eqb s declared) q)))
-              (eq-eqb s items-of-types e)) }
+              (eq-eqb s items-of-types e));
+        }
       where
         own : Entry
         own = own-by s schema owner symbol node
@@ -281,4 +284,5 @@ module _ {t : Table} {keys₀ nodes₀ : List ℕ} where
           counted = E .counted;
           stands = now-stands;
           keys-filling = filling-goes-on low (rw (sym back) at (E .keys-filling)) (entered-at now-stands sorted ys (placed e) K);
-          nodes-filling = filling-goes-on low (rw (sym back) at (E .nodes-filling)) (entered-at now-stands sorted ys (placed e) N) }
+          nodes-filling = filling-goes-on low (rw (sym back) at (E .nodes-filling)) (entered-at now-stands sorted ys (placed e) N);
+        }

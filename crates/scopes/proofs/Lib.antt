@@ -7,3 +7,5 @@ pub mod Repeated
 pub mod Checking
 pub mod Looking
 pub mod Preparing
+pub mod Tables
+pub mod Examples

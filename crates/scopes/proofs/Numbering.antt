@@ -151,10 +151,11 @@ module _ (t : Table) (n : ℕ) (l : n < count t) where
         before = declared-before;
         after = map (own-entry t) declared-after ++ others-all t;
         is =
-          entries-split t
-          ∙ rw (declared-cut d, map-append (own-entry t) (keep (is-declaration t) (span 0 n)) (n ∷ declared-after))
+            entries-split t
+            ∙ rw (declared-cut d, map-append (own-entry t) (keep (is-declaration t) (span 0 n)) (n ∷ declared-after))
             (append-assoc declared-before (own-entry t n ∷ map (own-entry t) declared-after) (others-all t));
-        at = declared-before-long }
+        at = declared-before-long;
+      }
 
   abbrev more : List Entry
   more = cond (eqb (sort t n) items-of-types) (schema-entry t n ∷ []) []
@@ -183,9 +184,10 @@ module _ (t : Table) (n : ℕ) (l : n < count t) where
         before = map (own-entry t) (declared-nodes t) ++ others-ahead;
         after = more ++ others-after;
         is =
-          entries-split t
-          ∙ rw (others-cut, other-head z d) (sym (append-assoc (map (own-entry t) (declared-nodes t)) others-ahead (own-entry t n ∷ (more ++ others-after))));
-        at = others-long }
+            entries-split t
+            ∙ rw (others-cut, other-head z d) (sym (append-assoc (map (own-entry t) (declared-nodes t)) others-ahead (own-entry t n ∷ (more ++ others-after))));
+        at = others-long;
+      }
 
   -- what declares something has an entry
   pub node-placed : (sort t n ≡ 0 → ⊥) → Placed (entries t) (entry-number t n) (own-entry t n)
@@ -248,14 +250,16 @@ ranked p i (suc d) w l = by (p i) refl l (λ w′ l′. ranked p (suc i) d w′ 
               from = omega (arith, R .from);
               upto = omega (arith, R .upto);
               passes = R .passes;
-              rank = before true (getD rest w 0) e (R .from) ∙ ap suc (R .rank) }
+              rank = before true (getD rest w 0) e (R .from) ∙ ap suc (R .rank);
+            }
     by false e l more =
         let R = more w l in
         record {
           from = omega (arith, R .from);
           upto = omega (arith, R .upto);
           passes = R .passes;
-          rank = before false (getD rest w 0) e (R .from) ∙ R .rank }
+          rank = before false (getD rest w 0) e (R .from) ∙ R .rank;
+        }
 
 pub record Vertex (t : Table) (w k : ℕ) : Type 0 where
   pub node : k < count t
@@ -279,14 +283,15 @@ module _ {t : Table} {keys nodes heads next : List ℕ} (P : Prepared t keys nod
   unfolding vertex
   vertex-node w l =
       let e : getD nodes w 0 ≡ getD (declared-nodes t) w 0 =
-          rw (nodes-split, same-nodes (declared-nodes t)) (List·getD-append (declared-nodes t) (map node-of (others-all t)) 0 w l)
+      rw (nodes-split, same-nodes (declared-nodes t)) (List·getD-append (declared-nodes t) (map node-of (others-all t)) 0 w l)
       in
       let R = ranked (is-declaration t) 0 (count t) w l in
       rw e
       (record {
         node = omega (arith, R .upto);
         declares = R .passes;
-        number = let z : getD (declared-nodes t) w 0 - 0 ≡ getD (declared-nodes t) w 0 = omega arith in rw z at (R .rank) })
+        number = let z : getD (declared-nodes t) w 0 - 0 ≡ getD (declared-nodes t) w 0 = omega arith in rw z at (R .rank);
+      })
 
   other-node : (es : List ℕ) (y : Entry) → List·Memᴰ y (flatMap (other-entries t) es) → is-declaration t (y .node) ≡ false
   unfolding other-entries
@@ -321,8 +326,8 @@ module _ {t : Table} {keys nodes heads next : List ℕ} (P : Prepared t keys nod
           let long : length (map node-of (map (own-entry t) (declared-nodes t))) ≡ total = length-map (map (own-entry t) (declared-nodes t)) node-of ∙ declared-long t in
           let sum : length keys ≡ total + length (others-all t) = omega (arith, keys-long P, ap length (entries-split t), length-append (map (own-entry t) (declared-nodes t)) (others-all t), declared-long t) in
           let at : getD nodes e 0 ≡ getD (map node-of (others-all t)) (e - total) 0 =
-              let q : e ≡ length (map node-of (map (own-entry t) (declared-nodes t))) + (e - total) = omega (arith, long) in
-              ap (λ (i : ℕ). getD nodes i 0) q ∙ rw nodes-split (getD-append-add (map node-of (map (own-entry t) (declared-nodes t))) (map node-of (others-all t)) (e - total) 0)
+          let q : e ≡ length (map node-of (map (own-entry t) (declared-nodes t))) + (e - total) = omega (arith, long) in
+          ap (λ (i : ℕ). getD nodes i 0) q ∙ rw nodes-split (getD-append-add (map node-of (map (own-entry t) (declared-nodes t))) (map node-of (others-all t)) (e - total) 0)
           in
           let m = node-mem (others-all t) (e - total) (omega (arith, sum)) in
           rw (at ∙ m .2) (other-node (all-nodes t) (m .0) (m .1))

@@ -64,7 +64,7 @@ module _ (t : Table) (i : ℕ) where
   unfolding others-before flatMap
   others-step =
       let one : length (flatMap (other-entries t) (i ∷ [])) ≡ entry-count (sort t i) =
-          rw (mathlib.Core.List.append-nil (other-entries t i)) entries-count
+      rw (mathlib.Core.List.append-nil (other-entries t i)) entries-count
       in
       rw (span-next i, flat-append (other-entries t) (span 0 i) (i ∷ []), length-append (flatMap (other-entries t) (span 0 i)) (flatMap (other-entries t) (i ∷ [])), one)
 
@@ -116,7 +116,8 @@ stands-end {t} C E =
       owner-is = E .owner-is ∙ sym (owner-end t);
       schema-is = E .schema-is ∙ sym (schema-end t);
       vertex-is = E .vertex-is ∙ C .declarations-is;
-      other-is = E .other-is ∙ C .others-is }
+      other-is = E .other-is ∙ C .others-is;
+    }
 
 pub stands-step :
     {t : Table} {i : ℕ} {after h : Here} → i < count t → Stands t (i + 1) after → Passed (kind t i) (role t i) i after h → Stands t i h
@@ -126,14 +127,16 @@ stands-step {t} {i} {after} {h} l S P =
       owner-is = P .owner-is ∙ ap (λ (x : ℕ). cond (is-declaration t i) i x) (S .owner-is) ∙ sym (owner-step t i l);
       schema-is = P .schema-is ∙ ap (λ (x : ℕ). cond (is t schema i) i x) (S .schema-is) ∙ sym (schema-step t i l);
       vertex-is = omega (arith, P .vertex-is, S .vertex-is, vertex-step t i);
-      other-is = omega (arith, P .other-is, S .other-is, others-step t i) }
+      other-is = omega (arith, P .other-is, S .other-is, others-step t i);
+    }
 
 pub counted-step : {t : Table} {i : ℕ} {c c′ : Counts} → Counted t i c → More (kind t i) (role t i) c c′ → Counted t (i + 1) c′
 unfolding sort
 counted-step {t} {i} C M =
     record {
       declarations-is = omega (arith, C .declarations-is, M .declarations-is, vertex-step t i);
-      others-is = omega (arith, C .others-is, M .others-is, others-step t i) }
+      others-is = omega (arith, C .others-is, M .others-is, others-step t i);
+    }
 
 pub counted-starts : (t : Table) {c : Counts} → c .declarations ≡ 0 → c .others ≡ 0 → Counted t 0 c
 counted-starts t d o = record { declarations-is = d ∙ sym (vertex-none t); others-is = o ∙ sym (others-none t) }

@@ -57,7 +57,8 @@ module _ {t : Table} (keys nodes heads next : List ℕ) where
           record {
             prepared = record { consistent = ok; keys-is = front-keys; nodes-is = front-nodes; indexed = rw (total C) at (B .indexed all) };
             keys-kept = F .is;
-            nodes-kept = G .is }
+            nodes-kept = G .is;
+          }
         where
           n : ℕ
           n = length (entries t)
@@ -87,6 +88,6 @@ module _ {t : Table} (keys nodes heads next : List ℕ) where
           all =
               B .answer
               ∙ and-both (not (eqb (length heads) 0)) (leb long (length next) && ltb long 4294967295)
-                (ap not (ne-eqb (length heads) 0 (λ q. omega (arith, q, room .heads-room))))
-                (and-both (leb long (length next)) (ltb long 4294967295) (le-leb long (length next) (omega (arith, prefix-long, room .next-room)))
-                (lt-ltb long 4294967295 (omega (arith, prefix-long, total-small C ok))))
+              (ap not (ne-eqb (length heads) 0 (λ q. omega (arith, q, room .heads-room))))
+              (and-both (leb long (length next)) (ltb long 4294967295) (le-leb long (length next) (omega (arith, prefix-long, room .next-room)))
+              (lt-ltb long 4294967295 (omega (arith, prefix-long, total-small C ok))))

@@ -80,7 +80,7 @@ module _ {t : Table} {keys nodes heads′ next : List ℕ} (P : Prepared t keys 
   alike-nodes =
       prepared-numbers P key some
       ∙ by-sort t (P .consistent) (sort t n) (scope t n) (symbol t n) (omega (arith, scope-below t n (omega arith), P .consistent .few)) (P .consistent .small n l)
-        z (λ (q : sort t n ≡ items-of-schemas). omega (arith, q, sort-below t n))
+      z (λ (q : sort t n ≡ items-of-schemas). omega (arith, q, sort-below t n))
       ∙ keep-same _ _ (span 0 (count t)) (λ k m. turned (eqb (sort t k) (sort t n)) (eqb (scope t k) (scope t n)) (eqb (symbol t k) (symbol t n)))
 
   itself : alike t n n ≡ true

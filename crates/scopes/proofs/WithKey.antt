@@ -220,7 +220,7 @@ module _ (t : Table) (ok : Consistent t) where
             let d = eqb-true a declared e in
             split
             ∙ rw (with-others K t (λ n. false) (nodes t) (λ n m. other-declared n m d), keep-none (λ (n : ℕ). false) (nodes t) (λ n m. refl))
-              (append-nil _ ∙ with-declared K t (nodes t) ∙ keep-same _ _ (nodes t) (λ n m. declared-test n m ∙ is-declared n m d))
+            (append-nil _ ∙ with-declared K t (nodes t) ∙ keep-same _ _ (nodes t) (λ n m. declared-test n m ∙ is-declared n m d))
         by false e =
             let d = eqb-false a declared e in
             split ∙ rw (no-declarations d) (with-others K t (matches a g s) (nodes t) (λ n m. other-sort n m z d x))

@@ -97,7 +97,7 @@ module _ (s schema owner symbol node : ℕ) where
 pub record Entered (f : Entry → ℕ) (s schema owner vertex at symbol node : ℕ) (column column′ : List ℕ) : Type 0 where
   pub is : column′
       ≡ sets (sets column vertex (map f (declared-by s (own-by s schema owner symbol node)))) at
-        (map f (entries-by s (own-by s schema owner symbol node) (schema-by s schema owner symbol node)))
+      (map f (entries-by s (own-by s schema owner symbol node) (schema-by s schema owner symbol node)))
 
 -- a column after the stores of all entries
 pub record Filled (f : Entry → ℕ) (t : Table) (column column′ : List ℕ) : Type 0 where

@@ -114,7 +114,13 @@ fn enter_node(
     if sort != crate::ITEMS_OF_TYPES {
         return;
     }
-    enter(keys, nodes, other + 1, key(crate::ITEMS_OF_SCHEMAS, here.schema, symbol), node);
+    enter(
+        keys,
+        nodes,
+        other + 1,
+        key(crate::ITEMS_OF_SCHEMAS, here.schema, symbol),
+        node,
+    );
 }
 
 // Enters all nodes, from the last to the first.
@@ -141,7 +147,15 @@ fn fill(
         let role = roles[i];
         let k = index(tokens[i]);
         here = crate::passed(kind, role, i, here);
-        enter_node(keys, nodes, declarations + here.other, here, crate::sort(kind, role), symbols[k], i);
+        enter_node(
+            keys,
+            nodes,
+            declarations + here.other,
+            here,
+            crate::sort(kind, role),
+            symbols[k],
+            i,
+        );
     }
 }
 

@@ -32,7 +32,14 @@ pub fn meant(keys: &[u64], heads: &[u32], next: &[u32], key: u64) -> Meaning
 }
 
 // What a symbol means in a scope among what is of a sort: nothing where no file has such a scope or symbol.
-fn looked_up(keys: &[u64], heads: &[u32], next: &[u32], sort: u64, scope: usize, symbol: u32) -> Meaning
+fn looked_up(
+    keys: &[u64],
+    heads: &[u32],
+    next: &[u32],
+    sort: u64,
+    scope: usize,
+    symbol: u32,
+) -> Meaning
     requires { ⌜ sort ≤ 6 ⌝ }
     ensures { λ r. ⌜ UnderKey (now (keys .entry)) (now (heads .entry)) (now (next .entry)) sort scope symbol r ⌝ }
 {
@@ -46,7 +53,13 @@ fn looked_up(keys: &[u64], heads: &[u32], next: &[u32], sort: u64, scope: usize,
 }
 
 // The constant, type or entity of a schema: THE look-up of a name in a schema.
-pub fn declaration_meant(keys: &[u64], heads: &[u32], next: &[u32], schema: usize, symbol: u32) -> Meaning
+pub fn declaration_meant(
+    keys: &[u64],
+    heads: &[u32],
+    next: &[u32],
+    schema: usize,
+    symbol: u32,
+) -> Meaning
     ensures { λ r. ⌜ Means (now (keys .entry)) (now (heads .entry)) (now (next .entry)) (λ t. declarations t schema symbol) r ⌝ }
 {
     looked_up(keys, heads, next, crate::DECLARATIONS, schema, symbol)
@@ -60,14 +73,33 @@ pub fn own_meant(keys: &[u64], heads: &[u32], next: &[u32], owner: usize, symbol
 }
 
 // The item of an enumeration type.
-pub fn item_meant(keys: &[u64], heads: &[u32], next: &[u32], enumeration: usize, symbol: u32) -> Meaning
+pub fn item_meant(
+    keys: &[u64],
+    heads: &[u32],
+    next: &[u32],
+    enumeration: usize,
+    symbol: u32,
+) -> Meaning
     ensures { λ r. ⌜ Means (now (keys .entry)) (now (heads .entry)) (now (next .entry)) (λ t. items-of t enumeration symbol) r ⌝ }
 {
-    looked_up(keys, heads, next, crate::ITEMS_OF_TYPES, enumeration, symbol)
+    looked_up(
+        keys,
+        heads,
+        next,
+        crate::ITEMS_OF_TYPES,
+        enumeration,
+        symbol,
+    )
 }
 
 // The item of some enumeration of a schema.
-pub fn schema_item_meant(keys: &[u64], heads: &[u32], next: &[u32], schema: usize, symbol: u32) -> Meaning
+pub fn schema_item_meant(
+    keys: &[u64],
+    heads: &[u32],
+    next: &[u32],
+    schema: usize,
+    symbol: u32,
+) -> Meaning
     ensures { λ r. ⌜ Means (now (keys .entry)) (now (heads .entry)) (now (next .entry)) (λ t. items t schema symbol) r ⌝ }
 {
     looked_up(keys, heads, next, crate::ITEMS_OF_SCHEMAS, schema, symbol)

@@ -1,9 +1,6 @@
+-- `scopes::count_entries` meets its contract: the entries before node i are counted, whatever the tokens are. Assumes nothing.
 use Rattle.scopes.proofs.count_entries.Statement.{statement}
 use Rattle.scopes.proofs.count_entries.Tie as tie
-use Rattle.scopes.proofs.count_entries.Reads as reads
-use Rattle.scopes.proofs.count_entries.Lts as lts
-use Rattle.scopes.proofs.at.Reads as at-reads
-use Rattle.scopes.proofs.more.Reads as more-reads
 use mathlib.Core.Path.{refl, _≡_}
 use mathlib.Core.List.{List, []}
 use Prim.Native.Nat.{ℕ, _-_, _≤_, _<_}
@@ -20,41 +17,45 @@ Inv-loop kinds roles so-far₀ i₀ so-far i = (i ≤ length kinds) × (length k
 abbrev μ-loop : tie.MeasureT-loop
 μ-loop kinds roles so-far₀ i₀ so-far i = length kinds - i
 
--- src/lib.rt:203:9
 returns : tie.Need-returns Inv-loop μ-loop
 returns c = record { is = λ l k s. absurd (omega (arith, c .if1 .taken)) }
 
--- src/lib.rt:206:5
 loop-holds : tie.Need-loop-holds Inv-loop μ-loop
 loop-holds c = (omega arith, c .if1 .left, λ k s. counted-starts _ refl refl)
 
--- src/lib.rt:207:23
 shared-slice-read-more : tie.Need-shared-slice-read-more Inv-loop μ-loop
 shared-slice-read-more c = search needs
 
--- src/lib.rt:207:33
 at-requires : tie.Need-at-requires Inv-loop μ-loop
 at-requires c κs = search needs
 
--- src/lib.rt:207:9
 more-requires : tie.Need-more-requires Inv-loop μ-loop
 more-requires c κs = counted-small (c .before .before .before .loop .inv .2 [] []) (omega (arith, c .before .before .before .loop .inv .0, c .before .before .before .loop .inv .1))
 
--- src/lib.rt:208:9
 add-i : tie.Need-add-i Inv-loop μ-loop
 add-i c = search needs
 
--- src/lib.rt:206:5
 loop-less : tie.Need-loop-less Inv-loop μ-loop
 loop-less c = search needs
 
--- src/lib.rt:206:5
 loop-again : tie.Need-loop-again Inv-loop μ-loop
-loop-again c = (omega (arith, c .before .before .before .loop-test .taken), c .before .before .before .before .loop .inv .1, λ k s. counted-step (c .before .before .before .before .loop .inv .2 k s) (rw (c .before .at .ensures) at (c .more .ensures)))
+loop-again c = (
+  omega (arith, c .before .before .before .loop-test .taken),
+  c .before .before .before .before .loop .inv .1,
+  λ k s. counted-step (c .before .before .before
+      .before .loop .inv .2 k s) (rw (c .before .at .ensures) at (c .more .ensures)),
+)
 
--- src/lib.rt:195:1
 returns-2 : tie.Need-returns-2 Inv-loop μ-loop
-returns-2 c = record { is = λ l k s. let e : c .before .loop .i ≡ length (c .before .before .before .before .before .args .kinds .now) = omega (arith, c .before .loop .inv .0, c .loop-test .left) in rw e at (c .before .loop .inv .2 k s) }
+returns-2 c =
+    record {
+      is = λ l k s. let e : c .before .loop .i ≡ length (c .before .before .before .before .before .args .kinds .now) = omega (
+        arith,
+        c .before .loop .inv
+            .0,
+        c .loop-test .left,
+      ) in rw e at (c .before .loop .inv .2 k s);
+    }
 
 pub count-entries-spec : {M : Type 1} → statement M
 count-entries-spec =

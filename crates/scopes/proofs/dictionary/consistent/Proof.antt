@@ -1,9 +1,6 @@
+-- `scopes::dictionary::consistent` meets its contract: the nodes below i pass. Assumes nothing.
 use Rattle.scopes.proofs.dictionary.consistent.Statement.{statement}
 use Rattle.scopes.proofs.dictionary.consistent.Tie as tie
-use Rattle.scopes.proofs.dictionary.consistent.Reads as reads
-use Rattle.scopes.proofs.dictionary.consistent.Lts as lts
-use Rattle.columns.proofs.index.Reads as index-reads
-use Rattle.columns.proofs.shorter.Reads as shorter-reads
 use Rattle.scopes.proofs.Checking.{Passing, passing-starts, passing-goes-on, passing-ends, too-many, too-short, outside, too-high}
 use Rattle.scopes.specs.Standing.{table-of}
 use Prim.Native.Nat.{_-_}
@@ -17,67 +14,57 @@ Inv-loop kinds tokens roles symbols i₀ i = Passing (table-of kinds tokens role
 abbrev μ-loop : tie.MeasureT-loop
 μ-loop kinds tokens roles symbols i₀ i = length kinds - i
 
--- src/dictionary.rt:25:9
 returns : tie.Need-returns Inv-loop μ-loop
 returns c = too-many (c .if1 .taken)
 
--- src/dictionary.rt:27:8
 shorter-requires : tie.Need-shorter-requires Inv-loop μ-loop
 shorter-requires c κs = search needs
 
--- src/dictionary.rt:28:9
 returns-2 : tie.Need-returns-2 Inv-loop μ-loop
 returns-2 c = too-short (c .before .shorter .ensures) (c .if2 .taken)
 
--- src/dictionary.rt:31:5
 loop-holds : tie.Need-loop-holds Inv-loop μ-loop
 loop-holds c = passing-starts (c .before .before .if1 .left) (omega (arith, c .if2 .left, c .before .shorter .ensures)) (omega (arith, c .if2 .left, c .before .shorter .ensures))
 
--- src/dictionary.rt:32:23
 mul-index : tie.Need-mul-index Inv-loop μ-loop
 mul-index c = search needs
 
--- src/dictionary.rt:32:23
 shared-slice-read-index : tie.Need-shared-slice-read-index Inv-loop μ-loop
 shared-slice-read-index c = omega (arith, c .before .before .loop .inv .tokens, c .before .loop-test .taken)
 
--- src/dictionary.rt:32:13
 index-requires : tie.Need-index-requires Inv-loop μ-loop
 index-requires c κs = search needs
 
--- src/dictionary.rt:34:13
 returns-3 : tie.Need-returns-3 Inv-loop μ-loop
 returns-3 c = outside (c .before .before .before .loop-test .taken) (omega (arith, c .before .index .ensures, c .if3 .taken))
 
--- src/dictionary.rt:36:21
 mul-if4 : tie.Need-mul-if4 Inv-loop μ-loop
 mul-if4 c = search needs
 
--- src/dictionary.rt:36:21
 shared-slice-read-if4 : tie.Need-shared-slice-read-if4 Inv-loop μ-loop
 shared-slice-read-if4 c = search needs
 
--- src/dictionary.rt:36:21
 cast-if4 : tie.Need-cast-if4 Inv-loop μ-loop
 cast-if4 c = omega (arith, c .shared-slice-known6 .given (c .before .before .index .result))
 
--- src/dictionary.rt:37:13
 returns-4 : tie.Need-returns-4 Inv-loop μ-loop
 returns-4 c = too-high (c .before .before .before .before .before .loop-test .taken) (rw (c .before .before .before .index .ensures) at (c .if4 .taken))
 
--- src/dictionary.rt:39:9
 add-i : tie.Need-add-i Inv-loop μ-loop
 add-i c = omega (arith, c .before .before .before .before .before .loop-test .taken)
 
--- src/dictionary.rt:31:5
 loop-less : tie.Need-loop-less Inv-loop μ-loop
 loop-less c = omega (arith, c .before .before .before .before .before .loop-test .taken)
 
--- src/dictionary.rt:31:5
 loop-again : tie.Need-loop-again Inv-loop μ-loop
-loop-again c = passing-goes-on (c .before .before .before .before .before .before .loop .inv) (omega (arith, c .before .before .before .index .ensures, c .before .before .if3 .left)) (rw (c .before .before .before .index .ensures) at (c .if4 .left))
+loop-again c =
+    passing-goes-on (c .before .before .before .before .before .before .loop .inv) (omega (
+      arith,
+      c .before .before .before .index .ensures,
+      c .before .before .if3
+          .left,
+    )) (rw (c .before .before .before .index .ensures) at (c .if4 .left))
 
--- src/dictionary.rt:21:1
 returns-5 : tie.Need-returns-5 Inv-loop μ-loop
 returns-5 c = passing-ends (c .before .loop .inv) (c .loop-test .left)
 

@@ -1,103 +1,120 @@
+-- `scopes::dictionary::fill` meets its contract: the entries of the nodes from i on stand in the columns. Assumes nothing.
 use Rattle.scopes.proofs.dictionary.fill.Statement.{statement}
 use Rattle.scopes.proofs.dictionary.fill.Tie as tie
-use Rattle.scopes.proofs.dictionary.fill.Reads as reads
-use Rattle.scopes.proofs.dictionary.fill.Lts as lts
-use Rattle.columns.proofs.index.Reads as index-reads
-use Rattle.scopes.proofs.dictionary.enter_node.Reads as enter-node-reads
-use Rattle.scopes.proofs.ended.Reads as ended-reads
-use Rattle.scopes.proofs.passed.Reads as passed-reads
-use Rattle.scopes.proofs.sort.Reads as sort-reads
 use mathlib.Core.Path.{refl, ap}
 use Rattle.scopes.specs.Standing.{table-of}
 use Rattle.scopes.proofs.Filling.{Entering, entering-starts, entering-small, entering-fits, entering-goes-on, filling-ends, filling-long}
 use borrow.Author.Needs.{needs}
 use native.Mathlib.Omega.{arith}
-use Prim.Native.Nat.{ℕ, _-_, _<_}
-use lib.ListN.{getD, length}
+use Prim.Native.Nat.{ℕ, _-_}
+use lib.ListN.{getD}
 
 abbrev Inv-loop : tie.InvT-loop
-Inv-loop kinds tokens roles symbols keys₀ nodes₀ declarations here₀ i₀ keys nodes here i = Entering (table-of kinds tokens roles symbols) declarations keys₀ nodes₀ keys nodes here i
+Inv-loop kinds tokens roles symbols keys₀ nodes₀ declarations here₀ i₀ keys nodes here i =
+    Entering (table-of kinds tokens roles symbols) declarations keys₀ nodes₀ keys nodes here i
 
 abbrev μ-loop : tie.MeasureT-loop
 μ-loop kinds tokens roles symbols keys₀ nodes₀ declarations here₀ i₀ keys nodes here i = i
 
--- src/dictionary.rt:136:9
 ended-requires : tie.Need-ended-requires Inv-loop μ-loop
 ended-requires c κs = search needs
 
--- src/dictionary.rt:138:5
 loop-holds : tie.Need-loop-holds Inv-loop μ-loop
-loop-holds c = entering-starts (c .before .before .before .before .before .before .before .pre .0) (c .before .before .before .before .before .before .before .pre .1) (c .ended .ensures)
+loop-holds c =
+    entering-starts (c .before .before .before .before .before .before .before .pre .0) (c .before .before .before .before .before .before .before .pre .1) (c
+    .ended .ensures)
 
--- src/dictionary.rt:139:9
 sub-i : tie.Need-sub-i Inv-loop μ-loop
 sub-i c = search needs
 
--- src/dictionary.rt:140:20
 shared-slice-read-kind : tie.Need-shared-slice-read-kind Inv-loop μ-loop
 shared-slice-read-kind c = omega (arith, c .before .before .loop .inv .within, c .before .loop-test .taken)
 
--- src/dictionary.rt:141:20
 mul-role : tie.Need-mul-role Inv-loop μ-loop
 mul-role c = search needs
 
--- src/dictionary.rt:141:20
 shared-slice-read-role : tie.Need-shared-slice-read-role Inv-loop μ-loop
 shared-slice-read-role c = omega (arith, c .before .before .before .loop .inv .within, c .before .before .loop-test .taken, c .before .before .before .loop .inv .consistent .roles)
 
--- src/dictionary.rt:142:23
 mul-index : tie.Need-mul-index Inv-loop μ-loop
 mul-index c = search needs
 
--- src/dictionary.rt:142:23
 shared-slice-read-index : tie.Need-shared-slice-read-index Inv-loop μ-loop
-shared-slice-read-index c = omega (arith, c .before .before .before .before .loop .inv .within, c .before .before .before .loop-test .taken, c .before .before .before .before .loop .inv .consistent .tokens)
+shared-slice-read-index c =
+    omega (
+      arith,
+      c .before .before .before .before .loop .inv .within,
+      c .before .before .before .loop-test .taken,
+      c .before .before .before .before .loop .inv
+          .consistent .tokens,
+    )
 
--- src/dictionary.rt:142:13
 index-requires : tie.Need-index-requires Inv-loop μ-loop
 index-requires c κs = search needs
 
--- src/dictionary.rt:143:9
 passed-requires : tie.Need-passed-requires Inv-loop μ-loop
 passed-requires c κs = search needs
 
--- src/dictionary.rt:144:33
 add-enter-node : tie.Need-add-enter-node Inv-loop μ-loop
-add-enter-node c = omega (arith, entering-small (c .before .before .before .before .before .before .before .before .before .loop .inv) (c .before .before .before .before .before .before .before .before .loop-test .taken) (c .before .before .before .passed .ensures) refl refl)
+add-enter-node c =
+    omega (
+      arith,
+      entering-small (c .before .before .before .before .before .before .before .before .before .loop .inv) (c .before .before .before .before .before
+          .before .before .before .loop-test .taken) (c .before .before .before .passed .ensures) refl refl,
+    )
 
--- src/dictionary.rt:144:66
 sort-requires : tie.Need-sort-requires Inv-loop μ-loop
 sort-requires c κs = search needs
 
--- src/dictionary.rt:144:91
 mul-enter-node : tie.Need-mul-enter-node Inv-loop μ-loop
-mul-enter-node c = omega (arith, c .before .before .before .before .before .index .ensures, c .before .before .before .before .before .before .shared-slice-known7 .given (c .before .before .before .before .before .before .before .before .before .before .loop .i - 1))
+mul-enter-node c =
+    omega (
+      arith,
+      c .before .before .before .before .before .index .ensures,
+      c .before .before .before .before .before .before .shared-slice-known7 .given (c
+          .before .before .before .before .before .before .before .before .before .before .loop .i - 1),
+    )
 
--- src/dictionary.rt:144:91
 shared-slice-read-enter-node : tie.Need-shared-slice-read-enter-node Inv-loop μ-loop
-shared-slice-read-enter-node c = omega (arith, c .before .before .before .before .before .before .index .ensures, c .before .before .before .before .before .before .before .before .before .before .before .loop .inv .consistent .inside (c .before .before .before .before .before .before .before .before .before .before .before .loop .i - 1) (omega (arith, c .before .before .before .before .before .before .before .before .before .before .before .loop .inv .within, c .before .before .before .before .before .before .before .before .before .before .loop-test .taken)))
+shared-slice-read-enter-node c =
+    omega (
+      arith,
+      c .before .before .before .before .before .before .index .ensures,
+      c .before .before .before .before .before .before .before .before .before
+          .before .before .loop .inv .consistent .inside (c .before .before .before .before .before .before .before .before .before .before .before .loop .i - 1) (omega (
+            arith,
+            c .before .before .before .before .before .before .before .before .before .before .before .loop .inv .within,
+            c .before .before .before .before
+                .before .before .before .before .before .before .loop-test .taken,
+          )),
+    )
 
--- src/dictionary.rt:144:9
 enter-node-requires : tie.Need-enter-node-requires Inv-loop μ-loop
-enter-node-requires c κs = entering-fits (c .before .before .before .before .before .before .before .before .before .before .before .loop .inv) (c .before .before .before .before .before .before .before .before .before .before .loop-test .taken) (c .before .before .before .before .before .passed .ensures) (c .before .sort .ensures) (ap (λ (x : ℕ). getD (c .before .before .before .before .before .before .before .before .before .before .before .before .before .before .before .before .before .before .before .args .symbols .now) x 0) (c .before .before .before .before .before .before .index .ensures)) refl
+enter-node-requires c κs =
+    entering-fits (c .before .before .before .before .before .before .before .before .before .before .before .loop .inv) (c .before .before .before .before .before
+    .before .before .before .before .before .loop-test .taken) (c .before .before .before .before .before .passed .ensures) (c .before .sort .ensures) (ap (λ (x :
+    ℕ). getD (c .before .before .before .before .before .before .before .before .before .before .before .before .before .before .before .before .before .before
+    .before .args .symbols .now) x 0) (c .before .before .before .before .before .before .index .ensures)) refl
 
--- src/dictionary.rt:138:5
 loop-less : tie.Need-loop-less Inv-loop μ-loop
 loop-less c = omega (arith, c .before .before .before .before .before .before .before .before .before .before .before .before .before .before .before .loop-test .taken)
 
--- src/dictionary.rt:138:5
 loop-again : tie.Need-loop-again Inv-loop μ-loop
-loop-again c = entering-goes-on (c .before .before .before .before .before .before .before .before .before .before .before .before .before .before .before .before .loop .inv) (c .before .before .before .before .before .before .before .before .before .before .before .before .before .before .before .loop-test .taken) (c .before .before .before .before .before .before .before .before .before .before .passed .ensures) (c .before .before .before .before .before .before .sort .ensures) (ap (λ (x : ℕ). getD (c .before .before .before .before .before .before .before .before .before .before .before .before .before .before .before .before .before .before .before .before .before .before .before .before .args .symbols .now) x 0) (c .before .before .before .before .before .before .before .before .before .before .before .index .ensures)) refl (c .before .before .before .before .enter-node .ensures .0) (c .before .before .before .before .enter-node .ensures .1)
+loop-again c =
+    entering-goes-on (c .before .before .before .before .before .before .before .before .before .before .before .before .before .before .before .before .loop .inv)
+    (c .before .before .before .before .before .before .before .before .before .before .before .before .before .before .before .loop-test .taken) (c .before
+    .before .before .before .before .before .before .before .before .before .passed .ensures) (c .before .before .before .before .before .before .sort .ensures)
+    (ap (λ (x : ℕ). getD (c .before .before .before .before .before .before .before .before .before .before .before .before .before .before .before .before
+    .before .before .before .before .before .before .before .before .args .symbols .now) x 0) (c .before .before .before .before .before .before .before .before
+    .before .before .before .index .ensures)) refl (c .before .before .before .before .enter-node .ensures .0) (c .before .before .before .before .enter-node
+    .ensures .1)
 
--- src/dictionary.rt:121:1
 same-length : tie.Need-same-length Inv-loop μ-loop
 same-length c = filling-long (c .before .loop .inv .keys-filling)
 
--- src/dictionary.rt:121:1
 same-length-2 : tie.Need-same-length-2 Inv-loop μ-loop
 same-length-2 c = filling-long (c .before .loop .inv .nodes-filling)
 
--- src/dictionary.rt:121:1
 returns : tie.Need-returns Inv-loop μ-loop
 returns c = (filling-ends (c .before .loop .inv .keys-filling) (c .loop-test .left), filling-ends (c .before .loop .inv .nodes-filling) (c .loop-test .left))
 

@@ -1,26 +1,19 @@
+-- `scopes::dictionary::room` meets its contract: the smallest of the three lengths is compared. Assumes nothing.
 use borrow.Author.Needs.{needs}
 use Rattle.scopes.proofs.dictionary.room.Statement.{statement}
 use Rattle.scopes.proofs.dictionary.room.Tie as tie
-use Rattle.scopes.proofs.dictionary.room.Reads as reads
-use Rattle.scopes.proofs.dictionary.room.Lts as lts
-use Rattle.columns.proofs.shorter.Reads as shorter-reads
 use Rattle.scopes.proofs.Checking.{refutes, room-decided}
-use Rattle.scopes.specs.Preparation.{Room}
 use native.Mathlib.Omega.{arith}
 
--- src/dictionary.rt:49:9
 returns : tie.Need-returns
 returns c = refutes (λ r. omega (arith, c .if1 .taken, r .heads-room))
 
--- src/dictionary.rt:51:24
 shorter-requires : tie.Need-shorter-requires
 shorter-requires c κs = search needs
 
--- src/dictionary.rt:51:16
 shorter-requires-2 : tie.Need-shorter-requires-2
 shorter-requires-2 c κs = search needs
 
--- src/dictionary.rt:45:1
 returns-2 : tie.Need-returns-2
 returns-2 c = room-decided _ _ _ _ _ _ _ (c .before .before .if1 .left) (c .before .shorter .ensures) (c .shorter2 .ensures)
 

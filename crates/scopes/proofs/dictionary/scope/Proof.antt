@@ -1,18 +1,14 @@
+-- `scopes::dictionary::scope` meets its contract: the tests are the definition's. Assumes nothing.
 use Rattle.scopes.proofs.dictionary.scope.Statement.{statement}
 use Rattle.scopes.proofs.dictionary.scope.Tie as tie
-use Rattle.scopes.proofs.dictionary.scope.Reads as reads
-use Rattle.scopes.proofs.dictionary.scope.Lts as lts
 use borrow.Author.Tests.{eq-eqb, ne-eqb, le-leb, lt-leb}
 
--- src/dictionary.rt:67:9
 returns : tie.Need-returns
 returns c = simp (le-leb _ _ (c .if1 .taken))
 
--- src/dictionary.rt:70:9
 returns-2 : tie.Need-returns-2
 returns-2 c = simp (lt-leb _ _ (c .before .if1 .left), eq-eqb _ _ (c .if2 .taken))
 
--- src/dictionary.rt:63:1
 returns-3 : tie.Need-returns-3
 returns-3 c = simp (lt-leb _ _ (c .before .if1 .left), ne-eqb _ _ (c .if2 .left))
 

@@ -1,29 +1,21 @@
+-- `scopes::look_ups::looked_up` meets its contract: no file has a scope or a symbol past the radix. Assumes nothing.
 use borrow.Author.Needs.{needs}
 use Rattle.scopes.proofs.look_ups.looked_up.Statement.{statement}
 use Rattle.scopes.proofs.look_ups.looked_up.Tie as tie
-use Rattle.scopes.proofs.look_ups.looked_up.Reads as reads
-use Rattle.scopes.proofs.look_ups.looked_up.Lts as lts
-use Rattle.scopes.proofs.dictionary.key.Reads as key-reads
-use Rattle.scopes.proofs.look_ups.meant.Reads as meant-reads
 use Rattle.scopes.proofs.Looking.{high-scope, high-symbol, under-key}
 
--- src/look_ups.rt:40:9
 returns : tie.Need-returns
 returns c = high-scope (c .if1 .taken)
 
--- src/look_ups.rt:43:9
 returns-2 : tie.Need-returns-2
 returns-2 c = high-symbol (c .if2 .taken)
 
--- src/look_ups.rt:45:30
 key-requires : tie.Need-key-requires
 key-requires c κs = search needs
 
--- src/look_ups.rt:45:5
 meant-requires : tie.Need-meant-requires
 meant-requires c κs = search needs
 
--- src/look_ups.rt:35:1
 returns-3 : tie.Need-returns-3
 returns-3 c = under-key (c .before .before .before .if1 .left) (c .before .before .if2 .left) (c .before .key .ensures) (c .meant .ensures)
 

@@ -1,16 +1,12 @@
+-- `scopes::look_ups::schema_item_meant` meets its contract: the entries under the key are the items of the schema. Assumes nothing.
 use borrow.Author.Needs.{needs}
 use Rattle.scopes.proofs.look_ups.schema_item_meant.Statement.{statement}
 use Rattle.scopes.proofs.look_ups.schema_item_meant.Tie as tie
-use Rattle.scopes.proofs.look_ups.schema_item_meant.Reads as reads
-use Rattle.scopes.proofs.look_ups.schema_item_meant.Lts as lts
-use Rattle.scopes.proofs.look_ups.looked_up.Reads as looked-up-reads
 use Rattle.scopes.proofs.Looking.{schema-item-meant}
 
--- src/look_ups.rt:73:5
 looked-up-requires : tie.Need-looked-up-requires
 looked-up-requires c κs = search needs
 
--- src/look_ups.rt:70:1
 returns : tie.Need-returns
 returns c = schema-item-meant (c .looked-up .ensures)
 
