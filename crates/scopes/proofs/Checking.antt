@@ -44,7 +44,13 @@ module _ {t : Table} where
 
   pub passing-goes-on : {i : ℕ} → Passing t i → token t i < length (t .symbols) → symbol t i < radix → Passing t (i + 1)
   passing-goes-on {i} P a b =
-      record { few = P .few; tokens = P .tokens; roles = P .roles; inside = λ n l. either (λ n. token t n < length (t .symbols)) n l a (P .inside n); small = λ n l. either (λ n. symbol t n < radix) n l b (P .small n) }
+      record {
+        few = P .few;
+        tokens = P .tokens;
+        roles = P .roles;
+        inside = λ n l. either (λ n. token t n < length (t .symbols)) n l a (P .inside n);
+        small = λ n l. either (λ n. symbol t n < radix) n l b (P .small n);
+      }
     where
       either : (Q : ℕ → Type 0) (n : ℕ) → n < i + 1 → Q i → (n < i → Q n) → Q n
       either Q n l q more = ⊎-elim (λ (h : i ≤ n). let e : n ≡ i = omega arith in rw e q) (λ (h : n < i). more h) (le-or i n)

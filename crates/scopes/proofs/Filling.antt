@@ -132,7 +132,8 @@ module _ {f : Entry → ℕ} {t : Table} {was : List ℕ} where
         is =
             e
             ∙ ap (λ (c : List ℕ). sets (sets c (vertex t i) (map f (mine t i))) (place t i) (map f (other-entries t i))) (F .is)
-            ∙ sets-both was (vertex t i) (vertex t (i + 1)) (place t i) (place t (i + 1)) (map f (mine t i)) (map f (declared-from t (i + 1))) (map f (other-entries t i)) (map f (others-from t (i + 1)))
+            ∙ sets-both was (vertex t i) (vertex t (i + 1)) (place t i) (place t (i + 1)) (map f (mine t i)) (map f (declared-from t (i + 1)))
+            (map f (other-entries t i)) (map f (others-from t (i + 1)))
             (mine-long t i f)
             (omega (arith, length-map (other-entries t i) f, entries-count t i, others-step t i))
             (omega (arith, vertex-le t (i + 1) (count t) (omega arith)))
@@ -207,25 +208,14 @@ module _ {s schema owner vertex at symbol node : ℕ} where
     pub entered-item :
         {b c : List ℕ} {v w : ℕ} → s ≡ items-of-types → v ≡ f (own-by s schema owner symbol node) → w ≡ f (schema-by s schema owner symbol node) →
         b ≡ set a at v → c ≡ set b (at + 1) w → Entered f s schema owner vertex at symbol node a c
-    entered-item e k m h g =
+    entered-item {w = w} e k m h g =
         record {
           is =
               g
-              ∙ rw (h, k, m, add-one)
-              (by (eqb s declared) (eqb s none || eqb s declared) (eqb s items-of-types) (ne-eqb s declared (λ q. omega (arith, q, e)))
-              (Rattle.relations.proofs.Select.untrue (eqb s none || eqb s declared)
-              (λ q. mathlib.Core.Logic.⊎-elim (λ p. let y = borrow.Author.Tests.eqb-true s none p in omega (arith, y, e)) (λ p. let y = borrow.Author.Tests.eqb-true s declared p in omega (arith, y, e)) (Rattle.relations.proofs.Select.or-cases (eqb s none) (eqb s declared) q)))
-              (eq-eqb s items-of-types e));
+              ∙ ap (λ (x : List ℕ). set x (at + 1) w) (h ∙ ap (set a at) k)
+              ∙ ap (set (set a at (f (own-by s schema owner symbol node))) (at + 1)) m
+              ∙ rw (add-one, ne-eqb s none (λ q. omega (arith, q, e)), ne-eqb s declared (λ q. omega (arith, q, e)), eq-eqb s items-of-types e);
         }
-      where
-        own : Entry
-        own = own-by s schema owner symbol node
-
-        more : Entry
-        more = schema-by s schema owner symbol node
-
-        by : (p q r : Bool) → p ≡ false → q ≡ false → r ≡ true → set (set a at (f own)) (suc at) (f more) ≡ sets (sets a vertex (map f (cond p (own ∷ []) []))) at (map f (cond q [] (own ∷ cond r (more ∷ []) [])))
-        by p q r e g i = rw (e, g, i)
 
 pub keyed : (s y schema owner : ℕ) {k x : ℕ} → k ≡ key-of s x y → x ≡ scope-by s schema owner → k ≡ key-of s (scope-by s schema owner) y
 keyed s y schema owner e h = e ∙ ap (λ (c : ℕ). key-of s c y) h

@@ -16,7 +16,7 @@ use Rattle.express.specs.names.Fault.{sort}
 use Rattle.express.specs.names.Scope as express
 use Rattle.express.proofs.names.Meaning.{Only, meaning-one, spelled-ascending, declarations-iff, Candidate}
 use Rattle.index.specs.Dictionary.{has, Indexed}
-use Rattle.scopes.specs.Entries.{none, declared, items-of-types, key-of, Entry, own-key, own-entry, schema-entry, entries-by, other-entries, entries, with-key, vertex, others-before, entry-number}
+use Rattle.scopes.specs.Entries.{none, declared, items-of-types, Entry, own-key, own-entry, schema-entry, entries-by, other-entries, entries, with-key, vertex, others-before, entry-number}
 use Rattle.scopes.specs.Preparation.{Consistent, Prepared, keys-of, nodes-of}
 use Rattle.scopes.specs.LookUp.{numbers, entry-meant, node-meant}
 use Rattle.scopes.specs.declared.look_ups.Meaning.{Meaning}
@@ -235,7 +235,8 @@ ranked p i (suc d) w l = by (p i) refl l (λ w′ l′. ranked p (suc i) d w′ 
     before : (b : Bool) (k : ℕ) → p i ≡ b → suc i ≤ k → length (keep p (span i (k - i))) ≡ cond b (suc (length (keep p (span (suc i) (k - suc i))))) (length (keep p (span (suc i) (k - suc i))))
     before b k e h = let q : k - i ≡ suc (k - suc i) = omega arith in rw (q, e) (both b)
       where
-        both : (b : Bool) → length (cond b (i ∷ keep p (span (suc i) (k - suc i))) (keep p (span (suc i) (k - suc i)))) ≡ cond b (suc (length (keep p (span (suc i) (k - suc i))))) (length (keep p (span (suc i) (k - suc i))))
+        both : (b : Bool) → length (cond b (i ∷ keep p (span (suc i) (k - suc i))) (keep p (span (suc i) (k - suc i))))
+            ≡ cond b (suc (length (keep p (span (suc i) (k - suc i))))) (length (keep p (span (suc i) (k - suc i))))
         both true = refl
         both false = refl
 
@@ -324,7 +325,8 @@ module _ {t : Table} {keys nodes heads next : List ℕ} (P : Prepared t keys nod
       late h =
           let k : ℕ = e - total in
           let long : length (map node-of (map (own-entry t) (declared-nodes t))) ≡ total = length-map (map (own-entry t) (declared-nodes t)) node-of ∙ declared-long t in
-          let sum : length keys ≡ total + length (others-all t) = omega (arith, keys-long P, ap length (entries-split t), length-append (map (own-entry t) (declared-nodes t)) (others-all t), declared-long t) in
+          let sum : length keys ≡ total + length (others-all t) =
+          omega (arith, keys-long P, ap length (entries-split t), length-append (map (own-entry t) (declared-nodes t)) (others-all t), declared-long t) in
           let at : getD nodes e 0 ≡ getD (map node-of (others-all t)) (e - total) 0 =
           let q : e ≡ length (map node-of (map (own-entry t) (declared-nodes t))) + (e - total) = omega (arith, long) in
           ap (λ (i : ℕ). getD nodes i 0) q ∙ rw nodes-split (getD-append-add (map node-of (map (own-entry t) (declared-nodes t))) (map node-of (others-all t)) (e - total) 0)

@@ -39,7 +39,8 @@ module _ {t : Table} (keys nodes heads next : List ℕ) where
   refused-columns D e = record { no = λ ok room. D .no (not-true _ e) ok; keys-kept = refl; nodes-kept = refl; heads-kept = refl; next-kept = refl }
 
   module _ {c : Counts} (C : Counted t (count t) c) where
-    pub refused-room : {r : Bool} → Decides (Room (c .declarations + c .others) (length keys) (length nodes) (length heads) (length next)) r → not r ≡ true → Refused t keys nodes heads next keys nodes heads next
+    pub refused-room :
+        {r : Bool} → Decides (Room (c .declarations + c .others) (length keys) (length nodes) (length heads) (length next)) r → not r ≡ true → Refused t keys nodes heads next keys nodes heads next
     refused-room D e =
         record { no = λ ok room. D .no (not-true _ e) (rw (total C) room); keys-kept = refl; nodes-kept = refl; heads-kept = refl; next-kept = refl }
 

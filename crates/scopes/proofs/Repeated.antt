@@ -10,7 +10,7 @@ use borrow.Author.Tests.{eqb-true, eq-eqb, ne-eqb, ltb-true, ltb-false, lt-ltb}
 use lib.Dec.{eqb, ltb}
 use lib.ListN.{length, getD}
 use Rattle.relations.specs.Select.{span, first-from, keep, any, Ascending, cons}
-use Rattle.relations.proofs.Select.{and-both, mem-upto, upto-mem, mem-keep, any-mem, mem-any, keep-first, First, first-is, ascending-from, ascending-keep, ascending-span, untrue}
+use Rattle.relations.proofs.Select.{and-both, mem-upto, upto-mem, mem-keep, any-mem, mem-any, keep-first, First, first-is, ascending-from, ascending-keep, ascending-span, untrue, le-or}
 use Rattle.express.specs.syntax.Tree.{Table, count, symbol}
 use Rattle.express.specs.syntax.Tree as tree
 use Rattle.express.specs.names.Fault.{sort, scope, alike}
@@ -129,7 +129,7 @@ module _ {t : Table} {keys nodes heads′ next : List ℕ} (P : Prepared t keys 
   entry-low =
       let F = first-is (has keys key) 0 (length keys - 0) in
       ⊎-elim (λ (h : length keys ≤ first-entry). absurd (false≢true (sym (F .none number (omega arith) (omega (arith, number-below t n l P z))) ∙ has-key))) (λ h. h)
-      (Rattle.relations.proofs.Select.le-or (length keys) first-entry)
+      (le-or (length keys) first-entry)
 
   -- STAGE 9: the look-up of its own key finds another entry exactly if an earlier node is alike
   pub first-own : first-with keys key 0 ≡ At number → any (alike t n) (span 0 n) ≡ false

@@ -1,5 +1,6 @@
 -- The entries with a key are what the scope rules look up.
 use mathlib.Core.Path.{_≡_, refl, sym, ap, _∙_}
+use mathlib.Core.Logic.{⊎-elim}
 use mathlib.Core.Bool.{Bool, true, false, cond, _&&_, _||_, false≢true}
 use mathlib.Core.List.{List, [], _∷_, _++_, map, map-append, flatMap, append-nil, List·Memᴰ, List·Memᴰ·head, List·Memᴰ·tail}
 use Prim.Native.Nat.{ℕ, zero, suc, _≤_, _<_}
@@ -7,7 +8,7 @@ use native.Mathlib.Omega.{arith}
 use borrow.Author.Tests.{eqb-true, eqb-false, eq-eqb, ne-eqb}
 use lib.Dec.{eqb, leb}
 use Rattle.relations.specs.Select.{span, keep}
-use Rattle.relations.proofs.Select.{or-cases, upto-mem}
+use Rattle.relations.proofs.Select.{or-cases, or-right, upto-mem}
 use Rattle.express.specs.syntax.NodeKind.{enumeration-item}
 use Rattle.express.specs.syntax.Tree.{Table, count, nodes, symbol, is, is-declaration, is-scope-member, owner, schema-of}
 use Rattle.express.specs.names.Fault.{sort, scope}
@@ -101,7 +102,7 @@ module _ (n σ c h y a g s : ℕ) (cs : c < radix) (hs : h < radix) (ys : y < ra
 
   none-of : (a ≡ 0 → ⊥) → (a ≡ declared → ⊥) → eqb σ none || eqb σ declared ≡ true → matching ≡ false
   none-of z d e =
-      rw (ne-eqb σ a (λ q. mathlib.Core.Logic.⊎-elim (λ w. z (sym q ∙ eqb-true σ none w)) (λ w. d (sym q ∙ eqb-true σ declared w)) (or-cases (eqb σ none) (eqb σ declared) e)))
+      rw (ne-eqb σ a (λ q. ⊎-elim (λ w. z (sym q ∙ eqb-true σ none w)) (λ w. d (sym q ∙ eqb-true σ declared w)) (or-cases (eqb σ none) (eqb σ declared) e)))
 
   -- under a sort of its own
   pub with-sort : (a ≡ 0 → ⊥) → (a ≡ declared → ⊥) → (a ≡ items-of-schemas → ⊥) → with-key (key-of a g s) those ≡ cond matching (n ∷ []) []
@@ -125,7 +126,7 @@ module _ (n σ c h y a g s : ℕ) (cs : c < radix) (hs : h < radix) (ys : y < ra
       K = key-of a g s
 
       other : (b : Bool) → eqb σ none || eqb σ declared ≡ false → eqb (key-of σ c y) K ≡ false
-      other b e = key-differs σ c y a g s cs ys gs ss (λ q. false≢true (sym e ∙ Rattle.relations.proofs.Select.or-right (eqb σ none) (eqb σ declared) (eq-eqb σ declared (q ∙ d))))
+      other b e = key-differs σ c y a g s cs ys gs ss (λ q. false≢true (sym e ∙ or-right (eqb σ none) (eqb σ declared) (eq-eqb σ declared (q ∙ d))))
 
       by : (b i : Bool) → eqb σ none || eqb σ declared ≡ b → with-key K (two b i) ≡ []
       by true i e = with-nil K
@@ -147,7 +148,7 @@ module _ (n σ c h y a g s : ℕ) (cs : c < radix) (hs : h < radix) (ys : y < ra
       by : (b i : Bool) → eqb σ none || eqb σ declared ≡ b → eqb σ items-of-types ≡ i → with-key K (two b i) ≡ cond (i && (eqb h g && eqb y s)) (n ∷ []) []
       by true true e f =
           absurd
-          (mathlib.Core.Logic.⊎-elim (λ w. let p = eqb-true σ none w in let q = eqb-true σ items-of-types f in omega (arith, p, q))
+          (⊎-elim (λ w. let p = eqb-true σ none w in let q = eqb-true σ items-of-types f in omega (arith, p, q))
           (λ w. let p = eqb-true σ declared w in let q = eqb-true σ items-of-types f in omega (arith, p, q)) (or-cases (eqb σ none) (eqb σ declared) e))
       by true false e f = with-nil K
       by false true e f =

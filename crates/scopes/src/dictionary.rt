@@ -170,7 +170,9 @@ pub fn prepare(
     heads: &mut [u32],
     next: &mut [u32],
 ) -> Preparation
-    ensures { λ r. ⌜ Answers (table-of (now (kinds .entry)) (now (tokens .entry)) (now (roles .entry)) (now (symbols .entry))) (now (keys .entry)) (now (nodes .entry)) (now (heads .entry)) (now (next .entry)) r (now (keys .exit)) (now (nodes .exit)) (now (heads .exit)) (now (next .exit)) ⌝ }
+    ensures { λ r. ⌜ Answers (table-of (now (kinds .entry)) (now (tokens .entry)) (now (roles .entry)) (now (symbols .entry)))
+        (now (keys .entry)) (now (nodes .entry)) (now (heads .entry)) (now (next .entry)) r
+        (now (keys .exit)) (now (nodes .exit)) (now (heads .exit)) (now (next .exit)) ⌝ }
 {
     if !consistent(kinds, tokens, roles, symbols) {
         return Preparation::Unfit;
