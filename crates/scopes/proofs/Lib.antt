@@ -1,0 +1,11 @@
+pub mod Sorting
+pub mod WithKey
+pub mod Passing
+pub mod Filling
+pub mod Numbering
+pub mod Repeated
+pub mod Checking
+pub mod Looking
+pub mod Preparing
+pub mod Tables
+pub mod Examples

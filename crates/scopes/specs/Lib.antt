@@ -1,0 +1,4 @@
+pub mod Entries
+pub mod Standing
+pub mod Preparation
+pub mod LookUp

@@ -1,0 +1,211 @@
+// What a file declares and where, as one dictionary over (sort, scope, symbol), and the look-ups in it.
+pub mod dictionary;
+pub mod look_ups;
+
+ghost use mathlib.Core.Path.{_≡_};
+ghost use mathlib.Core.Bool.{cond, _&&_, _||_};
+ghost use Prim.Native.Nat.{_-_, _*_, _<_};
+ghost use lib.Dec.{eqb};
+ghost use lib.ListN.{getD};
+ghost use Rattle.express.specs.syntax.NodeKind.{name, supertype-name};
+ghost use Rattle.scopes.specs.Standing.{declares, is-member, sort-by, entry-count, Passed, Ended, More, Counting};
+ghost use Rattle.scopes.specs.Entries.{radix};
+
+// The sorts of keys.
+pub const NO_SORT: u64 = 0;
+
+pub const SCHEMAS: u64 = 1;
+
+pub const DECLARATIONS: u64 = 2;
+
+pub const ITEMS_OF_TYPES: u64 = 3;
+
+pub const MEMBERS: u64 = 4;
+
+pub const SUPERTYPES: u64 = 5;
+
+pub const ITEMS_OF_SCHEMAS: u64 = 6;
+
+// Nodes and symbols are below this number.
+pub const RADIX: u64 = 131072;
+
+// What is known at a node: the declaration and the schema that it lies in, and how many entries come before its own, among
+// the declarations and behind them.
+pub struct Here {
+    pub owner: usize,
+    pub schema: usize,
+    pub vertex: usize,
+    pub other: usize,
+}
+
+// How many entries the dictionary of a file has: declarations, and others behind them.
+pub struct Counts {
+    pub declarations: usize,
+    pub others: usize,
+}
+
+// Is it a constant, a type or an entity?
+pub fn is_declaration(kind: u8) -> bool
+    ensures { λ r. ⌜ r ≡ declares kind ⌝ }
+{
+    if kind == codes::nodes::CONSTANT {
+        return true;
+    }
+    if kind == codes::nodes::TYPE {
+        return true;
+    }
+    kind == codes::nodes::ENTITY
+}
+
+// Is it an attribute or a rule with a label?
+fn is_scope_member(kind: u8, role: u32) -> bool
+    ensures { λ r. ⌜ r ≡ is-member kind role ⌝ }
+{
+    if kind == codes::nodes::ATTRIBUTE_NAME {
+        return true;
+    }
+    if kind == codes::nodes::DERIVED_ATTRIBUTE {
+        return true;
+    }
+    if kind == codes::nodes::RULE {
+        return role == codes::roles::LABELLED;
+    }
+    false
+}
+
+// Is it a name in a list of supertypes?
+fn is_supertype(kind: u8, role: u32) -> bool
+    ensures { λ r. ⌜ r ≡ (eqb kind name && eqb role supertype-name) ⌝ }
+{
+    if kind == codes::nodes::NAME {
+        return role == codes::roles::SUPERTYPE_NAME;
+    }
+    false
+}
+
+// What a node declares.
+pub fn sort(kind: u8, role: u32) -> u64
+    ensures { λ r. ⌜ r ≡ sort-by kind role ⌝ }
+{
+    if kind == codes::nodes::SCHEMA {
+        return SCHEMAS;
+    }
+    if is_declaration(kind) {
+        return DECLARATIONS;
+    }
+    if kind == codes::nodes::ITEM {
+        return ITEMS_OF_TYPES;
+    }
+    if is_scope_member(kind, role) {
+        return MEMBERS;
+    }
+    if is_supertype(kind, role) {
+        return SUPERTYPES;
+    }
+    NO_SORT
+}
+
+// How many entries it has behind the declarations: an item has one in its type and one in its schema.
+fn other_entries(sort: u64) -> usize
+    ensures { λ r. ⌜ r ≡ entry-count sort ⌝ }
+{
+    if sort == NO_SORT {
+        return 0;
+    }
+    if sort == DECLARATIONS {
+        return 0;
+    }
+    if sort == ITEMS_OF_TYPES {
+        return 2;
+    }
+    1
+}
+
+fn choose(test: bool, yes: usize, no: usize) -> usize
+    ensures { λ r. ⌜ r ≡ cond test yes no ⌝ }
+{
+    if test {
+        return yes;
+    }
+    no
+}
+
+fn less(x: usize, by: usize) -> usize
+    ensures { λ r. ⌜ r ≡ x - by ⌝ }
+{
+    if x < by {
+        return 0;
+    }
+    x - by
+}
+
+// What is known past the last node.
+pub fn ended(nodes: usize, counts: Counts) -> Here
+    ensures { λ r. ⌜ Ended nodes counts r ⌝ }
+{
+    Here {
+        owner: nodes,
+        schema: nodes,
+        vertex: counts.declarations,
+        other: counts.others,
+    }
+}
+
+// What is known at node i, from its kind and its role and from what is known at the next node.
+pub fn passed(kind: u8, role: u32, i: usize, after: Here) -> Here
+    ensures { λ r. ⌜ Passed kind role i after r ⌝ }
+{
+    let declared = is_declaration(kind);
+    let owner = choose(declared, i, after.owner);
+    let schema = choose(kind == codes::nodes::SCHEMA, i, after.schema);
+    let vertex = less(after.vertex, choose(declared, 1, 0));
+    let other = less(after.other, other_entries(sort(kind, role)));
+    Here {
+        owner,
+        schema,
+        vertex,
+        other,
+    }
+}
+
+// The number at an index; past the end of the column 0.
+fn at(column: &[u32], i: usize) -> u32
+    ensures { λ r. ⌜ r ≡ getD (now (column .entry)) i 0 ⌝ }
+{
+    if i < column.len() {
+        return column[i];
+    }
+    0
+}
+
+// One more node, before which there are so many entries.
+fn more(kind: u8, role: u32, before: Counts) -> Counts
+    requires { ⌜ (before .declarations < 8 * radix) × (before .others < 8 * radix) ⌝ }
+    ensures { λ r. ⌜ More kind role before r ⌝ }
+{
+    let declarations = before.declarations + choose(is_declaration(kind), 1, 0);
+    let others = before.others + other_entries(sort(kind, role));
+    Counts {
+        declarations,
+        others,
+    }
+}
+
+// How many entries the nodes have: none where there are too many nodes.
+pub fn count_entries(kinds: &[u8], roles: &[u32]) -> Counts
+    ensures { λ r. ⌜ Counting (now (kinds .entry)) (now (roles .entry)) r ⌝ }
+{
+    let mut so_far = Counts {
+        declarations: 0,
+        others: 0,
+    };
+    if RADIX <= kinds.len() as u64 {
+        return so_far;
+    }
+    let mut i = 0;
+    while i < kinds.len() {
+        so_far = more(kinds[i], at(roles, i), so_far);
+        i += 1;
+    }
+    so_far
+}
