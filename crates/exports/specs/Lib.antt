@@ -1,3 +1,3 @@
 pub mod Places
 pub mod Reply
-pub mod Told
+pub mod Encoded

@@ -3,7 +3,7 @@ ghost use mathlib.Core.Path.{_≡_};
 ghost use Rattle.graph.specs.Mark.{Answers};
 ghost use Rattle.graph.specs.Mark as graph-marks;
 ghost use Rattle.cycles.specs.Answer.{lent, OrderAnswers, GroupAnswers};
-ghost use Rattle.exports.specs.Told.{Told, marked, vertex, grouped};
+ghost use Rattle.exports.specs.Encoded.{Encoded, marked, vertex, grouped};
 use cycles::Dependencies;
 use cycles::Grouping;
 use graph::Marking;
@@ -56,7 +56,7 @@ pub extern "C" fn woffulent_reachable(
     mark: &mut [u32],
     queue: &mut [u32],
 ) -> bool
-    ensures { λ r. ⌜ Told marked (Answers (now (first .entry)) (now (to .entry)) from
+    ensures { λ r. ⌜ Encoded marked (Answers (now (first .entry)) (now (to .entry)) from
         (graph-marks.lent (now (mark .entry)) (now (queue .entry))) (graph-marks.lent (now (mark .exit)) (now (queue .exit)))) r ⌝ }
 {
     is_marked(graph::reachable(first, to, from, mark, queue))
@@ -69,7 +69,7 @@ pub extern "C" fn woffulent_order(
     column: &mut [u32],
     scratch: &mut [u32],
 ) -> usize
-    ensures { λ r. ⌜ Told vertex (OrderAnswers (now (first .entry)) (now (to .entry)) (lent (now (column .entry)) (now (scratch .entry))) (lent (now (column .exit)) (now (scratch .exit)))) r ⌝ }
+    ensures { λ r. ⌜ Encoded vertex (OrderAnswers (now (first .entry)) (now (to .entry)) (lent (now (column .entry)) (now (scratch .entry))) (lent (now (column .exit)) (now (scratch .exit)))) r ⌝ }
 {
     vertex_of(cycles::topological_order(first, to, column, scratch))
 }
@@ -81,7 +81,7 @@ pub extern "C" fn woffulent_components(
     column: &mut [u32],
     scratch: &mut [u32],
 ) -> bool
-    ensures { λ r. ⌜ Told grouped (GroupAnswers (now (first .entry)) (now (to .entry)) (lent (now (column .entry)) (now (scratch .entry))) (lent (now (column .exit)) (now (scratch .exit)))) r ⌝ }
+    ensures { λ r. ⌜ Encoded grouped (GroupAnswers (now (first .entry)) (now (to .entry)) (lent (now (column .entry)) (now (scratch .entry))) (lent (now (column .exit)) (now (scratch .exit)))) r ⌝ }
 {
     is_grouped(cycles::components(first, to, column, scratch))
 }

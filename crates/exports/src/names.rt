@@ -3,7 +3,7 @@ ghost use mathlib.Core.Path.{_≡_};
 ghost use Rattle.index.specs.Room.{done};
 ghost use Rattle.index.specs.Interning.{Interns, FindsSymbol};
 ghost use Rattle.index.specs.Dictionary.{Builds, Finds, Continues};
-ghost use Rattle.exports.specs.Told.{Told, entry};
+ghost use Rattle.exports.specs.Encoded.{Encoded, entry};
 use index::Outcome;
 use index::dictionary::Found;
 
@@ -37,7 +37,7 @@ pub extern "C" fn woffulent_intern(
     heads: &mut [u32],
     next: &mut [u32],
 ) -> bool
-    ensures { λ r. ⌜ Told done (λ o. Interns (now (bytes .entry)) (now (starts .entry)) (now (lengths .entry)) (now (symbols .entry)) (now (heads .entry)) (now (next .entry)) o
+    ensures { λ r. ⌜ Encoded done (λ o. Interns (now (bytes .entry)) (now (starts .entry)) (now (lengths .entry)) (now (symbols .entry)) (now (heads .entry)) (now (next .entry)) o
         (now (symbols .exit)) (now (heads .exit)) (now (next .exit))) r ⌝ }
 {
     is_done(index::symbols::intern(bytes, starts, lengths, symbols, heads, next))
@@ -52,28 +52,28 @@ pub extern "C" fn woffulent_symbol_of(
     next: &[u32],
     word: &[u8],
 ) -> usize
-    ensures { λ r. ⌜ Told entry (FindsSymbol (now (bytes .entry)) (now (starts .entry)) (now (lengths .entry)) (now (heads .entry)) (now (next .entry)) (now (word .entry))) r ⌝ }
+    ensures { λ r. ⌜ Encoded entry (FindsSymbol (now (bytes .entry)) (now (starts .entry)) (now (lengths .entry)) (now (heads .entry)) (now (next .entry)) (now (word .entry))) r ⌝ }
 {
     entry_of(index::symbols::symbol_of(bytes, starts, lengths, heads, next, word))
 }
 
 #[no_mangle]
 pub extern "C" fn woffulent_build(keys: &[u64], heads: &mut [u32], next: &mut [u32]) -> bool
-    ensures { λ r. ⌜ Told done (λ o. Builds (now (keys .entry)) (now (heads .entry)) (now (next .entry)) o (now (heads .exit)) (now (next .exit))) r ⌝ }
+    ensures { λ r. ⌜ Encoded done (λ o. Builds (now (keys .entry)) (now (heads .entry)) (now (next .entry)) o (now (heads .exit)) (now (next .exit))) r ⌝ }
 {
     is_done(index::dictionary::build(keys, heads, next))
 }
 
 #[no_mangle]
 pub extern "C" fn woffulent_find(keys: &[u64], heads: &[u32], next: &[u32], key: u64) -> usize
-    ensures { λ r. ⌜ Told entry (Finds (now (keys .entry)) (now (heads .entry)) (now (next .entry)) key) r ⌝ }
+    ensures { λ r. ⌜ Encoded entry (Finds (now (keys .entry)) (now (heads .entry)) (now (next .entry)) key) r ⌝ }
 {
     entry_of(index::dictionary::find(keys, heads, next, key))
 }
 
 #[no_mangle]
 pub extern "C" fn woffulent_next_of(keys: &[u64], next: &[u32], at: usize) -> usize
-    ensures { λ r. ⌜ Told entry (Continues (now (keys .entry)) (now (next .entry)) at) r ⌝ }
+    ensures { λ r. ⌜ Encoded entry (Continues (now (keys .entry)) (now (next .entry)) at) r ⌝ }
 {
     entry_of(index::dictionary::next_of(keys, next, at))
 }

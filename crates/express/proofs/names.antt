@@ -1,6 +1,5 @@
 pub mod Edges
 pub mod Enumeration
-pub mod Keys
 pub mod Later
 pub mod Meaning
 pub mod Names

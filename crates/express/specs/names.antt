@@ -1,4 +1,3 @@
 pub mod Fault
-pub mod Key
 pub mod Names
 pub mod Scope

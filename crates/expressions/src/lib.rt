@@ -24,13 +24,11 @@ const PLACES: u64 = 1048576;
 
 const SIZE_UNIT: u64 = TOKEN_UNIT * PLACES;
 
-const ROLE_UNIT: u64 = 256;
+// The limit on brackets open at once.
+const NESTING: usize = 64;
 
 // No row has this kind and role.
 pub const NO_LABEL: u64 = 0;
-
-// The limit on brackets open at once.
-const NESTING: usize = 64;
 
 // The next token and the next row; or the token that cannot stand.
 pub enum Read {
@@ -476,13 +474,13 @@ fn whole(terminals: &[u8], rows: &mut [u64]) -> Judgement
 fn kind_of(w: u64) -> u8
     ensures { λ r. ⌜ r ≡ kind-in w ⌝ }
 {
-    (w % ROLE_UNIT) as u8
+    (w % codes::labels::ROLE) as u8
 }
 
 fn role_of(w: u64) -> u32
     ensures { λ r. ⌜ r ≡ role-in w ⌝ }
 {
-    (w / ROLE_UNIT % ROLE_UNIT) as u32
+    (w / codes::labels::ROLE % codes::labels::ROLE) as u32
 }
 
 fn token_of(w: u64) -> u32

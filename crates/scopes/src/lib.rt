@@ -130,15 +130,6 @@ fn choose(test: bool, yes: usize, no: usize) -> usize
     no
 }
 
-fn less(x: usize, by: usize) -> usize
-    ensures { λ r. ⌜ r ≡ x - by ⌝ }
-{
-    if x < by {
-        return 0;
-    }
-    x - by
-}
-
 // What is known past the last node.
 pub fn ended(nodes: usize, counts: Counts) -> Here
     ensures { λ r. ⌜ Ended nodes counts r ⌝ }
@@ -158,8 +149,8 @@ pub fn passed(kind: u8, role: u32, i: usize, after: Here) -> Here
     let declared = is_declaration(kind);
     let owner = choose(declared, i, after.owner);
     let schema = choose(kind == codes::nodes::SCHEMA, i, after.schema);
-    let vertex = less(after.vertex, choose(declared, 1, 0));
-    let other = less(after.other, other_entries(sort(kind, role)));
+    let vertex = columns::saturating_sub(after.vertex, choose(declared, 1, 0));
+    let other = columns::saturating_sub(after.other, other_entries(sort(kind, role)));
     Here {
         owner,
         schema,

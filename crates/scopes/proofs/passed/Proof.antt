@@ -15,8 +15,8 @@ choose-requires-2 c κs = search needs
 choose-requires-3 : tie.Need-choose-requires-3
 choose-requires-3 c κs = search needs
 
-less-requires : tie.Need-less-requires
-less-requires c κs = search needs
+saturating-sub-requires : tie.Need-saturating-sub-requires
+saturating-sub-requires c κs = search needs
 
 sort-requires : tie.Need-sort-requires
 sort-requires c κs = search needs
@@ -24,8 +24,8 @@ sort-requires c κs = search needs
 other-entries-requires : tie.Need-other-entries-requires
 other-entries-requires c κs = search needs
 
-less-requires-2 : tie.Need-less-requires-2
-less-requires-2 c κs = search needs
+saturating-sub-requires-2 : tie.Need-saturating-sub-requires-2
+saturating-sub-requires-2 c κs = search needs
 
 returns : tie.Need-returns
 returns c =
@@ -37,13 +37,13 @@ returns c =
       );
       schema-is = c .before .before .before .before .before .choose2 .ensures;
       vertex-is = cc (
-        c .before .before .before .less .ensures,
+        c .before .before .before .saturating-sub .ensures,
         c .before .before .before .before .choose3 .ensures,
         c .before .before .before .before .before .before .before .is-declaration .ensures,
       );
       other-is = cc (
         c
-            .less2 .ensures,
+            .saturating-sub2 .ensures,
         c .before .other-entries .ensures,
         c .before .before .sort .ensures,
       );
@@ -57,8 +57,8 @@ passed-spec =
     choose-requires
     choose-requires-2
     choose-requires-3
-    less-requires
+    saturating-sub-requires
     sort-requires
     other-entries-requires
-    less-requires-2
+    saturating-sub-requires-2
     returns)

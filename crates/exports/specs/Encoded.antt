@@ -11,11 +11,11 @@ use Rattle.cycles.specs.declared.Dependencies.the-variants as dependencies
 use Rattle.cycles.specs.declared.Grouping.{Grouping}
 use Rattle.cycles.specs.declared.Grouping.the-variants as grouping
 
--- r tells of an answer that keeps the promise
-pub record Told {A R : Type 0} (code : A → R) (Promise : A → Type 0) (r : R) : Type 0 where
+-- r stands for an answer that keeps the promise
+pub record Encoded {A R : Type 0} (code : A → R) (Promise : A → Type 0) (r : R) : Type 0 where
   pub answer : A
   pub promise : Promise answer
-  pub told : r ≡ code answer
+  pub encodes : r ≡ code answer
 
 -- an index; the greatest number of 64 bits, which is none
 abbrev pub entry : Found → ℕ
