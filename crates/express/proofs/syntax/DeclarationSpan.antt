@@ -340,7 +340,7 @@ module _ (ts : List ℕ) where
         to = j;
         value = s;
         derived =
-          subst (λ (q : Nonterminal). Derives in-rows rules ts (rules q) i (in-rows .start i) j s) (e ∙ sym (ap declared-by (z .kind-is-k))) d;
+            subst (λ (q : Nonterminal). Derives in-rows rules ts (rules q) i (in-rows .start i) j s) (e ∙ sym (ap declared-by (z .kind-is-k))) d;
         low = le-refl i;
         high = le-refl j;
         is-top = ap top (z .is-both) ∙ last-row ts (z .before) (z .final);
@@ -357,8 +357,7 @@ module _ (ts : List ℕ) where
     λ k h. absurd (false≢true h),
   )
   fine (both {a = a} d f) b l R =
-      let u = mono d in
-      (
+      let u = mono d in (
         λ h. let p = and-split (lacks a) _ h in (fine f b (omega (arith, l, u)) ((fine d b l R) .0 (p .0))) .0 (p .1),
         λ k h. let p = and-split (lacks a) _ h in (fine f b (omega (arith, l, u)) ((fine d b l R) .0 (p .0))) .1 k (p .1),
       )
