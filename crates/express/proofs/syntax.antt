@@ -1,4 +1,5 @@
 pub mod Count
+pub mod DeclarationSpan
 pub mod Descent
 pub mod Formed
 pub mod FormedRows
