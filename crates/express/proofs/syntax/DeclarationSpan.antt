@@ -1,4 +1,5 @@
--- The tokens of a declaration: of a text that is read, each constant, type or entity comes from a derivation of its rule, over a span of tokens.
+-- The tokens of a declaration: of a text that is read, each constant, type or entity comes from a derivation of its rule, over a span of tokens;
+-- the spans of two do not overlap.
 use mathlib.Core.Bool.{Bool, true, false, false≢true, cond, not, _&&_, _||_}
 use mathlib.Core.List.{List, [], _∷_, _++_}
 use mathlib.Core.Logic.{inl, inr, ⊎-elim}
@@ -25,7 +26,7 @@ use Rattle.relations.proofs.Select.{or-cases, le-or}
 use Rattle.express.specs.syntax.Tree.{Table, count, kind, size, first, is-declaration, token as naming}
 use Rattle.express.specs.syntax.Grammar.{Nonterminal, file, schema, constants, constant, base, type-declaration, underlying, where-clause}
 use Rattle.express.specs.syntax.Grammar.{domain-rule, entity, attributes, derived as derived-attribute, expression, sum, term, factor, operand, atom, interval, rules}
-use Rattle.express.specs.syntax.Syntax.{whole, Read}
+use Rattle.express.specs.syntax.Syntax.{Read}
 use Rattle.express.proofs.syntax.Syntax.{express}
 use Rattle.express.proofs.syntax.FormedRows.{kind-is, size-is, token-is, count-is, sized}
 use Rattle.express.proofs.syntax.Nodes.{all-below}
@@ -117,8 +118,8 @@ module _ (ts : List ℕ) where
   closed-entity i j s (both a (both b (both c (both d (both e (both f (both g (both h k)))))))) =
       closed refl (between h (between g (between f (between e (between d (between c (between b (between a (begun i))))))))) k
 
--- THE SPAN of a declaration n: the tokens from `from` up to `to`, `to` itself not. Its rule derives them, and the rows that it leaves are those of
--- the subtree of n; the token that names n is one of them.
+-- THE SPAN of a declaration n: the tokens from `from` up to `to`, `to` itself not. Its rule derives them, and leaves as many rows as the subtree of n
+-- has nodes; the token that names n is one of them.
 pub record DeclarationSpan (t : Table) (n : ℕ) : Type 0 where
   pub rule-of : Nonterminal
   pub rule-is : rule-of ≡ declared-by (kind t n)
