@@ -1,15 +1,17 @@
--- The tokens of a declaration: of a text that is read, each constant, type or entity comes from a derivation of its rule, over a span of tokens.
+-- The tokens of a declaration: of a text that is read, each constant, type or entity comes from a derivation of its rule, over a span of tokens;
+-- the spans of two do not overlap.
 use mathlib.Core.Bool.{Bool, true, false, false≢true, cond, not, _&&_, _||_}
 use mathlib.Core.List.{List, [], _∷_, _++_}
 use mathlib.Core.Logic.{inl, inr, ⊎-elim}
 use mathlib.Core.Path.{_≡_, refl, sym, ap, _∙_, subst}
 use Prim.Native.Nat.{ℕ, zero, suc, _+_, _-_, _≤_, _<_}
 use native.Mathlib.Nat.{le-refl}
+use native.Mathlib.Decide.{decLt}
 use native.Mathlib.Omega.{arith}
-use lib.Dec.{eqb}
+use lib.Dec.{eqb, ltb}
 use lib.ListN.{length, length-append, List·getD-append}
 use lib.Seq.{getD-append-seam}
-use borrow.Author.Tests.{eqb-true, not-true}
+use borrow.Author.Tests.{eqb-true, not-true, lt-ltb, le-ltb}
 use Rattle.ebnf.specs.Set.{mem, disjoint}
 use Rattle.ebnf.specs.Grammar.{Mark, silent, here, node as a-node, leaf, Ebnf, none, mark, step, seq, alt, star, fork, nt}
 use Rattle.ebnf.specs.Grammar.{Derives, nothing, marked, token, both, left, right, stop, more, label, other, rule}
@@ -24,7 +26,7 @@ use Rattle.relations.proofs.Select.{or-cases, le-or}
 use Rattle.express.specs.syntax.Tree.{Table, count, kind, size, first, is-declaration, token as naming}
 use Rattle.express.specs.syntax.Grammar.{Nonterminal, file, schema, constants, constant, base, type-declaration, underlying, where-clause}
 use Rattle.express.specs.syntax.Grammar.{domain-rule, entity, attributes, derived as derived-attribute, expression, sum, term, factor, operand, atom, interval, rules}
-use Rattle.express.specs.syntax.Syntax.{whole, Read}
+use Rattle.express.specs.syntax.Syntax.{Read}
 use Rattle.express.proofs.syntax.Syntax.{express}
 use Rattle.express.proofs.syntax.FormedRows.{kind-is, size-is, token-is, count-is, sized}
 use Rattle.express.proofs.syntax.Nodes.{all-below}
@@ -116,8 +118,8 @@ module _ (ts : List ℕ) where
   closed-entity i j s (both a (both b (both c (both d (both e (both f (both g (both h k)))))))) =
       closed refl (between h (between g (between f (between e (between d (between c (between b (between a (begun i))))))))) k
 
--- THE SPAN of a declaration n: the tokens from `from` up to `to`, `to` itself not. Its rule derives them, and the rows that it leaves are those of
--- the subtree of n; the token that names n is one of them.
+-- THE SPAN of a declaration n: the tokens from `from` up to `to`, `to` itself not. Its rule derives them, and leaves as many rows as the subtree of n
+-- has nodes; the token that names n is one of them.
 pub record DeclarationSpan (t : Table) (n : ℕ) : Type 0 where
   pub rule-of : Nonterminal
   pub rule-is : rule-of ≡ declared-by (kind t n)
@@ -195,113 +197,161 @@ sort operand = plain refl
 sort atom = plain refl
 sort interval = plain refl
 
+-- one function below a, another from there on
+pick : ℕ → (ℕ → ℕ) → (ℕ → ℕ) → ℕ → ℕ
+pick a f g n = cond (ltb n a) (f n) (g (n - a))
+
+pick-left : (a : ℕ) (f g : ℕ → ℕ) (n : ℕ) → n < a → pick a f g n ≡ f n
+unfolding pick
+pick-left a f g n l = rw (lt-ltb n a l)
+
+pick-right : (a : ℕ) (f g : ℕ → ℕ) (n k : ℕ) → n ≡ a + k → pick a f g n ≡ g k
+unfolding pick
+pick-right a f g n k e = let z : n - a ≡ k = omega (arith, e) in rw (le-ltb n a (omega (arith, e)), z)
+
 module _ (ts : List ℕ) where
-  -- a derivation between b and i that ends with the row
-  record Spot (b i : ℕ) (r : Row) : Type 0 where
-    from : ℕ
-    to : ℕ
+  -- a derivation of the tokens from f up to e, between b and i, that ends with the row
+  record Spot (b i f e : ℕ) (r : Row) : Type 0 where
     value : Rows
-    derived : Derives in-rows rules ts (rules (declared-by (r .kind))) from (in-rows .start from) to value
-    low : b ≤ from
-    high : to ≤ i
+    derived : Derives in-rows rules ts (rules (declared-by (r .kind))) f (in-rows .start f) e value
+    low : b ≤ f
+    high : e ≤ i
     is-top : top (value .rows) ≡ r
     covers : r .size ≡ length (value .rows)
 
-  record Two (b i : ℕ) (p q : Row) : Type 0 where
-    one : Spot b i p
-    other-one : Spot b i q
-    apart : one .to ≤ other-one .from
+  wider : {b i c j f e : ℕ} (p : Row) → c ≤ b → i ≤ j → Spot b i f e p → Spot c j f e p
+  wider p u v s =
+      record {
+        value = s .value;
+        derived = s .derived;
+        low = omega (arith, u, s .low);
+        high = omega (arith, v, s .high);
+        is-top = s .is-top;
+        covers = s .covers;
+      }
 
-  wider : {b i c j : ℕ} (p : Row) → c ≤ b → i ≤ j → Spot b i p → Spot c j p
-  wider p u v s = record { from = s .from; to = s .to; value = s .value; derived = s .derived; low = omega (arith, u, s .low); high = omega (arith, v, s .high); is-top = s .is-top; covers = s .covers }
-
-  wider-two : {b i c j : ℕ} (p q : Row) → c ≤ b → i ≤ j → Two b i p q → Two c j p q
-  unfolding wider
-  wider-two p q u v s = record { one = wider p u v (s .one); other-one = wider q u v (s .other-one); apart = s .apart }
+  spot-at : {b i f e g h : ℕ} {p q : Row} → f ≡ g → e ≡ h → p ≡ q → Spot b i g h q → Spot b i f e p
+  spot-at {b} {i} {f} {e} {g} {h} {p} {q} u v w s =
+      subst (λ (z : Row). Spot b i f e z) (sym w) (subst (λ (z : ℕ). Spot b i f z q) (sym v) (subst (λ (z : ℕ). Spot b i z h q) (sym u) s))
 
   abbrev declared-at : List Row → ℕ → Type 0
   declared-at rs n = declares ((row-at rs n) .kind) ≡ true
 
+  -- where each declaration among the rows begins and ends; those that are not nested are apart
   record Fine (b i : ℕ) (rs : List Row) : Type 0 where
-    single : (n : ℕ) → n < length rs → declared-at rs n → Spot b i (row-at rs n)
-    pair : (n m : ℕ) → m < length rs → n + (row-at rs m) .size < suc m → declared-at rs n → declared-at rs m → Two b i (row-at rs n) (row-at rs m)
+    begins : ℕ → ℕ
+    stops : ℕ → ℕ
+    single : (n : ℕ) → n < length rs → declared-at rs n → Spot b i (begins n) (stops n) (row-at rs n)
+    pair : (n m : ℕ) → m < length rs → n + (row-at rs m) .size < suc m → declared-at rs n → declared-at rs m → stops n ≤ begins m
 
   moved : {p q : Row} → p ≡ q → declares (p .kind) ≡ true → declares (q .kind) ≡ true
   moved e h = ap (λ (r : Row). declares (r .kind)) (sym e) ∙ h
 
-  two-at : {b i : ℕ} {p q r s : Row} → p ≡ r → q ≡ s → Two b i r s → Two b i p q
-  two-at {b} {i} {p} {q} {r} {s} e f w = subst (λ (z : Row). Two b i z q) (sym e) (subst (λ (z : Row). Two b i r z) (sym f) w)
-
   joined : {b i c j : ℕ} (r s : List Row) → Fine b i r → Fine c j s → b ≤ c → i ≤ c → i ≤ j → Fine b j (r ++ s)
-  unfolding Stands wider
+  unfolding Stands
   joined {b} {i} {c} {j} r s R S bc ic ij =
-      record { single = λ n l h. in-one n (stands r s n l) h; pair = λ n m l u h g. up n m (stands r s m l) l u h g }
+      record {
+        begins = pick (length r) (R .begins) (S .begins);
+        stops = pick (length r) (R .stops) (S .stops);
+        single = λ n l h. in-one n (stands r s n l) h;
+        pair = λ n m l u h g. up n m (stands r s m l) l u h g;
+      }
     where
-      in-one : (n : ℕ) → Stands r s n → declared-at (r ++ s) n → Spot b j (row-at (r ++ s) n)
-      in-one n (inl p) h = subst (λ (z : Row). Spot b j z) (sym (p .1)) (wider _ (le-refl b) ij (R .single n (p .0) (moved (p .1) h)))
-      in-one n (inr p) h = subst (λ (z : Row). Spot b j z) (sym (p .3)) (wider _ bc (le-refl j) (S .single (p .0) (p .1) (moved (p .3) h)))
+      in-one : (n : ℕ) → Stands r s n → declared-at (r ++ s) n →
+          Spot b j (pick (length r) (R .begins) (S .begins) n) (pick (length r) (R .stops) (S .stops) n) (row-at (r ++ s) n)
+      in-one n (inl p) h =
+          spot-at (pick-left (length r) _ _ n (p .0)) (pick-left (length r) _ _ n (p .0)) (p .1)
+          (wider _ (le-refl b) ij (R .single n (p .0) (moved (p .1) h)))
+      in-one n (inr p) h =
+          spot-at (pick-right (length r) _ _ n (p .0) (p .2)) (pick-right (length r) _ _ n (p .0) (p .2)) (p .3)
+          (wider _ bc (le-refl j) (S .single (p .0) (p .1) (moved (p .3) h)))
 
-      behind : (n m : ℕ) (p : (k : ℕ) × (k < length s) × (m ≡ length r + k) × (row-at (r ++ s) m ≡ row-at s k)) → n + (row-at (r ++ s) m) .size < suc m →
-          declared-at (r ++ s) n → declared-at (r ++ s) m → Stands r s n → Two b j (row-at (r ++ s) n) (row-at (r ++ s) m)
+      behind :
+          (n m : ℕ) (p : (k : ℕ) × (k < length s) × (m ≡ length r + k) × (row-at (r ++ s) m ≡ row-at s k)) → n + (row-at (r ++ s) m) .size < suc m →
+          declared-at (r ++ s) n → declared-at (r ++ s) m → Stands r s n →
+          pick (length r) (R .stops) (S .stops) n ≤ pick (length r) (R .begins) (S .begins) m
       behind n m p u h g (inl q) =
-          let x = R .single n (q .0) (moved (q .1) h) in
-          let y = S .single (p .0) (p .1) (moved (p .3) g) in
-          two-at (q .1) (p .3) (record { one = wider _ (le-refl b) ij x; other-one = wider _ bc (le-refl j) y; apart = omega (arith, x .high, y .low, ic) })
+          let x = (R .single n (q .0) (moved (q .1) h)) .high in
+          let y = (S .single (p .0) (p .1) (moved (p .3) g)) .low in
+          let v = pick-left (length r) (R .stops) (S .stops) n (q .0) in
+          let w = pick-right (length r) (R .begins) (S .begins) m (p .0) (p .2) in
+          omega (arith, x, y, v, w, ic)
       behind n m p u h g (inr q) =
           let e = ap (λ (z : Row). z .size) (p .3) in
           let a = p .2 in
           let f = q .2 in
-          two-at (q .3) (p .3) (wider-two _ _ bc (le-refl j) (S .pair (q .0) (p .0) (p .1) (omega (arith, e, a, f, u)) (moved (q .3) h) (moved (p .3) g)))
+          let v = pick-right (length r) (R .stops) (S .stops) n (q .0) f in
+          let w = pick-right (length r) (R .begins) (S .begins) m (p .0) a in
+          let x = S .pair (q .0) (p .0) (p .1) (omega (arith, e, a, f, u)) (moved (q .3) h) (moved (p .3) g) in
+          omega (arith, v, w, x)
 
       up : (n m : ℕ) → Stands r s m → m < length (r ++ s) → n + (row-at (r ++ s) m) .size < suc m → declared-at (r ++ s) n → declared-at (r ++ s) m →
-          Two b j (row-at (r ++ s) n) (row-at (r ++ s) m)
+          pick (length r) (R .stops) (S .stops) n ≤ pick (length r) (R .begins) (S .begins) m
       up n m (inl p) l u h g =
           let k = p .0 in
           let e = ap (λ (z : Row). z .size) (p .1) in
-          let f = List·getD-append r s no-row n (omega (arith, k, u)) in
-          two-at f (p .1) (wider-two _ _ (le-refl b) ij (R .pair n m k (omega (arith, e, u)) (moved f h) (moved (p .1) g)))
+          let o : n < length r = omega (arith, k, u) in
+          let v = pick-left (length r) (R .stops) (S .stops) n o in
+          let w = pick-left (length r) (R .begins) (S .begins) m k in
+          let x = R .pair n m k (omega (arith, e, u)) (moved (List·getD-append r s no-row n o) h) (moved (p .1) g) in
+          omega (arith, v, w, x)
       up n m (inr p) l u h g = behind n m p u h g (stands r s n (omega (arith, l, u)))
 
   empty : (b i : ℕ) → Fine b i []
-  empty b i = record { single = λ n l h. absurd (omega arith); pair = λ n m l u h g. absurd (omega arith) }
+  empty b i =
+      record { begins = λ n. 0; stops = λ n. 0; single = λ n l h. absurd (omega arith); pair = λ n m l u h g. absurd (omega arith) }
 
   longer : {b i j : ℕ} {rs : List Row} → i ≤ j → Fine b i rs → Fine b j rs
   longer l R =
-      record { single = λ n u h. wider _ (le-refl _) l (R .single n u h); pair = λ n m u v h g. wider-two _ _ (le-refl _) l (R .pair n m u v h g) }
+      record { begins = R .begins; stops = R .stops; single = λ n u h. wider _ (le-refl _) l (R .single n u h); pair = R .pair }
 
-  put : {b i : ℕ} (rs : List Row) (a : Row) → Fine b i rs → (declares (a .kind) ≡ true → Spot b i a × (a .size ≡ suc (length rs))) → Fine b i (rs ++ (a ∷ []))
+  -- a row more: one that is no declaration, or one over all rows so far
+  put :
+      {b i : ℕ} (f e : ℕ) (rs : List Row) (a : Row) → Fine b i rs → (declares (a .kind) ≡ true → Spot b i f e a × (a .size ≡ suc (length rs))) →
+      Fine b i (rs ++ (a ∷ []))
   unfolding Stands
-  put {b} {i} rs a R f =
-      record { single = λ n l h. in-one n (stands rs (a ∷ []) n l) h; pair = λ n m l u h g. up n m (stands rs (a ∷ []) m l) u h g }
+  put {b} {i} f e rs a R last =
+      record {
+        begins = pick (length rs) (R .begins) (λ k. f);
+        stops = pick (length rs) (R .stops) (λ k. e);
+        single = λ n l h. in-one n (stands rs (a ∷ []) n l) h;
+        pair = λ n m l u h g. up n m (stands rs (a ∷ []) m l) u h g;
+      }
     where
       only : (k : ℕ) → k < 1 → row-at (a ∷ []) k ≡ a
       only zero l = refl
       only (suc k) l = absurd (omega arith)
 
-      in-one : (n : ℕ) → Stands rs (a ∷ []) n → declared-at (rs ++ (a ∷ [])) n → Spot b i (row-at (rs ++ (a ∷ [])) n)
-      in-one n (inl p) h = subst (λ (z : Row). Spot b i z) (sym (p .1)) (R .single n (p .0) (moved (p .1) h))
-      in-one n (inr p) h = let e = p .3 ∙ only (p .0) (p .1) in subst (λ (z : Row). Spot b i z) (sym e) (f (moved e h) .0)
+      in-one : (n : ℕ) → Stands rs (a ∷ []) n → declared-at (rs ++ (a ∷ [])) n →
+          Spot b i (pick (length rs) (R .begins) (λ k. f) n) (pick (length rs) (R .stops) (λ k. e) n) (row-at (rs ++ (a ∷ [])) n)
+      in-one n (inl p) h =
+          spot-at (pick-left (length rs) _ _ n (p .0)) (pick-left (length rs) _ _ n (p .0)) (p .1) (R .single n (p .0) (moved (p .1) h))
+      in-one n (inr p) h =
+          let z = p .3 ∙ only (p .0) (p .1) in
+          spot-at (pick-right (length rs) _ (λ k. f) n (p .0) (p .2)) (pick-right (length rs) _ (λ k. e) n (p .0) (p .2)) z (last (moved z h) .0)
 
-      up : (n m : ℕ) → Stands rs (a ∷ []) m → n + (row-at (rs ++ (a ∷ [])) m) .size < suc m → declared-at (rs ++ (a ∷ [])) n → declared-at (rs ++ (a ∷ [])) m →
-          Two b i (row-at (rs ++ (a ∷ [])) n) (row-at (rs ++ (a ∷ [])) m)
+      up : (n m : ℕ) → Stands rs (a ∷ []) m → n + (row-at (rs ++ (a ∷ [])) m) .size < suc m → declared-at (rs ++ (a ∷ [])) n →
+          declared-at (rs ++ (a ∷ [])) m → pick (length rs) (R .stops) (λ k. e) n ≤ pick (length rs) (R .begins) (λ k. f) m
       up n m (inl p) u h g =
           let k = p .0 in
-          let e = ap (λ (z : Row). z .size) (p .1) in
-          let q = List·getD-append rs (a ∷ []) no-row n (omega (arith, k, u)) in
-          two-at q (p .1) (R .pair n m k (omega (arith, e, u)) (moved q h) (moved (p .1) g))
+          let y = ap (λ (z : Row). z .size) (p .1) in
+          let o : n < length rs = omega (arith, k, u) in
+          let v = pick-left (length rs) (R .stops) (λ q. e) n o in
+          let w = pick-left (length rs) (R .begins) (λ q. f) m k in
+          let x = R .pair n m k (omega (arith, y, u)) (moved (List·getD-append rs (a ∷ []) no-row n o) h) (moved (p .1) g) in
+          omega (arith, v, w, x)
       up n m (inr p) u h g =
-          let e = p .3 ∙ only (p .0) (p .1) in
-          let z = f (moved e g) .1 in
-          let y = ap (λ (q : Row). q .size) e in
+          let x = p .3 ∙ only (p .0) (p .1) in
+          let z = last (moved x g) .1 in
+          let y = ap (λ (q : Row). q .size) x in
           let v = p .1 in
-          let w = p .2 in
-          absurd (omega (arith, z, y, u, v, w))
+          let w = p .2 in absurd (omega (arith, z, y, u, v, w))
 
   unmarked : {b j : ℕ} (m : Mark) (i : ℕ) (rs : List Row) → mark-lacks m ≡ true → Fine b j rs → Fine b j (stamp-rows m i rs)
   unmarked silent i rs h R = R
   unmarked here i rs h R = R
-  unmarked (a-node k o) i rs h R = put rs _ R (λ g. absurd (false≢true (sym (not-true (declares k) h) ∙ g)))
-  unmarked (leaf k o) i rs h R = put rs _ R (λ g. absurd (false≢true (sym (not-true (declares k) h) ∙ g)))
+  unmarked (a-node k o) i rs h R = put 0 0 rs _ R (λ g. absurd (false≢true (sym (not-true (declares k) h) ∙ g)))
+  unmarked (leaf k o) i rs h R = put 0 0 rs _ R (λ g. absurd (false≢true (sym (not-true (declares k) h) ∙ g)))
 
   -- rows of which the last is a declaration of the kind k, over all of them
   record Ended (k b j : ℕ) (s : List Row) : Type 0 where
@@ -334,10 +384,8 @@ module _ (ts : List ℕ) where
       let v = z .over in
       let u = ap length (z .is-both) in
       let y = length-append (z .before) (z .final ∷ []) in
-      let w : Spot i j (z .final) =
+      let w : Spot i j i j (z .final) =
       record {
-        from = i;
-        to = j;
         value = s;
         derived =
             subst (λ (q : Nonterminal). Derives in-rows rules ts (rules q) i (in-rows .start i) j s) (e ∙ sym (ap declared-by (z .kind-is-k))) d;
@@ -346,7 +394,7 @@ module _ (ts : List ℕ) where
         is-top = ap top (z .is-both) ∙ last-row ts (z .before) (z .final);
         covers = omega (arith, u, v, y);
       } in
-      subst (λ (q : List Row). Fine i j q) (sym (z .is-both)) (put (z .before) (z .final) (z .fine-before) (λ g. (w, v)))
+      subst (λ (q : List Row). Fine i j q) (sym (z .is-both)) (put i j (z .before) (z .final) (z .fine-before) (λ g. (w, v)))
 
   fine : {e : Ebnf Nonterminal} {i j : ℕ} {r s : Rows} → Derives in-rows rules ts e i r j s → (b : ℕ) → b ≤ i → Fine b i (r .rows) →
       (lacks e ≡ true → Fine b j (s .rows)) × ((k : ℕ) → ends k e ≡ true → Ended k b j (s .rows))
@@ -405,17 +453,19 @@ module _ {x : Nonterminal} {t : Table} (d : Read x t) where
   declared-row : (n : ℕ) → is-declaration t n ≡ true → declared-at (t .terminals) (d .rows) n
   declared-row n h = ap declares (sym (kind-is d n)) ∙ h
 
-  span-at : (n : ℕ) → is-declaration t n ≡ true → Spot (t .terminals) 0 (length (t .terminals)) (row-at (d .rows) n) → DeclarationSpan t n
-  span-at n h w =
-      let c = closed-kind (t .terminals) ((row-at (d .rows) n) .kind) (declared-row n h) (w .from) (w .to) (w .value) (w .derived) in
+  -- EACH DECLARATION of a text has its span
+  pub declaration-span : (n : ℕ) → n < count t → is-declaration t n ≡ true → DeclarationSpan t n
+  declaration-span n l h =
+      let w = all-fine .single n (rw (count-is d) at l) (declared-row n h) in
+      let c = closed-kind (t .terminals) ((row-at (d .rows) n) .kind) (declared-row n h) _ _ (w .value) (w .derived) in
       let p : naming t n ≡ (top (w .value .rows)) .token = token-is d n ∙ ap (λ (q : Row). q .token) (sym (w .is-top)) in
       let u = c .from-name in
       let v = c .to-name in
       record {
         rule-of = declared-by ((row-at (d .rows) n) .kind);
         rule-is = ap declared-by (sym (kind-is d n));
-        from = w .from;
-        to = w .to;
+        from = all-fine .begins n;
+        to = all-fine .stops n;
         value = w .value;
         derived = w .derived;
         ordered = omega (arith, u, v);
@@ -424,10 +474,6 @@ module _ {x : Nonterminal} {t : Table} (d : Read x t) where
         to-name = omega (arith, p, v);
         rows-are = size-is d n ∙ w .covers;
       }
-
-  -- EACH DECLARATION of a text has its span
-  pub declaration-span : (n : ℕ) → n < count t → is-declaration t n ≡ true → DeclarationSpan t n
-  declaration-span n l h = span-at n h (all-fine .single n (rw (count-is d) at l) (declared-row n h))
 
   -- below a declaration there is none
   not-nested : (n m : ℕ) → m < count t → is-declaration t n ≡ true → is-declaration t m ≡ true → n < m → n < first t m
@@ -443,13 +489,22 @@ module _ {x : Nonterminal} {t : Table} (d : Read x t) where
       nested u =
           set.not-both (kind t n) set.below-declaration set.declaration-kinds refl (below u (declares-one t m g)) (declaring-kind (kind t n) (declares-one t n h))
 
-  -- TWO DECLARATIONS have spans that do not overlap: that of the earlier node ends where the other begins, or before
-  pub spans-apart : (n m : ℕ) → n < m → m < count t → is-declaration t n ≡ true → is-declaration t m ≡ true →
-      (a : DeclarationSpan t n) × (b : DeclarationSpan t m) × (a .to ≤ b .from)
-  unfolding span-at
-  spans-apart n m v l h g =
+  -- THE SPANS of two declarations do not overlap: that of the earlier node ends where the other begins, or before
+  pub spans-apart : (n m : ℕ) → n < m → (k : n < count t) (l : m < count t) (h : is-declaration t n ≡ true) (g : is-declaration t m ≡ true) →
+      (declaration-span n k h) .to ≤ (declaration-span m l g) .from
+  unfolding declaration-span
+  spans-apart n m v k l h g =
       let f = not-nested n m l h g v in
       let s = size-is d m in
       let z = (sized d m l) .1 in
-      let w = all-fine .pair n m (rw (count-is d) at l) (omega (arith, f, s, z)) (declared-row n h) (declared-row m g) in
-      (span-at n h (w .one), span-at m g (w .other-one), w .apart)
+      all-fine .pair n m (rw (count-is d) at l) (omega (arith, f, s, z)) (declared-row n h) (declared-row m g)
+
+  -- a token lies in one declaration at most
+  pub one-declaration : (n m : ℕ) (k : n < count t) (l : m < count t) (h : is-declaration t n ≡ true) (g : is-declaration t m ≡ true) (i : ℕ) →
+      (declaration-span n k h) .from ≤ i → i < (declaration-span n k h) .to → (declaration-span m l g) .from ≤ i → i < (declaration-span m l g) .to → n ≡ m
+  one-declaration n m k l h g i a b c e = by (decLt n m) (decLt m n)
+    where
+      by : Dec (n < m) → Dec (m < n) → n ≡ m
+      by (yes u) v = let z = spans-apart n m u k l h g in absurd (omega (arith, b, c, z))
+      by (no u) (yes v) = let z = spans-apart m n v l k g h in absurd (omega (arith, a, e, z))
+      by (no u) (no v) = omega (arith, u, v)
