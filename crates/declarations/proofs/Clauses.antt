@@ -17,14 +17,14 @@ use Rattle.express.specs.syntax.Grammar.{Nonterminal, rules, file, schema, cons
 use Rattle.express.specs.syntax.Grammar.{entity, attributes, derived, expression, _·_, _∣_, tok, opt, ids, row as row-of, simple-types}
 use Rattle.express.specs.syntax.NodeKind as kind
 use Rattle.express.proofs.syntax.Descent.{phrase}
-use Rattle.expressions.specs.declared.Read.{Read}
-use Rattle.expressions.specs.declared.Read.the-variants.{At, Refused}
-use Rattle.expressions.specs.Reading.{word, Expects, Ready, Sound, Reads, Reading, Continues, Steps}
-use Rattle.expressions.proofs.Terminals.{is-one, not-one, inside}
-use Rattle.expressions.proofs.Laws.{start, finish, last, alone, apart, together, dead, told, named, passed}
-use Rattle.expressions.proofs.Laws.{by-row, phrased, left, right, ahead-left, ahead-right, operator, reads, rows-few, token-small}
+use Rattle.parsing.specs.declared.Read.{Read}
+use Rattle.parsing.specs.declared.Read.the-variants.{At, Refused}
+use Rattle.parsing.specs.Reading.{word, Expects, Ready, Sound, Reads, Reading, Continues, Steps}
+use Rattle.parsing.proofs.Terminals.{is-one, not-one, inside}
+use Rattle.parsing.proofs.Laws.{start, finish, last, alone, apart, together, dead, told, named, passed}
+use Rattle.parsing.proofs.Laws.{by-row, phrased, left, right, ahead-left, ahead-right, operator, reads, rows-few, token-small}
 use Rattle.expressions.proofs.Operands.{leafs}
-use Rattle.expressions.proofs.Steps.{by-token, by-name}
+use Rattle.parsing.proofs.Steps.{by-token, by-name}
 use Rattle.declarations.specs.Declares.{Closes, Groups, id-of, names-of, Types, assigned-by, declared-by, Heads, members-of}
 use Rattle.declarations.proofs.Laws.{sound-ready, stopped, base-reads}
 

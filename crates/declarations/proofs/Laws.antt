@@ -18,13 +18,13 @@ use Rattle.express.specs.tokens.Terminal.{identifier, semicolon, comma}
 use Rattle.express.specs.syntax.Grammar.{Nonterminal, base, constant, derived, domain-rule, attributes, schema, type-declaration, entity, _·_, _∣_, tok, opt, ids, simple-types}
 use Rattle.express.specs.syntax.Lookahead.{tables}
 use Rattle.express.proofs.syntax.Descent.{phrase}
-use Rattle.expressions.specs.declared.Read.{Read}
-use Rattle.expressions.specs.declared.Read.the-variants.{At, Refused}
-use Rattle.expressions.specs.Reading.{labelled, word, Expects, Ready, Sound, Found, Reads, Reading, Continues, Steps, Leaf}
-use Rattle.expressions.proofs.Terminals.{is-one, not-one, inside}
-use Rattle.expressions.proofs.Laws.{start, finish, last, apart, nothing, dead, refused-found, told, by-leaf, by-row, phrased, left, right, more, stop, passed, reads, sound-of, rows-few}
+use Rattle.parsing.specs.declared.Read.{Read}
+use Rattle.parsing.specs.declared.Read.the-variants.{At, Refused}
+use Rattle.parsing.specs.Reading.{labelled, word, Expects, Ready, Sound, Found, Reads, Reading, Continues, Steps, Leaf}
+use Rattle.parsing.proofs.Terminals.{is-one, not-one, inside}
+use Rattle.parsing.proofs.Laws.{start, finish, last, apart, nothing, dead, refused-found, told, by-leaf, by-row, phrased, left, right, more, stop, passed, reads, sound-of, rows-few}
 use Rattle.expressions.proofs.Operands.{leafs, leafs-last}
-use Rattle.expressions.proofs.Steps.{onward-row, one-inside, expect-ready, expect-goes, by-token, by-name}
+use Rattle.parsing.proofs.Steps.{onward-row, one-inside, expect-ready, expect-goes, by-token, by-name}
 use Rattle.declarations.specs.Declares.{Closes, Groups, id-of, names-of, Leaves, type-label, Types, assigned-by, Heads}
 
 -- ---- steps

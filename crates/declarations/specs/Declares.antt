@@ -12,9 +12,9 @@ use Rattle.ebnf.specs.Parse.{Result}
 use Rattle.express.specs.tokens.Terminal.{identifier, semicolon, comma, DERIVE, TYPE}
 use Rattle.express.specs.syntax.Grammar.{Nonterminal, base, constant, derived, attributes, where-clause, type-declaration, entity, _·_, tok, opt, simple-types}
 use Rattle.express.specs.syntax.NodeKind as kind
-use Rattle.expressions.specs.declared.Read.{Read}
-use Rattle.expressions.specs.declared.Read.the-variants.{At}
-use Rattle.expressions.specs.Reading.{Sound, Found, Reading, Leaf}
+use Rattle.parsing.specs.declared.Read.{Read}
+use Rattle.parsing.specs.declared.Read.the-variants.{At}
+use Rattle.parsing.specs.Reading.{Sound, Found, Reading, Leaf}
 
 -- the end of a rule, at token p and row n: `;` and a row over all of it
 pub record Closes (first label name : ℕ) (ts : List ℕ) (p n : ℕ) (r : Read) (a b : List ℕ) : Type 0 where

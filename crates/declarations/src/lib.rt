@@ -10,22 +10,22 @@ ghost use Rattle.ebnf.specs.Grammar.{star, nt};
 ghost use Rattle.express.specs.tokens.Terminal.{identifier, colon, DERIVE, ENTITY, OF, SUBTYPE, TYPE};
 ghost use Rattle.express.specs.syntax.Grammar.{file, schema, constants, type-declaration, underlying, where-clause, domain-rule, entity, attributes, derived, _·_, _∣_, tok, opt, ids, simple-types};
 ghost use Rattle.express.specs.syntax.Lookahead.{tables};
-ghost use Rattle.expressions.specs.Reading.{Ready, Reads, Steps};
-ghost use Rattle.expressions.specs.Parsing.{Parsing};
-ghost use Rattle.expressions.specs.Outcome.{Judging, Parses};
+ghost use Rattle.parsing.specs.Reading.{Ready, Reads, Steps};
+ghost use Rattle.parsing.specs.Parsing.{Parsing};
+ghost use Rattle.parsing.specs.Outcome.{Judging, Parses};
 ghost use Rattle.declarations.specs.Declares.{Closes, Leaves, id-of, names-of, type-label, Types, Groups, members-of, assigned-by, declared-by, Heads};
 use codes::labels;
-use expressions::Judgement;
-use expressions::Parsed;
-use expressions::Read;
-use expressions::end_of;
-use expressions::expect;
+use parsing::Judgement;
+use parsing::Parsed;
+use parsing::Read;
+use parsing::end_of;
+use parsing::expect;
 use expressions::expression_at;
-use expressions::first_deep;
-use expressions::judged;
-use expressions::lay_out;
-use expressions::put_row;
-use expressions::token;
+use parsing::first_deep;
+use parsing::judged;
+use parsing::lay_out;
+use parsing::put_row;
+use parsing::token;
 
 // ';', and a row over all rows from `first` on
 fn closed(
@@ -73,7 +73,7 @@ fn type_label(c: u8, label: u64) -> u64
     if c == codes::IDENTIFIER {
         return label;
     }
-    expressions::NO_LABEL
+    parsing::NO_LABEL
 }
 
 // A simple type, or a name.
@@ -82,7 +82,7 @@ fn base(terminals: &[u8], rows: &mut [u64], p: usize, n: usize, label: u64) -> R
     ensures { λ r. ⌜ Types label (now (terminals .entry)) p n r (now (rows .entry)) (now (rows .exit)) ⌝ }
 {
     let kind = type_label(token(terminals, p), label);
-    if kind == expressions::NO_LABEL {
+    if kind == parsing::NO_LABEL {
         return Read::Refused(p);
     }
     put_row(rows, n, n, kind, p);
@@ -644,7 +644,7 @@ pub fn parse(
         (now (scratch .exit)) (now (kinds .exit)) (now (tokens .exit)) (now (sizes .exit)) (now (roles .exit)) ⌝ }
 {
     let n = terminals.len();
-    if n > expressions::MOST {
+    if n > parsing::MOST {
         return Parsed::Long;
     }
     if scratch.len() < n {

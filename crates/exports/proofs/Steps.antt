@@ -5,8 +5,8 @@ use mathlib.Core.List.{List}
 use Rattle.scan.specs.Scan.{reading, ScanResult}
 use Rattle.scan.specs.declared.Step.{Step}
 use Rattle.express.specs.syntax.Grammar.{file}
-use Rattle.expressions.specs.declared.Parsed.{Parsed}
-use Rattle.expressions.specs.Parsing as Parsing
+use Rattle.parsing.specs.declared.Parsed.{Parsed}
+use Rattle.parsing.specs.Parsing as Parsing
 use Rattle.exports.specs.Reply.{reply, number, Scans, Parses}
 
 pub scans : {limit : ℕ} {src k₀ s₀ z₀ k s z : List ℕ} {step : Step} {r n : ℕ} → ScanResult limit src k₀ s₀ z₀ step k s z

@@ -6,8 +6,8 @@ use lib.Seq.{sets}
 use Rattle.express.specs.tokens.Lexis as Lexis
 use Rattle.express.specs.syntax.Grammar.{file}
 use Rattle.express.specs.whole.Reply.{token-entries}
-use Rattle.expressions.specs.declared.Parsed.{Parsed}
-use Rattle.expressions.specs.Parsing as Parsing
+use Rattle.parsing.specs.declared.Parsed.{Parsed}
+use Rattle.parsing.specs.Parsing as Parsing
 use Rattle.express.specs.tokens.Lexis.{Reading, at, refused, lexed-to, tokens}
 
 -- 0 for a new place or a count, else the number of the refusal

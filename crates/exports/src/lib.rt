@@ -14,7 +14,7 @@ ghost use Rattle.express.specs.tokens.Lexis.{integer-value, binary-value};
 ghost use Rattle.express.specs.tokens.Terminal.{terminals};
 ghost use Rattle.literals.specs.Literal.{capped};
 ghost use Rattle.scan.specs.Scan.{reading};
-ghost use Rattle.expressions.specs.Parsing as Parsing;
+ghost use Rattle.parsing.specs.Parsing as Parsing;
 ghost use Rattle.exports.specs.Reply.{reply, number, Scans, Parses};
 
 fn reply_of(step: scan::Step) -> u8
@@ -82,29 +82,29 @@ pub extern "C" fn woffulent_terminals(
 // Scratch that is too short is no reply of the checker.
 const SCRATCH_SHORT: u8 = 255;
 
-fn parse_reply(parsed: expressions::Parsed) -> u8
+fn parse_reply(parsed: parsing::Parsed) -> u8
     ensures { λ r. ⌜ r ≡ Parsing.reply parsed ⌝ }
 {
     match parsed {
-        expressions::Parsed::Accepted(_) => codes::replies::ACCEPTED,
-        expressions::Parsed::Unexpected(_) => codes::replies::UNEXPECTED,
-        expressions::Parsed::TooDeep(_) => codes::replies::TOO_DEEP,
-        expressions::Parsed::Short(_) => codes::replies::NODES_SHORT,
-        expressions::Parsed::Scratch(_) => SCRATCH_SHORT,
-        expressions::Parsed::Long => codes::replies::TOO_LONG,
+        parsing::Parsed::Accepted(_) => codes::replies::ACCEPTED,
+        parsing::Parsed::Unexpected(_) => codes::replies::UNEXPECTED,
+        parsing::Parsed::TooDeep(_) => codes::replies::TOO_DEEP,
+        parsing::Parsed::Short(_) => codes::replies::NODES_SHORT,
+        parsing::Parsed::Scratch(_) => SCRATCH_SHORT,
+        parsing::Parsed::Long => codes::replies::TOO_LONG,
     }
 }
 
-fn parse_number(parsed: expressions::Parsed) -> usize
+fn parse_number(parsed: parsing::Parsed) -> usize
     ensures { λ r. ⌜ r ≡ Parsing.token-or-count parsed ⌝ }
 {
     match parsed {
-        expressions::Parsed::Accepted(n) => n,
-        expressions::Parsed::Unexpected(j) => j,
-        expressions::Parsed::TooDeep(k) => k,
-        expressions::Parsed::Short(n) => n,
-        expressions::Parsed::Scratch(n) => n,
-        expressions::Parsed::Long => expressions::MOST,
+        parsing::Parsed::Accepted(n) => n,
+        parsing::Parsed::Unexpected(j) => j,
+        parsing::Parsed::TooDeep(k) => k,
+        parsing::Parsed::Short(n) => n,
+        parsing::Parsed::Scratch(n) => n,
+        parsing::Parsed::Long => parsing::MOST,
     }
 }
 

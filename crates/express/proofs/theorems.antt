@@ -1,10 +1,7 @@
 pub mod Acceptance
-pub mod Cases
 pub mod Divide
 pub mod Exactness
 pub mod File
-pub mod FileRows
-pub mod Files
 pub mod KindCases
 pub mod NameCases
 pub mod NameReplies

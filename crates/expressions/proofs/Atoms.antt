@@ -9,7 +9,7 @@ use Rattle.ebnf.specs.Set.{mem, subset}
 use Rattle.ebnf.proofs.Sets.{out-more}
 use Rattle.express.specs.tokens.Terminal.{identifier, integer, binary, question, SELF}
 use Rattle.express.specs.syntax.Grammar.{logicals, others}
-use Rattle.expressions.specs.Reading.{atom-label}
+use Rattle.parsing.specs.Reading.{atom-label}
 
 abbrev keys : List ℕ
 keys = 2 ∷ 5 ∷ 80 ∷ 139 ∷ 143 ∷ 6 ∷ 3 ∷ 54 ∷ 115 ∷ 4 ∷ 1 ∷ 127 ∷ []

@@ -16,13 +16,13 @@ use Rattle.express.specs.tokens.Terminal.{identifier, dot, rbrace, rparen, SELF
 use Rattle.express.specs.syntax.Grammar.{Nonterminal, expression, sum, operand, atom, interval, signs, comparisons, _·_, _∣_, tok, named, leaves, row as row-of}
 use Rattle.express.specs.syntax.NodeKind as kind
 use Rattle.express.proofs.syntax.Descent.{phrase}
-use Rattle.expressions.specs.declared.Read.{Read}
-use Rattle.expressions.specs.declared.Read.the-variants.{At, Refused}
-use Rattle.expressions.specs.Reading.{word, labelled, atom-label, Expects, Ready, Ahead, Found, Reads, Reading, Compares, Leaf}
-use Rattle.expressions.proofs.Terminals.{is-one, not-one, inside}
-use Rattle.expressions.proofs.Steps.{onward, expect-goes, by-token}
-use Rattle.expressions.proofs.Laws.{start, finish, last, alone, apart, together, dead, refused-found, told, passed}
-use Rattle.expressions.proofs.Laws.{by-leaf, by-row, phrased, left, right, ahead-left, ahead-right, operator, reads, reads-at, compares-at}
+use Rattle.parsing.specs.declared.Read.{Read}
+use Rattle.parsing.specs.declared.Read.the-variants.{At, Refused}
+use Rattle.parsing.specs.Reading.{word, labelled, atom-label, Expects, Ready, Ahead, Found, Reads, Reading, Compares, Leaf}
+use Rattle.parsing.proofs.Terminals.{is-one, not-one, inside}
+use Rattle.parsing.proofs.Steps.{onward, expect-goes, by-token}
+use Rattle.parsing.proofs.Laws.{start, finish, last, alone, apart, together, dead, refused-found, told, passed}
+use Rattle.parsing.proofs.Laws.{by-leaf, by-row, phrased, left, right, ahead-left, ahead-right, operator, reads, reads-at, compares-at}
 
 -- ---- atoms
 

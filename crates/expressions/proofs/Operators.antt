@@ -18,11 +18,11 @@ use Rattle.express.specs.syntax.Grammar.{Nonterminal, rules, opt, row as row-of
 use Rattle.express.specs.syntax.NodeKind as kind
 use Rattle.express.specs.syntax.Lookahead.{tables}
 use Rattle.express.proofs.syntax.Descent.{phrase, next-operand}
-use Rattle.expressions.specs.declared.Read.{Read}
-use Rattle.expressions.specs.declared.Read.the-variants.{At, Refused}
-use Rattle.expressions.specs.Reading.{word, Ready, Reads, Reading, Combines}
-use Rattle.expressions.proofs.Terminals.{inside}
-use Rattle.expressions.proofs.Laws.{start, finish, last, apart, nothing, refused-found, told, by-row, phrased, left, right, more, stop, operator, reads, reads-at}
+use Rattle.parsing.specs.declared.Read.{Read}
+use Rattle.parsing.specs.declared.Read.the-variants.{At, Refused}
+use Rattle.parsing.specs.Reading.{word, Ready, Reads, Reading, Combines}
+use Rattle.parsing.proofs.Terminals.{inside}
+use Rattle.parsing.proofs.Laws.{start, finish, last, apart, nothing, refused-found, told, by-row, phrased, left, right, more, stop, operator, reads, reads-at}
 
 -- ---- a second operand
 

@@ -1,4 +1,4 @@
-//! The rows that the proved definitions are shown to give (crates/express/proofs/theorems/FileRows.antt) are those of the corpus.
+//! The rows that the proved definitions are shown to give (crates/examples/proofs/FileRows.antt) are those of the corpus.
 
 use std::path::Path;
 
@@ -12,7 +12,7 @@ fn lines_of(text: &str, name: &str) -> String {
 
 #[test]
 fn the_rows_of_the_definitions_are_the_corpus() {
-    let path = Path::new(env!("CARGO_MANIFEST_DIR")).join("../../crates/express/proofs/theorems/FileRows.antt");
+    let path = Path::new(env!("CARGO_MANIFEST_DIR")).join("../../crates/examples/proofs/FileRows.antt");
     let text = std::fs::read_to_string(path).expect("FileRows.antt");
     for (name, tables) in [("all-kinds", &["tokens", "nodes", "answers"][..]), ("two-schemas", &["nodes", "answers"])] {
         let case = compare::cases::all().into_iter().find(|case| case.name == format!("rows-{name}")).expect("in the corpus");

@@ -1,4 +1,4 @@
-//! The files that the proved definitions are run on by computation (crates/express/proofs/theorems/Files.antt) are those of the corpus, with its listings.
+//! The files that the proved definitions are run on by computation (crates/examples/proofs/Files.antt) are those of the corpus, with its listings.
 
 use std::collections::HashMap;
 use std::path::Path;
@@ -39,7 +39,7 @@ fn lines(list: &[&str]) -> String {
 }
 
 fn written() -> Vec<Written> {
-    let path = Path::new(env!("CARGO_MANIFEST_DIR")).join("../../crates/express/proofs/theorems/Files.antt");
+    let path = Path::new(env!("CARGO_MANIFEST_DIR")).join("../../crates/examples/proofs/Files.antt");
     let text = std::fs::read_to_string(path).expect("Files.antt");
     let (_, files) = text.split_once("files =\n").expect("the list of files");
     files

@@ -3,8 +3,8 @@ use Rattle.declarations.proofs.assigned.Statement.{statement}
 use Rattle.declarations.proofs.assigned.Tie as tie
 use borrow.Author.Needs.{needs}
 use native.Mathlib.Omega.{arith}
-use Rattle.expressions.proofs.Laws.{ready-of, token-small}
-use Rattle.expressions.proofs.Steps.{expect-ready}
+use Rattle.parsing.proofs.Laws.{ready-of, token-small}
+use Rattle.parsing.proofs.Steps.{expect-ready}
 use Rattle.declarations.proofs.Laws.{sound-ready, assigned-small}
 use Rattle.declarations.proofs.Clauses.{assigned-name, assigned-colon, assigned-type, assigned-becomes, assigned-value, assigned-reads}
 

@@ -8,10 +8,10 @@ use mathlib.Core.Path.{_≡_, refl}
 use lib.ListN.{length}
 use native.Mathlib.Omega.{arith}
 use Rattle.ebnf.specs.Grammar.{nt}
-use Rattle.expressions.specs.declared.Read.the-variants.{At}
-use Rattle.expressions.specs.Reading.{Ready}
-use Rattle.expressions.proofs.Terminals.{seen-one, seen-other}
-use Rattle.expressions.proofs.Laws.{reads-at, ready-of}
+use Rattle.parsing.specs.declared.Read.the-variants.{At}
+use Rattle.parsing.specs.Reading.{Ready}
+use Rattle.parsing.proofs.Terminals.{seen-one, seen-other}
+use Rattle.parsing.proofs.Laws.{reads-at, ready-of}
 use Rattle.declarations.specs.Declares.{assigned-by}
 use Rattle.declarations.proofs.Laws.{Loops, loops-begin, loops-turn, loops-at, many-refused, many-ends, list-refused, list-then, reads-goes, assigned-ok, begins-at}
 

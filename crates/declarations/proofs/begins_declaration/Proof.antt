@@ -2,7 +2,7 @@ use mathlib.Core.List.{[], _∷_, _++_}
 use mathlib.Core.Path.{refl}
 use Rattle.ebnf.specs.Set.{mem, subset}
 use Rattle.express.specs.tokens.Terminal.{ENTITY, TYPE}
-use Rattle.expressions.proofs.Terminals.{is-in, is-out}
+use Rattle.parsing.proofs.Terminals.{is-in, is-out}
 use Rattle.declarations.proofs.begins_declaration.Statement.{statement}
 use Rattle.declarations.proofs.begins_declaration.Tie as tie
 

@@ -3,7 +3,7 @@ use mathlib.Core.Path.{refl}
 use Rattle.ebnf.specs.Set.{mem, subset}
 use Rattle.express.specs.syntax.Grammar.{domain-rule}
 use Rattle.express.specs.syntax.Lookahead.{tables}
-use Rattle.expressions.proofs.Terminals.{is-in, is-out}
+use Rattle.parsing.proofs.Terminals.{is-in, is-out}
 use Rattle.declarations.proofs.begins_rule.Statement.{statement}
 use Rattle.declarations.proofs.begins_rule.Tie as tie
 

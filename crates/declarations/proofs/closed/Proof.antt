@@ -2,8 +2,8 @@ use Rattle.declarations.proofs.closed.Statement.{statement}
 use Rattle.declarations.proofs.closed.Tie as tie
 use borrow.Author.Needs.{needs}
 use native.Mathlib.Omega.{arith}
-use Rattle.expressions.proofs.Laws.{rows-few}
-use Rattle.expressions.proofs.Steps.{expect-ready}
+use Rattle.parsing.proofs.Laws.{rows-few}
+use Rattle.parsing.proofs.Steps.{expect-ready}
 use Rattle.declarations.proofs.Laws.{closes-refused, closes-row}
 
 expect-requires : tie.Need-expect-requires

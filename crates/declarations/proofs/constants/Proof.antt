@@ -5,9 +5,9 @@ use borrow.Author.Needs.{needs}
 use mathlib.Core.Logic.{inl}
 use mathlib.Core.Path.{refl}
 use native.Mathlib.Omega.{arith}
-use Rattle.expressions.proofs.Terminals.{seen-one, seen-other}
-use Rattle.expressions.proofs.Laws.{token-small}
-use Rattle.expressions.proofs.Steps.{onward, one-inside}
+use Rattle.parsing.proofs.Terminals.{seen-one, seen-other}
+use Rattle.parsing.proofs.Laws.{token-small}
+use Rattle.parsing.proofs.Steps.{onward, one-inside}
 use Rattle.declarations.proofs.Laws.{opt-absent, opt-reads}
 use Rattle.declarations.proofs.Clauses.{constants-list, constants-end, constants-reads}
 

@@ -1,7 +1,7 @@
 use Rattle.declarations.proofs.declaration.Statement.{statement}
 use Rattle.declarations.proofs.declaration.Tie as tie
 use borrow.Author.Needs.{needs}
-use Rattle.expressions.proofs.Terminals.{seen-one, seen-other}
+use Rattle.parsing.proofs.Terminals.{seen-one, seen-other}
 use Rattle.declarations.proofs.Clauses.{declared-type, declared-entity}
 
 token-requires : tie.Need-token-requires

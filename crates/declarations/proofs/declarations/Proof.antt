@@ -6,15 +6,15 @@ use Prim.Native.Nat.{_-_}
 use mathlib.Core.Path.{_≡_, refl}
 use lib.ListN.{length}
 use native.Mathlib.Omega.{arith}
-use Rattle.expressions.specs.declared.Read.the-variants.{At}
-use Rattle.expressions.specs.Reading.{Ready}
-use Rattle.expressions.proofs.Laws.{reads-at, ready-of}
+use Rattle.parsing.specs.declared.Read.the-variants.{At}
+use Rattle.parsing.specs.Reading.{Ready}
+use Rattle.parsing.proofs.Laws.{reads-at, ready-of}
 use mathlib.Core.List.{_++_}
 use Rattle.ebnf.specs.Grammar.{nt}
 use Rattle.express.specs.tokens.Terminal.{ENTITY, TYPE}
 use Rattle.express.specs.syntax.Grammar.{type-declaration as type-declaration′, entity as entity′, _∣_}
 use Rattle.declarations.proofs.Clauses.{declared-reads}
-use Rattle.expressions.proofs.Terminals.{seen}
+use Rattle.parsing.proofs.Terminals.{seen}
 use Rattle.declarations.proofs.Laws.{Loops, loops-begin, loops-turn, loops-at, many-refused, many-ends, declarations-ok}
 
 abbrev Inv-loop : tie.InvT-loop

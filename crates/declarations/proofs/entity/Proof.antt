@@ -3,8 +3,8 @@ use Rattle.declarations.proofs.entity.Statement.{statement}
 use Rattle.declarations.proofs.entity.Tie as tie
 use borrow.Author.Needs.{needs}
 use native.Mathlib.Omega.{arith}
-use Rattle.expressions.proofs.Laws.{token-small}
-use Rattle.expressions.proofs.Steps.{expect-ready}
+use Rattle.parsing.proofs.Laws.{token-small}
+use Rattle.parsing.proofs.Steps.{expect-ready}
 use Rattle.declarations.proofs.Laws.{sound-ready}
 use Rattle.declarations.proofs.Clauses.{entity-1, entity-2, entity-3, entity-4, entity-5, entity-reads}
 use mathlib.Core.Path.{_∙_}

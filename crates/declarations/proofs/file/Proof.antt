@@ -3,7 +3,7 @@ use borrow.Author.Needs.{needs}
 use Rattle.declarations.proofs.file.Statement.{statement}
 use Rattle.declarations.proofs.file.Tie as tie
 use native.Mathlib.Omega.{arith}
-use Rattle.expressions.proofs.Laws.{rows-few}
+use Rattle.parsing.proofs.Laws.{rows-few}
 use Rattle.declarations.proofs.Laws.{sound-ready}
 use Rattle.declarations.proofs.Clauses.{file-refused, file-reads}
 

@@ -2,7 +2,7 @@ use Rattle.declarations.proofs.id.Statement.{statement}
 use Rattle.declarations.proofs.id.Tie as tie
 use borrow.Author.Needs.{needs}
 use native.Mathlib.Omega.{arith}
-use Rattle.expressions.proofs.Laws.{rows-few, token-small}
+use Rattle.parsing.proofs.Laws.{rows-few, token-small}
 use Rattle.declarations.proofs.Laws.{leaves-there, leaves-not}
 
 token-requires : tie.Need-token-requires

@@ -1,7 +1,7 @@
 use Rattle.declarations.proofs.ids.Statement.{statement}
 use Rattle.declarations.proofs.ids.Tie as tie
 use borrow.Author.Needs.{needs}
-use Rattle.expressions.proofs.Steps.{expect-ready}
+use Rattle.parsing.proofs.Steps.{expect-ready}
 use Rattle.declarations.proofs.Laws.{ids-opened, ids-listed, ids-closed}
 
 expect-requires : tie.Need-expect-requires

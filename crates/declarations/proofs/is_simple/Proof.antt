@@ -2,7 +2,7 @@ use mathlib.Core.List.{[], _∷_}
 use mathlib.Core.Path.{refl}
 use Rattle.ebnf.specs.Set.{mem, subset}
 use Rattle.express.specs.syntax.Grammar.{simple-types}
-use Rattle.expressions.proofs.Terminals.{is-in, is-out}
+use Rattle.parsing.proofs.Terminals.{is-in, is-out}
 use Rattle.declarations.proofs.is_simple.Statement.{statement}
 use Rattle.declarations.proofs.is_simple.Tie as tie
 

@@ -8,10 +8,10 @@ use lib.ListN.{length}
 use native.Mathlib.Omega.{arith}
 use Rattle.express.specs.tokens.Terminal.{comma}
 use Rattle.express.specs.syntax.Grammar.{_·_, tok}
-use Rattle.expressions.specs.declared.Read.the-variants.{At}
-use Rattle.expressions.specs.Reading.{Ready}
-use Rattle.expressions.proofs.Terminals.{seen-one, seen-other}
-use Rattle.expressions.proofs.Steps.{onward, one-inside}
+use Rattle.parsing.specs.declared.Read.the-variants.{At}
+use Rattle.parsing.specs.Reading.{Ready}
+use Rattle.parsing.proofs.Terminals.{seen-one, seen-other}
+use Rattle.parsing.proofs.Steps.{onward, one-inside}
 use Rattle.declarations.specs.Declares.{id-of}
 use Rattle.declarations.proofs.Laws.{sound-ready, Loops, loops-begin, loops-turn, loops-at, many-refused, many-ends, list-refused, list-then, leaf-goes, comma-goes, names-ok, leaf-onward}
 

@@ -2,7 +2,7 @@
 use borrow.Author.Needs.{needs}
 use Rattle.declarations.proofs.parse_in.Statement.{statement}
 use Rattle.declarations.proofs.parse_in.Tie as tie
-use Rattle.expressions.proofs.Columns.{parses}
+use Rattle.parsing.proofs.Columns.{parses}
 
 whole-requires : tie.Need-whole-requires
 whole-requires c κs = search needs

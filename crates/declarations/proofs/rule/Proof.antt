@@ -3,7 +3,7 @@ use Rattle.declarations.proofs.rule.Statement.{statement}
 use Rattle.declarations.proofs.rule.Tie as tie
 use borrow.Author.Needs.{needs}
 use native.Mathlib.Omega.{arith}
-use Rattle.expressions.proofs.Laws.{ready-of, token-small}
+use Rattle.parsing.proofs.Laws.{ready-of, token-small}
 use Rattle.declarations.proofs.Clauses.{label-ready, labelled-refused, labelled-reads, plain-refused, plain-reads}
 
 is-labelled-requires : tie.Need-is-labelled-requires

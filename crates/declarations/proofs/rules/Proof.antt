@@ -3,9 +3,9 @@ use Rattle.declarations.proofs.rules.Statement.{statement}
 use Rattle.declarations.proofs.rules.Tie as tie
 use borrow.Author.Needs.{needs}
 use native.Mathlib.Omega.{arith}
-use Rattle.expressions.proofs.Terminals.{seen-one, seen-other}
-use Rattle.expressions.proofs.Laws.{token-small}
-use Rattle.expressions.proofs.Steps.{onward, one-inside}
+use Rattle.parsing.proofs.Terminals.{seen-one, seen-other}
+use Rattle.parsing.proofs.Laws.{token-small}
+use Rattle.parsing.proofs.Steps.{onward, one-inside}
 use Rattle.declarations.proofs.Laws.{opt-absent, opt-reads}
 use Rattle.declarations.proofs.Clauses.{where-reads}
 

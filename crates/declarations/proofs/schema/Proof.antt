@@ -3,8 +3,8 @@ use borrow.Author.Needs.{needs}
 use Rattle.declarations.proofs.schema.Statement.{statement}
 use Rattle.declarations.proofs.schema.Tie as tie
 use native.Mathlib.Omega.{arith}
-use Rattle.expressions.proofs.Laws.{token-small}
-use Rattle.expressions.proofs.Steps.{expect-ready}
+use Rattle.parsing.proofs.Laws.{token-small}
+use Rattle.parsing.proofs.Steps.{expect-ready}
 use Rattle.declarations.proofs.Laws.{sound-ready}
 use Rattle.declarations.proofs.Clauses.{schema-1, schema-2, schema-3, schema-4, schema-5, schema-reads}
 use mathlib.Core.Path.{_∙_}

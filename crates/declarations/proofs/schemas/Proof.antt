@@ -6,12 +6,12 @@ use mathlib.Core.Path.{_≡_, refl}
 use lib.ListN.{length}
 use native.Mathlib.Omega.{arith}
 use borrow.Author.Needs.{needs}
-use Rattle.expressions.specs.declared.Read.the-variants.{At}
-use Rattle.expressions.specs.Reading.{Ready}
-use Rattle.expressions.proofs.Laws.{reads-at, ready-of}
+use Rattle.parsing.specs.declared.Read.the-variants.{At}
+use Rattle.parsing.specs.Reading.{Ready}
+use Rattle.parsing.proofs.Laws.{reads-at, ready-of}
 use Rattle.ebnf.specs.Grammar.{nt}
 use Rattle.express.specs.syntax.Grammar.{schema as schema′}
-use Rattle.expressions.proofs.Terminals.{seen-one, seen-other}
+use Rattle.parsing.proofs.Terminals.{seen-one, seen-other}
 use Rattle.declarations.proofs.Laws.{Loops, loops-begin, loops-turn, loops-at, many-refused, many-ends, list-refused, list-then, reads-goes, schemas-ok}
 
 abbrev Inv-loop : tie.InvT-loop

@@ -5,8 +5,8 @@ use borrow.Author.Needs.{needs}
 use mathlib.Core.Path.{refl}
 use lib.ListN.{getD}
 use native.Mathlib.Omega.{arith}
-use Rattle.expressions.proofs.Laws.{token-small, rows-few}
-use Rattle.expressions.proofs.Steps.{onward, one-inside}
+use Rattle.parsing.proofs.Laws.{token-small, rows-few}
+use Rattle.parsing.proofs.Steps.{onward, one-inside}
 use Rattle.declarations.proofs.Laws.{sound-ready}
 use Rattle.declarations.proofs.Clauses.{selection-refused, selection-reads}
 

@@ -3,9 +3,9 @@ use Rattle.declarations.proofs.supertypes.Statement.{statement}
 use Rattle.declarations.proofs.supertypes.Tie as tie
 use borrow.Author.Needs.{needs}
 use native.Mathlib.Omega.{arith}
-use Rattle.expressions.proofs.Terminals.{seen-one, seen-other}
-use Rattle.expressions.proofs.Laws.{token-small}
-use Rattle.expressions.proofs.Steps.{onward, one-inside, expect-ready}
+use Rattle.parsing.proofs.Terminals.{seen-one, seen-other}
+use Rattle.parsing.proofs.Laws.{token-small}
+use Rattle.parsing.proofs.Steps.{onward, one-inside, expect-ready}
 use Rattle.declarations.proofs.Laws.{refused-sound, opt-absent, opt-present}
 use Rattle.declarations.proofs.Clauses.{supertypes-stopped, supertypes-go}
 

@@ -3,8 +3,8 @@ use Rattle.declarations.proofs.type_declaration.Statement.{statement}
 use Rattle.declarations.proofs.type_declaration.Tie as tie
 use borrow.Author.Needs.{needs}
 use native.Mathlib.Omega.{arith}
-use Rattle.expressions.proofs.Laws.{ready-of, token-small}
-use Rattle.expressions.proofs.Steps.{expect-ready}
+use Rattle.parsing.proofs.Laws.{ready-of, token-small}
+use Rattle.parsing.proofs.Steps.{expect-ready}
 use Rattle.declarations.proofs.Laws.{sound-ready}
 use Rattle.declarations.proofs.Clauses.{type-1, type-2, type-3, type-4, type-5, type-6, type-reads}
 use mathlib.Core.Path.{_∙_}

@@ -2,7 +2,7 @@ use borrow.Author.Needs.{needs}
 use Rattle.declarations.proofs.type_label.Statement.{statement}
 use Rattle.declarations.proofs.type_label.Tie as tie
 use mathlib.Core.Path.{refl, sym, _∙_}
-use Rattle.expressions.proofs.Terminals.{is-one, not-one}
+use Rattle.parsing.proofs.Terminals.{is-one, not-one}
 
 is-simple-requires : tie.Need-is-simple-requires
 is-simple-requires c κs = search needs

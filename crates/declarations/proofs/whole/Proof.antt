@@ -4,8 +4,8 @@ use Rattle.declarations.proofs.whole.Tie as tie
 use mathlib.Core.Path.{sym}
 use lib.Seq.{length-take-le}
 use Rattle.express.specs.syntax.Grammar.{file as file′}
-use Rattle.expressions.proofs.Limit.{end-within, whole-ready, judges}
-use Rattle.expressions.proofs.Columns.{judged-few}
+use Rattle.parsing.proofs.Limit.{end-within, whole-ready, judges}
+use Rattle.parsing.proofs.Columns.{judged-few}
 
 first-deep-requires : tie.Need-first-deep-requires
 first-deep-requires c κs = search needs

@@ -8,13 +8,13 @@ use native.Mathlib.Omega.{arith}
 use lib.ListN.{length, length-append}
 use lib.Seq.{getD-append-seam}
 use borrow.Author.Tests.{eq-eqb, ne-eqb}
-use Rattle.ebnf.specs.Grammar.{Derives, nothing, marked, both, right, rule, left, token}
+use Rattle.ebnf.specs.Grammar.{Mark, node as a-node, leaf, Ebnf, none, mark, step, nt, Derives, nothing, marked, both, right, rule, left, token}
 use Rattle.ebnf.specs.Rows.{Row, Rows, in-rows}
 use Rattle.ebnf.proofs.PostOrder.{no-row, row-at}
 use Rattle.ebnf.proofs.Origin.{ends-with, without-or-ends, origin, rows-grow}
 use Rattle.express.specs.syntax.Tree.{Table, count, kind, role, first, is, is-name-in, token as naming}
 use Rattle.express.specs.syntax.Grammar.{Nonterminal, file, schema, constants, constant, base, type-declaration, underlying, where-clause}
-use Rattle.express.specs.syntax.Grammar.{domain-rule, entity, attributes, derived, expression, sum, term, factor, operand, atom, interval, rules}
+use Rattle.express.specs.syntax.Grammar.{domain-rule, entity, attributes, derived, expression, sum, term, factor, operand, atom, interval, rules, _·_, opt, tok, named}
 use Rattle.express.specs.syntax.Syntax.{whole, Read}
 use Rattle.express.specs.kinds.Declared.{renames}
 use Rattle.express.proofs.syntax.FormedRows.{kind-is, role-is, size-is, token-is, count-is, sized}
@@ -31,8 +31,8 @@ pub data First (i : ℕ) (r : Row) : Type 0 where
   chosen : r ≡ row node.name node.select-name (suc (suc i)) → First i r
 
 -- what stands first stays first
-stays-first : (s : List Row) (a : Row) (r : List Row) → (new : List Row) × (s ≡ (a ∷ []) ++ new) → row-at (s ++ r) 0 ≡ a
-stays-first s a r g = ap (λ (l : List Row). row-at (l ++ r) 0) (g .1)
+first-of : {a : Row} {s r : List Row} → (new : List Row) × (s ≡ (a ∷ []) ++ new) → (new : List Row) × (r ≡ s ++ new) → row-at r 0 ≡ a
+first-of g f = ap (λ (l : List Row). row-at l 0) (f .1) ∙ ap (λ (l : List Row). row-at (l ++ f .0) 0) (g .1)
 
 last-row : (s : List Row) (a : Row) → row-at (s ++ (a ∷ [])) (length (s ++ (a ∷ [])) - 1) ≡ a
 last-row s a =
@@ -72,13 +72,36 @@ settled-types atom = refl
 settled-types interval = refl
 
 module _ (ts : List ℕ) where
+  -- the first name of a list in parentheses
+  listed : {k o i j n : ℕ} {cs ds : List ℕ} {e : Ebnf Nonterminal} {s : Rows} →
+      Derives in-rows rules ts (tok cs · step (leaf k o) ds none · e) i (record { name = n; rows = [] }) j s → (new : List Row) × (s .rows ≡ (row k o (suc i) ∷ []) ++ new)
+  listed (both (token c nothing) (both (token d nothing) g)) = rows-grow g
+
+  enumerated : {k o i j : ℕ} {ps qs cs ds : List ℕ} {e : Ebnf Nonterminal} {m : Mark} {s : Rows} →
+      Derives in-rows rules ts (named ps · tok qs · (tok cs · step (leaf k o) ds none · e) · mark m) i (in-rows .start i) j s →
+      row-at (s .rows) 0 ≡ row k o (suc (suc (suc i)))
+  enumerated (both (token c nothing) (both (token d nothing) (both l f))) = first-of (listed l) (rows-grow f)
+
+  selected : {k o i j : ℕ} {ps cs ds : List ℕ} {e : Ebnf Nonterminal} {m : Mark} {s : Rows} →
+      Derives in-rows rules ts (named ps · (tok cs · step (leaf k o) ds none · e) · mark m) i (in-rows .start i) j s → row-at (s .rows) 0 ≡ row k o (suc (suc i))
+  selected (both (token c nothing) (both l f)) = first-of (listed l) (rows-grow f)
+
   underlying-first : {i j : ℕ} {s : Rows} → Derives in-rows rules ts (rules underlying) i (in-rows .start i) j s → First i (row-at (s .rows) 0)
   underlying-first (left (token c nothing)) = simple refl
   underlying-first (right (left (token c nothing))) = renamed refl
-  underlying-first (right (right (left (both (token c nothing) (both (token d nothing) (both (both (token e nothing) (both (token f nothing) (both g (token h nothing)))) marked)))))) =
-      item (stays-first _ _ _ (rows-grow g))
-  underlying-first (right (right (right (both (token c nothing) (both (both (token e nothing) (both (token f nothing) (both g (token h nothing)))) marked))))) =
-      chosen (stays-first _ _ _ (rows-grow g))
+  underlying-first (right (right (left d))) = item (enumerated d)
+  underlying-first (right (right (right d))) = chosen (selected d)
+
+  -- an optional rule leaves the name of the next node as it is
+  same-name : {x : Nonterminal} {i j : ℕ} {r s : Rows} → Derives in-rows rules ts (opt (nt x)) i r j s → s .name ≡ r .name
+  same-name (left (rule d)) = refl
+  same-name (right nothing) = refl
+
+  -- what follows the underlying type: the last row has the name that is set before
+  ended : {k o i j : ℕ} {cs ds es : List ℕ} {x : Nonterminal} {r s : Rows} →
+      Derives in-rows rules ts (tok cs · opt (nt x) · tok ds · tok es · mark (a-node k o)) i r j s → (row-at (s .rows) (length (s .rows) - 1)) .token ≡ r .name
+  ended (both (token c nothing) (both {s = w} f (both (token d nothing) (both (token e nothing) marked)))) =
+      ap (λ (r : Row). r .token) (last-row (w .rows) _) ∙ same-name f
 
   -- the rows of a type that begins at the token i: the underlying type's come first, and the last one is named by the token after TYPE
   record Typed (i : ℕ) (s : List Row) : Type 0 where
@@ -86,15 +109,12 @@ module _ (ts : List ℕ) where
     name : (row-at s (length s - 1)) .token ≡ suc i
 
   type-rows : {i j : ℕ} {s : Rows} → Derives in-rows rules ts (rules type-declaration) i (in-rows .start i) j s → Typed i (s .rows)
-  type-rows (both (token a nothing) (both (token b nothing) (both (token c nothing) (both (rule {s = u} d) (both (token e nothing)
-      (both (left (rule {s = w} f)) (both (token g nothing) (both (token h nothing) marked)))))))) =
+  type-rows {i = i} (both (token a nothing) (both (token b nothing) (both (token c nothing) (both (rule {s = u} d) g)))) =
+      let more = rows-grow g in
       record {
-        under = first-kept _ (u .rows ++ w .rows) _ (first-kept _ (u .rows) (w .rows) (underlying-first d));
-        name = ap (λ (r : Row). r .token) (last-row (u .rows ++ w .rows) _);
+        under = subst (λ (l : List Row). First (suc (suc (suc i))) (row-at l 0)) (sym (more .1)) (first-kept _ (u .rows) (more .0) (underlying-first d));
+        name = ended g;
       }
-  type-rows (both (token a nothing) (both (token b nothing) (both (token c nothing) (both (rule {s = u} d) (both (token e nothing)
-      (both (right nothing) (both (token g nothing) (both (token h nothing) marked)))))))) =
-      record { under = first-kept _ (u .rows) _ (underlying-first d); name = ap (λ (r : Row). r .token) (last-row (u .rows) _) }
 
 -- only a type's declaration leaves a type
 only-types : (y : Nonterminal) → ends-with rules node.type (rules y) ≡ true → y ≡ type-declaration

@@ -31,16 +31,16 @@ use Rattle.expressions.proofs.term.Kinds as term-kinds
 use Rattle.expressions.proofs.+atom+compared+expression+factor+interval+operand+signed+sum+term.Lts-term as term-lts
 use Rattle.expressions.proofs.atom_label.Reads as atom-label-reads
 use Rattle.expressions.proofs.combined.Reads as combined-reads
-use Rattle.expressions.proofs.expect.Reads as expect-reads
+use Rattle.parsing.proofs.expect.Reads as expect-reads
 use Rattle.expressions.proofs.is_addition.Reads as is-addition-reads
 use Rattle.expressions.proofs.is_comparison.Reads as is-comparison-reads
 use Rattle.expressions.proofs.is_multiplication.Reads as is-multiplication-reads
 use Rattle.expressions.proofs.is_qualified.Reads as is-qualified-reads
 use Rattle.expressions.proofs.is_relation.Reads as is-relation-reads
 use Rattle.expressions.proofs.is_sign.Reads as is-sign-reads
-use Rattle.expressions.proofs.put_row.Reads as put-row-reads
+use Rattle.parsing.proofs.put_row.Reads as put-row-reads
 use Rattle.expressions.proofs.qualified.Reads as qualified-reads
-use Rattle.expressions.proofs.token.Reads as token-reads
+use Rattle.parsing.proofs.token.Reads as token-reads
 use Rattle.expressions.proofs.+atom+compared+expression+factor+interval+operand+signed+sum+term.{
   statement,
 }
@@ -59,9 +59,9 @@ use Rattle.express.specs.syntax.Grammar.{expression as expression′, sum as su
 use Rattle.express.proofs.syntax.Syntax.{express}
 use Rattle.expressions.proofs.Operators.{Before, before-first, again, combinable, often-refused, often-ends}
 use Rattle.expressions.proofs.Operators.{often-again, turned-refused, turned-both, turned-alone, turned-again, once-refused, once-alone, once-ready, once-stopped, once-both}
-use Rattle.expressions.proofs.Terminals.{seen, seen-one, seen-other}
-use Rattle.expressions.proofs.Steps.{onward, onward-row, one-inside}
-use Rattle.expressions.proofs.Laws.{reads-at, compares-at, ready-of, rows-few, token-small}
+use Rattle.parsing.proofs.Terminals.{seen, seen-one, seen-other}
+use Rattle.parsing.proofs.Steps.{onward, onward-row, one-inside}
+use Rattle.parsing.proofs.Laws.{reads-at, compares-at, ready-of, rows-few, token-small}
 use Rattle.expressions.proofs.Operands.{atom-nested, atom-refused, atom-row, atom-none, operand-interval, sign-ready, sign-count, signed-refused, signed-row, operand-plain}
 use Rattle.expressions.proofs.Operands.{comparison-inside, compared-there, compared-not, brace-inside, low-refused}
 use Rattle.expressions.proofs.Operands.{item-refused, high-refused, end-refused, interval-count, interval-whole}

@@ -1,8 +1,8 @@
 use mathlib.Core.List.{[], _∷_}
 use mathlib.Core.Path.{refl}
 use Rattle.ebnf.specs.Set.{mem}
-use Rattle.expressions.specs.Reading.{atom-label}
-use Rattle.expressions.proofs.Terminals.{by-key, none-of, out-both}
+use Rattle.parsing.specs.Reading.{atom-label}
+use Rattle.parsing.proofs.Terminals.{by-key, none-of, out-both}
 use Rattle.expressions.proofs.Atoms.{no-label}
 use Rattle.expressions.proofs.atom_label.Statement.{statement}
 use Rattle.expressions.proofs.atom_label.Tie as tie

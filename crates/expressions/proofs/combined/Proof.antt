@@ -1,7 +1,7 @@
 use borrow.Author.Needs.{needs}
 use Rattle.expressions.proofs.combined.Statement.{statement}
 use Rattle.expressions.proofs.combined.Tie as tie
-use Rattle.expressions.proofs.Steps.{combined-one, combined-two}
+use Rattle.parsing.proofs.Steps.{combined-one, combined-two}
 
 returns : tie.Need-returns
 returns c = combined-one (c .if1 .taken)

@@ -3,7 +3,7 @@ use borrow.Author.Needs.{needs}
 use Rattle.expressions.proofs.expression_at.Statement.{statement}
 use Rattle.expressions.proofs.expression_at.Tie as tie
 use mathlib.Core.Path.{sym, _∙_}
-use Rattle.expressions.proofs.Steps.{place-ready, anywhere-there, anywhere-not}
+use Rattle.parsing.proofs.Steps.{place-ready, anywhere-there, anywhere-not}
 
 is-place-requires : tie.Need-is-place-requires
 is-place-requires c κs = search needs

@@ -2,7 +2,7 @@ use mathlib.Core.List.{[], _∷_}
 use mathlib.Core.Path.{refl}
 use Rattle.ebnf.specs.Set.{mem, subset}
 use Rattle.express.specs.syntax.Grammar.{additions}
-use Rattle.expressions.proofs.Terminals.{is-in, is-out}
+use Rattle.parsing.proofs.Terminals.{is-in, is-out}
 use Rattle.expressions.proofs.is_addition.Statement.{statement}
 use Rattle.expressions.proofs.is_addition.Tie as tie
 

@@ -1,7 +1,7 @@
 use borrow.Author.Needs.{needs}
 use Rattle.expressions.proofs.is_qualified.Statement.{statement}
 use Rattle.expressions.proofs.is_qualified.Tie as tie
-use Rattle.expressions.proofs.Steps.{two-there, two-not}
+use Rattle.parsing.proofs.Steps.{two-there, two-not}
 
 token-requires : tie.Need-token-requires
 token-requires c κs = search needs

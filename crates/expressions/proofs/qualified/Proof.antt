@@ -2,7 +2,7 @@ use borrow.Author.Needs.{needs}
 use Rattle.expressions.proofs.qualified.Statement.{statement}
 use Rattle.expressions.proofs.qualified.Tie as tie
 use native.Mathlib.Omega.{arith}
-use Rattle.expressions.proofs.Laws.{rows-few, token-small}
+use Rattle.parsing.proofs.Laws.{rows-few, token-small}
 use Rattle.expressions.proofs.Operands.{item-row, item-none}
 
 add-token : tie.Need-add-token

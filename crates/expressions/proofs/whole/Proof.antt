@@ -2,10 +2,10 @@ use borrow.Author.Needs.{needs}
 use Rattle.expressions.proofs.whole.Statement.{statement}
 use Rattle.expressions.proofs.whole.Tie as tie
 use Rattle.express.specs.syntax.Grammar.{expression as expression′}
-use Rattle.expressions.proofs.Limit.{end-within, whole-ready, judges}
+use Rattle.parsing.proofs.Limit.{end-within, whole-ready, judges}
 use mathlib.Core.Path.{sym}
 use lib.Seq.{length-take-le}
-use Rattle.expressions.proofs.Columns.{judged-few}
+use Rattle.parsing.proofs.Columns.{judged-few}
 
 first-deep-requires : tie.Need-first-deep-requires
 first-deep-requires c κs = search needs

@@ -1,0 +1,5 @@
+pub mod Terminals
+pub mod Laws
+pub mod Steps
+pub mod Limit
+pub mod Columns
