@@ -2,7 +2,8 @@
 ghost use mathlib.Core.Path.{_≡_};
 ghost use Prim.Native.Nat.{_≤_, _/_, _%_, _^_};
 ghost use lib.ListN.{take};
-ghost use Rattle.express.specs.kinds.Bits.{number, compare-bits};
+ghost use Rattle.express.specs.kinds.AnswerRow.{row, row-of};
+ghost use Rattle.express.specs.kinds.Bits.{join, number, compare-bits};
 ghost use Rattle.values.specs.Meaning.{ordering-of};
 ghost use Rattle.bits.specs.Meaning.{bits-of, Joins, Shorter};
 use values::End;
@@ -60,6 +61,25 @@ pub fn join(a: Binary, b: Binary) -> Joined
         number: (m << (b.length as u64)) + n,
         length: a.length + b.length,
     })
+}
+
+// The same as the row of its answer: the kind is returned, number and length are written.
+pub fn join_row(a: Binary, b: Binary, number: &mut i64, length: &mut u8) -> u8
+    ensures { λ r. ⌜ row r (now (number .exit)) (now (length .exit)) ≡ row-of (join (bits-of a) (bits-of b)) ⌝ }
+{
+    let joined = join(a, b);
+    match joined {
+        Joined::Whole(binary) => {
+            *number = binary.number as i64;
+            *length = binary.length;
+            codes::answers::BINARY
+        }
+        Joined::Ended(e) => {
+            *number = 0;
+            *length = 0;
+            e.number()
+        }
+    }
 }
 
 // The number of the first l bits.

@@ -2,26 +2,9 @@
 ghost use mathlib.Core.Path.{_≡_};
 ghost use Rattle.express.specs.kinds.AnswerRow.{row, row-of};
 ghost use Rattle.express.specs.kinds.Integer.{sum, difference, product, DIV, MOD, power, negation, compareℤ};
-ghost use Rattle.integers.specs.Meaning.{integer-answer};
 ghost use Rattle.exports.specs.Places.{order-place};
 use crate::logicals;
-use integers::Outcome;
-
-fn answer_row(outcome: Outcome, number: &mut i64, length: &mut u8) -> u8
-    ensures { λ r. ⌜ row r (now (number .exit)) (now (length .exit)) ≡ row-of (integer-answer outcome) ⌝ }
-{
-    *length = 0;
-    match outcome {
-        Outcome::Value(v) => {
-            *number = v;
-            codes::answers::INTEGER
-        }
-        Outcome::Ended(e) => {
-            *number = 0;
-            e.number()
-        }
-    }
-}
+use integers::answer_row;
 
 #[no_mangle]
 pub extern "C" fn woffulent_add(a: i64, b: i64, number: &mut i64, length: &mut u8) -> u8

@@ -5,7 +5,6 @@ ghost use Rattle.express.specs.kinds.Bits.{bits, join, compare-bits};
 ghost use Rattle.exports.specs.Places.{order-place};
 use crate::logicals;
 use bits::Binary;
-use bits::Joined;
 
 #[no_mangle]
 pub extern "C" fn woffulent_join(
@@ -18,7 +17,7 @@ pub extern "C" fn woffulent_join(
 ) -> u8
     ensures { λ r. ⌜ row r (now (number .exit)) (now (length .exit)) ≡ row-of (join (bits m a) (bits n b)) ⌝ }
 {
-    let joined = bits::join(
+    bits::join_row(
         Binary {
             number: a,
             length: m,
@@ -27,19 +26,9 @@ pub extern "C" fn woffulent_join(
             number: b,
             length: n,
         },
-    );
-    match joined {
-        Joined::Whole(binary) => {
-            *number = binary.number as i64;
-            *length = binary.length;
-            codes::answers::BINARY
-        }
-        Joined::Ended(e) => {
-            *number = 0;
-            *length = 0;
-            e.number()
-        }
-    }
+        number,
+        length,
+    )
 }
 
 #[no_mangle]

@@ -2,6 +2,7 @@
 ghost use mathlib.Core.Path.{_≡_};
 ghost use Prim.Native.Nat.{_≤_};
 ghost use lib.IntN.{natAbs, pow};
+ghost use Rattle.express.specs.kinds.AnswerRow.{row, row-of};
 ghost use Rattle.express.specs.kinds.Integer.{exact, sum, difference, product, negation, DIV, MOD, power, compareℤ};
 ghost use Rattle.values.specs.Meaning.{ordering-of};
 ghost use Rattle.integers.specs.Meaning.{integer-answer};
@@ -201,4 +202,21 @@ pub fn compare(a: i64, b: i64) -> Order
         return Order::More;
     }
     Order::Same
+}
+
+// An outcome as the row of its answer: the kind is returned, number and length are written.
+pub fn answer_row(outcome: Outcome, number: &mut i64, length: &mut u8) -> u8
+    ensures { λ r. ⌜ row r (now (number .exit)) (now (length .exit)) ≡ row-of (integer-answer outcome) ⌝ }
+{
+    *length = 0;
+    match outcome {
+        Outcome::Value(v) => {
+            *number = v;
+            codes::answers::INTEGER
+        }
+        Outcome::Ended(e) => {
+            *number = 0;
+            e.number()
+        }
+    }
 }

@@ -1,9 +1,9 @@
 use borrow.Author.Needs.{needs}
 use mir.Syntax.{w64}
 use mir.Val.{SFits}
-use Rattle.exports.proofs.Answers.{row-value, row-ended}
-use Rattle.exports.proofs.arithmetic.answer_row.Statement.{statement}
-use Rattle.exports.proofs.arithmetic.answer_row.Tie as tie
+use Rattle.integers.proofs.Rows.{row-value, row-ended}
+use Rattle.integers.proofs.answer_row.Statement.{statement}
+use Rattle.integers.proofs.answer_row.Tie as tie
 
 returns : tie.Need-returns
 returns c = let f : SFits w64 (c .before .outcome .given .0 .0) = search needs in row-value f (c .before .outcome .given .1)
