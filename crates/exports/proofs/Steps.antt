@@ -2,8 +2,9 @@
 use Prim.Native.Nat.{ℕ}
 use mathlib.Core.Path.{_≡_, ap, _∙_}
 use mathlib.Core.List.{List}
-use Rattle.scan.specs.Scan.{reading, ScanResult}
-use Rattle.scan.specs.declared.Step.{Step}
+use Rattle.blanks.specs.Step.{reading}
+use Rattle.scan.specs.Scan.{ScanResult}
+use Rattle.blanks.specs.declared.Step.{Step}
 use Rattle.express.specs.syntax.Grammar.{file}
 use Rattle.parsing.specs.declared.Parsed.{Parsed}
 use Rattle.parsing.specs.Parsing as Parsing

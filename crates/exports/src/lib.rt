@@ -13,25 +13,25 @@ ghost use lib.Seq.{sets};
 ghost use Rattle.express.specs.tokens.Lexis.{integer-value, binary-value};
 ghost use Rattle.express.specs.tokens.Terminal.{terminals};
 ghost use Rattle.literals.specs.Literal.{capped};
-ghost use Rattle.scan.specs.Scan.{reading};
+ghost use Rattle.blanks.specs.Step.{reading};
 ghost use Rattle.parsing.specs.Parsing as Parsing;
 ghost use Rattle.exports.specs.Reply.{reply, number, Scans, Parses};
 
-fn reply_of(step: scan::Step) -> u8
+fn reply_of(step: blanks::Step) -> u8
     ensures { λ r. ⌜ r ≡ reply (reading step) ⌝ }
 {
     match step {
-        scan::Step::At(_) => codes::replies::ACCEPTED,
-        scan::Step::Refused(k, _) => k,
+        blanks::Step::At(_) => codes::replies::ACCEPTED,
+        blanks::Step::Refused(k, _) => k,
     }
 }
 
-fn number_of(step: scan::Step) -> usize
+fn number_of(step: blanks::Step) -> usize
     ensures { λ r. ⌜ r ≡ number (reading step) ⌝ }
 {
     match step {
-        scan::Step::At(p) => p,
-        scan::Step::Refused(_, p) => p,
+        blanks::Step::At(p) => p,
+        blanks::Step::Refused(_, p) => p,
     }
 }
 

@@ -14,9 +14,10 @@ use Rattle.express.specs.tokens.Lexis.{Reading, at, refused, skipped, token-kin
 use Rattle.express.specs.tokens.Lexis.{row-and-rest, lexed-in, lexed-to, kinds, starts, sizes, counted, tokens}
 use Rattle.express.proofs.tokens.Fast.{lexed-fast}
 use Rattle.express.proofs.tokens.Places.{inside-at, skip-inside, token-inside}
-use Rattle.scan.specs.Scan.{reading, ended, TokenRead, Filled, ScanResult}
-use Rattle.scan.specs.declared.Step.{Step}
-use Rattle.scan.specs.declared.Step.the-variants.{At, Refused}
+use Rattle.blanks.specs.Step.{reading}
+use Rattle.scan.specs.Scan.{ended, TokenRead, Filled, ScanResult}
+use Rattle.blanks.specs.declared.Step.{Step}
+use Rattle.blanks.specs.declared.Step.the-variants.{At, Refused}
 
 -- Of all the tokens l, n rows are written and p is reached; what is left from there, in enough turns, completes them.
 pub record Progress (l : Lexed) (src k₀ s₀ z₀ k s z : List ℕ) (n p : ℕ) : Type 0 where

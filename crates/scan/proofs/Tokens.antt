@@ -9,11 +9,12 @@ use borrow.Author.Tests.{eq-eqb, ne-eqb}
 use Rattle.express.specs.tokens.Bytes.{letter, digit, word-byte}
 use Rattle.express.specs.tokens.Lexis.{at, run, lone, size-of-symbol, end-of-symbol, end-of-string, end-of-binary}
 use Rattle.express.specs.tokens.Lexis.{end-of-integer, end-of-real, end-of-exponent, token-kind-at, end-of-token}
-use Rattle.scan.specs.Scan.{reading, TokenRead}
-use Rattle.scan.specs.declared.Step.{Step}
-use Rattle.scan.specs.declared.Step.the-variants.{At}
+use Rattle.blanks.specs.Step.{reading}
+use Rattle.scan.specs.Scan.{TokenRead}
+use Rattle.blanks.specs.declared.Step.{Step}
+use Rattle.blanks.specs.declared.Step.the-variants.{At}
 use Rattle.scan.proofs.ByteSets.{lone-kind}
-use Rattle.scan.proofs.Turns.{run-more}
+use Rattle.blanks.proofs.Turns.{run-more}
 
 module _ (s : List ℕ) (p : ℕ) where
   abbrev first : ℕ

@@ -10,7 +10,7 @@ use Rattle.express.specs.tokens.Bytes.{word-byte}
 use Rattle.express.specs.tokens.Lexis.{run}
 use Rattle.columns.proofs.Laws.{tabulated-at}
 use Rattle.scan.specs.Scan.{zero-mark, one-mark, mark, word-table}
-use Rattle.scan.proofs.Turns.{run-more, run-stop, run-over}
+use Rattle.blanks.proofs.Turns.{run-more, run-stop, run-over}
 
 pub table-at : (t : List ℕ) (b i : ℕ) → t ≡ word-table → i ≡ b → b < 256 → getD t i 0 ≡ mark (word-byte b)
 unfolding word-table

@@ -6,19 +6,12 @@ use mathlib.Core.List.{List}
 use lib.ListN.{length}
 use lib.Seq.{sets}
 use Rattle.columns.specs.Column.{tabulated}
-use Rattle.express.specs.tokens.Bytes.{digit, word-byte}
+use Rattle.express.specs.tokens.Bytes.{word-byte}
 use Rattle.express.specs.tokens.Lexis as Lexis
-use Rattle.express.specs.tokens.Lexis.{Reading, at, refused, Lexed, in-line, bit, lone, token-kind-at, end-of-token, lexed-to, tokens}
+use Rattle.express.specs.tokens.Lexis.{Reading, at, refused, Lexed, lone, token-kind-at, end-of-token, lexed-to, tokens}
 use Rattle.express.specs.whole.Reply.{token-entries}
-use Rattle.scan.specs.declared.Step.{Step}
-use Rattle.scan.specs.declared.Step.the-variants.{At, Refused}
-use Rattle.scan.specs.declared.Class.{Class}
-use Rattle.scan.specs.declared.Class.the-variants.{Digit, Bit, Line}
-
--- a step's answer: a new place, or the number of the refusal and its place
-abbrev pub reading : Step → Reading
-reading (At p) = at p
-reading (Refused n p) = refused n p
+use Rattle.blanks.specs.declared.Step.{Step}
+use Rattle.blanks.specs.Step.{reading}
 
 -- the bytes `0`, `1`, `:` and `_`
 abbrev pub zero-mark : ℕ
@@ -46,11 +39,6 @@ lone-mark b = cond (lone b) b underscore
 
 unfoldable pub lone-table : List ℕ
 lone-table = tabulated lone-mark 0 256
-
-abbrev pub member : Class → ℕ → Bool
-member Digit = digit
-member Bit = bit
-member Line = in-line
 
 -- what `token` answers and leaves: the end of the token at p, or its refusal, and its kind
 pub record TokenRead (s : List ℕ) (p : ℕ) (r : Step) (kind : ℕ) : Type 0 where

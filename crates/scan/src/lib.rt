@@ -3,16 +3,19 @@ ghost use mathlib.Core.Path.{_≡_};
 ghost use mathlib.Core.Bool.{true, false};
 ghost use Prim.Native.Nat.{_+_, _≤_, _<_};
 ghost use lib.ListN.{length, drop, getD, set};
-ghost use Rattle.express.specs.tokens.Bytes.{within, digit, letter, word-byte};
-ghost use Rattle.express.specs.tokens.Lexis.{pair, either, run, end-of-remark, skipped, end-of-integer, digits-of-exponent, end-of-exponent};
+ghost use Rattle.express.specs.tokens.Bytes.{digit, letter, word-byte};
+ghost use Rattle.express.specs.tokens.Lexis.{run, end-of-integer, digits-of-exponent, end-of-exponent};
 ghost use Rattle.express.specs.tokens.Lexis.{end-of-string, end-of-binary, lone, size-of-symbol, end-of-symbol, lexed-to};
-ghost use Rattle.scan.specs.Scan.{reading, member, mark, word-table, lone-table, colon, TokenRead, Filled, ScanResult};
-
-// What a step comes to: the place behind what was read, or a refusal, its reply and its place.
-pub enum Step {
-    At(usize),
-    Refused(u8, usize),
-}
+ghost use Rattle.blanks.specs.Step.{reading};
+ghost use Rattle.scan.specs.Scan.{mark, word-table, lone-table, colon, TokenRead, Filled, ScanResult};
+use blanks::Class;
+use blanks::Step;
+use blanks::byte;
+use blanks::is_either;
+use blanks::is_pair;
+use blanks::is_within;
+use blanks::run_end;
+use blanks::skip;
 
 // By its byte: `1` for what a word goes on with, `0` for the others. A line has 32 bytes: the digits are in the second, the
 // capital letters and the underscore in the third, the small letters in the fourth.
@@ -37,50 +40,6 @@ const LONE_BYTES: [u8; 256] = *b"\
     ________________________________\
     ________________________________";
 
-// The classes of bytes that a run is made of.
-enum Class {
-    Digit,
-    Bit,
-    Line,
-}
-
-// The byte at a place, and 0 past the end.
-fn byte(s: &[u8], i: usize) -> u8
-    ensures { λ r. ⌜ r ≡ getD (now (s .entry)) i 0 ⌝ }
-{
-    if i < s.len() {
-        return s[i];
-    }
-    0
-}
-
-fn is_within(lo: u8, hi: u8, b: u8) -> bool
-    ensures { λ r. ⌜ r ≡ within lo hi b ⌝ }
-{
-    if b < lo {
-        return false;
-    }
-    b <= hi
-}
-
-fn is_either(x: u8, y: u8, b: u8) -> bool
-    ensures { λ r. ⌜ r ≡ either x y b ⌝ }
-{
-    if b == x {
-        return true;
-    }
-    b == y
-}
-
-fn is_pair(x: u8, y: u8, b: u8, c: u8) -> bool
-    ensures { λ r. ⌜ r ≡ pair x y b c ⌝ }
-{
-    if b != x {
-        return false;
-    }
-    c == y
-}
-
 fn is_letter(b: u8) -> bool
     ensures { λ r. ⌜ r ≡ letter b ⌝ }
 {
@@ -88,31 +47,6 @@ fn is_letter(b: u8) -> bool
         return true;
     }
     is_within(b'a', b'z', b)
-}
-
-fn is_member(class: Class, b: u8) -> bool
-    ensures { λ r. ⌜ r ≡ member class b ⌝ }
-{
-    match class {
-        Class::Digit => is_within(b'0', b'9', b),
-        Class::Bit => is_within(b'0', b'1', b),
-        Class::Line => b != b'\n',
-    }
-}
-
-// The end of the run of a class that stands at a place.
-fn run_end(s: &[u8], at: usize, class: Class) -> usize
-    ensures { λ r. ⌜ r ≡ run (member class) (now (s .entry)) at ⌝ }
-{
-    let mut i = at;
-    while i < s.len() {
-        let b = s[i];
-        if !is_member(class, b) {
-            return i;
-        }
-        i += 1;
-    }
-    i
 }
 
 // `1` where a word goes on with a byte, `0` where it does not.
@@ -147,67 +81,6 @@ fn word_end(s: &[u8], at: usize, table: &[u8; 256]) -> usize
         return i + 1;
     }
     i
-}
-
-// The end of the remark that opens at a place.
-fn remark_end(s: &[u8], from: usize) -> Step
-    requires { ⌜ from + 2 ≤ length (now s) ⌝ }
-    ensures { λ r. ⌜ reading r ≡ end-of-remark from 1 (from + 2) (drop (from + 2) (now (s .entry))) ⌝ }
-{
-    let mut i = from + 2;
-    let mut depth: usize = 1;
-    while i + 1 < s.len() {
-        let b = s[i];
-        if is_either(b'(', b'*', b) {
-            let c = s[i + 1];
-            if is_pair(b'(', b'*', b, c) {
-                depth += 1;
-                i += 2;
-            } else if is_pair(b'*', b')', b, c) {
-                if depth == 1 {
-                    return Step::At(i + 2);
-                }
-                depth -= 1;
-                i += 2;
-            } else {
-                i += 1;
-            }
-        } else {
-            i += 1;
-        }
-    }
-    Step::Refused(codes::replies::NO_TOKEN, from)
-}
-
-// The first place from `at` on that is no space and in no remark.
-fn skip(s: &[u8], at: usize) -> Step
-    ensures { λ r. ⌜ reading r ≡ skipped (now (s .entry)) at ⌝ }
-{
-    let mut i = at;
-    while i < s.len() {
-        let b = s[i];
-        if b == b' ' {
-            i += 1;
-        } else if b > b'-' {
-            return Step::At(i);
-        } else if is_within(b'\t', b'\r', b) {
-            i += 1;
-        } else {
-            let c = byte(s, i + 1);
-            if is_pair(b'-', b'-', b, c) {
-                i = run_end(s, i + 2, Class::Line);
-            } else if is_pair(b'(', b'*', b, c) {
-                let step = remark_end(s, i);
-                let Step::At(q) = step else {
-                    return step;
-                };
-                i = q;
-            } else {
-                return Step::At(i);
-            }
-        }
-    }
-    Step::At(i)
 }
 
 // The end of the integer whose digits end at a place, unless it is too large.

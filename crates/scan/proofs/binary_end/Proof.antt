@@ -3,13 +3,13 @@ use Rattle.scan.proofs.binary_end.Statement.{statement}
 use Rattle.scan.proofs.binary_end.Tie as tie
 use Rattle.scan.proofs.binary_end.Reads as reads
 use Rattle.scan.proofs.binary_end.Lts as lts
-use Rattle.scan.proofs.run_end.Reads as run-end-reads
+use Rattle.blanks.proofs.run_end.Reads as run-end-reads
 use mathlib.Core.Path.{sym, _∙_, ap}
 use borrow.Author.Tests.{le-leb, lt-leb, eq-eqb, ne-eqb}
 use Prim.Native.Nat.{_+_}
 use Rattle.express.specs.tokens.Lexis.{end-of-binary}
-use Rattle.scan.specs.Scan.{member}
-use Rattle.scan.specs.declared.Class.the-variants.{Bit}
+use Rattle.blanks.specs.Step.{member}
+use Rattle.blanks.specs.declared.Class.the-variants.{Bit}
 use Rattle.express.proofs.tokens.Places.{run-low}
 use native.Mathlib.Omega.{arith}
 

@@ -3,7 +3,7 @@ use Rattle.scan.proofs.colon_size.Statement.{statement}
 use Rattle.scan.proofs.colon_size.Tie as tie
 use Rattle.scan.proofs.colon_size.Reads as reads
 use Rattle.scan.proofs.colon_size.Lts as lts
-use Rattle.scan.proofs.is_pair.Reads as is-pair-reads
+use Rattle.blanks.proofs.is_pair.Reads as is-pair-reads
 use mathlib.Core.Path.{sym, _∙_}
 use borrow.Author.Tests.{eq-eqb, ne-eqb}
 use Rattle.express.specs.tokens.Lexis.{size-of-symbol, lone}

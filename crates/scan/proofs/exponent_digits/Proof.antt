@@ -3,8 +3,8 @@ use Rattle.scan.proofs.exponent_digits.Statement.{statement}
 use Rattle.scan.proofs.exponent_digits.Tie as tie
 use Rattle.scan.proofs.exponent_digits.Reads as reads
 use Rattle.scan.proofs.exponent_digits.Lts as lts
-use Rattle.scan.proofs.byte.Reads as byte-reads
-use Rattle.scan.proofs.is_either.Reads as is-either-reads
+use Rattle.blanks.proofs.byte.Reads as byte-reads
+use Rattle.blanks.proofs.is_either.Reads as is-either-reads
 use mathlib.Core.Path.{sym, _∙_, ap}
 use lib.ListN.{getD}
 use Rattle.express.specs.tokens.Lexis.{either}

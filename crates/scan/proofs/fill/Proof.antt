@@ -5,7 +5,7 @@ use Rattle.scan.proofs.fill.Reads as reads
 use Rattle.scan.proofs.fill.Lts as lts
 use Rattle.columns.proofs.index.Reads as index-reads
 use Rattle.scan.proofs.push.Reads as push-reads
-use Rattle.scan.proofs.skip.Reads as skip-reads
+use Rattle.blanks.proofs.skip.Reads as skip-reads
 use Rattle.scan.proofs.token.Reads as token-reads
 use mathlib.Core.Path.{refl}
 use Prim.Native.Nat.{_-_}

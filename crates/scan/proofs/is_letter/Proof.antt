@@ -3,7 +3,7 @@ use Rattle.scan.proofs.is_letter.Statement.{statement}
 use Rattle.scan.proofs.is_letter.Tie as tie
 use Rattle.scan.proofs.is_letter.Reads as reads
 use Rattle.scan.proofs.is_letter.Lts as lts
-use Rattle.scan.proofs.is_within.Reads as is-within-reads
+use Rattle.blanks.proofs.is_within.Reads as is-within-reads
 use mathlib.Core.Path.{sym, _∙_}
 use borrow.Author.Tests.{eq-eqb, ne-eqb}
 

@@ -3,10 +3,10 @@ use Rattle.scan.proofs.number.Statement.{statement}
 use Rattle.scan.proofs.number.Tie as tie
 use Rattle.scan.proofs.number.Reads as reads
 use Rattle.scan.proofs.number.Lts as lts
-use Rattle.scan.proofs.byte.Reads as byte-reads
+use Rattle.blanks.proofs.byte.Reads as byte-reads
 use Rattle.scan.proofs.integer_end.Reads as integer-end-reads
 use Rattle.scan.proofs.real_end.Reads as real-end-reads
-use Rattle.scan.proofs.run_end.Reads as run-end-reads
+use Rattle.blanks.proofs.run_end.Reads as run-end-reads
 use mathlib.Core.Path.{_≡_, sym, ap, _∙_}
 use Prim.Native.Nat.{_+_}
 use lib.ListN.{getD}

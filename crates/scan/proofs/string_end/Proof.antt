@@ -1,16 +1,16 @@
--- The end of the string from here on, just after a quote or not, is that of the whole (`Turns`).
+-- The end of the string from here on, just after a quote or not, is that of the whole (`Strings`).
 use Rattle.scan.proofs.string_end.Statement.{statement}
 use Rattle.scan.proofs.string_end.Tie as tie
 use Rattle.scan.proofs.string_end.Reads as reads
 use Rattle.scan.proofs.string_end.Lts as lts
-use Rattle.scan.proofs.is_within.Reads as is-within-reads
+use Rattle.blanks.proofs.is_within.Reads as is-within-reads
 use mathlib.Core.Path.{_≡_, refl, sym, _∙_}
 use mathlib.Core.Bool.{false}
 use Prim.Native.Nat.{_≤_, _-_, _+_}
 use lib.ListN.{length, drop}
 use borrow.Author.Tests.{not-true, not-false}
 use Rattle.express.specs.tokens.Lexis.{end-of-string}
-use Rattle.scan.proofs.Turns.{string-shut, string-doubled, string-quote, string-on, string-bad, string-end, string-open}
+use Rattle.scan.proofs.Strings.{string-shut, string-doubled, string-quote, string-on, string-bad, string-end, string-open}
 use native.Mathlib.Omega.{arith}
 
 abbrev Inv-loop : tie.InvT-loop

@@ -3,8 +3,8 @@ use Rattle.scan.proofs.symbol_end.Statement.{statement}
 use Rattle.scan.proofs.symbol_end.Tie as tie
 use Rattle.scan.proofs.symbol_end.Reads as reads
 use Rattle.scan.proofs.symbol_end.Lts as lts
-use Rattle.scan.proofs.byte.Reads as byte-reads
-use Rattle.scan.proofs.is_pair.Reads as is-pair-reads
+use Rattle.blanks.proofs.byte.Reads as byte-reads
+use Rattle.blanks.proofs.is_pair.Reads as is-pair-reads
 use Rattle.scan.proofs.symbol_size.Reads as symbol-size-reads
 use mathlib.Core.Path.{_≡_, sym, _∙_, ap}
 use borrow.Author.Tests.{eq-eqb, ne-eqb}

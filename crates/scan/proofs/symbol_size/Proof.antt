@@ -5,7 +5,7 @@ use Rattle.scan.proofs.symbol_size.Tie as tie
 use Rattle.scan.proofs.symbol_size.Reads as reads
 use Rattle.scan.proofs.symbol_size.Lts as lts
 use Rattle.scan.proofs.colon_size.Reads as colon-size-reads
-use Rattle.scan.proofs.is_either.Reads as is-either-reads
+use Rattle.blanks.proofs.is_either.Reads as is-either-reads
 use mathlib.Core.Path.{sym, _∙_, ap}
 use borrow.Author.Tests.{eq-eqb, ne-eqb}
 use Rattle.express.specs.tokens.Lexis.{size-of-symbol}

@@ -10,7 +10,7 @@ use lib.ListN.{length}
 use Prim.Native.Nat.{_-_, _≤_}
 use mathlib.Core.Path.{_≡_, refl, sym, _∙_}
 use Rattle.scan.proofs.Words.{word-stops, word-last, word-stops-next, word-more}
-use Rattle.scan.proofs.Turns.{run-over}
+use Rattle.blanks.proofs.Turns.{run-over}
 use native.Mathlib.Omega.{arith}
 
 abbrev Inv-loop : tie.InvT-loop

@@ -1,24 +1,24 @@
 -- `scopes::more` meets its contract: each field is what the calls give, and small counts stay small. Assumes nothing.
-use borrow.Author.Needs.{needs}
 use Rattle.scopes.proofs.more.Statement.{statement}
 use Rattle.scopes.proofs.more.Tie as tie
 use Rattle.scopes.proofs.Passing.{one-or-none, entry-count-small}
+use mathlib.Core.Path.{refl}
 use native.Mathlib.Omega.{arith}
 
 is-declaration-requires : tie.Need-is-declaration-requires
-is-declaration-requires c κs = search needs
+is-declaration-requires c κs = tt
 
 choose-requires : tie.Need-choose-requires
-choose-requires c κs = search needs
+choose-requires c κs = tt
 
 add-declarations : tie.Need-add-declarations
 add-declarations c = omega (arith, c .before .before .before .pre .0, c .before .choose .ensures, one-or-none (c .before .before .is-declaration .result))
 
 sort-requires : tie.Need-sort-requires
-sort-requires c κs = search needs
+sort-requires c κs = tt
 
 other-entries-requires : tie.Need-other-entries-requires
-other-entries-requires c κs = search needs
+other-entries-requires c κs = tt
 
 add-others : tie.Need-add-others
 add-others c = omega (arith, c .before .before .before .before .before .before .pre .1, c .before .other-entries .ensures, entry-count-small (c .before .before .sort .result))
@@ -26,8 +26,8 @@ add-others c = omega (arith, c .before .before .before .before .before .before .
 returns : tie.Need-returns
 returns c =
     record {
-      declarations-is = cc (c .before .before .before .before .choose .ensures, c .before .before .before .before .before .is-declaration .ensures);
-      others-is = cc (c .before .other-entries .ensures, c .before .before .sort .ensures);
+      declarations-is = rw (← c .before .before .before .before .before .is-declaration .ensures, ← c .before .before .before .before .choose .ensures) refl;
+      others-is = rw (← c .before .before .sort .ensures, ← c .before .other-entries .ensures) refl;
     }
 
 pub more-spec : {M : Type 1} → statement M

@@ -1,52 +1,39 @@
 -- `scopes::passed` meets its contract: each field is what the calls give. Assumes nothing.
-use borrow.Author.Needs.{needs}
 use Rattle.scopes.proofs.passed.Statement.{statement}
 use Rattle.scopes.proofs.passed.Tie as tie
 
 is-declaration-requires : tie.Need-is-declaration-requires
-is-declaration-requires c κs = search needs
+is-declaration-requires c κs = tt
 
 choose-requires : tie.Need-choose-requires
-choose-requires c κs = search needs
+choose-requires c κs = tt
 
 choose-requires-2 : tie.Need-choose-requires-2
-choose-requires-2 c κs = search needs
+choose-requires-2 c κs = tt
 
 choose-requires-3 : tie.Need-choose-requires-3
-choose-requires-3 c κs = search needs
+choose-requires-3 c κs = tt
 
 saturating-sub-requires : tie.Need-saturating-sub-requires
-saturating-sub-requires c κs = search needs
+saturating-sub-requires c κs = tt
 
 sort-requires : tie.Need-sort-requires
-sort-requires c κs = search needs
+sort-requires c κs = tt
 
 other-entries-requires : tie.Need-other-entries-requires
-other-entries-requires c κs = search needs
+other-entries-requires c κs = tt
 
 saturating-sub-requires-2 : tie.Need-saturating-sub-requires-2
-saturating-sub-requires-2 c κs = search needs
+saturating-sub-requires-2 c κs = tt
 
 returns : tie.Need-returns
 returns c =
+    let declared = c .before .before .before .before .before .before .before .is-declaration .ensures in
     record {
-      owner-is = cc (
-        c .before .before .before .before .before .before .choose .ensures,
-        c .before .before .before .before .before .before .before
-            .is-declaration .ensures,
-      );
+      owner-is = rw (← declared) (c .before .before .before .before .before .before .choose .ensures);
       schema-is = c .before .before .before .before .before .choose2 .ensures;
-      vertex-is = cc (
-        c .before .before .before .saturating-sub .ensures,
-        c .before .before .before .before .choose3 .ensures,
-        c .before .before .before .before .before .before .before .is-declaration .ensures,
-      );
-      other-is = cc (
-        c
-            .saturating-sub2 .ensures,
-        c .before .other-entries .ensures,
-        c .before .before .sort .ensures,
-      );
+      vertex-is = rw (← declared, ← c .before .before .before .before .choose3 .ensures) (c .before .before .before .saturating-sub .ensures);
+      other-is = rw (← c .before .before .sort .ensures, ← c .before .other-entries .ensures) (c .saturating-sub2 .ensures);
     }
 
 pub passed-spec : {M : Type 1} → statement M

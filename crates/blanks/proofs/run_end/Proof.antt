@@ -1,15 +1,15 @@
-use Rattle.scan.proofs.run_end.Statement.{statement}
-use Rattle.scan.proofs.run_end.Tie as tie
-use Rattle.scan.proofs.run_end.Reads as reads
-use Rattle.scan.proofs.run_end.Lts as lts
-use Rattle.scan.proofs.is_member.Reads as is-member-reads
+use Rattle.blanks.proofs.run_end.Statement.{statement}
+use Rattle.blanks.proofs.run_end.Tie as tie
+use Rattle.blanks.proofs.run_end.Reads as reads
+use Rattle.blanks.proofs.run_end.Lts as lts
+use Rattle.blanks.proofs.is_member.Reads as is-member-reads
 use mathlib.Core.Path.{_≡_, refl, sym, _∙_}
 use Prim.Native.Nat.{_≤_, _-_}
 use borrow.Author.Tests.{not-true, not-false}
 use lib.ListN.{length}
 use Rattle.express.specs.tokens.Lexis.{run}
-use Rattle.scan.specs.Scan.{member}
-use Rattle.scan.proofs.Turns.{run-more, run-stop, run-over}
+use Rattle.blanks.specs.Step.{member}
+use Rattle.blanks.proofs.Turns.{run-more, run-stop, run-over}
 use native.Mathlib.Omega.{arith}
 
 abbrev Inv-loop : tie.InvT-loop

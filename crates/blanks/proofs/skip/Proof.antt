@@ -1,19 +1,19 @@
 -- What is left to skip from here on is what is wanted, in enough turns (`Skipping`).
-use Rattle.scan.proofs.skip.Statement.{statement}
-use Rattle.scan.proofs.skip.Tie as tie
-use Rattle.scan.proofs.skip.Reads as reads
-use Rattle.scan.proofs.skip.Lts as lts
-use Rattle.scan.proofs.byte.Reads as byte-reads
-use Rattle.scan.proofs.is_pair.Reads as is-pair-reads
-use Rattle.scan.proofs.is_within.Reads as is-within-reads
-use Rattle.scan.proofs.remark_end.Reads as remark-end-reads
-use Rattle.scan.proofs.run_end.Reads as run-end-reads
+use Rattle.blanks.proofs.skip.Statement.{statement}
+use Rattle.blanks.proofs.skip.Tie as tie
+use Rattle.blanks.proofs.skip.Reads as reads
+use Rattle.blanks.proofs.skip.Lts as lts
+use Rattle.blanks.proofs.byte.Reads as byte-reads
+use Rattle.blanks.proofs.is_pair.Reads as is-pair-reads
+use Rattle.blanks.proofs.is_within.Reads as is-within-reads
+use Rattle.blanks.proofs.remark_end.Reads as remark-end-reads
+use Rattle.blanks.proofs.run_end.Reads as run-end-reads
 use mathlib.Core.Path.{_≡_, refl, sym, _∙_, ap}
 use Prim.Native.Nat.{_≤_, _-_, _+_}
 use lib.ListN.{length, drop, getD}
 use Rattle.express.specs.tokens.Lexis.{skipped, in-line, pair}
 use Rattle.express.proofs.tokens.Places.{pair-in, run-low}
-use Rattle.scan.proofs.Skipping.{Left, is-blank, is-control, no-space, left-first, left-past, left-space, left-line, left-stop, left-refused, left-remark, left-over, remark-passes}
+use Rattle.blanks.proofs.Skipping.{Left, is-blank, is-control, no-space, left-first, left-past, left-space, left-line, left-stop, left-refused, left-remark, left-over, remark-passes}
 use borrow.Author.Needs.{needs}
 use native.Mathlib.Omega.{arith}
 

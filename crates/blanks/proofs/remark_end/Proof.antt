@@ -1,15 +1,15 @@
 -- The end of the remark from here on, at the depth reached, is that of the whole (`Turns`).
-use Rattle.scan.proofs.remark_end.Statement.{statement}
-use Rattle.scan.proofs.remark_end.Tie as tie
-use Rattle.scan.proofs.remark_end.Reads as reads
-use Rattle.scan.proofs.remark_end.Lts as lts
-use Rattle.scan.proofs.is_either.Reads as is-either-reads
-use Rattle.scan.proofs.is_pair.Reads as is-pair-reads
+use Rattle.blanks.proofs.remark_end.Statement.{statement}
+use Rattle.blanks.proofs.remark_end.Tie as tie
+use Rattle.blanks.proofs.remark_end.Reads as reads
+use Rattle.blanks.proofs.remark_end.Lts as lts
+use Rattle.blanks.proofs.is_either.Reads as is-either-reads
+use Rattle.blanks.proofs.is_pair.Reads as is-pair-reads
 use mathlib.Core.Path.{_≡_, refl, sym, _∙_}
 use Prim.Native.Nat.{_≤_, _-_, _+_}
 use lib.ListN.{length, drop}
 use Rattle.express.specs.tokens.Lexis.{end-of-remark}
-use Rattle.scan.proofs.Turns.{remark-over, remark-deeper, remark-out, remark-done, remark-on, remark-pass}
+use Rattle.blanks.proofs.Turns.{remark-over, remark-deeper, remark-out, remark-done, remark-on, remark-pass}
 use native.Mathlib.Omega.{arith}
 
 abbrev Inv-loop : tie.InvT-loop

@@ -1,4 +1,4 @@
--- What one turn of each reader's loop does to what the definition gives from there on.
+-- What one turn of a loop over a run or a remark does to what the definition gives from there on.
 use mathlib.Core.Path.{_≡_, refl, sym, ap, _∙_}
 use mathlib.Core.Bool.{Bool, true, false, _||_}
 use mathlib.Core.List.{List, [], _∷_}
@@ -10,8 +10,7 @@ use lib.ListN.{length, drop, getD, drop-of-length-le}
 use lib.Seq.{drop-cons}
 use lib.Dec.{eqb}
 use borrow.Author.Tests.{eq-eqb, ne-eqb}
-use Rattle.express.specs.tokens.Bytes.{printable}
-use Rattle.express.specs.tokens.Lexis.{Reading, at, refused, end-of-run, run, opens, closes, either, end-of-remark, end-of-string}
+use Rattle.express.specs.tokens.Lexis.{Reading, at, refused, end-of-run, run, opens, closes, either, end-of-remark}
 
 module _ (s : List ℕ) (i : ℕ) where
   pub at-cons : i < length s → drop i s ≡ getD s i 0 ∷ drop (i + 1) s
@@ -89,38 +88,3 @@ module _ (s : List ℕ) (i : ℕ) where
       -- a byte that is neither `(` nor `*` opens and closes nothing
       pub remark-pass : either 40 42 b ≡ false → inside d i ≡ inside d (i + 1)
       remark-pass e = let n = neither (eqb b 40) (eqb b 42) e in remark-on (rw (n .0)) (rw (n .1))
-
--- ---- strings
-
-module _ (s : List ℕ) (i o : ℕ) where
-  abbrev within-string : Bool → ℕ → Reading
-  within-string q k = end-of-string o q k (drop k s)
-
-  module _ (h : i < length s) where
-    pub string-shut : (getD s i 0 ≡ 39 → ⊥) → within-string true i ≡ at i
-    unfolding end-of-string
-    string-shut n = rw (at-cons s i h, ne-eqb _ _ n)
-
-    pub string-doubled : getD s i 0 ≡ 39 → within-string true i ≡ within-string false (i + 1)
-    unfolding end-of-string
-    string-doubled e = rw (at-cons s i h, eq-eqb _ _ e)
-
-    pub string-quote : getD s i 0 ≡ 39 → within-string false i ≡ within-string true (i + 1)
-    unfolding end-of-string
-    string-quote e = rw (at-cons s i h, eq-eqb _ _ e)
-
-    pub string-on : (getD s i 0 ≡ 39 → ⊥) → printable (getD s i 0) ≡ true → within-string false i ≡ within-string false (i + 1)
-    unfolding end-of-string
-    string-on n e = rw (at-cons s i h, ne-eqb _ _ n, e)
-
-    pub string-bad : (getD s i 0 ≡ 39 → ⊥) → printable (getD s i 0) ≡ false → within-string false i ≡ refused 2 o
-    unfolding end-of-string
-    string-bad n e = rw (at-cons s i h, ne-eqb _ _ n, e)
-
-  pub string-end : length s ≤ i → within-string true i ≡ at i
-  unfolding end-of-string
-  string-end h = rw (at-nil s i h)
-
-  pub string-open : length s ≤ i → within-string false i ≡ refused 2 o
-  unfolding end-of-string
-  string-open h = rw (at-nil s i h)

@@ -1,7 +1,7 @@
-use Rattle.scan.proofs.is_within.Statement.{statement}
-use Rattle.scan.proofs.is_within.Tie as tie
-use Rattle.scan.proofs.is_within.Reads as reads
-use Rattle.scan.proofs.is_within.Lts as lts
+use Rattle.blanks.proofs.is_within.Statement.{statement}
+use Rattle.blanks.proofs.is_within.Tie as tie
+use Rattle.blanks.proofs.is_within.Reads as reads
+use Rattle.blanks.proofs.is_within.Lts as lts
 use borrow.Author.Tests.{le-leb, lt-leb}
 
 returns : tie.Need-returns

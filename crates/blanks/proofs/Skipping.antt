@@ -9,9 +9,9 @@ use borrow.Author.Tests.{ne-eqb, le-leb, lt-leb}
 use Rattle.express.specs.tokens.Bytes.{within, space}
 use Rattle.express.specs.tokens.Lexis.{Reading, at, run, opens, dashes, in-line, end-of-remark, reading-then, skipped-in, skipped}
 use Rattle.express.proofs.tokens.Places.{past, inside-at, remark-low}
-use Rattle.scan.specs.Scan.{reading}
-use Rattle.scan.specs.declared.Step.{Step}
-use Rattle.scan.specs.declared.Step.the-variants.{At, Refused}
+use Rattle.blanks.specs.Step.{reading}
+use Rattle.blanks.specs.declared.Step.{Step}
+use Rattle.blanks.specs.declared.Step.the-variants.{At, Refused}
 
 -- a byte is a space by what it is compared with
 pub is-blank : (b : ℕ) → b ≡ 32 → space b ≡ true

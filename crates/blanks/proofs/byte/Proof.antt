@@ -1,8 +1,8 @@
 use borrow.Author.Needs.{needs}
-use Rattle.scan.proofs.byte.Statement.{statement}
-use Rattle.scan.proofs.byte.Tie as tie
-use Rattle.scan.proofs.byte.Reads as reads
-use Rattle.scan.proofs.byte.Lts as lts
+use Rattle.blanks.proofs.byte.Statement.{statement}
+use Rattle.blanks.proofs.byte.Tie as tie
+use Rattle.blanks.proofs.byte.Reads as reads
+use Rattle.blanks.proofs.byte.Lts as lts
 use mathlib.Core.Path.{sym}
 use lib.ListN.{List·getD-eq-default}
 

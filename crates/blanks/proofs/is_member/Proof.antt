@@ -1,12 +1,12 @@
 use borrow.Author.Needs.{needs}
-use Rattle.scan.proofs.is_member.Statement.{statement}
-use Rattle.scan.proofs.is_member.Tie as tie
-use Rattle.scan.proofs.is_member.Reads as reads
-use Rattle.scan.proofs.is_member.Lts as lts
-use Rattle.scan.proofs.is_within.Reads as is-within-reads
+use Rattle.blanks.proofs.is_member.Statement.{statement}
+use Rattle.blanks.proofs.is_member.Tie as tie
+use Rattle.blanks.proofs.is_member.Reads as reads
+use Rattle.blanks.proofs.is_member.Lts as lts
+use Rattle.blanks.proofs.is_within.Reads as is-within-reads
 use mathlib.Core.Path.{sym, _∙_, ap}
 use borrow.Author.Tests.{eq-eqb, ne-eqb}
-use Rattle.scan.specs.Scan.{member}
+use Rattle.blanks.specs.Step.{member}
 
 enum-told : tie.Need-enum-told
 enum-told c = search needs
