@@ -4,7 +4,7 @@ use Rattle.cycles.proofs.search.Tie as tie
 use borrow.Author.Needs.{needs}
 use Rattle.cycles.specs.State.{state}
 use Rattle.cycles.proofs.Running.{Running, left, running-start, countable, storable, running-end, running-on, less}
-use mathlib.Core.Path.{_∙_}
+use mathlib.Core.Path.{sym, _∙_}
 use native.Mathlib.Omega.{arith}
 
 abbrev Inv-loop : tie.InvT-loop
@@ -50,17 +50,14 @@ returns : tie.Need-returns Inv-loop μ-loop
 returns c =
     running-end (c .before .before .before .before .before .before .before .before .before .loop .inv .going)
     (c .before .before .before .before .before .store .last .1 .0) (c .before .before .before .before .before .before .before .next .result)
-    (c .before .before .before .before .before .before .before .next .ensures) (cc (c .before .before .counted .ensures, c .enum-told .given .1))
+    (c .before .before .before .before .before .before .before .next .ensures) (sym (c .before .before .counted .ensures) ∙ c .enum-told .given .1)
     (c .before .before .before .before .before .store .ensures)
 
 loop-less : tie.Need-loop-less Inv-loop μ-loop
 loop-less c =
     less (c .before .before .before .before .before .before .before .before .before .before .loop .inv)
     (c .before .before .before .before .before .before .store .last .1 .0) (c .before .before .before .before .before .before .before .before .next .result)
-    (c .before .before .before .before .before .before .before .before .next .ensures) (cc (
-      c .before .before .before .counted .ensures,
-      c .before .then .given .1,
-    )) (c .before .before .before .before .before .before .store .ensures) (λ i. omega (
+    (c .before .before .before .before .before .before .before .before .next .ensures) (sym (c .before .before .before .counted .ensures) ∙ c .before .then .given .1) (c .before .before .before .before .before .before .store .ensures) (λ i. omega (
       arith,
       c .before .before .before .before .before .before .before .before .before .before .before .before .before .before .before .before .before .shared-slice-known .given i,
     ))
@@ -69,10 +66,7 @@ loop-again : tie.Need-loop-again Inv-loop μ-loop
 loop-again c =
     running-on (c .before .before .before .before .before .before .before .before .before .before .loop .inv)
     (c .before .before .before .before .before .before .store .last .1 .0) (c .before .before .before .before .before .before .before .before .next .result)
-    (c .before .before .before .before .before .before .before .before .next .ensures) (cc (
-      c .before .before .before .counted .ensures,
-      c .before .then .given .1,
-    )) (c .before .before .before .before .before .before .store .ensures)
+    (c .before .before .before .before .before .before .before .before .next .ensures) (sym (c .before .before .before .counted .ensures) ∙ c .before .then .given .1) (c .before .before .before .before .before .before .store .ensures)
     (c .before .before .before .before .before .before .store .kept .1 .0)
 
 pub search-spec : {M : Type 1} → statement M

@@ -1,4 +1,5 @@
 use borrow.Author.Needs.{needs}
+use mathlib.Core.Path.{refl}
 use Rattle.lines.proofs.Pieces.{renamed}
 use Rattle.lines.proofs.put_named.Statement.{statement}
 use Rattle.lines.proofs.put_named.Tie as tie
@@ -19,7 +20,9 @@ same-length : tie.Need-same-length
 same-length c = search needs
 
 returns : tie.Need-returns
-returns c = renamed (c .before .before .put-name .ensures) (cc)
+returns c =
+    let d = c .before .before .before .before in
+    renamed (c .before .before .put-name .ensures) (rw (d .entry3 .ensures .0, d .before .entry2 .ensures .0, d .before .before .entry .ensures .0) refl)
 
 pub put-named-spec : {M : Type 1} → statement M
 put-named-spec =
