@@ -57,7 +57,8 @@ loop-less : tie.Need-loop-less Inv-loop μ-loop
 loop-less c =
     less (c .before .before .before .before .before .before .before .before .before .before .loop .inv)
     (c .before .before .before .before .before .before .store .last .1 .0) (c .before .before .before .before .before .before .before .before .next .result)
-    (c .before .before .before .before .before .before .before .before .next .ensures) (sym (c .before .before .before .counted .ensures) ∙ c .before .then .given .1) (c .before .before .before .before .before .before .store .ensures) (λ i. omega (
+    (c .before .before .before .before .before .before .before .before .next .ensures) (sym (c .before .before .before .counted .ensures) ∙ c .before .then .given .1)
+    (c .before .before .before .before .before .before .store .ensures) (λ i. omega (
       arith,
       c .before .before .before .before .before .before .before .before .before .before .before .before .before .before .before .before .before .shared-slice-known .given i,
     ))
@@ -66,7 +67,8 @@ loop-again : tie.Need-loop-again Inv-loop μ-loop
 loop-again c =
     running-on (c .before .before .before .before .before .before .before .before .before .before .loop .inv)
     (c .before .before .before .before .before .before .store .last .1 .0) (c .before .before .before .before .before .before .before .before .next .result)
-    (c .before .before .before .before .before .before .before .before .next .ensures) (sym (c .before .before .before .counted .ensures) ∙ c .before .then .given .1) (c .before .before .before .before .before .before .store .ensures)
+    (c .before .before .before .before .before .before .before .before .next .ensures) (sym (c .before .before .before .counted .ensures) ∙ c .before .then .given .1)
+    (c .before .before .before .before .before .before .store .ensures)
     (c .before .before .before .before .before .before .store .kept .1 .0)
 
 pub search-spec : {M : Type 1} → statement M
