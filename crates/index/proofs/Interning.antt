@@ -13,9 +13,9 @@ use lib.Seq.{sets, take-suc, take-all, getD-set-other}
 use borrow.Author.Tests.{eqb-true, eq-eqb, leb-true, lt-ltb, le-ltb, not-true, not-false}
 use Rattle.columns.specs.Column.{cleared}
 use Rattle.columns.proofs.Laws.{sets-snoc, take-rows, length-cleared}
-use Rattle.express.specs.tokens.Bytes.{lower}
+use Rattle.express.specs.tokens.Bytes.{lower, same}
 use Rattle.relations.specs.Select.{span, first-from}
-use Rattle.express.specs.tokens.Spelling.{spelling, same, symbol-of, symbols-of}
+use Rattle.express.specs.tokens.Spelling.{spelling, symbol-of, symbols-of}
 use Rattle.relations.proofs.Select.{and-fst, and-snd, and-both, untrue, first-is, first-of}
 use Rattle.express.proofs.tokens.Spelling.{same-true, symbol-le, symbol-least, symbol-spelled, symbol-iff, symbols-at}
 use Rattle.index.specs.Bucket.{bucket-of, hash-from, InBucket}

@@ -9,8 +9,8 @@ use native.Mathlib.Numerals.{add-one}
 use native.Mathlib.Omega.{arith}
 use lib.ListN.{length, take, drop, getD, length-map, length-drop, drop-of-length-le, List·getD-map}
 use lib.Seq.{drop-cons, ext-getD, take-all, take-nil}
-use Rattle.express.specs.tokens.Bytes.{lower}
-use Rattle.express.specs.tokens.Spelling.{same, spelling}
+use Rattle.express.specs.tokens.Bytes.{lower, same}
+use Rattle.express.specs.tokens.Spelling.{spelling}
 use Rattle.relations.proofs.Select.{untrue}
 use Rattle.express.proofs.tokens.Spelling.{same-true, same-refl}
 use Rattle.index.specs.Bucket.{hash-from}

@@ -8,8 +8,8 @@ use lib.Dec.{eqb}
 use lib.ListN.{length, getD}
 use lib.Seq.{sets}
 use Rattle.relations.specs.Select.{first-from}
-use Rattle.express.specs.tokens.Bytes.{lower}
-use Rattle.express.specs.tokens.Spelling.{same, spelling, symbol-of, symbols-of}
+use Rattle.express.specs.tokens.Bytes.{lower, same}
+use Rattle.express.specs.tokens.Spelling.{spelling, symbol-of, symbols-of}
 use Rattle.index.specs.Bucket.{bucket-of, hash-from}
 use Rattle.index.specs.Room.{done, enough}
 use Rattle.index.specs.Dictionary.{among}
