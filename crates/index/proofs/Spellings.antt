@@ -13,7 +13,7 @@ use Rattle.express.specs.tokens.Bytes.{lower, same}
 use Rattle.express.specs.tokens.Spelling.{spelling}
 use Rattle.relations.proofs.Select.{untrue}
 use Rattle.express.proofs.tokens.Spelling.{same-true, same-refl}
-use Rattle.index.specs.Bucket.{hash-from}
+use Rattle.index.specs.Bucket.{hash-from, hash-of}
 
 abbrev pub folded : List ℕ → List ℕ
 folded xs = map lower xs
@@ -79,7 +79,7 @@ heard xs e f g = ap (same xs) (sym e) ∙ sym f ∙ g
 pub record Hashing (xs : List ℕ) (h i : ℕ) : Type 0 where
   pub within : i ≤ length xs
   pub small : h < 4294967296
-  pub left : hash-from h (drop i (map lower xs)) ≡ hash-from 0 (map lower xs)
+  pub left : hash-from h (drop i (map lower xs)) ≡ hash-of (map lower xs)
 
 hash-more : (xs : List ℕ) (h i : ℕ) → i < length xs → hash-from h (drop i (folded xs)) ≡ hash-from ((h * 31 + lower (getD xs i 0)) % 4294967296) (drop (i + 1) (folded xs))
 unfolding hash-from
@@ -95,5 +95,5 @@ pub hashing-goes-on : {xs : List ℕ} {h i : ℕ} (w u : ℕ) → Hashing xs h i
 hashing-goes-on {xs} {h} {i} w u s l e f =
     record { within = omega arith; small = omega arith; left = rw (e, f) (sym (hash-more xs h i l) ∙ s .left) }
 
-pub hashing-ends : {xs : List ℕ} {h i : ℕ} → Hashing xs h i → length xs ≤ i → h ≡ hash-from 0 (map lower xs)
+pub hashing-ends : {xs : List ℕ} {h i : ℕ} → Hashing xs h i → length xs ≤ i → h ≡ hash-of (map lower xs)
 hashing-ends {xs} {h} {i} s l = sym (hash-end xs h i l) ∙ s .left

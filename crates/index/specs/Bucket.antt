@@ -34,6 +34,9 @@ unfoldable pub hash-from : ℕ → List ℕ → ℕ
 hash-from h [] = h
 hash-from h (x ∷ xs) = hash-from ((h * multiplier + x) % word) xs
 
+abbrev pub hash-of : List ℕ → ℕ
+hash-of xs = hash-from 0 xs
+
 -- what an inner function gives
 pub record InBucket (buckets x r : ℕ) : Type 0 where
   pub is : r ≡ bucket-of buckets x

@@ -1,13 +1,13 @@
-// Interning: for each token the least token that is spelled alike, letters without case.
+// Interning: for each identifier the least identifier that is spelled alike, letters without case.
 ghost use mathlib.Core.Path.{_≡_};
 ghost use mathlib.Core.List.{map};
 ghost use Prim.Native.Nat.{_+_, _<_, min};
 ghost use lib.ListN.{length, getD};
 ghost use Rattle.express.specs.tokens.Bytes.{lower, same};
-ghost use Rattle.express.specs.tokens.Spelling.{spelling, symbol-of};
-ghost use Rattle.index.specs.Bucket.{InBucket, hash-from};
+ghost use Rattle.express.specs.tokens.Spelling.{spelling};
+ghost use Rattle.index.specs.Bucket.{InBucket, hash-of};
 ghost use Rattle.index.specs.Room.{enough};
-ghost use Rattle.index.specs.Interning.{Along, Lined, Linked, Fills, ReadyToFill, Interns, FindsSymbol};
+ghost use Rattle.index.specs.Interning.{Along, Lined, Least, ReadyToEnter, Enters, Fills, ReadyToFill, Interns, FindsSymbol};
 use crate::Outcome;
 use crate::bucket;
 use crate::dictionary::Found;
@@ -43,7 +43,7 @@ fn wide(b: u8) -> u64
 
 // A number for a spelling.
 fn hash(word: &[u8]) -> u64
-    ensures { λ r. ⌜ r ≡ hash-from 0 (map lower (now (word .entry))) ⌝ }
+    ensures { λ r. ⌜ r ≡ hash-of (map lower (now (word .entry))) ⌝ }
 {
     let mut h: u64 = 0;
     let mut i = 0;
@@ -89,7 +89,7 @@ fn end(bytes: &[u8], starts: &[u32], lengths: &[u32], i: usize) -> usize
 // The bucket of a token's spelling.
 fn token_bucket(bytes: &[u8], starts: &[u32], lengths: &[u32], i: usize, buckets: usize) -> usize
     requires { ⌜ (i < length (now starts)) × (i < length (now lengths)) × (0 < buckets) ⌝ }
-    ensures { λ r. ⌜ InBucket buckets (hash-from 0 (spelling (now (bytes .entry)) (now (starts .entry)) (now (lengths .entry)) i)) r ⌝ }
+    ensures { λ r. ⌜ InBucket buckets (hash-of (spelling (now (bytes .entry)) (now (starts .entry)) (now (lengths .entry)) i)) r ⌝ }
 {
     let from = begin(bytes, starts, i);
     let to = end(bytes, starts, lengths, i);
@@ -135,10 +135,10 @@ fn along(
     Found::Nothing
 }
 
-// The least token that is spelled like token i, among those on its bucket's chain; i, where there is none.
+// The least identifier that is spelled like identifier i, among those on its bucket's chain; i, where there is none.
 fn least(bytes: &[u8], starts: &[u32], lengths: &[u32], next: &[u32], head: u32, i: usize) -> usize
-    requires { ⌜ Linked (now bytes) (now starts) (now lengths) (now next) head i ⌝ }
-    ensures { λ r. ⌜ r ≡ symbol-of (now (bytes .entry)) (now (starts .entry)) (now (lengths .entry)) i ⌝ }
+    requires { ⌜ Lined (now bytes) (now starts) (now lengths) (now next) (i + 1) ⌝ }
+    ensures { λ r. ⌜ Least (now (bytes .entry)) (now (starts .entry)) (now (lengths .entry)) (now (next .entry)) head i r ⌝ }
 {
     let from = begin(bytes, starts, i);
     let to = end(bytes, starts, lengths, i);
@@ -150,28 +150,61 @@ fn least(bytes: &[u8], starts: &[u32], lengths: &[u32], next: &[u32], head: u32,
     k
 }
 
-// The symbol of each token, in text order. Only the first token of a spelling goes on a chain, so that a chain is as
-// long as the spellings of its bucket.
+// Stores the symbol of an identifier. Only the first of a spelling goes on a chain, so that a chain is as long as the
+// spellings of its bucket.
+fn enter(
+    bytes: &[u8],
+    starts: &[u32],
+    lengths: &[u32],
+    i: usize,
+    symbols: &mut [u32],
+    heads: &mut [u32],
+    next: &mut [u32],
+)
+    requires { ⌜ ReadyToEnter (now bytes) (now starts) (now lengths) (now symbols) (now heads) (now next) i ⌝ }
+    ensures { λ _. ⌜ Enters (now (bytes .entry)) (now (starts .entry)) (now (lengths .entry)) i (now (symbols .entry)) (now (heads .entry)) (now (next .entry))
+        (now (symbols .exit)) (now (heads .exit)) (now (next .exit)) ⌝ }
+{
+    let b = token_bucket(bytes, starts, lengths, i, heads.len());
+    let head = heads[b];
+    let symbol = least(bytes, starts, lengths, next, head, i);
+    symbols[i] = number(symbol);
+    next[i] = head;
+    if symbol == i {
+        heads[b] = number(i + 1);
+    }
+}
+
+// The terminal of a token; past the column's end 0, which is none.
+fn terminal_at(terminals: &[u8], i: usize) -> u8
+    ensures { λ r. ⌜ r ≡ getD (now (terminals .entry)) i 0 ⌝ }
+{
+    if i < terminals.len() {
+        return terminals[i];
+    }
+    codes::NONE
+}
+
+// The symbol of each token, in text order; what is no identifier has its own number, and is on no chain.
 fn fill(
     bytes: &[u8],
     starts: &[u32],
     lengths: &[u32],
+    terminals: &[u8],
     symbols: &mut [u32],
     heads: &mut [u32],
     next: &mut [u32],
 )
     requires { ⌜ ReadyToFill (now starts) (now lengths) (now symbols) (now heads) (now next) ⌝ }
-    ensures { λ _. ⌜ Fills (now (bytes .entry)) (now (starts .entry)) (now (lengths .entry)) (now (symbols .entry)) (now (next .entry)) (now (symbols .exit)) (now (heads .exit)) (now (next .exit)) ⌝ }
+    ensures { λ _. ⌜ Fills (now (bytes .entry)) (now (starts .entry)) (now (lengths .entry)) (now (terminals .entry)) (now (symbols .entry)) (now (next .entry))
+        (now (symbols .exit)) (now (heads .exit)) (now (next .exit)) ⌝ }
 {
     let mut i = 0;
     while i < starts.len() {
-        let b = token_bucket(bytes, starts, lengths, i, heads.len());
-        let head = heads[b];
-        let symbol = least(bytes, starts, lengths, next, head, i);
-        symbols[i] = number(symbol);
-        next[i] = head;
-        if symbol == i {
-            heads[b] = number(i + 1);
+        if terminal_at(terminals, i) == codes::IDENTIFIER {
+            enter(bytes, starts, lengths, i, symbols, heads, next);
+        } else {
+            symbols[i] = number(i);
         }
         i += 1;
     }
@@ -195,12 +228,13 @@ pub fn intern(
     bytes: &[u8],
     starts: &[u32],
     lengths: &[u32],
+    terminals: &[u8],
     symbols: &mut [u32],
     heads: &mut [u32],
     next: &mut [u32],
 ) -> Outcome
-    ensures { λ r. ⌜ Interns (now (bytes .entry)) (now (starts .entry)) (now (lengths .entry)) (now (symbols .entry)) (now (heads .entry)) (now (next .entry)) r
-        (now (symbols .exit)) (now (heads .exit)) (now (next .exit)) ⌝ }
+    ensures { λ r. ⌜ Interns (now (bytes .entry)) (now (starts .entry)) (now (lengths .entry)) (now (terminals .entry)) (now (symbols .entry)) (now (heads .entry))
+        (now (next .entry)) r (now (symbols .exit)) (now (heads .exit)) (now (next .exit)) ⌝ }
 {
     if !room(
         starts.len(),
@@ -212,11 +246,11 @@ pub fn intern(
         return Outcome::Short;
     }
     clear32(heads, 0);
-    fill(bytes, starts, lengths, symbols, heads, next);
+    fill(bytes, starts, lengths, terminals, symbols, heads, next);
     Outcome::Done
 }
 
-// The symbol of a word, by the chains that `intern` left: the least token that is spelled like it.
+// The symbol of a word, by the chains that `intern` left: the least identifier that is spelled like it.
 pub fn symbol_of(
     bytes: &[u8],
     starts: &[u32],

@@ -2,17 +2,17 @@
 use borrow.Author.Needs.{needs}
 use Rattle.index.proofs.symbols.least.Statement.{statement}
 use Rattle.index.proofs.symbols.least.Tie as tie
-use Rattle.index.proofs.Interning.{lined, least-at, least-none}
+use Rattle.index.proofs.Interning.{lined-below, least-at, least-none}
 use Rattle.index.proofs.Spellings.{part-spelling}
 use lib.ListN.{take, drop}
 use Prim.Native.Nat.{_-_}
 use native.Mathlib.Omega.{arith}
 
 begin-requires : tie.Need-begin-requires
-begin-requires c κs = c .before .before .before .before .pre .token
+begin-requires c κs = omega (arith, c .before .before .before .before .pre .started)
 
 end-requires : tie.Need-end-requires
-end-requires c κs = (c .before .before .before .before .before .pre .token, omega (arith, c .before .before .before .before .before .pre .token, c .before .before .before .before .before .pre .sized))
+end-requires c κs = (omega (arith, c .before .before .before .before .before .pre .started), omega (arith, c .before .before .before .before .before .pre .sized))
 
 sub-word : tie.Need-sub-word
 sub-word c = search needs
@@ -27,7 +27,7 @@ index-requires : tie.Need-index-requires
 index-requires c κs = search needs
 
 along-requires : tie.Need-along-requires
-along-requires c κs = lined _ _ _ (c .before .before .before .before .before .before .before .before .pre)
+along-requires c κs = lined-below _ _ _ (c .before .before .before .before .before .before .before .before .pre)
 
 enum-known-found : tie.Need-enum-known-found
 enum-known-found c = search needs
@@ -37,7 +37,7 @@ enum-told c = search needs
 
 returns : tie.Need-returns
 returns c =
-    least-none _ _ _ (c .before .before .before .before .before .before .before .before .before .before .before .pre) (take
+    least-none _ _ _ (take
     (c .before .before .before .before .before .end .result - c .before .before .before .before .before .before .begin .result) (drop
     (c .before .before .before .before .before .before .begin .result)
     (c .before .before .before .before .before .before .before .before .before .before .before .args .bytes .now))) (part-spelling
@@ -50,7 +50,7 @@ returns c =
 
 returns-2 : tie.Need-returns-2
 returns-2 c =
-    least-at _ _ _ (c .before .before .before .before .before .before .before .before .before .before .before .before .pre) (take
+    least-at _ _ _ (take
     (c .before .before .before .before .before .before .end .result - c .before .before .before .before .before .before .before .begin .result) (drop
     (c .before .before .before .before .before .before .before .begin .result)
     (c .before .before .before .before .before .before .before .before .before .before .before .before .args .bytes .now))) (part-spelling
