@@ -18,7 +18,7 @@ use Rattle.relations.specs.Select.{span, first-from}
 use Rattle.express.specs.tokens.Spelling.{spelling, is-identifier, symbol-of, symbols-of}
 use Rattle.relations.proofs.Select.{and-fst, and-snd, and-both, untrue, first-is, first-of}
 use Rattle.express.proofs.tokens.Spelling.{same-true, symbol-le, symbol-other, symbol-named, symbol-least, symbol-spelled, symbol-iff, symbols-at}
-use Rattle.index.specs.Bucket.{bucket-of, hash-of, InBucket}
+use Rattle.index.specs.Bucket.{range-of, hash-of, InRange}
 use Rattle.index.specs.Room.{done, fits, enough}
 use Rattle.index.specs.Interning.{last-index-below, bucket-at, chained, Links, Chained, Interns, spells, symbol-of-word, SpelledLike, FindsSymbol}
 use Rattle.index.specs.Interning.{word-bucket, wanted, at-link, Along, Lined, Linked, Least, ReadyToEnter, Enters, Fills, ReadyToFill}
@@ -32,8 +32,8 @@ use Rattle.index.proofs.Spellings.{same-is}
 use Rattle.index.proofs.Entries.{fits-parts, zeros-at}
 
 -- the bucket of a number is that of an equal one
-pub in-bucket : {m x y b : ℕ} → InBucket m x b → x ≡ y → InBucket m y b
-in-bucket {m} B e = record { is = B .is ∙ ap (bucket-of m) e; small = B .small }
+pub in-bucket : {m x y b : ℕ} → InRange m x b → x ≡ y → InRange m y b
+in-bucket {m} B e = record { is = B .is ∙ ap (range-of m) e; small = B .small }
 
 module _ (bytes starts lengths : List ℕ) where
   abbrev spelt : ℕ → List ℕ
@@ -89,7 +89,7 @@ module _ (bytes starts lengths : List ℕ) where
 
       wanted-is : (j : ℕ) → is-identifier t j ≡ true → symbol j ≡ j → spelt j ≡ map lower word → want m word j ≡ true
       wanted-is j h f s =
-          and-both (on m (home m word) j) (alike word j) (on-is m (home m word) j h f (ap (λ (xs : List ℕ). bucket-of m (hash-of xs)) s)) (same-is _ _ s)
+          and-both (on m (home m word) j) (alike word j) (on-is m (home m word) j h f (ap (λ (xs : List ℕ). range-of m (hash-of xs)) s)) (same-is _ _ s)
 
       -- where none is met, no identifier is spelled so
       none-alike : (n : ℕ) → last-index-below (want m word) n ≡ 0 → (j : ℕ) → j < n → is-identifier t j ≡ true → spelt j ≡ map lower word → ⊥
@@ -214,7 +214,7 @@ module _ (bytes starts lengths : List ℕ) where
     symbol-met {first} {r} e A t L =
         let m = L .buckets in
         let here : first ≡ last-index-below (on t m (home m word)) i =
-        e ∙ L .heads ∙ ap (λ (xs : List ℕ). last-index-below (on t m (bucket-of m (hash-of xs))) i) (sym s) in
+        e ∙ L .heads ∙ ap (λ (xs : List ℕ). last-index-below (on t m (range-of m (hash-of xs))) i) (sym s) in
         let none : last-index-below (want t m word) i ≡ 0 → i ≡ symbol t i =
         λ z.
         by-cases (decLt (symbol t i) i)
@@ -275,7 +275,7 @@ module _ (bytes starts lengths : List ℕ) where
   spelled-below word limit Nothing l h = tt
 
   pub finds-symbol :
-      {heads next word : List ℕ} {b limit first : ℕ} (r : Found) → InBucket (length heads) (hash-of (map lower word)) b → limit ≤ length starts
+      {heads next word : List ℕ} {b limit first : ℕ} (r : Found) → InRange (length heads) (hash-of (map lower word)) b → limit ≤ length starts
       → (length starts ≤ length lengths → length starts ≤ length next → limit ≡ length starts) → first ≡ getD heads b 0
       → Along bytes starts lengths next word limit first r → FindsSymbol bytes starts lengths heads next word r
   finds-symbol {heads} {next} {word} {b} {limit} {first} r B low all e A =
@@ -300,7 +300,7 @@ module _ (bytes starts lengths : List ℕ) where
 
 -- ---- an identifier is entered
 
-module _ {bytes starts lengths symbols heads next : List ℕ} {i b s v : ℕ} (B : InBucket (length heads) (hash-of (spelling bytes starts lengths i)) b)
+module _ {bytes starts lengths symbols heads next : List ℕ} {i b s v : ℕ} (B : InRange (length heads) (hash-of (spelling bytes starts lengths i)) b)
     (L : Least bytes starts lengths next (getD heads b 0) i s) (ev : v ≡ s) where
   enters-by : {heads′ : List ℕ} → heads′ ≡ cond (eqb s i) (set heads b (i + 1)) heads → Enters bytes starts lengths i symbols heads next (set symbols i v) heads′ (set next i (getD heads b 0))
   enters-by e = record { bucket = b; falls = B; symbol = s; least = L; stored = ap (set symbols i) ev; linked = refl; begun = e }
@@ -439,7 +439,7 @@ module _ (bytes starts lengths terminals : List ℕ) where
         s = E .symbol
 
         is : b ≡ bucket-in m i
-        is = E .falls .is ∙ ap (λ (x : ℕ). bucket-of x (hash-of (spelling bytes starts lengths i))) (w .heads-long)
+        is = E .falls .is ∙ ap (λ (x : ℕ). range-of x (hash-of (spelling bytes starts lengths i))) (w .heads-long)
 
         low : b < m
         low = omega (arith, E .falls .small, w .heads-long)

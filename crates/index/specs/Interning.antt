@@ -10,7 +10,7 @@ use lib.Seq.{sets}
 use Rattle.relations.specs.Select.{first-from}
 use Rattle.express.specs.tokens.Bytes.{lower, same}
 use Rattle.express.specs.tokens.Spelling.{spelling, is-identifier, symbol-of, symbols-of}
-use Rattle.index.specs.Bucket.{bucket-of, hash-of, InBucket}
+use Rattle.index.specs.Bucket.{range-of, hash-of, InRange}
 use Rattle.index.specs.Room.{done, enough}
 use Rattle.index.specs.Dictionary.{among}
 use Rattle.index.specs.declared.Outcome.{Outcome}
@@ -24,7 +24,7 @@ last-index-below p (suc i) = let earlier = last-index-below p i in cond (p i) (s
 
 module _ (bytes starts lengths : List ℕ) where
   abbrev pub bucket-at : ℕ → ℕ → ℕ
-  bucket-at buckets i = bucket-of buckets (hash-of (spelling bytes starts lengths i))
+  bucket-at buckets i = range-of buckets (hash-of (spelling bytes starts lengths i))
 
   -- token j is spelled like a word, which may stand in other bytes
   abbrev pub spells : List ℕ → ℕ → Bool
@@ -78,7 +78,7 @@ module _ (bytes starts lengths : List ℕ) where
   -- ---- what the inner functions go by
 
   abbrev pub word-bucket : ℕ → List ℕ → ℕ
-  word-bucket buckets word = bucket-of buckets (hash-of (map lower word))
+  word-bucket buckets word = range-of buckets (hash-of (map lower word))
 
   -- where a link leads
   abbrev pub at-link : ℕ → Found
@@ -132,7 +132,7 @@ module _ (bytes starts lengths : List ℕ) where
   -- an identifier i is entered: its symbol and its link are stored, and the first of its spelling becomes the head of its bucket
   pub record Enters (i : ℕ) (symbols heads next symbols′ heads′ next′ : List ℕ) : Type 0 where
     pub bucket : ℕ
-    pub falls : InBucket (length heads) (hash-of (spelling bytes starts lengths i)) bucket
+    pub falls : InRange (length heads) (hash-of (spelling bytes starts lengths i)) bucket
     pub symbol : ℕ
     pub least : Least next (getD heads bucket 0) i symbol
     pub stored : symbols′ ≡ set symbols i symbol

@@ -13,6 +13,8 @@ ghost use Rattle.index.specs.Room.{fits};
 // the bits that are folded between them.
 const WORD: u64 = 4294967296;
 
+const RANGE: usize = 4294967296;
+
 const FIRST_FACTOR: u64 = 2654435761;
 
 const SECOND_FACTOR: u64 = 2246822519;

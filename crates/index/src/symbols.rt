@@ -1,15 +1,15 @@
 // Interning: for each identifier the least identifier that is spelled alike, letters without case.
 ghost use mathlib.Core.Path.{_≡_};
 ghost use mathlib.Core.List.{map};
-ghost use Prim.Native.Nat.{_+_, _<_, min};
+ghost use mathlib.Core.Bool.{true};
+ghost use Prim.Native.Nat.{_+_, _≤_, _<_, min};
 ghost use lib.ListN.{length, getD};
 ghost use Rattle.express.specs.tokens.Bytes.{lower, same};
 ghost use Rattle.express.specs.tokens.Spelling.{spelling};
-ghost use Rattle.index.specs.Bucket.{InBucket, hash-of};
+ghost use Rattle.index.specs.Bucket.{Four, IsBlock, Joins, Hashes, InRange, hash-of};
 ghost use Rattle.index.specs.Room.{enough};
 ghost use Rattle.index.specs.Interning.{Along, Lined, Least, ReadyToEnter, Enters, Fills, ReadyToFill, Interns, FindsSymbol};
 use crate::Outcome;
-use crate::bucket;
 use crate::dictionary::Found;
 use crate::scratch;
 use columns::clear32;
@@ -17,10 +17,15 @@ use columns::index;
 use columns::number;
 use columns::shorter;
 
-// What makes a capital letter small, and what a hash is multiplied by for each byte.
+// What makes a capital letter small.
 const TO_LOWER: u8 = 32;
 
-const MULTIPLIER: u64 = 31;
+// How many bytes a block has, and the low five bits of each.
+const BLOCK: usize = 4;
+
+const LOW_BITS: u64 = 522133279;
+
+const FIVE_BITS: u8 = 32;
 
 // A letter in lower case.
 fn lower_case(b: u8) -> u8
@@ -36,35 +41,117 @@ fn lower_case(b: u8) -> u8
 }
 
 fn wide(b: u8) -> u64
-    ensures { λ r. ⌜ r ≡ b ⌝ }
+    ensures { λ r. ⌜ (r ≡ b) × (r < 256) ⌝ }
 {
     b as u64
 }
 
-// A number for a spelling.
-fn hash(word: &[u8]) -> u64
-    ensures { λ r. ⌜ r ≡ hash-of (map lower (now (word .entry))) ⌝ }
+// Four bytes from a place on as one number.
+fn four(s: &[u8], i: usize) -> u64
+    requires { ⌜ i + 4 ≤ length (now s) ⌝ }
+    ensures { λ r. ⌜ Four (now (s .entry)) i r ⌝ }
 {
-    let mut h: u64 = 0;
-    let mut i = 0;
-    while i < word.len() {
-        h = (h * MULTIPLIER + wide(lower_case(word[i]))) % crate::WORD;
-        i += 1;
-    }
-    h
+    wide(s[i]) + wide(s[i + 1]) * 256 + wide(s[i + 2]) * 65536 + wide(s[i + 3]) * 16777216
 }
 
-// Are two words spelled alike?
+// The block of a word at a place: of each byte the bits that the two cases of a letter share.
+fn block(word: &[u8], i: usize) -> u64
+    requires { ⌜ i + 4 ≤ length (now word) ⌝ }
+    ensures { λ r. ⌜ IsBlock (now (word .entry)) i r ⌝ }
+{
+    four(word, i) & LOW_BITS
+}
+
+// The block of a word that is shorter than a block.
+fn short_block(word: &[u8]) -> u64
+    requires { ⌜ length (now word) < 4 ⌝ }
+    ensures { λ r. ⌜ IsBlock (now (word .entry)) 0 r ⌝ }
+{
+    let n = word.len();
+    if n == 0 {
+        return 0;
+    }
+    let first = wide(word[0] % FIVE_BITS);
+    let middle = wide(word[n / 2] % FIVE_BITS);
+    let last = wide(word[n - 1] % FIVE_BITS);
+    if n == 1 {
+        return first;
+    }
+    if n == 2 {
+        return first + middle * 256;
+    }
+    first + middle * 256 + last * 65536
+}
+
+// A number in which two have a say.
+fn join(h: u64, x: u64) -> u64
+    requires { ⌜ (h < 4294967296) × (x < 4294967296) ⌝ }
+    ensures { λ r. ⌜ Joins h x r ⌝ }
+{
+    (h + x) % crate::WORD * crate::FIRST_FACTOR % crate::WORD
+}
+
+// A number for a spelling.
+fn hash(word: &[u8]) -> u64
+    ensures { λ r. ⌜ Hashes (now (word .entry)) r ⌝ }
+{
+    let n = word.len();
+    if n < BLOCK {
+        return join(0, short_block(word));
+    }
+    let last = n - BLOCK;
+    let mut h: u64 = 0;
+    let mut i = 0;
+    while i < last {
+        h = join(h, block(word, i));
+        i += BLOCK;
+    }
+    join(h, block(word, last))
+}
+
+// The bucket of a number of 32 bits.
+fn range(h: u64, buckets: usize) -> usize
+    requires { ⌜ (h < 4294967296) × (0 < buckets) ⌝ }
+    ensures { λ r. ⌜ InRange buckets h r ⌝ }
+{
+    (h * (shorter(buckets, crate::RANGE) as u64) / crate::WORD) as usize
+}
+
+// Are two words the same, byte by byte? Words shorter than a block are not looked at.
+fn equal(a: &[u8], b: &[u8]) -> bool
+    requires { ⌜ length (now a) ≡ length (now b) ⌝ }
+    ensures { λ r. ⌜ (r ≡ true → now (a .entry) ≡ now (b .entry)) ⌝ }
+{
+    if a.len() < BLOCK {
+        return false;
+    }
+    let last = a.len() - BLOCK;
+    let mut i = 0;
+    while i < last {
+        if four(a, i) != four(b, i) {
+            return false;
+        }
+        i += BLOCK;
+    }
+    four(a, last) == four(b, last)
+}
+
+// Are two words spelled alike? Most are the same, letter by letter.
 fn alike(a: &[u8], b: &[u8]) -> bool
     ensures { λ r. ⌜ r ≡ same (map lower (now (a .entry))) (map lower (now (b .entry))) ⌝ }
 {
     if a.len() != b.len() {
         return false;
     }
+    if equal(a, b) {
+        return true;
+    }
     let mut i = 0;
     while i < a.len() {
-        if lower_case(a[i]) != lower_case(b[i]) {
-            return false;
+        if a[i] != b[i] {
+            if lower_case(a[i]) != lower_case(b[i]) {
+                return false;
+            }
         }
         i += 1;
     }
@@ -89,11 +176,11 @@ fn end(bytes: &[u8], starts: &[u32], lengths: &[u32], i: usize) -> usize
 // The bucket of a token's spelling.
 fn token_bucket(bytes: &[u8], starts: &[u32], lengths: &[u32], i: usize, buckets: usize) -> usize
     requires { ⌜ (i < length (now starts)) × (i < length (now lengths)) × (0 < buckets) ⌝ }
-    ensures { λ r. ⌜ InBucket buckets (hash-of (spelling (now (bytes .entry)) (now (starts .entry)) (now (lengths .entry)) i)) r ⌝ }
+    ensures { λ r. ⌜ InRange buckets (hash-of (spelling (now (bytes .entry)) (now (starts .entry)) (now (lengths .entry)) i)) r ⌝ }
 {
     let from = begin(bytes, starts, i);
     let to = end(bytes, starts, lengths, i);
-    bucket(hash(&bytes[from..to]), buckets)
+    range(hash(&bytes[from..to]), buckets)
 }
 
 // Is token k spelled like a word?
@@ -264,7 +351,7 @@ pub fn symbol_of(
     if heads.len() == 0 {
         return Found::Nothing;
     }
-    let b = bucket(hash(word), heads.len());
+    let b = range(hash(word), heads.len());
     let limit = shorter(starts.len(), shorter(lengths.len(), next.len()));
     along(bytes, starts, lengths, next, word, limit, index(heads[b]))
 }
