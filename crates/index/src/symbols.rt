@@ -20,10 +20,17 @@ use columns::shorter;
 // What makes a capital letter small.
 const TO_LOWER: u8 = 32;
 
-// How many bytes a block has, and the low five bits of each.
+// How many bytes a block has; what the second, the third and the fourth of them count; the low five bits of all four, and
+// of one.
 const BLOCK: usize = 4;
 
-const LOW_BITS: u64 = 522133279;
+const SECOND: u64 = 256;
+
+const THIRD: u64 = 65536;
+
+const FOURTH: u64 = 16777216;
+
+const LOW_BITS: u64 = 31 + 31 * SECOND + 31 * THIRD + 31 * FOURTH;
 
 const FIVE_BITS: u8 = 32;
 
@@ -51,7 +58,7 @@ fn four(s: &[u8], i: usize) -> u64
     requires { ⌜ i + 4 ≤ length (now s) ⌝ }
     ensures { λ r. ⌜ Four (now (s .entry)) i r ⌝ }
 {
-    wide(s[i]) + wide(s[i + 1]) * 256 + wide(s[i + 2]) * 65536 + wide(s[i + 3]) * 16777216
+    wide(s[i]) + wide(s[i + 1]) * SECOND + wide(s[i + 2]) * THIRD + wide(s[i + 3]) * FOURTH
 }
 
 // The block of a word at a place: of each byte the bits that the two cases of a letter share.
@@ -78,9 +85,9 @@ fn short_block(word: &[u8]) -> u64
         return first;
     }
     if n == 2 {
-        return first + middle * 256;
+        return first + middle * SECOND;
     }
-    first + middle * 256 + last * 65536
+    first + middle * SECOND + last * THIRD
 }
 
 // A number in which two have a say.
@@ -117,7 +124,7 @@ fn range(h: u64, buckets: usize) -> usize
     (h * (shorter(buckets, crate::RANGE) as u64) / crate::WORD) as usize
 }
 
-// Are two words the same, byte by byte? Words shorter than a block are not looked at.
+// Are two words the same, byte by byte? Of words that are shorter than a block it does not say so.
 fn equal(a: &[u8], b: &[u8]) -> bool
     requires { ⌜ length (now a) ≡ length (now b) ⌝ }
     ensures { λ r. ⌜ (r ≡ true → now (a .entry) ≡ now (b .entry)) ⌝ }

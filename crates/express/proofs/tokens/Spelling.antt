@@ -88,9 +88,9 @@ module _ (bytes starts lengths terminals : List ℕ) where
   symbol-iff i j h g = (
     λ e. sym (symbol-spelled i h) ∙ ap (λ k. spelt k) e ∙ symbol-spelled j g,
     λ e.
-    let a = symbol-least i (symbol j) h (symbol-named j g) (symbol-spelled j g ∙ sym e) in
-    let b = symbol-least j (symbol i) g (symbol-named i h) (symbol-spelled i h ∙ e) in
-    omega arith,
+        let a = symbol-least i (symbol j) h (symbol-named j g) (symbol-spelled j g ∙ sym e) in
+        let b = symbol-least j (symbol i) g (symbol-named i h) (symbol-spelled i h ∙ e) in
+        omega arith,
   )
 
   -- the column of them

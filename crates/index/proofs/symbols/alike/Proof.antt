@@ -1,9 +1,6 @@
+-- `index::symbols::alike` meets its contract: the bytes before i agree. Assumes nothing.
 use Rattle.index.proofs.symbols.alike.Statement.{statement}
 use Rattle.index.proofs.symbols.alike.Tie as tie
-use Rattle.index.proofs.symbols.alike.Reads as reads
-use Rattle.index.proofs.symbols.alike.Lts as lts
-use Rattle.index.proofs.symbols.equal.Reads as equal-reads
-use Rattle.index.proofs.symbols.lower_case.Reads as lower-case-reads
 use borrow.Author.Needs.{needs}
 use Rattle.index.proofs.Spellings.{agree, same-is, differ-length, differ-at}
 use Rattle.express.specs.tokens.Bytes.{lower}
@@ -21,70 +18,59 @@ Inv-loop a b i₀ i = (i ≤ length a) × (length a ≡ length b) × ((k : ℕ) 
 abbrev μ-loop : tie.MeasureT-loop
 μ-loop a b i₀ i = length a - i
 
--- src/symbols.rt:144:9
 returns : tie.Need-returns Inv-loop μ-loop
 returns c = sym (differ-length (c .before .before .before .args .a .now) (c .before .before .before .args .b .now) (c .if1 .taken))
 
--- src/symbols.rt:146:8
 equal-requires : tie.Need-equal-requires Inv-loop μ-loop
 equal-requires c κs = search needs
 
--- src/symbols.rt:147:9
 returns-2 : tie.Need-returns-2 Inv-loop μ-loop
 returns-2 c = sym (same-is _ _ (ap (λ (xs : List ℕ). map lower xs) (c .before .equal .ensures (c .if2 .taken))))
 
--- src/symbols.rt:150:5
 loop-holds : tie.Need-loop-holds Inv-loop μ-loop
 loop-holds c = search needs
 
--- src/symbols.rt:151:12
 shared-slice-read-if3 : tie.Need-shared-slice-read-if3 Inv-loop μ-loop
 shared-slice-read-if3 c = search needs
 
--- src/symbols.rt:151:20
 shared-slice-read-if3-2 : tie.Need-shared-slice-read-if3-2 Inv-loop μ-loop
 shared-slice-read-if3-2 c = search needs
 
--- src/symbols.rt:152:27
 shared-slice-read-lower-case : tie.Need-shared-slice-read-lower-case Inv-loop μ-loop
 shared-slice-read-lower-case c = search needs
 
--- src/symbols.rt:152:16
 lower-case-requires : tie.Need-lower-case-requires Inv-loop μ-loop
 lower-case-requires c κs = search needs
 
--- src/symbols.rt:152:47
 shared-slice-read-lower-case-2 : tie.Need-shared-slice-read-lower-case-2 Inv-loop μ-loop
 shared-slice-read-lower-case-2 c = search needs
 
--- src/symbols.rt:152:36
 lower-case-requires-2 : tie.Need-lower-case-requires-2 Inv-loop μ-loop
 lower-case-requires-2 c κs = search needs
 
--- src/symbols.rt:153:17
 returns-3 : tie.Need-returns-3 Inv-loop μ-loop
-returns-3 c = sym (differ-at (c .before .before .before .before .before .before .before .before .before .before .before .before .before .before .before .args .a .now) (c .before .before .before .before .before .before .before .before .before .before .before .before .before .before .before .args .b .now) (c .before .before .before .before .before .before .before .before .before .loop .i) (λ e. c .if4 .taken (c .before .before .before .lower-case .ensures ∙ e ∙ sym (c .before .lower-case2 .ensures))))
+returns-3 c =
+    let s = c .before .before .before .before .before .before .before .before .before .before .before .before .before .before .before in
+    sym (differ-at (s .args .a .now) (s .args .b .now) (c .before .before .before .before .before .before .before .before .before .loop .i)
+    (λ e. c .if4 .taken (c .before .before .before .lower-case .ensures ∙ e ∙ sym (c .before .lower-case2 .ensures))))
 
--- src/symbols.rt:156:9
 add-i : tie.Need-add-i Inv-loop μ-loop
 add-i c = search needs
 
--- src/symbols.rt:150:5
 loop-less : tie.Need-loop-less Inv-loop μ-loop
 loop-less c = search needs
 
--- src/symbols.rt:150:5
 loop-again : tie.Need-loop-again Inv-loop μ-loop
-loop-again c =
-    (
-      search needs,
-      search needs,
-      below-more _ _ (c .before .before .before .before .loop .inv .2) (⊎-elim (λ w. sym (w .2 .ensures) ∙ w .5 .left ∙ w .4 .ensures) (λ w. ap lower (w .left)) (c .if3 .came)),
-    )
+loop-again c = (
+  search needs,
+  search needs,
+  below-more _ _ (c .before .before .before .before .loop .inv .2) (⊎-elim (λ w. sym (w .2 .ensures) ∙ w .5 .left ∙ w .4 .ensures) (λ w. ap lower (w .left)) (c .if3 .came)),
+)
 
--- src/symbols.rt:140:1
 returns-4 : tie.Need-returns-4 Inv-loop μ-loop
-returns-4 c = sym (agree (c .before .before .before .before .before .before .before .args .a .now) (c .before .before .before .before .before .before .before .args .b .now) (search needs) (λ k l. c .before .loop .inv .2 k (omega (arith, c .loop-test .left, l))))
+returns-4 c =
+    let s = c .before .before .before .before .before .before .before in
+    sym (agree (s .args .a .now) (s .args .b .now) (search needs) (λ k l. c .before .loop .inv .2 k (omega (arith, c .loop-test .left, l))))
 
 pub alike-spec : {M : Type 1} → statement M
 alike-spec =

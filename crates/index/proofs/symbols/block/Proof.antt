@@ -1,17 +1,13 @@
+-- `index::symbols::block` meets its contract: the mask takes the low five bits of each byte. Assumes nothing.
 use borrow.Author.Needs.{needs}
 use Rattle.index.proofs.symbols.block.Statement.{statement}
 use Rattle.index.proofs.symbols.block.Tie as tie
-use Rattle.index.proofs.symbols.block.Reads as reads
-use Rattle.index.proofs.symbols.block.Lts as lts
-use Rattle.index.proofs.symbols.four.Reads as four-reads
 use Rattle.index.proofs.Spellings.{is-block}
 use native.Mathlib.Omega.{arith}
 
--- src/symbols.rt:62:5
 four-requires : tie.Need-four-requires
 four-requires c κs = search needs
 
--- src/symbols.rt:58:1
 returns : tie.Need-returns
 returns c = is-block (c .before .before .args .word .now) (c .before .before .args .i) (λ j. omega (arith, c .before .shared-slice-known .given j)) (c .four .ensures)
 

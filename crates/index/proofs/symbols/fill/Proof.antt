@@ -1,10 +1,6 @@
+-- `index::symbols::fill` meets its contract: by the laws of `Filling`. Assumes nothing.
 use Rattle.index.proofs.symbols.fill.Statement.{statement}
 use Rattle.index.proofs.symbols.fill.Tie as tie
-use Rattle.index.proofs.symbols.fill.Reads as reads
-use Rattle.index.proofs.symbols.fill.Lts as lts
-use Rattle.columns.proofs.number.Reads as number-reads
-use Rattle.index.proofs.symbols.enter.Reads as enter-reads
-use Rattle.index.proofs.symbols.terminal_at.Reads as terminal-at-reads
 use borrow.Author.Needs.{needs}
 use Rattle.index.proofs.Interning.{Filling, filling-starts, ready-to-enter, filling-enters, filling-passes, filling-ends, filling-same}
 use mathlib.Core.Logic.{⊎-elim}
@@ -20,39 +16,30 @@ Inv-loop bytes starts lengths terminals symbols₀ heads₀ next₀ i₀ symbols
 abbrev μ-loop : tie.MeasureT-loop
 μ-loop bytes starts lengths terminals symbols₀ heads₀ next₀ i₀ symbols heads next i = length starts - i
 
--- src/symbols.rt:203:5
 loop-holds : tie.Need-loop-holds Inv-loop μ-loop
 loop-holds c = filling-starts _ _ _ _ (c .before .before .before .before .before .before .before .pre)
 
--- src/symbols.rt:204:12
 terminal-at-requires : tie.Need-terminal-at-requires Inv-loop μ-loop
 terminal-at-requires c κs = search needs
 
--- src/symbols.rt:205:13
 enter-requires : tie.Need-enter-requires Inv-loop μ-loop
 enter-requires c κs = ready-to-enter _ _ _ _ (c .before .before .before .before .before .before .loop .inv) (c .before .before .before .before .before .loop-test .taken)
 
--- src/symbols.rt:207:26
 number-requires : tie.Need-number-requires Inv-loop μ-loop
 number-requires c κs = search needs
 
--- src/symbols.rt:207:13
 mul-symbols : tie.Need-mul-symbols Inv-loop μ-loop
 mul-symbols c = search needs
 
--- src/symbols.rt:207:13
 slice-write-symbols : tie.Need-slice-write-symbols Inv-loop μ-loop
 slice-write-symbols c = omega (arith, c .before .before .before .before .loop .inv .fits, c .before .before .before .before .loop .inv .symbols-long, c .before .before .before .loop-test .taken)
 
--- src/symbols.rt:209:9
 add-i : tie.Need-add-i Inv-loop μ-loop
 add-i c = omega (arith, c .before .before .before .loop .inv .small, c .before .before .loop-test .taken)
 
--- src/symbols.rt:203:5
 loop-less : tie.Need-loop-less Inv-loop μ-loop
 loop-less c = omega (arith, c .before .before .loop-test .taken)
 
--- src/symbols.rt:203:5
 loop-again : tie.Need-loop-again Inv-loop μ-loop
 loop-again c =
     let here = c .before .before .before .loop .inv in
@@ -63,19 +50,15 @@ loop-again c =
     (λ w. filling-same _ _ _ _ (w .2) (w .3) (w .4) (filling-passes _ _ _ _ here l _ (ne-eqb _ _ (λ q. w .0 .left (is ∙ q))) (w .1 .ensures (omega (arith, here .small, l)))))
     (c .if1 .came)
 
--- src/symbols.rt:189:1
 same-length : tie.Need-same-length Inv-loop μ-loop
 same-length c = c .before .loop .inv .symbols-long
 
--- src/symbols.rt:189:1
 same-length-2 : tie.Need-same-length-2 Inv-loop μ-loop
 same-length-2 c = c .before .loop .inv .heads-long
 
--- src/symbols.rt:189:1
 same-length-3 : tie.Need-same-length-3 Inv-loop μ-loop
 same-length-3 c = c .before .loop .inv .next-long
 
--- src/symbols.rt:189:1
 returns : tie.Need-returns Inv-loop μ-loop
 returns c = filling-ends _ _ _ _ (c .before .loop .inv) (c .loop-test .left)
 

@@ -1,10 +1,6 @@
+-- `index::symbols::hash` meets its contract: by the laws of `Hashing`. Assumes nothing.
 use Rattle.index.proofs.symbols.hash.Statement.{statement}
 use Rattle.index.proofs.symbols.hash.Tie as tie
-use Rattle.index.proofs.symbols.hash.Reads as reads
-use Rattle.index.proofs.symbols.hash.Lts as lts
-use Rattle.index.proofs.symbols.block.Reads as block-reads
-use Rattle.index.proofs.symbols.join.Reads as join-reads
-use Rattle.index.proofs.symbols.short_block.Reads as short-block-reads
 use borrow.Author.Needs.{needs}
 use Rattle.index.proofs.Spellings.{Hashing, hashing-starts, hashing-goes-on, hashing-ends}
 use mathlib.Core.Path.{refl}
@@ -18,51 +14,39 @@ Inv-loop word n last h₀ i₀ h i = Hashing word h i
 abbrev μ-loop : tie.MeasureT-loop
 μ-loop word n last h₀ i₀ h i = length word - i
 
--- src/symbols.rt:100:24
 short-block-requires : tie.Need-short-block-requires Inv-loop μ-loop
 short-block-requires c κs = search needs
 
--- src/symbols.rt:100:9
 join-requires : tie.Need-join-requires Inv-loop μ-loop
 join-requires c κs = (omega arith, c .short-block .ensures .small)
 
--- src/symbols.rt:100:9
 returns : tie.Need-returns Inv-loop μ-loop
 returns c = hashing-ends (hashing-starts _) (omega (arith, c .before .before .if1 .taken)) (omega (arith, c .before .before .if1 .taken)) (c .before .short-block .ensures) (c .join .ensures)
 
--- src/symbols.rt:105:5
 loop-holds : tie.Need-loop-holds Inv-loop μ-loop
 loop-holds c = hashing-starts _
 
--- src/symbols.rt:106:21
 block-requires : tie.Need-block-requires Inv-loop μ-loop
 block-requires c κs = omega (arith, c .loop-test .taken, c .before .before .if1 .left)
 
--- src/symbols.rt:106:9
 join-requires-2 : tie.Need-join-requires-2 Inv-loop μ-loop
 join-requires-2 c κs = (c .before .before .loop .inv .small, c .block .ensures .small)
 
--- src/symbols.rt:107:9
 add-i : tie.Need-add-i Inv-loop μ-loop
 add-i c = omega (arith, c .before .before .loop-test .taken, c .before .before .before .before .if1 .left)
 
--- src/symbols.rt:105:5
 loop-less : tie.Need-loop-less Inv-loop μ-loop
 loop-less c = omega (arith, c .before .before .loop-test .taken, c .before .before .before .before .if1 .left)
 
--- src/symbols.rt:105:5
 loop-again : tie.Need-loop-again Inv-loop μ-loop
 loop-again c = hashing-goes-on (c .before .before .before .loop .inv) (c .before .before .loop-test .taken) (c .before .block .ensures) (c .join2 .ensures)
 
--- src/symbols.rt:109:13
 block-requires-2 : tie.Need-block-requires-2 Inv-loop μ-loop
 block-requires-2 c κs = omega (arith, c .before .before .if1 .left)
 
--- src/symbols.rt:109:5
 join-requires-3 : tie.Need-join-requires-3 Inv-loop μ-loop
 join-requires-3 c κs = (c .before .before .loop .inv .small, c .block2 .ensures .small)
 
--- src/symbols.rt:95:1
 returns-2 : tie.Need-returns-2 Inv-loop μ-loop
 returns-2 c = hashing-ends (c .before .before .before .loop .inv) (c .before .before .loop-test .left) refl (c .before .block2 .ensures) (c .join3 .ensures)
 
