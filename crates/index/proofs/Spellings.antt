@@ -1,6 +1,6 @@
 -- Laws of spellings: the part of the bytes that a token has, its hash, and words that are spelled alike.
 use mathlib.Core.Path.{_≡_, refl, sym, ap, _∙_}
-use mathlib.Core.Bool.{Bool, true, false, cond, _&&_}
+use mathlib.Core.Bool.{Bool, true, false, cond, _&&_, false≢true}
 use mathlib.Core.List.{List, map}
 use mathlib.Core.Logic.{by-cases}
 use Prim.Native.Nat.{ℕ, zero, suc, _+_, _*_, _-_, _/_, _%_, _≤_, _<_, min}
@@ -12,10 +12,11 @@ use lib.ListN.{length, take, drop, getD, length-map, length-drop, drop-of-length
 use lib.Seq.{drop-cons, ext-getD, take-all, take-nil}
 use Rattle.express.specs.tokens.Bytes.{lower, same}
 use Rattle.express.specs.tokens.Spelling.{spelling}
-use Rattle.relations.proofs.Select.{untrue}
+use Rattle.relations.proofs.Select.{untrue, and-snd, and-both}
 use Rattle.express.proofs.tokens.Spelling.{same-true, same-refl}
 use lib.Bits.{bitAnd, and-block, and-mask}
-use lib.Dec.{leb}
+use lib.Dec.{eqb, leb}
+use borrow.Author.Tests.{eqb-true, eq-eqb, le-leb, lt-leb}
 use Rattle.index.specs.Bucket.{block, joined, hash-blocks, hash-of, range-of, Four, IsBlock, Joins, Hashes, InRange}
 
 abbrev pub folded : List ℕ → List ℕ
@@ -221,9 +222,40 @@ module _ (xs ys : List ℕ) (small : (j : ℕ) → getD xs j 0 < 256) (small′ 
   pub blocks-go-on : {i x y : ℕ} → ((j : ℕ) → j < i → getD xs j 0 ≡ getD ys j 0) → Four xs i x → Four ys i y → x ≡ y → (j : ℕ) → j < i + 4 → getD xs j 0 ≡ getD ys j 0
   blocks-go-on {i} h F G e j l = by-cases (decLt j i) (λ a. h j a) (λ a. four-same F G e j (omega (arith, a)) l)
 
-  pub blocks-end : {i k x y : ℕ} → length xs ≡ length ys → ((j : ℕ) → j < i → getD xs j 0 ≡ getD ys j 0) → k ≤ i → length xs ≤ k + 4 → Four xs k x → Four ys k y → x ≡ y → xs ≡ ys
+  blocks-end : {i k x y : ℕ} → length xs ≡ length ys → ((j : ℕ) → j < i → getD xs j 0 ≡ getD ys j 0) → k ≤ i → length xs ≤ k + 4 → Four xs k x → Four ys k y → x ≡ y → xs ≡ ys
   blocks-end {i} {k} n h lo hi F G e =
       ext-getD 0 xs ys n (λ j l. by-cases (decLt j i) (λ a. h j a) (λ a. four-same F G e j (omega (arith, a)) (omega arith)))
+
+  -- what `equal` answers: on words that are too short, where two blocks differ, and by the last block
+  abbrev answer : Bool
+  answer = leb 4 (length xs) && same xs ys
+
+  pub equal-short : length xs < 4 → false ≡ leb 4 (length xs) && same xs ys
+  equal-short h = rw (lt-leb 4 (length xs) h)
+
+  pub equal-differs : {k x y : ℕ} → Four xs k x → Four ys k y → (x ≡ y → ⊥) → false ≡ leb 4 (length xs) && same xs ys
+  equal-differs {k} F G n =
+      sym (untrue answer
+      (λ e.
+      let q : xs ≡ ys = same-true xs ys (and-snd (leb 4 (length xs)) (same xs ys) e) in
+      n (F .is
+      ∙ ap (λ (zs : List ℕ). getD zs k 0 + getD zs (k + 1) 0 * 256 + getD zs (k + 2) 0 * 65536 + getD zs (k + 3) 0 * 16777216) q
+      ∙ sym (G .is))))
+
+  pub equal-ends :
+      {i k x y : ℕ} → 4 ≤ length xs → length xs ≡ length ys → ((j : ℕ) → j < i → getD xs j 0 ≡ getD ys j 0) → k ≤ i → length xs ≤ k + 4 →
+      Four xs k x → Four ys k y → eqb x y ≡ leb 4 (length xs) && same xs ys
+  equal-ends {i} {k} {x} {y} m n h lo hi F G = by (eqb x y) refl
+    where
+      by : (b : Bool) → eqb x y ≡ b → b ≡ leb 4 (length xs) && same xs ys
+      by true e =
+          sym (and-both (leb 4 (length xs)) (same xs ys) (le-leb 4 (length xs) m) (same-is xs ys (blocks-end n h lo hi F G (eqb-true x y e))))
+      by false e = equal-differs F G (λ q. false≢true (sym e ∙ eq-eqb x y q))
+
+-- words that are the same are spelled alike
+pub equal-alike : (xs ys : List ℕ) {r : Bool} → r ≡ leb 4 (length xs) && same xs ys → r ≡ true → same (map lower xs) (map lower ys) ≡ true
+equal-alike xs ys e f =
+    same-is (folded xs) (folded ys) (ap (λ (zs : List ℕ). map lower zs) (same-true xs ys (and-snd (leb 4 (length xs)) (same xs ys) (sym e ∙ f))))
 
 -- ---- the bucket of a number of 32 bits: so large a part of the buckets as it is of all such numbers
 

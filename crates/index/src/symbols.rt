@@ -1,7 +1,8 @@
 // Interning: for each identifier the least identifier that is spelled alike, letters without case.
 ghost use mathlib.Core.Path.{_≡_};
 ghost use mathlib.Core.List.{map};
-ghost use mathlib.Core.Bool.{true};
+ghost use mathlib.Core.Bool.{_&&_};
+ghost use lib.Dec.{leb};
 ghost use Prim.Native.Nat.{_+_, _≤_, _<_, min};
 ghost use lib.ListN.{length, getD};
 ghost use Rattle.express.specs.tokens.Bytes.{lower, same};
@@ -124,10 +125,10 @@ fn range(h: u64, buckets: usize) -> usize
     (h * (shorter(buckets, crate::RANGE) as u64) / crate::WORD) as usize
 }
 
-// Are two words the same, byte by byte? Of words that are shorter than a block it does not say so.
+// Are two words the same, byte by byte, and as long as a block or longer?
 fn equal(a: &[u8], b: &[u8]) -> bool
     requires { ⌜ length (now a) ≡ length (now b) ⌝ }
-    ensures { λ r. ⌜ (r ≡ true → now (a .entry) ≡ now (b .entry)) ⌝ }
+    ensures { λ r. ⌜ r ≡ leb 4 (length (now (a .entry))) && same (now (a .entry)) (now (b .entry)) ⌝ }
 {
     if a.len() < BLOCK {
         return false;

@@ -2,13 +2,12 @@
 use Rattle.index.proofs.symbols.alike.Statement.{statement}
 use Rattle.index.proofs.symbols.alike.Tie as tie
 use borrow.Author.Needs.{needs}
-use Rattle.index.proofs.Spellings.{agree, same-is, differ-length, differ-at}
+use Rattle.index.proofs.Spellings.{agree, equal-alike, differ-length, differ-at}
 use Rattle.express.specs.tokens.Bytes.{lower}
 use borrow.Author.Count.{below-more}
 use lib.ListN.{length, getD}
 use Prim.Native.Nat.{ℕ, _≤_, _<_, _-_}
 use mathlib.Core.Path.{_≡_, sym, ap, _∙_}
-use mathlib.Core.List.{List, map}
 use mathlib.Core.Logic.{⊎-elim}
 use native.Mathlib.Omega.{arith}
 
@@ -25,7 +24,7 @@ equal-requires : tie.Need-equal-requires Inv-loop μ-loop
 equal-requires c κs = search needs
 
 returns-2 : tie.Need-returns-2 Inv-loop μ-loop
-returns-2 c = sym (same-is _ _ (ap (λ (xs : List ℕ). map lower xs) (c .before .equal .ensures (c .if2 .taken))))
+returns-2 c = let s = c .before .before .before .before .before in sym (equal-alike (s .args .a .now) (s .args .b .now) (c .before .equal .ensures) (c .if2 .taken))
 
 loop-holds : tie.Need-loop-holds Inv-loop μ-loop
 loop-holds c = search needs

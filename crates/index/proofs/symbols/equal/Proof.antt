@@ -2,10 +2,8 @@
 use Rattle.index.proofs.symbols.equal.Statement.{statement}
 use Rattle.index.proofs.symbols.equal.Tie as tie
 use borrow.Author.Needs.{needs}
-use Rattle.index.proofs.Spellings.{blocks-go-on, blocks-end}
+use Rattle.index.proofs.Spellings.{blocks-go-on, equal-short, equal-differs, equal-ends}
 use mathlib.Core.Path.{_≡_}
-use mathlib.Core.Bool.{false≢true}
-use borrow.Author.Tests.{eqb-true}
 use lib.ListN.{length, getD}
 use Prim.Native.Nat.{ℕ, _-_, _<_, _≤_}
 use native.Mathlib.Omega.{arith}
@@ -17,7 +15,8 @@ abbrev μ-loop : tie.MeasureT-loop
 μ-loop a b last i₀ i = length a - i
 
 returns : tie.Need-returns Inv-loop μ-loop
-returns c = λ z. absurd (false≢true z)
+returns c = let s = c .before .before .before in equal-short (s .args .a .now) (s .args .b .now) (λ j. omega (arith, c .before .before .shared-slice-known .given j))
+    (λ j. omega (arith, c .before .shared-slice-known2 .given j)) (c .if1 .taken)
 
 sub-last : tie.Need-sub-last Inv-loop μ-loop
 sub-last c = search needs
@@ -32,7 +31,8 @@ four-requires-2 : tie.Need-four-requires-2 Inv-loop μ-loop
 four-requires-2 c κs = omega (arith, c .before .loop-test .taken, c .before .before .before .if1 .left, c .before .before .before .before .before .before .pre)
 
 returns-2 : tie.Need-returns-2 Inv-loop μ-loop
-returns-2 c = λ z. absurd (false≢true z)
+returns-2 c = let s = c .before .before .before .before .before .before .before .before in equal-differs (s .args .a .now) (s .args .b .now) (λ j. omega (arith, c .before .before .before .before .before .before .before .shared-slice-known .given j))
+    (λ j. omega (arith, c .before .before .before .before .before .before .shared-slice-known2 .given j)) (c .before .before .four .ensures) (c .before .four2 .ensures) (c .if2 .taken)
 
 add-i : tie.Need-add-i Inv-loop μ-loop
 add-i c = omega (arith, c .before .before .before .loop-test .taken, c .before .before .before .before .before .if1 .left)
@@ -58,10 +58,9 @@ four-requires-4 c κs = omega (arith, c .before .before .before .if1 .left, c .b
 returns-3 : tie.Need-returns-3 Inv-loop μ-loop
 returns-3 c =
     let s = c .before .before .before .before .before .before .before in
-    λ z.
-    blocks-end (s .args .a .now) (s .args .b .now) (λ j. omega (arith, c .before .before .before .before .before .before .shared-slice-known .given j))
-    (λ j. omega (arith, c .before .before .before .before .before .shared-slice-known2 .given j)) (s .pre) (c .before .before .before .loop .inv .1)
-    (c .before .before .loop-test .left) (omega arith) (c .before .four3 .ensures) (c .four4 .ensures) (eqb-true _ _ z)
+    equal-ends (s .args .a .now) (s .args .b .now) (λ j. omega (arith, c .before .before .before .before .before .before .shared-slice-known .given j))
+    (λ j. omega (arith, c .before .before .before .before .before .shared-slice-known2 .given j)) (omega (arith, c .before .before .before .before .if1 .left)) (s .pre) (c .before .before .before .loop .inv .1)
+    (c .before .before .loop-test .left) (omega arith) (c .before .four3 .ensures) (c .four4 .ensures)
 
 pub equal-spec : {M : Type 1} → statement M
 equal-spec =
