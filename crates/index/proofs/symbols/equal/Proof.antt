@@ -31,8 +31,11 @@ four-requires-2 : tie.Need-four-requires-2 Inv-loop μ-loop
 four-requires-2 c κs = omega (arith, c .before .loop-test .taken, c .before .before .before .if1 .left, c .before .before .before .before .before .before .pre)
 
 returns-2 : tie.Need-returns-2 Inv-loop μ-loop
-returns-2 c = let s = c .before .before .before .before .before .before .before .before in equal-differs (s .args .a .now) (s .args .b .now) (λ j. omega (arith, c .before .before .before .before .before .before .before .shared-slice-known .given j))
-    (λ j. omega (arith, c .before .before .before .before .before .before .shared-slice-known2 .given j)) (c .before .before .four .ensures) (c .before .four2 .ensures) (c .if2 .taken)
+returns-2 c =
+    let s = c .before .before .before .before .before .before .before .before in
+    equal-differs (s .args .a .now) (s .args .b .now) (λ j. omega (arith, c .before .before .before .before .before .before .before .shared-slice-known .given j))
+    (λ j. omega (arith, c .before .before .before .before .before .before .shared-slice-known2 .given j)) (c .before .before .four .ensures)
+    (c .before .four2 .ensures) (c .if2 .taken)
 
 add-i : tie.Need-add-i Inv-loop μ-loop
 add-i c = omega (arith, c .before .before .before .loop-test .taken, c .before .before .before .before .before .if1 .left)
@@ -59,8 +62,9 @@ returns-3 : tie.Need-returns-3 Inv-loop μ-loop
 returns-3 c =
     let s = c .before .before .before .before .before .before .before in
     equal-ends (s .args .a .now) (s .args .b .now) (λ j. omega (arith, c .before .before .before .before .before .before .shared-slice-known .given j))
-    (λ j. omega (arith, c .before .before .before .before .before .shared-slice-known2 .given j)) (omega (arith, c .before .before .before .before .if1 .left)) (s .pre) (c .before .before .before .loop .inv .1)
-    (c .before .before .loop-test .left) (omega arith) (c .before .four3 .ensures) (c .four4 .ensures)
+    (λ j. omega (arith, c .before .before .before .before .before .shared-slice-known2 .given j))
+    (omega (arith, c .before .before .before .before .if1 .left)) (s .pre) (c .before .before .before .loop .inv .1) (c .before .before .loop-test .left) (omega arith)
+    (c .before .four3 .ensures) (c .four4 .ensures)
 
 pub equal-spec : {M : Type 1} → statement M
 equal-spec =
