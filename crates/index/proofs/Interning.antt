@@ -21,14 +21,14 @@ use Rattle.express.proofs.tokens.Spelling.{same-true, symbol-le, symbol-other, 
 use Rattle.index.specs.Bucket.{range-of, hash-of, InRange}
 use Rattle.index.specs.Room.{done, fits, enough}
 use Rattle.index.specs.Interning.{last-index-below, bucket-at, chained, Links, Chained, Interns, spells, symbol-of-word, SpelledLike, FindsSymbol}
-use Rattle.index.specs.Interning.{word-bucket, wanted, at-link, Along, Lined, Linked, Least, ReadyToEnter, Enters, Fills, ReadyToFill}
+use Rattle.index.specs.Interning.{word-bucket, wanted, at-link, Along, Lined, Linked, Leads, Least, ReadyToEnter, Enters, Fills, ReadyToFill}
 use Rattle.index.specs.Dictionary.{among}
 use Rattle.index.specs.declared.dictionary.Found.{Found}
 use Rattle.index.specs.declared.dictionary.Found.the-variants.{At, Nothing}
 use Rattle.index.specs.declared.Outcome.{Outcome}
 use Rattle.index.specs.declared.Outcome.the-variants.{Done, Short}
 use Rattle.index.proofs.Search.{last-skip, last-next, last-none-yet, last-le, last-passes, last-none, at-set}
-use Rattle.index.proofs.Spellings.{same-is}
+use Rattle.index.proofs.Spellings.{same-is, equal-alike}
 use Rattle.index.proofs.Entries.{fits-parts, zeros-at}
 
 -- the bucket of a number is that of an equal one
@@ -231,9 +231,22 @@ module _ (bytes starts lengths : List ℕ) where
         let B : Along bytes starts lengths next word i first (At k) = rw q at A in
         record { low = omega (arith, B .holds .0); is = λ t L. symbol-met e B t L }
 
+    pub least-first : {first : ℕ} → first ≡ head → Lined bytes starts lengths next (i + 1) → Leads bytes starts lengths word i first → Least bytes starts lengths next head i (first - 1)
+    least-first {first} e L D =
+        let w : Walk next word i first i first = walk-starts (lined-below L) in
+        let A : Along bytes starts lengths next word i first (At (first - 1)) = walk-hits w (D .some) (D .low) refl (D .alike) in
+        least-at e A refl
+
     pub least-none : {first : ℕ} {r : Found} → first ≡ head → Along bytes starts lengths next word i first r → r ≡ Nothing → Least bytes starts lengths next head i i
     least-none {first} e A q =
         let B : Along bytes starts lengths next word i first Nothing = rw q at A in record { low = omega arith; is = λ t L. symbol-met e B t L }
+
+  -- the token that a link leads to is the word byte by byte
+  pub leads-to : {word : List ℕ} {limit first : ℕ} {r : Bool} (ws : List ℕ) → (first ≡ 0 → ⊥) → first ≤ limit → map lower ws ≡ spelling bytes starts lengths (first - 1)
+      → r ≡ leb 4 (length ws) && same ws word → r ≡ true → Leads bytes starts lengths word limit first
+  leads-to {word} {limit} {first} ws n l s e f =
+      let some : 0 < first = omega (arith, n) in
+      record { some = some; low = omega arith; alike = ap (λ (xs : List ℕ). same xs (map lower word)) (sym s) ∙ equal-alike ws word e f }
 
   pub no-heads : {heads next word : List ℕ} → length heads ≡ 0 → FindsSymbol bytes starts lengths heads next word Nothing
   no-heads z = record { holds = tt; is = λ t C. absurd (omega (arith, C .some)) }

@@ -193,6 +193,23 @@ hashing-ends {xs} {h} {i} {k} {x} {r} w l ek B J =
 
 -- ---- words that are the same, block by block
 
+-- what `equal` answers: on words of two lengths, on words that are too short, where two blocks differ, and by the last block
+module _ (xs ys : List ℕ) where
+  pub equal-lengths : (length xs ≡ length ys → ⊥) → false ≡ leb 4 (length xs) && same xs ys
+  equal-lengths n = sym (untrue (leb 4 (length xs) && same xs ys) (λ e. n (ap length (same-true xs ys (and-snd (leb 4 (length xs)) (same xs ys) e)))))
+
+  pub equal-short : length xs < 4 → false ≡ leb 4 (length xs) && same xs ys
+  equal-short h = rw (lt-leb 4 (length xs) h)
+
+  pub equal-differs : {k x y : ℕ} → Four xs k x → Four ys k y → (x ≡ y → ⊥) → false ≡ leb 4 (length xs) && same xs ys
+  equal-differs {k} F G n =
+      sym (untrue (leb 4 (length xs) && same xs ys)
+      (λ e.
+      let q : xs ≡ ys = same-true xs ys (and-snd (leb 4 (length xs)) (same xs ys) e) in
+      n (F .is
+      ∙ ap (λ (zs : List ℕ). getD zs k 0 + getD zs (k + 1) 0 * 256 + getD zs (k + 2) 0 * 65536 + getD zs (k + 3) 0 * 16777216) q
+      ∙ sym (G .is))))
+
 bytes-same : (a b c d a′ b′ c′ d′ : ℕ) → a < 256 → b < 256 → c < 256 → d < 256 → a′ < 256 → b′ < 256 → c′ < 256 → d′ < 256
     → a + b * 256 + c * 65536 + d * 16777216 ≡ a′ + b′ * 256 + c′ * 65536 + d′ * 16777216 → (a ≡ a′) × (b ≡ b′) × (c ≡ c′) × (d ≡ d′)
 bytes-same a b c d a′ b′ c′ d′ p q r s p′ q′ r′ s′ e = (omega arith, omega arith, omega arith, omega arith)
@@ -226,22 +243,6 @@ module _ (xs ys : List ℕ) (small : (j : ℕ) → getD xs j 0 < 256) (small′ 
   blocks-end {i} {k} n h lo hi F G e =
       ext-getD 0 xs ys n (λ j l. by-cases (decLt j i) (λ a. h j a) (λ a. four-same F G e j (omega (arith, a)) (omega arith)))
 
-  -- what `equal` answers: on words that are too short, where two blocks differ, and by the last block
-  abbrev answer : Bool
-  answer = leb 4 (length xs) && same xs ys
-
-  pub equal-short : length xs < 4 → false ≡ leb 4 (length xs) && same xs ys
-  equal-short h = rw (lt-leb 4 (length xs) h)
-
-  pub equal-differs : {k x y : ℕ} → Four xs k x → Four ys k y → (x ≡ y → ⊥) → false ≡ leb 4 (length xs) && same xs ys
-  equal-differs {k} F G n =
-      sym (untrue answer
-      (λ e.
-      let q : xs ≡ ys = same-true xs ys (and-snd (leb 4 (length xs)) (same xs ys) e) in
-      n (F .is
-      ∙ ap (λ (zs : List ℕ). getD zs k 0 + getD zs (k + 1) 0 * 256 + getD zs (k + 2) 0 * 65536 + getD zs (k + 3) 0 * 16777216) q
-      ∙ sym (G .is))))
-
   pub equal-ends :
       {i k x y : ℕ} → 4 ≤ length xs → length xs ≡ length ys → ((j : ℕ) → j < i → getD xs j 0 ≡ getD ys j 0) → k ≤ i → length xs ≤ k + 4 →
       Four xs k x → Four ys k y → eqb x y ≡ leb 4 (length xs) && same xs ys
@@ -250,7 +251,7 @@ module _ (xs ys : List ℕ) (small : (j : ℕ) → getD xs j 0 < 256) (small′ 
       by : (b : Bool) → eqb x y ≡ b → b ≡ leb 4 (length xs) && same xs ys
       by true e =
           sym (and-both (leb 4 (length xs)) (same xs ys) (le-leb 4 (length xs) m) (same-is xs ys (blocks-end n h lo hi F G (eqb-true x y e))))
-      by false e = equal-differs F G (λ q. false≢true (sym e ∙ eq-eqb x y q))
+      by false e = equal-differs xs ys F G (λ q. false≢true (sym e ∙ eq-eqb x y q))
 
 -- words that are the same are spelled alike
 pub equal-alike : (xs ys : List ℕ) {r : Bool} → r ≡ leb 4 (length xs) && same xs ys → r ≡ true → same (map lower xs) (map lower ys) ≡ true

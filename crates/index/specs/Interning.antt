@@ -3,7 +3,7 @@
 use mathlib.Core.Path.{_≡_}
 use mathlib.Core.Bool.{Bool, true, false, cond, _&&_, not}
 use mathlib.Core.List.{List, map}
-use Prim.Native.Nat.{ℕ, zero, suc, _+_, _≤_, _<_}
+use Prim.Native.Nat.{ℕ, zero, suc, _+_, _-_, _≤_, _<_}
 use lib.Dec.{eqb}
 use lib.ListN.{length, getD, set}
 use lib.Seq.{sets}
@@ -116,6 +116,12 @@ module _ (bytes starts lengths : List ℕ) where
         (terminals : List ℕ) (buckets : ℕ) → Links terminals buckets next limit
         → first ≡ last-index-below (chained terminals buckets (word-bucket buckets word)) limit
         → r ≡ at-link (last-index-below (wanted terminals buckets word) limit)
+
+  -- a link leads to a token below the limit that is spelled like the word
+  pub record Leads (word : List ℕ) (limit first : ℕ) : Type 0 where
+    pub some : 0 < first
+    pub low : first - 1 < limit
+    pub alike : spells word (first - 1) ≡ true
 
   -- the symbol of an identifier i, by its bucket's chain
   pub record Least (next : List ℕ) (head i r : ℕ) : Type 0 where

@@ -1,7 +1,7 @@
 // Interning: for each identifier the least identifier that is spelled alike, letters without case.
 ghost use mathlib.Core.Path.{_≡_};
 ghost use mathlib.Core.List.{map};
-ghost use mathlib.Core.Bool.{_&&_};
+ghost use mathlib.Core.Bool.{true, _&&_};
 ghost use lib.Dec.{leb};
 ghost use Prim.Native.Nat.{_+_, _≤_, _<_, min};
 ghost use lib.ListN.{length, getD};
@@ -9,7 +9,7 @@ ghost use Rattle.express.specs.tokens.Bytes.{lower, same};
 ghost use Rattle.express.specs.tokens.Spelling.{spelling};
 ghost use Rattle.index.specs.Bucket.{Four, IsBlock, Joins, Hashes, InRange, hash-of};
 ghost use Rattle.index.specs.Room.{enough};
-ghost use Rattle.index.specs.Interning.{Along, Lined, Least, ReadyToEnter, Enters, Fills, ReadyToFill, Interns, FindsSymbol};
+ghost use Rattle.index.specs.Interning.{Along, Lined, Leads, Least, ReadyToEnter, Enters, Fills, ReadyToFill, Interns, FindsSymbol};
 use crate::Outcome;
 use crate::dictionary::Found;
 use crate::scratch;
@@ -127,9 +127,11 @@ fn range(h: u64, buckets: usize) -> usize
 
 // Are two words the same, byte by byte, and as long as a block or longer?
 fn equal(a: &[u8], b: &[u8]) -> bool
-    requires { ⌜ length (now a) ≡ length (now b) ⌝ }
     ensures { λ r. ⌜ r ≡ leb 4 (length (now (a .entry))) && same (now (a .entry)) (now (b .entry)) ⌝ }
 {
+    if a.len() != b.len() {
+        return false;
+    }
     if a.len() < BLOCK {
         return false;
     }
@@ -144,15 +146,12 @@ fn equal(a: &[u8], b: &[u8]) -> bool
     four(a, last) == four(b, last)
 }
 
-// Are two words spelled alike? Most are the same, letter by letter.
+// Are two words spelled alike?
 fn alike(a: &[u8], b: &[u8]) -> bool
     ensures { λ r. ⌜ r ≡ same (map lower (now (a .entry))) (map lower (now (b .entry))) ⌝ }
 {
     if a.len() != b.len() {
         return false;
-    }
-    if equal(a, b) {
-        return true;
     }
     let mut i = 0;
     while i < a.len() {
@@ -230,6 +229,30 @@ fn along(
     Found::Nothing
 }
 
+// Does a link lead to a token below the limit that is the same as a word, byte by byte? So does the head of a chain for most names.
+fn leads(
+    bytes: &[u8],
+    starts: &[u32],
+    lengths: &[u32],
+    word: &[u8],
+    limit: usize,
+    first: usize,
+) -> bool
+    requires { ⌜ (limit ≤ length (now starts)) × (limit ≤ length (now lengths)) ⌝ }
+    ensures { λ r. ⌜ (r ≡ true → Leads (now (bytes .entry)) (now (starts .entry)) (now (lengths .entry)) (now (word .entry)) limit first) ⌝ }
+{
+    if first == 0 {
+        return false;
+    }
+    if limit < first {
+        return false;
+    }
+    let k = first - 1;
+    let from = begin(bytes, starts, k);
+    let to = end(bytes, starts, lengths, k);
+    equal(&bytes[from..to], word)
+}
+
 // The least identifier that is spelled like identifier i, among those on its bucket's chain; i, where there is none.
 fn least(bytes: &[u8], starts: &[u32], lengths: &[u32], next: &[u32], head: u32, i: usize) -> usize
     requires { ⌜ Lined (now bytes) (now starts) (now lengths) (now next) (i + 1) ⌝ }
@@ -238,7 +261,11 @@ fn least(bytes: &[u8], starts: &[u32], lengths: &[u32], next: &[u32], head: u32,
     let from = begin(bytes, starts, i);
     let to = end(bytes, starts, lengths, i);
     let word = &bytes[from..to];
-    let found = along(bytes, starts, lengths, next, word, i, index(head));
+    let first = index(head);
+    if leads(bytes, starts, lengths, word, i, first) {
+        return first - 1;
+    }
+    let found = along(bytes, starts, lengths, next, word, i, first);
     let Found::At(k) = found else {
         return i;
     };

@@ -2,7 +2,7 @@
 use Rattle.index.proofs.symbols.alike.Statement.{statement}
 use Rattle.index.proofs.symbols.alike.Tie as tie
 use borrow.Author.Needs.{needs}
-use Rattle.index.proofs.Spellings.{agree, equal-alike, differ-length, differ-at}
+use Rattle.index.proofs.Spellings.{agree, differ-length, differ-at}
 use Rattle.express.specs.tokens.Bytes.{lower}
 use borrow.Author.Count.{below-more}
 use lib.ListN.{length, getD}
@@ -20,20 +20,14 @@ abbrev μ-loop : tie.MeasureT-loop
 returns : tie.Need-returns Inv-loop μ-loop
 returns c = sym (differ-length (c .before .before .before .args .a .now) (c .before .before .before .args .b .now) (c .if1 .taken))
 
-equal-requires : tie.Need-equal-requires Inv-loop μ-loop
-equal-requires c κs = search needs
-
-returns-2 : tie.Need-returns-2 Inv-loop μ-loop
-returns-2 c = let s = c .before .before .before .before .before in sym (equal-alike (s .args .a .now) (s .args .b .now) (c .before .equal .ensures) (c .if2 .taken))
-
 loop-holds : tie.Need-loop-holds Inv-loop μ-loop
 loop-holds c = search needs
 
-shared-slice-read-if3 : tie.Need-shared-slice-read-if3 Inv-loop μ-loop
-shared-slice-read-if3 c = search needs
+shared-slice-read-if2 : tie.Need-shared-slice-read-if2 Inv-loop μ-loop
+shared-slice-read-if2 c = search needs
 
-shared-slice-read-if3-2 : tie.Need-shared-slice-read-if3-2 Inv-loop μ-loop
-shared-slice-read-if3-2 c = search needs
+shared-slice-read-if2-2 : tie.Need-shared-slice-read-if2-2 Inv-loop μ-loop
+shared-slice-read-if2-2 c = search needs
 
 shared-slice-read-lower-case : tie.Need-shared-slice-read-lower-case Inv-loop μ-loop
 shared-slice-read-lower-case c = search needs
@@ -47,11 +41,11 @@ shared-slice-read-lower-case-2 c = search needs
 lower-case-requires-2 : tie.Need-lower-case-requires-2 Inv-loop μ-loop
 lower-case-requires-2 c κs = search needs
 
-returns-3 : tie.Need-returns-3 Inv-loop μ-loop
-returns-3 c =
-    let s = c .before .before .before .before .before .before .before .before .before .before .before .before .before .before .before in
+returns-2 : tie.Need-returns-2 Inv-loop μ-loop
+returns-2 c =
+    let s = c .before .before .before .before .before .before .before .before .before .before .before .before .before in
     sym (differ-at (s .args .a .now) (s .args .b .now) (c .before .before .before .before .before .before .before .before .before .loop .i)
-    (λ e. c .if4 .taken (c .before .before .before .lower-case .ensures ∙ e ∙ sym (c .before .lower-case2 .ensures))))
+    (λ e. c .if3 .taken (c .before .before .before .lower-case .ensures ∙ e ∙ sym (c .before .lower-case2 .ensures))))
 
 add-i : tie.Need-add-i Inv-loop μ-loop
 add-i c = search needs
@@ -63,12 +57,12 @@ loop-again : tie.Need-loop-again Inv-loop μ-loop
 loop-again c = (
   search needs,
   search needs,
-  below-more _ _ (c .before .before .before .before .loop .inv .2) (⊎-elim (λ w. sym (w .2 .ensures) ∙ w .5 .left ∙ w .4 .ensures) (λ w. ap lower (w .left)) (c .if3 .came)),
+  below-more _ _ (c .before .before .before .before .loop .inv .2) (⊎-elim (λ w. sym (w .2 .ensures) ∙ w .5 .left ∙ w .4 .ensures) (λ w. ap lower (w .left)) (c .if2 .came)),
 )
 
-returns-4 : tie.Need-returns-4 Inv-loop μ-loop
-returns-4 c =
-    let s = c .before .before .before .before .before .before .before in
+returns-3 : tie.Need-returns-3 Inv-loop μ-loop
+returns-3 c =
+    let s = c .before .before .before .before .before in
     sym (agree (s .args .a .now) (s .args .b .now) (search needs) (λ k l. c .before .loop .inv .2 k (omega (arith, c .loop-test .left, l))))
 
 pub alike-spec : {M : Type 1} → statement M
@@ -78,17 +72,15 @@ alike-spec =
     Inv-loop
     μ-loop
     returns
-    equal-requires
-    returns-2
     loop-holds
-    shared-slice-read-if3
-    shared-slice-read-if3-2
+    shared-slice-read-if2
+    shared-slice-read-if2-2
     shared-slice-read-lower-case
     lower-case-requires
     shared-slice-read-lower-case-2
     lower-case-requires-2
-    returns-3
+    returns-2
     add-i
     loop-less
     loop-again
-    returns-4)
+    returns-3)
