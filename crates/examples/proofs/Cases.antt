@@ -7,11 +7,11 @@ use lib.IntN.{pow, one}
 use Rattle.ebnf.specs.Set.{mem}
 use Rattle.ebnf.specs.Parse.{descend, budget, parse}
 use Rattle.ebnf.specs.Depth.{first-deep}
-use Rattle.express.specs.tokens.Bytes.{upper, lower, word-byte, space}
+use Rattle.express.specs.tokens.Bytes.{upper, lower, word-byte, space, same}
 use Rattle.express.specs.tokens.Lexis.{Lexed, tokens, end-of-run, end-of-remark, skipped-in, skipped, numeral, end-of-integer, end-of-exponent, end-of-real, end-of-string}
 use Rattle.express.specs.tokens.Lexis.{end-of-binary, lone, size-of-symbol, end-of-symbol, token-kind-at, end-of-token, lexed-in, integer-value, binary-bits}
 use Rattle.express.specs.tokens.Terminal.{among, terminal-of}
-use Rattle.express.specs.tokens.Spelling.{same, symbol-of, symbols-of}
+use Rattle.express.specs.tokens.Spelling.{symbol-of, symbols-of}
 use Rattle.express.specs.syntax.Syntax.{parsed}
 use Rattle.relations.specs.Select.{span, first-from, keep, any}
 use Rattle.express.specs.syntax.Tree.{owner, schema-of}

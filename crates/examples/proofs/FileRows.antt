@@ -9,11 +9,11 @@ use lib.ListN.{length, getD}
 use Rattle.ebnf.specs.Set.{mem}
 use Rattle.ebnf.specs.Parse.{descend, budget, parse}
 use Rattle.ebnf.specs.Depth.{first-deep}
-use Rattle.express.specs.tokens.Bytes.{upper, lower, word-byte, space}
+use Rattle.express.specs.tokens.Bytes.{upper, lower, word-byte, space, same}
 use Rattle.express.specs.tokens.Lexis.{tokens, end-of-run, end-of-remark, skipped-in, skipped, numeral, end-of-integer, end-of-exponent, end-of-real, end-of-string, end-of-binary}
 use Rattle.express.specs.tokens.Lexis.{lone, size-of-symbol, end-of-symbol, token-kind-at, end-of-token, lexed-in, integer-value, binary-bits}
 use Rattle.express.specs.tokens.Terminal.{bytes, among, terminal-of}
-use Rattle.express.specs.tokens.Spelling.{same, symbol-of, symbols-of}
+use Rattle.express.specs.tokens.Spelling.{symbol-of, symbols-of}
 use Rattle.express.specs.syntax.Syntax.{parsed}
 use Rattle.express.specs.syntax.Tree.{count, owner, schema-of}
 use Rattle.express.specs.names.Scope.{declarations, items, own, super-edges, renaming-edges, type-edges, inherited, candidates, type-meant, items-of, item-meant, means, binding, bindings}

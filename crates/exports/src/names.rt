@@ -33,14 +33,15 @@ pub extern "C" fn woffulent_intern(
     bytes: &[u8],
     starts: &[u32],
     lengths: &[u32],
+    terminals: &[u8],
     symbols: &mut [u32],
     heads: &mut [u32],
     next: &mut [u32],
 ) -> bool
-    ensures { λ r. ⌜ Encoded done (λ o. Interns (now (bytes .entry)) (now (starts .entry)) (now (lengths .entry)) (now (symbols .entry)) (now (heads .entry)) (now (next .entry)) o
-        (now (symbols .exit)) (now (heads .exit)) (now (next .exit))) r ⌝ }
+    ensures { λ r. ⌜ Encoded done (λ o. Interns (now (bytes .entry)) (now (starts .entry)) (now (lengths .entry)) (now (terminals .entry)) (now (symbols .entry)) (now (heads .entry))
+        (now (next .entry)) o (now (symbols .exit)) (now (heads .exit)) (now (next .exit))) r ⌝ }
 {
-    is_done(index::symbols::intern(bytes, starts, lengths, symbols, heads, next))
+    is_done(index::symbols::intern(bytes, starts, lengths, terminals, symbols, heads, next))
 }
 
 #[no_mangle]

@@ -9,9 +9,11 @@ ghost use Prim.Native.Nat.{_<_};
 ghost use Rattle.index.specs.Bucket.{mixed, InBucket};
 ghost use Rattle.index.specs.Room.{fits};
 
-// Numbers of 32 bits are below this one; two large odd numbers to multiply by (the first is 2 ^ 32 over the golden ratio), and
+// Numbers of 32 bits are below this one, which stands here twice, the second as a count; two large odd numbers to multiply by (the first is 2 ^ 32 over the golden ratio), and
 // the bits that are folded between them.
 const WORD: u64 = 4294967296;
+
+const RANGE: usize = 4294967296;
 
 const FIRST_FACTOR: u64 = 2654435761;
 

@@ -1,15 +1,16 @@
-// Interning: for each token the least token that is spelled alike, letters without case.
+// Interning: for each identifier the least identifier that is spelled alike, letters without case.
 ghost use mathlib.Core.Path.{_≡_};
 ghost use mathlib.Core.List.{map};
-ghost use Prim.Native.Nat.{_+_, _<_, min};
+ghost use mathlib.Core.Bool.{true, _&&_};
+ghost use lib.Dec.{leb};
+ghost use Prim.Native.Nat.{_+_, _≤_, _<_, min};
 ghost use lib.ListN.{length, getD};
-ghost use Rattle.express.specs.tokens.Bytes.{lower};
-ghost use Rattle.express.specs.tokens.Spelling.{same, spelling, symbol-of};
-ghost use Rattle.index.specs.Bucket.{InBucket, hash-from};
+ghost use Rattle.express.specs.tokens.Bytes.{lower, same};
+ghost use Rattle.express.specs.tokens.Spelling.{spelling};
+ghost use Rattle.index.specs.Bucket.{Four, IsBlock, Joins, Hashes, InRange, hash-of};
 ghost use Rattle.index.specs.Room.{enough};
-ghost use Rattle.index.specs.Interning.{Along, Lined, Linked, Fills, ReadyToFill, Interns, FindsSymbol};
+ghost use Rattle.index.specs.Interning.{Along, Lined, Leads, Least, ReadyToEnter, Enters, Fills, ReadyToFill, Interns, FindsSymbol};
 use crate::Outcome;
-use crate::bucket;
 use crate::dictionary::Found;
 use crate::scratch;
 use columns::clear32;
@@ -17,10 +18,22 @@ use columns::index;
 use columns::number;
 use columns::shorter;
 
-// What makes a capital letter small, and what a hash is multiplied by for each byte.
+// What makes a capital letter small.
 const TO_LOWER: u8 = 32;
 
-const MULTIPLIER: u64 = 31;
+// How many bytes a block has; what the second, the third and the fourth of them count; the low five bits of all four, and
+// of one.
+const BLOCK: usize = 4;
+
+const SECOND: u64 = 256;
+
+const THIRD: u64 = 65536;
+
+const FOURTH: u64 = 16777216;
+
+const LOW_BITS: u64 = 31 + 31 * SECOND + 31 * THIRD + 31 * FOURTH;
+
+const FIVE_BITS: u8 = 32;
 
 // A letter in lower case.
 fn lower_case(b: u8) -> u8
@@ -36,22 +49,101 @@ fn lower_case(b: u8) -> u8
 }
 
 fn wide(b: u8) -> u64
-    ensures { λ r. ⌜ r ≡ b ⌝ }
+    ensures { λ r. ⌜ (r ≡ b) × (r < 256) ⌝ }
 {
     b as u64
 }
 
+// Four bytes from a place on as one number.
+fn four(s: &[u8], i: usize) -> u64
+    requires { ⌜ i + 4 ≤ length (now s) ⌝ }
+    ensures { λ r. ⌜ Four (now (s .entry)) i r ⌝ }
+{
+    wide(s[i]) + wide(s[i + 1]) * SECOND + wide(s[i + 2]) * THIRD + wide(s[i + 3]) * FOURTH
+}
+
+// The block of a word at a place: of each byte the bits that the two cases of a letter share.
+fn block(word: &[u8], i: usize) -> u64
+    requires { ⌜ i + 4 ≤ length (now word) ⌝ }
+    ensures { λ r. ⌜ IsBlock (now (word .entry)) i r ⌝ }
+{
+    four(word, i) & LOW_BITS
+}
+
+// The block of a word that is shorter than a block.
+fn short_block(word: &[u8]) -> u64
+    requires { ⌜ length (now word) < 4 ⌝ }
+    ensures { λ r. ⌜ IsBlock (now (word .entry)) 0 r ⌝ }
+{
+    let n = word.len();
+    if n == 0 {
+        return 0;
+    }
+    let first = wide(word[0] % FIVE_BITS);
+    let middle = wide(word[n / 2] % FIVE_BITS);
+    let last = wide(word[n - 1] % FIVE_BITS);
+    if n == 1 {
+        return first;
+    }
+    if n == 2 {
+        return first + middle * SECOND;
+    }
+    first + middle * SECOND + last * THIRD
+}
+
+// A number in which two have a say.
+fn join(h: u64, x: u64) -> u64
+    requires { ⌜ (h < 4294967296) × (x < 4294967296) ⌝ }
+    ensures { λ r. ⌜ Joins h x r ⌝ }
+{
+    (h + x) % crate::WORD * crate::FIRST_FACTOR % crate::WORD
+}
+
 // A number for a spelling.
 fn hash(word: &[u8]) -> u64
-    ensures { λ r. ⌜ r ≡ hash-from 0 (map lower (now (word .entry))) ⌝ }
+    ensures { λ r. ⌜ Hashes (now (word .entry)) r ⌝ }
 {
+    let n = word.len();
+    if n < BLOCK {
+        return join(0, short_block(word));
+    }
+    let last = n - BLOCK;
     let mut h: u64 = 0;
     let mut i = 0;
-    while i < word.len() {
-        h = (h * MULTIPLIER + wide(lower_case(word[i]))) % crate::WORD;
-        i += 1;
+    while i < last {
+        h = join(h, block(word, i));
+        i += BLOCK;
     }
-    h
+    join(h, block(word, last))
+}
+
+// The bucket of a number of 32 bits.
+fn range(h: u64, buckets: usize) -> usize
+    requires { ⌜ (h < 4294967296) × (0 < buckets) ⌝ }
+    ensures { λ r. ⌜ InRange buckets h r ⌝ }
+{
+    (h * (shorter(buckets, crate::RANGE) as u64) / crate::WORD) as usize
+}
+
+// Are two words the same, byte by byte, and as long as a block or longer?
+fn equal(a: &[u8], b: &[u8]) -> bool
+    ensures { λ r. ⌜ r ≡ leb 4 (length (now (a .entry))) && same (now (a .entry)) (now (b .entry)) ⌝ }
+{
+    if a.len() != b.len() {
+        return false;
+    }
+    if a.len() < BLOCK {
+        return false;
+    }
+    let last = a.len() - BLOCK;
+    let mut i = 0;
+    while i < last {
+        if four(a, i) != four(b, i) {
+            return false;
+        }
+        i += BLOCK;
+    }
+    four(a, last) == four(b, last)
 }
 
 // Are two words spelled alike?
@@ -63,8 +155,10 @@ fn alike(a: &[u8], b: &[u8]) -> bool
     }
     let mut i = 0;
     while i < a.len() {
-        if lower_case(a[i]) != lower_case(b[i]) {
-            return false;
+        if a[i] != b[i] {
+            if lower_case(a[i]) != lower_case(b[i]) {
+                return false;
+            }
         }
         i += 1;
     }
@@ -89,11 +183,11 @@ fn end(bytes: &[u8], starts: &[u32], lengths: &[u32], i: usize) -> usize
 // The bucket of a token's spelling.
 fn token_bucket(bytes: &[u8], starts: &[u32], lengths: &[u32], i: usize, buckets: usize) -> usize
     requires { ⌜ (i < length (now starts)) × (i < length (now lengths)) × (0 < buckets) ⌝ }
-    ensures { λ r. ⌜ InBucket buckets (hash-from 0 (spelling (now (bytes .entry)) (now (starts .entry)) (now (lengths .entry)) i)) r ⌝ }
+    ensures { λ r. ⌜ InRange buckets (hash-of (spelling (now (bytes .entry)) (now (starts .entry)) (now (lengths .entry)) i)) r ⌝ }
 {
     let from = begin(bytes, starts, i);
     let to = end(bytes, starts, lengths, i);
-    bucket(hash(&bytes[from..to]), buckets)
+    range(hash(&bytes[from..to]), buckets)
 }
 
 // Is token k spelled like a word?
@@ -135,43 +229,104 @@ fn along(
     Found::Nothing
 }
 
-// The least token that is spelled like token i, among those on its bucket's chain; i, where there is none.
+// Does a link lead to a token below the limit that is the same as a word, byte by byte? So does the head of a chain for most names.
+fn leads(
+    bytes: &[u8],
+    starts: &[u32],
+    lengths: &[u32],
+    word: &[u8],
+    limit: usize,
+    first: usize,
+) -> bool
+    requires { ⌜ (limit ≤ length (now starts)) × (limit ≤ length (now lengths)) ⌝ }
+    ensures { λ r. ⌜ (r ≡ true → Leads (now (bytes .entry)) (now (starts .entry)) (now (lengths .entry)) (now (word .entry)) limit first) ⌝ }
+{
+    if first == 0 {
+        return false;
+    }
+    if limit < first {
+        return false;
+    }
+    let k = first - 1;
+    let from = begin(bytes, starts, k);
+    let to = end(bytes, starts, lengths, k);
+    equal(&bytes[from..to], word)
+}
+
+// The least identifier that is spelled like identifier i, among those on its bucket's chain; i, where there is none.
 fn least(bytes: &[u8], starts: &[u32], lengths: &[u32], next: &[u32], head: u32, i: usize) -> usize
-    requires { ⌜ Linked (now bytes) (now starts) (now lengths) (now next) head i ⌝ }
-    ensures { λ r. ⌜ r ≡ symbol-of (now (bytes .entry)) (now (starts .entry)) (now (lengths .entry)) i ⌝ }
+    requires { ⌜ Lined (now bytes) (now starts) (now lengths) (now next) (i + 1) ⌝ }
+    ensures { λ r. ⌜ Least (now (bytes .entry)) (now (starts .entry)) (now (lengths .entry)) (now (next .entry)) head i r ⌝ }
 {
     let from = begin(bytes, starts, i);
     let to = end(bytes, starts, lengths, i);
     let word = &bytes[from..to];
-    let found = along(bytes, starts, lengths, next, word, i, index(head));
+    let first = index(head);
+    if leads(bytes, starts, lengths, word, i, first) {
+        return first - 1;
+    }
+    let found = along(bytes, starts, lengths, next, word, i, first);
     let Found::At(k) = found else {
         return i;
     };
     k
 }
 
-// The symbol of each token, in text order. Only the first token of a spelling goes on a chain, so that a chain is as
-// long as the spellings of its bucket.
+// Stores the symbol of an identifier. Only the first of a spelling goes on a chain, so that a chain is as long as the
+// spellings of its bucket.
+fn enter(
+    bytes: &[u8],
+    starts: &[u32],
+    lengths: &[u32],
+    i: usize,
+    symbols: &mut [u32],
+    heads: &mut [u32],
+    next: &mut [u32],
+)
+    requires { ⌜ ReadyToEnter (now bytes) (now starts) (now lengths) (now symbols) (now heads) (now next) i ⌝ }
+    ensures { λ _. ⌜ Enters (now (bytes .entry)) (now (starts .entry)) (now (lengths .entry)) i (now (symbols .entry)) (now (heads .entry)) (now (next .entry))
+        (now (symbols .exit)) (now (heads .exit)) (now (next .exit)) ⌝ }
+{
+    let b = token_bucket(bytes, starts, lengths, i, heads.len());
+    let head = heads[b];
+    let symbol = least(bytes, starts, lengths, next, head, i);
+    symbols[i] = number(symbol);
+    next[i] = head;
+    if symbol == i {
+        heads[b] = number(i + 1);
+    }
+}
+
+// The terminal of a token; past the column's end 0, which is none.
+fn terminal_at(terminals: &[u8], i: usize) -> u8
+    ensures { λ r. ⌜ r ≡ getD (now (terminals .entry)) i 0 ⌝ }
+{
+    if i < terminals.len() {
+        return terminals[i];
+    }
+    codes::NONE
+}
+
+// The symbol of each token, in text order; what is no identifier has its own number, and is on no chain.
 fn fill(
     bytes: &[u8],
     starts: &[u32],
     lengths: &[u32],
+    terminals: &[u8],
     symbols: &mut [u32],
     heads: &mut [u32],
     next: &mut [u32],
 )
     requires { ⌜ ReadyToFill (now starts) (now lengths) (now symbols) (now heads) (now next) ⌝ }
-    ensures { λ _. ⌜ Fills (now (bytes .entry)) (now (starts .entry)) (now (lengths .entry)) (now (symbols .entry)) (now (next .entry)) (now (symbols .exit)) (now (heads .exit)) (now (next .exit)) ⌝ }
+    ensures { λ _. ⌜ Fills (now (bytes .entry)) (now (starts .entry)) (now (lengths .entry)) (now (terminals .entry)) (now (symbols .entry)) (now (next .entry))
+        (now (symbols .exit)) (now (heads .exit)) (now (next .exit)) ⌝ }
 {
     let mut i = 0;
     while i < starts.len() {
-        let b = token_bucket(bytes, starts, lengths, i, heads.len());
-        let head = heads[b];
-        let symbol = least(bytes, starts, lengths, next, head, i);
-        symbols[i] = number(symbol);
-        next[i] = head;
-        if symbol == i {
-            heads[b] = number(i + 1);
+        if terminal_at(terminals, i) == codes::IDENTIFIER {
+            enter(bytes, starts, lengths, i, symbols, heads, next);
+        } else {
+            symbols[i] = number(i);
         }
         i += 1;
     }
@@ -195,12 +350,13 @@ pub fn intern(
     bytes: &[u8],
     starts: &[u32],
     lengths: &[u32],
+    terminals: &[u8],
     symbols: &mut [u32],
     heads: &mut [u32],
     next: &mut [u32],
 ) -> Outcome
-    ensures { λ r. ⌜ Interns (now (bytes .entry)) (now (starts .entry)) (now (lengths .entry)) (now (symbols .entry)) (now (heads .entry)) (now (next .entry)) r
-        (now (symbols .exit)) (now (heads .exit)) (now (next .exit)) ⌝ }
+    ensures { λ r. ⌜ Interns (now (bytes .entry)) (now (starts .entry)) (now (lengths .entry)) (now (terminals .entry)) (now (symbols .entry)) (now (heads .entry))
+        (now (next .entry)) r (now (symbols .exit)) (now (heads .exit)) (now (next .exit)) ⌝ }
 {
     if !room(
         starts.len(),
@@ -212,11 +368,11 @@ pub fn intern(
         return Outcome::Short;
     }
     clear32(heads, 0);
-    fill(bytes, starts, lengths, symbols, heads, next);
+    fill(bytes, starts, lengths, terminals, symbols, heads, next);
     Outcome::Done
 }
 
-// The symbol of a word, by the chains that `intern` left: the least token that is spelled like it.
+// The symbol of a word, by the chains that `intern` left: the least identifier that is spelled like it.
 pub fn symbol_of(
     bytes: &[u8],
     starts: &[u32],
@@ -230,7 +386,7 @@ pub fn symbol_of(
     if heads.len() == 0 {
         return Found::Nothing;
     }
-    let b = bucket(hash(word), heads.len());
+    let b = range(hash(word), heads.len());
     let limit = shorter(starts.len(), shorter(lengths.len(), next.len()));
     along(bytes, starts, lengths, next, word, limit, index(heads[b]))
 }

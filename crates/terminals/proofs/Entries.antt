@@ -9,7 +9,7 @@ use native.Mathlib.Nat.{le-of-suc-le-suc, not-suc-le-zero, add-zero, zero-add, s
 use lib.ListN.{length, take, drop, getD, List·getD-append}
 use lib.Seq.{getD-append-add}
 use lib.Dec.{T, eqb, leb, ltb, eqb→eq, leb→le, ltb→lt}
-use Rattle.express.specs.tokens.Spelling.{same}
+use Rattle.express.specs.tokens.Bytes.{same}
 use Rattle.express.specs.tokens.Terminal.{Fixed, symbols, reserved, among, word-terminal, symbol-terminal}
 use Rattle.express.proofs.tokens.Spelling.{same-true, same-refl}
 use borrow.Author.Tests.{lt-ltb, le-ltb, ne-eqb}

@@ -8,8 +8,7 @@ use native.Mathlib.Numerals.{add-one}
 use lib.ListN.{length, take, drop, getD, length-take, length-drop, length-map, drop-of-length-le, List·getD-eq-default, List·getD-map}
 use lib.Seq.{drop-cons, getD-take, getD-drop, take-all}
 use borrow.Author.Tests.{eq-eqb, ne-eqb}
-use Rattle.express.specs.tokens.Bytes.{upper}
-use Rattle.express.specs.tokens.Spelling.{same}
+use Rattle.express.specs.tokens.Bytes.{upper, same}
 use Rattle.terminals.specs.Lookup.{folded, hash}
 use Rattle.terminals.specs.Spellings.{mixed, text-size, text}
 

@@ -4,8 +4,7 @@ use mathlib.Core.Path.{_≡_}
 use mathlib.Core.List.{List, [], _++_, map}
 use Prim.Native.Nat.{ℕ, _+_, _-_, _<_}
 use lib.ListN.{length, getD}
-use Rattle.express.specs.tokens.Bytes.{upper}
-use Rattle.express.specs.tokens.Spelling.{same}
+use Rattle.express.specs.tokens.Bytes.{upper, same}
 use Rattle.express.specs.tokens.Terminal.{symbols, reserved}
 use Rattle.terminals.specs.Spellings.{spelling-count, first-code, mixed}
 

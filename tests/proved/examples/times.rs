@@ -6,7 +6,7 @@
 use compare::random::{well_typed, Rng, LARGEST};
 use proved::{intern, parse, scan, terminals};
 use reference::parser;
-use reference::terminals::{classify, Terminal};
+use reference::terminals::classify;
 use reference::{symbols, tokens, AnswerRow, TokenRow, MAX_BYTES};
 use std::hint::black_box;
 use std::time::Instant;
@@ -67,13 +67,11 @@ fn steps(file: &[u8], rows: &[TokenRow]) -> [Timed; 4] {
     let (mut out, mut symbols, mut heads, mut next) = (vec![0; rows.len()], column(), vec![0; BUCKETS], column());
     assert_eq!(scan(file, &mut kinds, &mut starts, &mut lengths), Ok(rows.len()));
     let words = classify(file, rows);
-    let names = rows.iter().zip(&words).filter(|(_, &word)| word == Terminal::Identifier).map(|(row, _)| row);
-    let (name_starts, name_lengths): (Vec<u32>, Vec<u32>) = names.map(|row| (row.start, row.length)).unzip();
     let file = black_box(file);
     let read = best(|| scan(file, &mut kinds, &mut starts, &mut lengths), || tokens::read(file));
     let classified = best(|| terminals(file, &kinds, &starts, &lengths, &mut out), || classify(file, rows));
     let interned = best(
-        || intern(file, &name_starts, &name_lengths, &mut symbols, &mut heads, &mut next),
+        || intern(file, &starts, &lengths, &out, &mut symbols, &mut heads, &mut next),
         || symbols::intern(file, rows, &words),
     );
     let (mut nodes, mut names, mut sizes, mut roles) = (vec![0; rows.len()], column(), column(), column());

@@ -73,6 +73,8 @@ extern "C" {
         starts_length: usize,
         lengths: *const u32,
         lengths_length: usize,
+        terminals: *const u8,
+        terminals_length: usize,
         symbols: *mut u32,
         symbols_length: usize,
         heads: *mut u32,
@@ -254,12 +256,13 @@ pub fn binary(s: &[u8], start: usize, length: usize) -> u64 {
     unsafe { woffulent_binary(s.as_ptr(), s.len(), start, length) }
 }
 
-/// Stores for each token the least one that is spelled alike; whether there was room. The chains are left for
-/// `symbol_of`.
+/// Stores for each identifier the least one that is spelled alike, and for any other token its own number; whether there
+/// was room. The chains are left for `symbol_of`.
 pub fn intern(
     bytes: &[u8],
     starts: &[u32],
     lengths: &[u32],
+    terminals: &[u8],
     symbols: &mut [u32],
     heads: &mut [u32],
     next: &mut [u32],
@@ -273,6 +276,8 @@ pub fn intern(
             starts.len(),
             lengths.as_ptr(),
             lengths.len(),
+            terminals.as_ptr(),
+            terminals.len(),
             symbols.as_mut_ptr(),
             symbols.len(),
             heads.as_mut_ptr(),
@@ -283,7 +288,7 @@ pub fn intern(
     }
 }
 
-/// The least token that is spelled like a word, by the chains that `intern` left.
+/// The least identifier that is spelled like a word, by the chains that `intern` left.
 pub fn symbol_of(
     bytes: &[u8],
     starts: &[u32],

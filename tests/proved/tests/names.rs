@@ -1,4 +1,4 @@
-//! The proved interning and dictionary: the least token of a spelling, the least entry with a key and those after it.
+//! The proved interning and dictionary: the least identifier of a spelling, the least entry with a key and those after it.
 
 use compare::cases;
 use compare::random::{self, Rng};
@@ -10,12 +10,16 @@ const FILES: u64 = 10_000;
 const DICTIONARIES: u64 = 5_000;
 /// What columns and scratch hold before a call.
 const BEFORE: u32 = 0xdead_beef;
+/// The terminal of an identifier.
+const IDENTIFIER: u8 = 1;
 
-/// For each token the least one that is spelled alike.
-fn least(bytes: &[u8], rows: &[TokenRow]) -> Vec<u32> {
+/// For each identifier the least one that is spelled alike, and for any other token its own number; tokens past the
+/// terminals are no identifiers.
+fn least(words: &[Vec<u8>], terminals: &[u8]) -> Vec<u32> {
     let mut first = HashMap::new();
-    let spellings = rows.iter().map(|row| tokens::text(bytes, row).to_ascii_lowercase());
-    spellings.zip(0..).map(|(spelling, token)| *first.entry(spelling).or_insert(token)).collect()
+    let terminals = terminals.iter().copied().chain(std::iter::repeat(0));
+    let entries = (0..).zip(words).zip(terminals);
+    entries.map(|((token, word), terminal)| if terminal == IDENTIFIER { *first.entry(word).or_insert(token) } else { token }).collect()
 }
 
 /// The same of identifiers alone, by the reference's symbols.
@@ -27,29 +31,43 @@ fn least_by_reference(bytes: &[u8], rows: &[TokenRow]) -> Vec<(usize, u32)> {
     identifiers.map(|token| (token, *first.entry(symbols.of_token(token as u32)).or_insert(token as u32))).collect()
 }
 
-fn hold(bytes: &[u8], buckets: usize) {
-    let Ok(rows) = tokens::read(bytes) else { return };
+/// The symbols of tokens with any terminals, and the symbol of each of their words.
+fn hold_with(bytes: &[u8], rows: &[TokenRow], terminals: &[u8], buckets: usize) -> Vec<u32> {
     let starts: Vec<u32> = rows.iter().map(|row| row.start).collect();
     let lengths: Vec<u32> = rows.iter().map(|row| row.length).collect();
+    let words: Vec<Vec<u8>> = rows.iter().map(|row| tokens::text(bytes, row).to_ascii_lowercase()).collect();
     let (mut symbols, mut heads, mut next) =
         (vec![BEFORE; rows.len() + 1], vec![BEFORE; buckets], vec![BEFORE; rows.len() + 1]);
-    assert!(intern(bytes, &starts, &lengths, &mut symbols, &mut heads, &mut next));
+    assert!(intern(bytes, &starts, &lengths, terminals, &mut symbols, &mut heads, &mut next));
     assert_eq!((symbols.pop(), next.pop()), (Some(BEFORE), Some(BEFORE)));
-    assert_eq!(symbols, least(bytes, &rows), "{buckets} buckets: {}", bytes.escape_ascii());
-    for (token, row) in rows.iter().enumerate() {
-        let word = tokens::text(bytes, row).to_ascii_uppercase();
-        let found = symbol_of(bytes, &starts, &lengths, &heads, &next, &word);
-        assert_eq!(found, Some(symbols[token] as usize), "token {token}: {}", bytes.escape_ascii());
+    assert_eq!(symbols, least(&words, terminals), "{buckets} buckets: {}", bytes.escape_ascii());
+    let is_identifier = |token: usize| terminals.get(token) == Some(&IDENTIFIER);
+    assert!((0..rows.len()).all(|token| is_identifier(token) != (next[token] == BEFORE)));
+    let mut known = HashMap::new();
+    for token in (0..rows.len()).filter(|&token| is_identifier(token)) {
+        known.entry(&words[token]).or_insert(token);
+    }
+    for word in &words {
+        let found = symbol_of(bytes, &starts, &lengths, &heads, &next, &word.to_ascii_uppercase());
+        assert_eq!(found, known.get(word).copied(), "{}: {}", word.escape_ascii(), bytes.escape_ascii());
     }
     let other = symbol_of(bytes, &starts, &lengths, &heads, &next, b"no such w\xc3\xb6rd");
     assert_eq!(other, None);
+    symbols
+}
+
+fn hold(bytes: &[u8], buckets: usize) {
+    let Ok(rows) = tokens::read(bytes) else { return };
+    let words = terminals::classify(bytes, &rows);
+    let codes: Vec<u8> = words.iter().map(|&word| if word == terminals::Terminal::Identifier { IDENTIFIER } else { 9 }).collect();
+    let symbols = hold_with(bytes, &rows, &codes, buckets);
     for (token, first) in least_by_reference(bytes, &rows) {
         assert_eq!(symbols[token], first, "token {token}: {}", bytes.escape_ascii());
     }
 }
 
 #[test]
-fn tokens_of_files_are_interned() {
+fn identifiers_of_files_are_interned() {
     for seed in 0..FILES {
         let file = random::file(seed);
         hold(&file, if file.len() < 400 { 1 + seed as usize % 9 } else { 4_096 });
@@ -57,13 +75,27 @@ fn tokens_of_files_are_interned() {
     cases::all().iter().for_each(|case| hold(&case.input, 512));
 }
 
-/// Words that have one hash (`c0` and `an` count alike in it), words that differ in case alone, and words that come again
-/// and again, in any order.
+/// Whatever the terminals say is an identifier is interned, a reserved word or a symbol too; a column that is too short
+/// ends the identifiers.
+#[test]
+fn any_terminals_are_followed() {
+    for seed in 0..FILES {
+        let (file, mut rng) = (random::file(seed), Rng::new(seed));
+        let Ok(rows) = tokens::read(&file) else { continue };
+        let length = if rng.one_in(2) { rows.len() + 1 } else { rng.below(rows.len() + 1) };
+        let terminals: Vec<u8> = (0..length).map(|_| rng.below(3) as u8).collect();
+        hold_with(&file, &rows, &terminals, 1 + rng.below(64));
+    }
+}
+
+/// Words that have one hash (`0` and `p` count alike in it), words that differ in case alone, words of one to nine bytes
+/// and longer ones, and words that come again and again, in any order.
 #[test]
 fn words_that_collide_are_told_apart() {
     let mut rng = Rng::new(0);
-    let mut words: Vec<String> = (0..512).map(|n| (0..9).map(|i| ["c0", "an"][n >> i & 1]).collect()).collect();
+    let mut words: Vec<String> = (0..512).map(|n| (0..9).map(|i| ["c0", "cp"][n >> i & 1]).collect()).collect();
     words.extend((0..300).map(|n| format!("entity_{n}")));
+    words.extend((1..40).flat_map(|n| ["a".repeat(n), "b".repeat(n) + "a", "a".repeat(n) + "b"]));
     words
         .extend(["schema", "end_schema", "a", "ab", "abc", "%101", "%0101", "12", "'s'", "+", ":=:"].map(String::from));
     for buckets in [4_096, 61, 1] {
@@ -78,11 +110,22 @@ fn words_that_collide_are_told_apart() {
     }
 }
 
+/// Bytes that differ in bit 5 alone, as the two cases of a letter do, and are no letters: they are spelled apart.
+#[test]
+fn bytes_of_any_sort_are_told_apart() {
+    let word = |n: u32| [b'a', 64 + (n % 64) as u8, b'c', 64 + (n / 64 % 64) as u8, b'e', 32 * (n % 8) as u8];
+    let bytes: Vec<u8> = (0..4_096).flat_map(word).collect();
+    for length in 1..=6 {
+        let rows: Vec<TokenRow> = (0..4_096).map(|n| TokenRow { kind: 1, start: 6 * n, length }).collect();
+        hold_with(&bytes, &rows, &[IDENTIFIER; 4_096], 4_096);
+    }
+}
+
 /// Tokens that reach past the bytes are spelled by what is there; without room nothing is stored.
 #[test]
 fn any_columns_are_interned_or_refused() {
     let bytes = b"ab AB a";
-    let (starts, lengths) = ([0, 3, 6, 6, 9, 0], [2, 2, 1, 99, 5, 0]);
+    let (starts, lengths, terminals) = ([0, 3, 6, 6, 9, 0], [2, 2, 1, 99, 5, 0], [IDENTIFIER; 6]);
     let expected = [0, 0, 2, 2, 4, 4];
     for [starts_lent, lengths_lent, symbols_lent, heads_lent, next_lent] in [
         [6, 6, 6, 1, 6],
@@ -96,7 +139,7 @@ fn any_columns_are_interned_or_refused() {
         let (mut symbols, mut heads, mut next) =
             (vec![BEFORE; symbols_lent], vec![BEFORE; heads_lent], vec![BEFORE; next_lent]);
         let lent = (&starts[..starts_lent], &lengths[..lengths_lent]);
-        let done = intern(bytes, lent.0, lent.1, &mut symbols, &mut heads, &mut next);
+        let done = intern(bytes, lent.0, lent.1, &terminals, &mut symbols, &mut heads, &mut next);
         let room = starts_lent <= lengths_lent.min(symbols_lent).min(next_lent) && heads_lent > 0;
         assert_eq!(done, room);
         let stored = if done { starts_lent } else { 0 };

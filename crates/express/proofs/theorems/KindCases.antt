@@ -13,13 +13,13 @@ use Rattle.ebnf.specs.Parse.{descend, budget, parse}
 use Rattle.ebnf.specs.Depth.{first-deep, good}
 use Rattle.express.specs.kinds.Answer.{UNKNOWN, TRUE, integer, logical, binary, item, end}
 use Rattle.express.specs.tokens.Terminal.{bytes, among, terminal-of}
-use Rattle.express.specs.tokens.Spelling.{same, symbol-of, symbols-of}
+use Rattle.express.specs.tokens.Spelling.{symbol-of, symbols-of}
 use Rattle.express.specs.syntax.Tree.{Table, kind, nodes, is, owner, schema-of}
 use Rattle.relations.specs.Select.{span, first-from, keep, any}
 use Rattle.express.specs.syntax.Syntax.{whole, parsed, with-rows}
 use Rattle.express.specs.syntax.Grammar.{file}
 use Rattle.express.specs.syntax.NodeKind.{constant}
-use Rattle.express.specs.tokens.Bytes.{upper, lower, word-byte, space}
+use Rattle.express.specs.tokens.Bytes.{upper, lower, word-byte, space, same}
 use Rattle.relations.specs.Reach.{added, closure}
 use Rattle.express.specs.names.Scope.{declarations, items, own, super-edges, renaming-edges, type-edges, inherited, candidates, type-meant, items-of, item-meant, means, binding, bindings}
 use Rattle.express.specs.tokens.Lexis.{end-of-run, end-of-remark, skipped-in, skipped, end-of-integer, end-of-exponent, end-of-real, end-of-string}
@@ -77,8 +77,8 @@ press =
           125 ∷ 1 ∷ 9 ∷ 53 ∷ 1 ∷ 10 ∷ 92 ∷ 30 ∷ 1 ∷ 11 ∷ 2 ∷ 9 ∷ 1 ∷ 10 ∷ 92 ∷ 30 ∷ 13 ∷ 2 ∷ 58 ∷ 2 ∷ 9 ∷ 1 ∷ 10 ∷ 102 ∷ 30 ∷ 21 ∷ 2 ∷ 17 ∷
           1 ∷ 17 ∷ 2 ∷ 22 ∷ 113 ∷ 6 ∷ 9 ∷ 1 ∷ 10 ∷ 48 ∷ 30 ∷ 5 ∷ 12 ∷ 5 ∷ 9 ∷ 63 ∷ 9 ∷ 73 ∷ 9 ∷ [];
       symbols =
-          0 ∷ 1 ∷ 2 ∷ 3 ∷ 4 ∷ 5 ∷ 6 ∷ 7 ∷ 8 ∷ 9 ∷ 10 ∷ 2 ∷ 8 ∷ 5 ∷ 6 ∷ 7 ∷ 16 ∷ 17 ∷ 18 ∷ 19 ∷ 2 ∷ 21 ∷ 5 ∷ 23 ∷ 7 ∷ 25 ∷ 26 ∷ 27 ∷ 8 ∷
-          27 ∷ 30 ∷ 31 ∷ 32 ∷ 33 ∷ 2 ∷ 35 ∷ 5 ∷ 37 ∷ 7 ∷ 39 ∷ 40 ∷ 41 ∷ 2 ∷ 43 ∷ 2 ∷ 45 ∷ 2 ∷ [];
+          0 ∷ 1 ∷ 2 ∷ 3 ∷ 4 ∷ 5 ∷ 6 ∷ 7 ∷ 8 ∷ 9 ∷ 10 ∷ 11 ∷ 8 ∷ 13 ∷ 14 ∷ 15 ∷ 16 ∷ 17 ∷ 18 ∷ 19 ∷ 20 ∷ 21 ∷ 22 ∷ 23 ∷ 24 ∷ 25 ∷ 26 ∷ 27 ∷ 8 ∷ 29 ∷
+          30 ∷ 31 ∷ 32 ∷ 33 ∷ 34 ∷ 35 ∷ 36 ∷ 37 ∷ 38 ∷ 39 ∷ 40 ∷ 41 ∷ 42 ∷ 43 ∷ 44 ∷ 45 ∷ 46 ∷ [];
       kinds = [];
       tokens = [];
       sizes = [];
@@ -171,9 +171,9 @@ shade =
           14 ∷ 6 ∷ 9 ∷ 1 ∷ 10 ∷ 102 ∷ 30 ∷ 1 ∷ 40 ∷ 24 ∷ 2 ∷ 58 ∷ 2 ∷ 14 ∷ 2 ∷ 25 ∷ 9 ∷ 63 ∷ 9 ∷ 140 ∷ 1 ∷ 14 ∷ 76 ∷ 110 ∷ 24 ∷ 1 ∷ 8 ∷ 1 ∷
           25 ∷ 9 ∷ 74 ∷ 9 ∷ 140 ∷ 1 ∷ 14 ∷ 1 ∷ 9 ∷ 74 ∷ 9 ∷ 73 ∷ 9 ∷ [];
       symbols =
-          0 ∷ 1 ∷ 2 ∷ 3 ∷ 4 ∷ 5 ∷ 6 ∷ 7 ∷ 8 ∷ 9 ∷ 10 ∷ 11 ∷ 12 ∷ 13 ∷ 14 ∷ 15 ∷ 2 ∷ 10 ∷ 5 ∷ 19 ∷ 7 ∷ 21 ∷ 2 ∷ 23 ∷ 5 ∷ 6 ∷ 7 ∷ 10 ∷ 28 ∷
-          29 ∷ 2 ∷ 31 ∷ 5 ∷ 33 ∷ 7 ∷ 23 ∷ 36 ∷ 9 ∷ 38 ∷ 39 ∷ 40 ∷ 28 ∷ 42 ∷ 15 ∷ 2 ∷ 45 ∷ 2 ∷ 47 ∷ 12 ∷ 28 ∷ 50 ∷ 51 ∷ 9 ∷ 21 ∷ 54 ∷ 14 ∷
-          15 ∷ 2 ∷ 58 ∷ 2 ∷ 47 ∷ 19 ∷ 28 ∷ 12 ∷ 2 ∷ 58 ∷ 2 ∷ 67 ∷ 2 ∷ [];
+          0 ∷ 1 ∷ 2 ∷ 3 ∷ 4 ∷ 5 ∷ 6 ∷ 7 ∷ 8 ∷ 9 ∷ 10 ∷ 11 ∷ 12 ∷ 13 ∷ 14 ∷ 15 ∷ 16 ∷ 10 ∷ 18 ∷ 19 ∷ 20 ∷ 21 ∷ 22 ∷ 23 ∷ 24 ∷ 25 ∷ 26 ∷ 10 ∷ 28 ∷ 29 ∷
+          30 ∷ 31 ∷ 32 ∷ 33 ∷ 34 ∷ 23 ∷ 36 ∷ 37 ∷ 38 ∷ 39 ∷ 40 ∷ 41 ∷ 42 ∷ 43 ∷ 44 ∷ 45 ∷ 46 ∷ 47 ∷ 12 ∷ 49 ∷ 50 ∷ 51 ∷ 52 ∷ 21 ∷ 54 ∷ 14 ∷ 56 ∷ 57 ∷
+          58 ∷ 59 ∷ 60 ∷ 19 ∷ 62 ∷ 12 ∷ 64 ∷ 65 ∷ 66 ∷ 67 ∷ 68 ∷ [];
       kinds = [];
       tokens = [];
       sizes = [];

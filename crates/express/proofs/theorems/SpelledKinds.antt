@@ -8,8 +8,7 @@ use lib.ListN.{getD}
 use borrow.Author.Tests.{eqb-true}
 use Rattle.relations.specs.Select.{any}
 use Rattle.relations.proofs.Select.{and-fst, and-snd, untrue}
-use Rattle.express.specs.tokens.Bytes.{digit, letter, word-byte, bit}
-use Rattle.express.specs.tokens.Spelling.{same}
+use Rattle.express.specs.tokens.Bytes.{digit, letter, word-byte, bit, same}
 use Rattle.express.specs.tokens.Terminal.{Fixed, symbols, among}
 use Rattle.express.specs.tokens.Token.{all-of, some-of, is-word, is-integer, is-decimal, is-real, in-string, is-string, is-binary, is-symbol, spelled-kind}
 use Rattle.express.proofs.tokens.Longest.{no-symbol, word-kind, number-kind, string-kind, binary-kind, symbol-kind, not-both}

@@ -3,11 +3,10 @@ use mathlib.Core.Path.{_≡_, refl, _∙_}
 use mathlib.Core.List.{List, [], _∷_, map}
 use Prim.Native.Nat.{ℕ}
 use Prim.Native.String.{String}
-use Rattle.express.specs.tokens.Bytes.{upper, word-byte, space}
+use Rattle.express.specs.tokens.Bytes.{upper, word-byte, space, same}
 use Rattle.express.specs.tokens.Lexis.{TokenRow, Reading, at, refused, end-of-run, end-of-remark, skipped-in, skipped, numeral, end-of-integer, end-of-exponent, end-of-real, end-of-string}
 use Rattle.express.specs.tokens.Lexis.{end-of-binary, lone, size-of-symbol, end-of-symbol, token-kind-at, end-of-token, lexed-in, lexed}
 use Rattle.express.specs.tokens.Terminal.{bytes, the, identifier, END-SCHEMA, CONST-E, instance-unequal, terminal-of, among}
-use Rattle.express.specs.tokens.Spelling.{same}
 use Rattle.express.proofs.tokens.Fast.{fast, fast-is, map-same}
 
 reserved-in-any-case : terminal-of 1 (bytes "end_Schema") ≡ the END-SCHEMA

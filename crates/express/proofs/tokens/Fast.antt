@@ -58,5 +58,5 @@ map-same {B} f g e (x ∷ xs) = ap₂ {C = List B} (λ y ys. y ∷ ys) (e x) (ma
 -- a table has the token columns of its bytes where it has those that are read
 pub scanned-by :
     (t : Table) → t .starts ≡ starts (fast (t .bytes)) → t .lengths ≡ sizes (fast (t .bytes)) → t .terminals ≡ row-terminals (t .bytes) (fast (t .bytes)) →
-    t .symbols ≡ symbols-of (t .bytes) (t .starts) (t .lengths) → Scanned t
+    t .symbols ≡ symbols-of (t .bytes) (t .starts) (t .lengths) (t .terminals) → Scanned t
 scanned-by t a b c d = record { starts-are = rw (fast-is (t .bytes)) a; lengths-are = rw (fast-is (t .bytes)) b; terminals-are = rw (fast-is (t .bytes)) c; symbols-are = d }

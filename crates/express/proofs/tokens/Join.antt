@@ -10,9 +10,8 @@ use lib.ListN.{length, take, drop, getD, length-take, length-drop, length-append
 use lib.Seq.{getD-drop, getD-take, take-append-le, drop-append-seam}
 use lib.Dec.{eqb, leb}
 use borrow.Author.Tests.{eqb-true, eq-eqb, leb-true, le-leb}
-use Rattle.express.specs.tokens.Bytes.{digit, letter, word-byte}
+use Rattle.express.specs.tokens.Bytes.{digit, letter, word-byte, same}
 use Rattle.express.specs.tokens.Bytes as bytes
-use Rattle.express.specs.tokens.Spelling.{same}
 use Rattle.express.specs.tokens.Terminal.{Fixed, symbols, among}
 use Rattle.express.specs.tokens.Token.{all-of, some-of, is-word, is-integer, is-exponent, is-fraction, is-decimal, is-real, is-string, is-binary, is-symbol, spelled-kind}
 use Rattle.express.specs.tokens.Lexis.{Lexed, at, dashes, opens, pair, TokenRow, lexed-whole}

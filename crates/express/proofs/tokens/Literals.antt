@@ -9,10 +9,9 @@ use native.Mathlib.Omega.{arith}
 use borrow.Author.Tests.{eqb-false}
 use lib.Dec.{eqb}
 use lib.ListN.{length, getD, List·getD-map, List·getD-eq-default}
-use Rattle.express.specs.tokens.Bytes.{within, upper}
+use Rattle.express.specs.tokens.Bytes.{within, upper, same}
 use Rattle.express.specs.tokens.Lexis.{TokenRow, lexed, starts, integer-value, binary-bits}
 use Rattle.express.specs.tokens.Terminal.{Fixed, identifier, the, symbols, reserved, among, terminal-of}
-use Rattle.express.specs.tokens.Spelling.{same}
 use Rattle.express.specs.syntax.NodeKind as node
 use Rattle.relations.specs.Select.{any}
 use Rattle.express.specs.syntax.Tree.{Table, count, kind, token, terminal}

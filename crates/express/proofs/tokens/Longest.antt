@@ -10,9 +10,8 @@ use lib.Dec.{eqb, leb}
 use lib.ListN.{length, take, drop, getD, length-take, length-drop, drop-of-length-le}
 use lib.Seq.{getD-drop}
 use borrow.Author.Tests.{leb-true, leb-false, le-leb, lt-leb, eqb-true, eqb-false, eq-eqb, ne-eqb}
-use Rattle.express.specs.tokens.Bytes.{within, digit, letter, word-byte, printable}
+use Rattle.express.specs.tokens.Bytes.{within, digit, letter, word-byte, printable, same}
 use Rattle.express.specs.tokens.Bytes as bytes
-use Rattle.express.specs.tokens.Spelling.{same}
 use Rattle.express.specs.tokens.Terminal.{Fixed, symbols, among, symbol-terminal}
 use Rattle.express.specs.tokens.Token.{all-of, some-of, is-exponent, is-fraction, is-decimal, in-string, is-symbol, spelled-kind, standing-kind, longest, longest-size, longest-kind}
 use Rattle.express.specs.tokens.Lexis.{Reading, at, refused, end-of-run, run, numeral, greatest, end-of-integer, digits-of-exponent, end-of-exponent, end-of-real, end-of-string}

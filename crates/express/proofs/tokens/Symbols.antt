@@ -9,9 +9,8 @@ use native.Mathlib.Decide.{decLt}
 use borrow.Author.Tests.{eq-eqb, eqb-true, leb-true}
 use lib.ListN.{length, take, drop, getD, take-append-drop}
 use lib.Dec.{T, eqb, leb, leb→le}
-use Rattle.express.specs.tokens.Bytes.{within}
+use Rattle.express.specs.tokens.Bytes.{within, same}
 use Rattle.express.specs.tokens.Lexis.{lone, size-of-symbol, pair, either}
-use Rattle.express.specs.tokens.Spelling.{same}
 use Rattle.express.specs.tokens.Terminal.{Fixed, symbols, among, symbol-terminal}
 use Rattle.express.proofs.tokens.Places.{cond-ge, and-false}
 use Rattle.relations.proofs.Select.{and-fst, and-snd}

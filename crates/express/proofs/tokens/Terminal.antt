@@ -1,8 +1,7 @@
 -- The names of terminals are right: each symbol and reserved word that has a name is spelled so. By computation.
 use mathlib.Core.Path.{_≡_, refl}
 use mathlib.Core.List.{[], _∷_, map}
-use Rattle.express.specs.tokens.Bytes.{upper}
-use Rattle.express.specs.tokens.Spelling.{same}
+use Rattle.express.specs.tokens.Bytes.{upper, same}
 use Rattle.express.specs.tokens.Terminal.{bytes, the, among, word-terminal, symbol-terminal, question, dot, comma, semicolon, colon, times, plus, minus, equal, slash, less, greater}
 use Rattle.express.specs.tokens.Terminal.{lbrace, rbrace, lparen, rparen, less-equal, unequal, greater-equal, becomes, power, instance-equal, instance-unequal, AND, BINARY, BOOLEAN}
 use Rattle.express.specs.tokens.Terminal.{CONSTANT, CONST-E, DERIVE, DIV, END-CONSTANT, END-ENTITY, END-SCHEMA, END-TYPE, ENTITY, ENUMERATION, FALSE, INTEGER, LOGICAL, MOD, NOT}

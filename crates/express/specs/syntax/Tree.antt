@@ -9,7 +9,7 @@ use Rattle.relations.specs.Select.{span, first-from}
 
 pub record Table : Type 0 where
   pub bytes : List ℕ
-  -- of each token: its first byte, its length, its terminal (T20), and the least token that is spelled alike (T3)
+  -- of each token: its first byte, its length, its terminal (T20), and its symbol: of an identifier the least that is spelled alike (T3)
   pub starts : List ℕ
   pub lengths : List ℕ
   pub terminals : List ℕ

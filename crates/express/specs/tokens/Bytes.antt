@@ -1,13 +1,20 @@
 -- Classes of bytes: letters (T3), space (T4), what goes on with a word (T8), what a string holds (T13).
 use Prim.Native.Nat.{ℕ, _+_, _-_}
-use mathlib.Core.Bool.{Bool, cond, _&&_, _||_}
-use mathlib.Core.List.{List}
+use mathlib.Core.Bool.{Bool, true, false, cond, _&&_, _||_}
+use mathlib.Core.List.{List, [], _∷_}
 use lib.Dec.{leb, eqb}
 use lib.ListN.{take, drop}
 
 -- the bytes of a token: so many of a text, from a start on
 abbrev pub token-bytes : List ℕ → ℕ → ℕ → List ℕ
 token-bytes s p n = take n (drop p s)
+
+-- whether two lists of bytes are equal
+unfoldable pub same : List ℕ → List ℕ → Bool
+same [] [] = true
+same [] (y ∷ ys) = false
+same (x ∷ xs) [] = false
+same (x ∷ xs) (y ∷ ys) = let rest = same xs ys in eqb x y && rest
 
 abbrev pub within : ℕ → ℕ → ℕ → Bool
 within lo hi b = leb lo b && leb b hi

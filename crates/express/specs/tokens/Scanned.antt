@@ -1,4 +1,4 @@
--- The token columns of a text: places and lengths (T18), terminals (T20), and which tokens are spelled alike (T3).
+-- The token columns of a text: places and lengths (T18), terminals (T20), and which identifiers are spelled alike (T3).
 use mathlib.Core.Path.{_≡_}
 use mathlib.Core.List.{List, [], map}
 use Prim.Native.Nat.{ℕ}
@@ -23,7 +23,7 @@ with-tokens s l =
       starts = starts l;
       lengths = sizes l;
       terminals = row-terminals s l;
-      symbols = symbols-of s (starts l) (sizes l);
+      symbols = symbols-of s (starts l) (sizes l) (row-terminals s l);
       kinds = [];
       tokens = [];
       sizes = [];
@@ -38,4 +38,4 @@ pub record Scanned (t : Table) : Type 0 where
   pub starts-are : t .starts ≡ starts (lexed (t .bytes))
   pub lengths-are : t .lengths ≡ sizes (lexed (t .bytes))
   pub terminals-are : t .terminals ≡ row-terminals (t .bytes) (lexed (t .bytes))
-  pub symbols-are : t .symbols ≡ symbols-of (t .bytes) (t .starts) (t .lengths)
+  pub symbols-are : t .symbols ≡ symbols-of (t .bytes) (t .starts) (t .lengths) (t .terminals)

@@ -6,8 +6,7 @@ use Prim.Native.String.{String, [] as none, _∷_ as _then_}
 use mathlib.Core.Bool.{cond}
 use lib.Dec.{eqb}
 use lib.ListN.{getD}
-use Rattle.express.specs.tokens.Bytes.{token-bytes, upper, within}
-use Rattle.express.specs.tokens.Spelling.{same}
+use Rattle.express.specs.tokens.Bytes.{token-bytes, upper, within, same}
 
 -- the bytes of a text
 abbrev pub bytes : String → List ℕ

@@ -4,7 +4,7 @@ use Rattle.terminals.proofs.low_byte.Reads as reads
 use Rattle.terminals.proofs.low_byte.Lts as lts
 use mathlib.Core.Path.{refl, sym}
 use borrow.Author.Tests.{ne-eqb}
-use Rattle.express.specs.tokens.Spelling.{same}
+use Rattle.express.specs.tokens.Bytes.{same}
 use Rattle.express.specs.tokens.Terminal.{among}
 use Rattle.terminals.proofs.Columns.{of-byte}
 use native.Mathlib.Omega.{arith}

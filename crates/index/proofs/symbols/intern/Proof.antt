@@ -17,20 +17,20 @@ clear32-requires c κs = search needs
 
 fill-requires : tie.Need-fill-requires
 fill-requires c κs =
-    ready-to-fill (c .before .before .before .before .before .before .before .before .before .before .before .before .before .before .before .args .heads .now) (sym
-    (c .before .before .before .before .before .before .before .before .room .ensures) ∙ not-false _
+    let s = c .before .before .before .before .before .before .before .before .before .before .before .before .before .before .before .before in
+    ready-to-fill (s .args .heads .now) (sym (c .before .before .before .before .before .before .before .before .room .ensures) ∙ not-false _
     (c .before .before .before .before .before .before .before .if1 .left)) (c .before .before .before .before .before .clear32 .ensures)
 
 same-length : tie.Need-same-length
-same-length c = c .before .before .before .before .before .before .fill .kept .1 .1 .1 .0
+same-length c = c .before .before .before .before .before .before .fill .kept .1 .1 .1 .1 .0
 
 same-length-2 : tie.Need-same-length-2
 same-length-2 c =
-    c .before .before .before .before .before .before .fill .kept .1 .1 .1 .1 .0 ∙
+    c .before .before .before .before .before .before .fill .kept .1 .1 .1 .1 .1 .0 ∙
     c .before .before .before .before .before .before .before .before .before .before .before .before .clear32 .kept .0
 
 same-length-3 : tie.Need-same-length-3
-same-length-3 c = c .before .before .before .before .before .before .fill .kept .1 .1 .1 .1 .1 .0
+same-length-3 c = c .before .before .before .before .before .before .fill .kept .1 .1 .1 .1 .1 .1 .0
 
 returns-2 : tie.Need-returns-2
 returns-2 c =

@@ -2,17 +2,17 @@
 use borrow.Author.Needs.{needs}
 use Rattle.index.proofs.symbols.least.Statement.{statement}
 use Rattle.index.proofs.symbols.least.Tie as tie
-use Rattle.index.proofs.Interning.{lined, least-at, least-none}
+use Rattle.index.proofs.Interning.{lined-below, least-at, least-first, least-none}
 use Rattle.index.proofs.Spellings.{part-spelling}
 use lib.ListN.{take, drop}
 use Prim.Native.Nat.{_-_}
 use native.Mathlib.Omega.{arith}
 
 begin-requires : tie.Need-begin-requires
-begin-requires c κs = c .before .before .before .before .pre .token
+begin-requires c κs = omega (arith, c .before .before .before .before .pre .started)
 
 end-requires : tie.Need-end-requires
-end-requires c κs = (c .before .before .before .before .before .pre .token, omega (arith, c .before .before .before .before .before .pre .token, c .before .before .before .before .before .pre .sized))
+end-requires c κs = (omega (arith, c .before .before .before .before .before .pre .started), omega (arith, c .before .before .before .before .before .pre .sized))
 
 sub-word : tie.Need-sub-word
 sub-word c = search needs
@@ -26,8 +26,24 @@ part-word-end c = search needs
 index-requires : tie.Need-index-requires
 index-requires c κs = search needs
 
+leads-requires : tie.Need-leads-requires
+leads-requires c κs =
+    (omega (arith, c .before .before .before .before .before .before .before .before .pre .started), omega (arith, c .before .before .before .before .before .before .before .before .pre .sized))
+
+sub-result : tie.Need-sub-result
+sub-result c = omega (arith, c .before .leads .ensures (c .if1 .taken) .some)
+
+returns : tie.Need-returns
+returns c =
+    let s = c .before .before .before .before .before .before .before .before .before .before in
+    let from = c .before .before .before .before .before .begin in
+    let to = c .before .before .before .before .end in
+    least-first _ _ _ (take (to .result - from .result) (drop (from .result) (s .args .bytes .now)))
+    (part-spelling (s .args .bytes .now) (s .args .starts .now) (s .args .lengths .now) (s .args .i) _ _ (from .ensures) (to .ensures))
+    (c .before .before .index .ensures) (s .pre) (c .before .leads .ensures (c .if1 .taken))
+
 along-requires : tie.Need-along-requires
-along-requires c κs = lined _ _ _ (c .before .before .before .before .before .before .before .before .pre)
+along-requires c κs = lined-below _ _ _ (c .before .before .before .before .before .before .before .before .before .before .pre)
 
 enum-known-found : tie.Need-enum-known-found
 enum-known-found c = search needs
@@ -35,31 +51,23 @@ enum-known-found c = search needs
 enum-told : tie.Need-enum-told
 enum-told c = search needs
 
-returns : tie.Need-returns
-returns c =
-    least-none _ _ _ (c .before .before .before .before .before .before .before .before .before .before .before .pre) (take
-    (c .before .before .before .before .before .end .result - c .before .before .before .before .before .before .begin .result) (drop
-    (c .before .before .before .before .before .before .begin .result)
-    (c .before .before .before .before .before .before .before .before .before .before .before .args .bytes .now))) (part-spelling
-    (c .before .before .before .before .before .before .before .before .before .before .before .args .bytes .now)
-    (c .before .before .before .before .before .before .before .before .before .before .before .args .starts .now)
-    (c .before .before .before .before .before .before .before .before .before .before .before .args .lengths .now)
-    (c .before .before .before .before .before .before .before .before .before .before .before .args .i) _ _
-    (c .before .before .before .before .before .before .begin .ensures) (c .before .before .before .before .before .end .ensures))
-    (c .before .before .before .index .ensures) (c .before .before .along .ensures) (c .enum-told .given .1)
-
 returns-2 : tie.Need-returns-2
 returns-2 c =
-    least-at _ _ _ (c .before .before .before .before .before .before .before .before .before .before .before .before .pre) (take
-    (c .before .before .before .before .before .before .end .result - c .before .before .before .before .before .before .before .begin .result) (drop
-    (c .before .before .before .before .before .before .before .begin .result)
-    (c .before .before .before .before .before .before .before .before .before .before .before .before .args .bytes .now))) (part-spelling
-    (c .before .before .before .before .before .before .before .before .before .before .before .before .args .bytes .now)
-    (c .before .before .before .before .before .before .before .before .before .before .before .before .args .starts .now)
-    (c .before .before .before .before .before .before .before .before .before .before .before .before .args .lengths .now)
-    (c .before .before .before .before .before .before .before .before .before .before .before .before .args .i) _ _
-    (c .before .before .before .before .before .before .before .begin .ensures) (c .before .before .before .before .before .before .end .ensures))
-    (c .before .before .before .before .index .ensures) (c .before .before .before .along .ensures) (c .before .found .given .1)
+    let s = c .before .before .before .before .before .before .before .before .before .before .before .before .before in
+    let from = c .before .before .before .before .before .before .before .before .begin in
+    let to = c .before .before .before .before .before .before .before .end in
+    least-none _ _ _ (take (to .result - from .result) (drop (from .result) (s .args .bytes .now)))
+    (part-spelling (s .args .bytes .now) (s .args .starts .now) (s .args .lengths .now) (s .args .i) _ _ (from .ensures) (to .ensures))
+    (c .before .before .before .before .before .index .ensures) (c .before .before .along .ensures) (c .enum-told .given .1)
+
+returns-3 : tie.Need-returns-3
+returns-3 c =
+    let s = c .before .before .before .before .before .before .before .before .before .before .before .before .before .before in
+    let from = c .before .before .before .before .before .before .before .before .before .begin in
+    let to = c .before .before .before .before .before .before .before .before .end in
+    least-at _ _ _ (take (to .result - from .result) (drop (from .result) (s .args .bytes .now)))
+    (part-spelling (s .args .bytes .now) (s .args .starts .now) (s .args .lengths .now) (s .args .i) _ _ (from .ensures) (to .ensures))
+    (c .before .before .before .before .before .before .index .ensures) (c .before .before .before .along .ensures) (c .before .found .given .1)
 
 pub least-spec : {M : Type 1} → statement M
 least-spec =
@@ -71,8 +79,11 @@ least-spec =
     part-word-start
     part-word-end
     index-requires
+    leads-requires
+    sub-result
+    returns
     along-requires
     enum-known-found
     enum-told
-    returns
-    returns-2)
+    returns-2
+    returns-3)

@@ -3,8 +3,7 @@ use borrow.Author.Needs.{needs}
 use Rattle.index.proofs.symbols.spelled.Statement.{statement}
 use Rattle.index.proofs.symbols.spelled.Tie as tie
 use Rattle.index.proofs.Spellings.{part-spelling}
-use Rattle.express.specs.tokens.Spelling.{same}
-use Rattle.express.specs.tokens.Bytes.{lower}
+use Rattle.express.specs.tokens.Bytes.{lower, same}
 use Prim.Native.Nat.{ℕ}
 use mathlib.Core.List.{List, map}
 use mathlib.Core.Path.{_∙_, ap}

@@ -13,8 +13,8 @@ returns c = no-heads _ _ _ (c .if1 .taken)
 hash-requires : tie.Need-hash-requires
 hash-requires c κs = search needs
 
-bucket-requires : tie.Need-bucket-requires
-bucket-requires c κs = omega (arith, c .before .if1 .left)
+range-requires : tie.Need-range-requires
+range-requires c κs = omega (arith, c .before .if1 .left)
 
 shorter-requires : tie.Need-shorter-requires
 shorter-requires c κs = search needs
@@ -23,10 +23,10 @@ shorter-requires-2 : tie.Need-shorter-requires-2
 shorter-requires-2 c κs = search needs
 
 mul-index : tie.Need-mul-index
-mul-index c = let y = c .before .before .bucket .ensures .small in search needs
+mul-index c = let y = c .before .before .range .ensures .small in search needs
 
 shared-slice-read-index : tie.Need-shared-slice-read-index
-shared-slice-read-index c = c .before .before .before .bucket .ensures .small
+shared-slice-read-index c = c .before .before .before .range .ensures .small
 
 index-requires : tie.Need-index-requires
 index-requires c κs = search needs
@@ -49,8 +49,8 @@ along-requires c κs =
 
 returns-2 : tie.Need-returns-2
 returns-2 c =
-    finds-symbol _ _ _ (c .along .result) (in-bucket (c .before .before .before .before .before .bucket .ensures)
-    (c .before .before .before .before .before .before .hash .ensures)) (omega (
+    finds-symbol _ _ _ (c .along .result) (in-bucket (c .before .before .before .before .before .range .ensures)
+    (c .before .before .before .before .before .before .hash .ensures .is)) (omega (
       arith,
       c .before .before .before .before .shorter .ensures,
       c .before .before .before .shorter2 .ensures,
@@ -68,7 +68,7 @@ symbol-of-spec =
     (tie.spec
     returns
     hash-requires
-    bucket-requires
+    range-requires
     shorter-requires
     shorter-requires-2
     mul-index

@@ -4,7 +4,7 @@ use Rattle.index.proofs.symbols.token_bucket.Statement.{statement}
 use Rattle.index.proofs.symbols.token_bucket.Tie as tie
 use Rattle.index.proofs.Interning.{in-bucket}
 use Rattle.index.proofs.Spellings.{part-spelling}
-use Rattle.index.specs.Bucket.{hash-from}
+use Rattle.index.specs.Bucket.{hash-of}
 use mathlib.Core.Path.{_∙_, ap}
 
 begin-requires : tie.Need-begin-requires
@@ -25,12 +25,13 @@ part-hash-end c = search needs
 hash-requires : tie.Need-hash-requires
 hash-requires c κs = search needs
 
-bucket-requires : tie.Need-bucket-requires
-bucket-requires c κs = search needs
+range-requires : tie.Need-range-requires
+range-requires c κs = search needs
 
 returns : tie.Need-returns
 returns c =
-    let s = c .before .before .before .before .before .before .before .before in in-bucket (c .bucket .ensures) (c .before .hash .ensures ∙ ap (hash-from 0)
+    let s = c .before .before .before .before .before .before .before .before in
+    in-bucket (c .range .ensures) (c .before .hash .ensures .is ∙ ap hash-of
     (part-spelling (s .args .bytes .now) (s .args .starts .now) (s .args .lengths .now) (s .args .i) _ _ (c .before .before .before .before .begin .ensures)
     (c .before .before .before .end .ensures)))
 
@@ -44,5 +45,5 @@ token-bucket-spec =
     part-hash-start
     part-hash-end
     hash-requires
-    bucket-requires
+    range-requires
     returns)
