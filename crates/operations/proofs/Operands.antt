@@ -1,5 +1,6 @@
 -- Operators by the kinds of their operands, in the form that `search` takes: each premise is what a `match` told or a call promised.
-use mathlib.Core.Path.{_≡_, sym, _∙_, ap}
+use mathlib.Core.Path.{_≡_, refl, sym, _∙_, ap}
+use mathlib.Core.Bool.{Bool, true, false, true≢false}
 use mathlib.Core.List.{[], _∷_}
 use mathlib.Core.Option.{Option, some, none}
 use Prim.Native.Nat.{ℕ, compare, Ordering}
@@ -9,11 +10,13 @@ use mir.Val.{SFits, toZ, ofZ}
 use Rattle.express.specs.kinds.Answer.{UNKNOWN, indeterminate, logical, end}
 use Rattle.express.specs.kinds.Answer as answer
 use Rattle.express.specs.kinds.Bits.{compare-bits}
+use Rattle.express.specs.kinds.Declared.{Declared, INTEGER, BOOLEAN, LOGICAL, BINARY, enumeration, other}
+use Rattle.express.specs.kinds.Evaluate.{boolean-answer, held}
 use Rattle.express.specs.kinds.Integer.{sum, negation, compareℤ}
 use Rattle.express.specs.kinds.Logic.{NOT, compare-logical}
-use Rattle.express.specs.kinds.Operate.{given, computed, compared, counted, operated, combined, applied}
+use Rattle.express.specs.kinds.Operate.{given, computed, combined-logicals, compared, counted, operated, combined, applied}
 use Rattle.express.specs.kinds.Relation.{Relation, related}
-use Rattle.express.specs.kinds.Shape.{plus, arithmetic, negative, not}
+use Rattle.express.specs.kinds.Shape.{plus, arithmetic, connective, negative, not}
 use Rattle.express.specs.kinds.Shape as shape
 use Rattle.values.specs.Meaning.{end-number, logical-of, ordering-of}
 use Rattle.values.specs.declared.End.{End}
@@ -23,7 +26,7 @@ use Rattle.integers.proofs.Calls.{own-one, own-two}
 use Rattle.bits.specs.Meaning.{bits-of, binary-answer, Joins}
 use Rattle.bits.specs.declared.Binary as bits
 use Rattle.bits.specs.declared.Joined.{Joined}
-use Rattle.operations.specs.Meaning.{answer-of, comparison-of}
+use Rattle.operations.specs.Meaning.{answer-of, comparison-of, is-boolean, Holds}
 use Rattle.operations.specs.declared.Answer.{Answer}
 use Rattle.operations.specs.declared.Answer.the-variants.{Integer, Logical, Binary, Item, Ended}
 use Rattle.operations.specs.declared.Comparison.{Comparison}
@@ -109,6 +112,10 @@ module _ {c : Comparison} {v : Option Ordering} (k : Relation) (e : comparison-o
 
 pub ruleset relations = (related-ordered, related-unordered)
 
+-- ---- connectives
+pub connected : (x y : answer.Answer) (k : shape.Connective) {l m n : answer.Logical} → m ≡ counted x → n ≡ counted y → l ≡ combined-logicals k m n → logical l ≡ operated (connective k) x y
+connected x y k e f h = ap logical (rw (e, f) at h)
+
 -- ---- ends
 pub first-end : {x : Answer} (y : answer.Answer) {e : End} (o : shape.Operator) → x ≡ Ended e → end (end-number e) ≡ combined o (answer-of x) y
 first-end y o p = rw p
@@ -138,3 +145,31 @@ pub not-of : (x : Answer) {l m : answer.Logical} → Other (an-end ∷ []) x →
 not-of x h e f = rw (not-end (an-end ∷ []) x tt h) (ap logical (f ∙ ap NOT e))
 
 pub ruleset signs = (minus-integer, minus-end, minus-other, not-of-end, not-of)
+
+-- ---- what a constant holds
+boolean-is : (d : Declared) → is-boolean d ≡ true → d ≡ BOOLEAN
+boolean-is INTEGER e = absurd (true≢false (sym e))
+boolean-is BOOLEAN e = refl
+boolean-is LOGICAL e = absurd (true≢false (sym e))
+boolean-is BINARY e = absurd (true≢false (sym e))
+boolean-is (enumeration y) e = absurd (true≢false (sym e))
+boolean-is other e = absurd (true≢false (sym e))
+
+other-is : (d : Declared) (a : answer.Answer) → is-boolean d ≡ false → held d a ≡ a
+other-is INTEGER a e = refl
+other-is BOOLEAN a e = absurd (true≢false e)
+other-is LOGICAL a e = refl
+other-is BINARY a e = refl
+other-is (enumeration y) a e = refl
+other-is other a e = refl
+
+pub held-logical : {b : Bool} {x r : Answer} {l : values.Logical} → b ≡ true → x ≡ Logical l → answer-of r ≡ boolean-answer (logical-of l) → Holds b x r
+held-logical e p h = record { is = λ d q. rw (boolean-is d (q ∙ e), p) h }
+
+pub held-other : {b : Bool} {x : Answer} → b ≡ true → Other (a-logical ∷ []) x → Holds b x x
+held-other {x = x} e h = record { is = λ d q. rw (boolean-is d (q ∙ e), not-logical (a-logical ∷ []) x tt h) }
+
+pub held-any : {b : Bool} {x : Answer} → b ≡ false → Holds b x x
+held-any e = record { is = λ d q. sym (other-is d _ (q ∙ e)) }
+
+pub ruleset holding = (held-logical, held-other, held-any)

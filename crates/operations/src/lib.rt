@@ -261,8 +261,9 @@ fn in_boolean(l: Logical) -> Answer
     ensures { λ r. ⌜ answer-of r ≡ boolean-answer (logical-of l) ⌝ }
 {
     match l {
+        Logical::False => Answer::Logical(l),
         Logical::Unknown => Answer::Ended(End::UnknownBoolean),
-        _ => Answer::Logical(l),
+        Logical::True => Answer::Logical(l),
     }
 }
 
