@@ -10,6 +10,9 @@ use lib.Dec.{eqb, leb, ltb}
 use lib.IntN.{ℤ, pos, negsuc, natAbs}
 use lib.ListN.{length}
 use lib.Signed.{mag}
+use mir.Syntax.{w64}
+use mir.Val.{SFits}
+use mir.Facts.{toZ-ofZ}
 use Rattle.express.specs.kinds.Answer.{Logical, FALSE, UNKNOWN, TRUE, Answer, indeterminate, integer, logical, binary, item, end}
 use Rattle.express.specs.kinds.AnswerRow.{AnswerRow, row, row-of, row-answer}
 use Rattle.express.specs.kinds.Bits.{join}
@@ -24,9 +27,8 @@ use Rattle.express.specs.syntax.Tree.{Table, count}
 use Rattle.express.proofs.kinds.Bits.{bits-number}
 use Rattle.express.proofs.kinds.Bounds.{Fitting, fit-?, fit-end, fit-integer, fit-logical, fit-binary, fit-item}
 use Rattle.express.proofs.kinds.Operations.{ends-range}
-use Rattle.operations.specs.Meaning.{answer-of}
+use Rattle.integers.proofs.Exact.{own}
 use Rattle.operations.specs.Stored.{storable, stored}
-use Rattle.operations.specs.declared.Answer as operations
 
 pub record Storable (a : Answer) : Type 0 where
   pub is : storable a ≡ true
@@ -166,3 +168,7 @@ row-kept h e = e ∙ ap row-of (kept h)
 -- THE WAY BACK: what is read (`answer_of_row`) from the row of an answer is that answer
 pub row-back : {a b : Answer} {w : AnswerRow} → Storable a → w ≡ row-of a → b ≡ stored (row-answer w) → b ≡ a
 row-back {a} h e f = f ∙ ap (λ (w : AnswerRow). stored (row-answer w)) e ∙ ap stored (back a (h .is)) ∙ kept h
+
+-- the same for a caller, to whom the number of the row is what its 64 bits read as
+pub read-back : {a b : Answer} {k : ℕ} {z : ℤ} {l : ℕ} → Storable a → SFits w64 z → row k z l ≡ row-of a → b ≡ stored (row-answer (row k (own z) l)) → b ≡ a
+read-back h f e g = row-back h e (rw (toZ-ofZ f) at g)

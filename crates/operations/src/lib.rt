@@ -100,7 +100,7 @@ fn sum(x: Answer, y: Answer) -> Answer
     }
 }
 
-fn compute(o: Arithmetic, a: i64, b: i64) -> Outcome
+fn computed(o: Arithmetic, a: i64, b: i64) -> Outcome
     ensures { λ r. ⌜ integer-answer r ≡ computed (arithmetic-of o) a b ⌝ }
 {
     match o {
@@ -118,7 +118,7 @@ fn calculated(o: Arithmetic, x: Answer, y: Answer) -> Answer
 {
     match x {
         Answer::Integer(a) => match y {
-            Answer::Integer(b) => from_outcome(compute(o, a, b)),
+            Answer::Integer(b) => from_outcome(computed(o, a, b)),
             _ => Answer::Indeterminate,
         },
         _ => Answer::Indeterminate,
@@ -193,7 +193,7 @@ fn connected(o: Connective, l: Logical, m: Logical) -> Logical
 }
 
 // What is computed where no operand is an end.
-pub fn operated(o: Operator, x: Answer, y: Answer) -> Answer
+fn operated(o: Operator, x: Answer, y: Answer) -> Answer
     ensures { λ r. ⌜ answer-of r ≡ operated (operator-of o) (answer-of x) (answer-of y) ⌝ }
 {
     match o {
@@ -211,13 +211,14 @@ pub fn combined(o: Operator, x: Answer, y: Answer) -> Answer
     if let Answer::Ended(e) = x {
         return Answer::Ended(e);
     }
-    if let Answer::Ended(e) = y {
-        return Answer::Ended(e);
+    if let Answer::Ended(f) = y {
+        return Answer::Ended(f);
     }
     operated(o, x, y)
 }
 
-fn negated(x: Answer) -> Answer
+// The sign `-`.
+fn minus_of(x: Answer) -> Answer
     ensures { λ r. ⌜ answer-of r ≡ applied negative (answer-of x) ⌝ }
 {
     match x {
@@ -227,7 +228,8 @@ fn negated(x: Answer) -> Answer
     }
 }
 
-fn denied(x: Answer) -> Answer
+// NOT.
+fn not_of(x: Answer) -> Answer
     ensures { λ r. ⌜ answer-of r ≡ applied not (answer-of x) ⌝ }
 {
     match x {
@@ -236,14 +238,14 @@ fn denied(x: Answer) -> Answer
     }
 }
 
-// `+` leaves its operand as it is.
+// The sign `+` leaves its operand as it is.
 pub fn applied(s: Sign, x: Answer) -> Answer
     ensures { λ r. ⌜ answer-of r ≡ applied (sign-of s) (answer-of x) ⌝ }
 {
     match s {
         Sign::Positive => x,
-        Sign::Negative => negated(x),
-        Sign::Not => denied(x),
+        Sign::Negative => minus_of(x),
+        Sign::Not => not_of(x),
     }
 }
 

@@ -1,6 +1,6 @@
 // The rows in which answers are kept.
 ghost use mathlib.Core.Path.{_≡_};
-ghost use Rattle.express.specs.kinds.Answer.{binary, item, end};
+ghost use Rattle.express.specs.kinds.Answer.{indeterminate, binary, item, end};
 ghost use Rattle.express.specs.kinds.AnswerRow.{row, row-of, row-answer, natural, ranked};
 ghost use Rattle.express.specs.kinds.Bits.{bits};
 ghost use Rattle.values.specs.Meaning.{logical-of};
@@ -23,7 +23,7 @@ pub struct Row {
 
 // The row of `?`.
 fn blank() -> Row
-    ensures { λ r. ⌜ row-in r ≡ row-of (answer-of Answer.Indeterminate) ⌝ }
+    ensures { λ r. ⌜ row-in r ≡ row-of indeterminate ⌝ }
 {
     Row {
         kind: codes::answers::INDETERMINATE,
@@ -102,10 +102,7 @@ fn binary(n: u64, length: u8) -> Answer
     if bits::MOST < (length as u64) {
         return Answer::Indeterminate;
     }
-    Answer::Binary(Binary {
-        number: n,
-        length,
-    })
+    Answer::Binary(Binary { number: n, length })
 }
 
 fn item(n: u64) -> Answer

@@ -1,11 +1,11 @@
 use borrow.Author.Needs.{needs}
 use Rattle.express.specs.kinds.Integer.{difference, product, DIV, MOD, power}
 use Rattle.integers.proofs.Calls.{own-two}
-use Rattle.operations.proofs.compute.Statement.{statement}
-use Rattle.operations.proofs.compute.Tie as tie
+use Rattle.operations.proofs.computed.Statement.{statement}
+use Rattle.operations.proofs.computed.Tie as tie
 
-pub compute-spec : {M : Type 1} → statement M
-compute-spec =
+pub computed-spec : {M : Type 1} → statement M
+computed-spec =
     tie.close
     (tie.spec (λ c. search needs) (λ c κs. tt) (λ c. search needs) (λ c κs. tt) (λ c. search needs) (λ c κs. tt) (λ c. search needs) (λ c κs. tt)
     (λ c. search needs) (λ c κs. tt)
