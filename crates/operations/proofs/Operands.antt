@@ -14,9 +14,9 @@ use Rattle.express.specs.kinds.Declared.{Declared, INTEGER, BOOLEAN, LOGICAL, B
 use Rattle.express.specs.kinds.Evaluate.{boolean-answer, held}
 use Rattle.express.specs.kinds.Integer.{sum, negation, compareℤ}
 use Rattle.express.specs.kinds.Logic.{NOT, compare-logical}
-use Rattle.express.specs.kinds.Operate.{given, computed, combined-logicals, compared, counted, operated, combined, applied}
+use Rattle.express.specs.kinds.Operate.{given, computed, combined-logicals, compared, counted, operated, combined, applied, between}
 use Rattle.express.specs.kinds.Relation.{Relation, related}
-use Rattle.express.specs.kinds.Shape.{plus, arithmetic, connective, negative, not}
+use Rattle.express.specs.kinds.Shape.{and, plus, arithmetic, relation, connective, negative, not}
 use Rattle.express.specs.kinds.Shape as shape
 use Rattle.values.specs.Meaning.{end-number, logical-of, ordering-of}
 use Rattle.values.specs.declared.End.{End}
@@ -125,6 +125,10 @@ second-end x o h p = rw (not-end (an-end ∷ []) x tt h, p)
 
 pub no-end : (x y : Answer) {z : answer.Answer} (o : shape.Operator) → Other (an-end ∷ []) x → Other (an-end ∷ []) y → z ≡ operated o (answer-of x) (answer-of y) → z ≡ combined o (answer-of x) (answer-of y)
 no-end x y o h k e = rw (not-end (an-end ∷ []) x tt h, not-end (an-end ∷ []) y tt k) e
+
+-- an interval
+pub interval : (o p : Relation) (x y z : answer.Answer) {a b c : answer.Answer} → a ≡ combined (relation o) x y → b ≡ combined (relation p) y z → c ≡ combined (connective and) a b → c ≡ between o p x y z
+interval o p x y z e f g = rw (e, f) at g
 
 pub ruleset ends = (first-end, second-end, no-end)
 
