@@ -1,4 +1,5 @@
--- Operators by the kinds of their operands, in the form that `search` takes: each premise is what a `match` told or a call promised.
+-- Operators by the kinds of their operands, in the form that `search` takes: each premise is what a `match` told or a call promised. The promise of an
+-- operation on integers speaks of operands as they are read back from their bits (`own`).
 use mathlib.Core.Path.{_≡_, refl, sym, _∙_, ap}
 use mathlib.Core.Bool.{Bool, true, false, true≢false}
 use mathlib.Core.List.{[], _∷_}
@@ -6,7 +7,7 @@ use mathlib.Core.Option.{Option, some, none}
 use Prim.Native.Nat.{ℕ, compare, Ordering}
 use lib.IntN.{ℤ}
 use mir.Syntax.{w64}
-use mir.Val.{SFits, toZ, ofZ}
+use mir.Val.{SFits}
 use Rattle.express.specs.kinds.Answer.{UNKNOWN, indeterminate, logical, end}
 use Rattle.express.specs.kinds.Answer as answer
 use Rattle.express.specs.kinds.Bits.{compare-bits}
@@ -23,6 +24,7 @@ use Rattle.values.specs.declared.End.{End}
 use Rattle.values.specs.declared.logical.Logical as values
 use Rattle.values.specs.declared.order.Order.{Order}
 use Rattle.integers.proofs.Calls.{own-one, own-two}
+use Rattle.integers.proofs.Exact.{own}
 use Rattle.bits.specs.Meaning.{bits-of, binary-answer, Joins}
 use Rattle.bits.specs.declared.Binary as bits
 use Rattle.bits.specs.declared.Joined.{Joined}
@@ -33,10 +35,6 @@ use Rattle.operations.specs.declared.Comparison.{Comparison}
 use Rattle.operations.specs.declared.Comparison.the-variants.{Ordered, Unordered}
 use Rattle.operations.proofs.Cases.{an-integer, a-logical, a-binary, an-item, an-end, Other, not-integer, not-logical, not-binary, not-item, not-end}
 
--- an operation's promise speaks of its operands as they are read back from their bits
-abbrev own : ℤ → ℤ
-own z = toZ w64 (ofZ w64 z)
-
 -- ---- `+` and arithmetic
 module _ {x y : Answer} {z w : answer.Answer} {a b : ℤ} (f : SFits w64 a) (g : SFits w64 b) (p : x ≡ Integer a) (q : y ≡ Integer b) (k : z ≡ w) where
   pub sum-integers : w ≡ sum (own a) (own b) → z ≡ operated plus (answer-of x) (answer-of y)
@@ -45,7 +43,9 @@ module _ {x y : Answer} {z w : answer.Answer} {a b : ℤ} (f : SFits w64 a) (g :
   pub two-integers : (c : shape.Arithmetic) → w ≡ computed c (own a) (own b) → z ≡ operated (arithmetic c) (answer-of x) (answer-of y)
   two-integers c h = rw (p, q) (k ∙ own-two (computed c) f g h)
 
-pub sum-binaries : {x y : Answer} {z : answer.Answer} {a b : bits.Binary} {j : Joined} → x ≡ Binary a → y ≡ Binary b → z ≡ binary-answer j → Joins (bits-of a) (bits-of b) j → z ≡ operated plus (answer-of x) (answer-of y)
+pub sum-binaries :
+    {x y : Answer} {z : answer.Answer} {a b : bits.Binary} {j : Joined} →
+    x ≡ Binary a → y ≡ Binary b → z ≡ binary-answer j → Joins (bits-of a) (bits-of b) j → z ≡ operated plus (answer-of x) (answer-of y)
 sum-binaries p q k J = rw (p, q) (k ∙ J .is)
 
 module _ {x : Answer} (y : Answer) where
@@ -123,14 +123,18 @@ first-end y o p = rw p
 pub second-end : (x : Answer) {y : Answer} {e : End} (o : shape.Operator) → Other (an-end ∷ []) x → y ≡ Ended e → end (end-number e) ≡ combined o (answer-of x) (answer-of y)
 second-end x o h p = rw (not-end (an-end ∷ []) x tt h, p)
 
-pub no-end : (x y : Answer) {z : answer.Answer} (o : shape.Operator) → Other (an-end ∷ []) x → Other (an-end ∷ []) y → z ≡ operated o (answer-of x) (answer-of y) → z ≡ combined o (answer-of x) (answer-of y)
+pub no-end :
+    (x y : Answer) {z : answer.Answer} (o : shape.Operator) →
+    Other (an-end ∷ []) x → Other (an-end ∷ []) y → z ≡ operated o (answer-of x) (answer-of y) → z ≡ combined o (answer-of x) (answer-of y)
 no-end x y o h k e = rw (not-end (an-end ∷ []) x tt h, not-end (an-end ∷ []) y tt k) e
 
--- an interval
-pub interval : (o p : Relation) (x y z : answer.Answer) {a b c : answer.Answer} → a ≡ combined (relation o) x y → b ≡ combined (relation p) y z → c ≡ combined (connective and) a b → c ≡ between o p x y z
-interval o p x y z e f g = rw (e, f) at g
-
 pub ruleset ends = (first-end, second-end, no-end)
+
+-- ---- intervals
+pub interval :
+    (o p : Relation) (x y z : answer.Answer) {a b c : answer.Answer} →
+    a ≡ combined (relation o) x y → b ≡ combined (relation p) y z → c ≡ combined (connective and) a b → c ≡ between o p x y z
+interval o p x y z e f g = rw (e, f) at g
 
 -- ---- signs
 pub minus-integer : {x : Answer} {z w : answer.Answer} {a : ℤ} → SFits w64 a → x ≡ Integer a → z ≡ w → w ≡ negation (own a) → z ≡ applied negative (answer-of x)

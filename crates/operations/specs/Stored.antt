@@ -11,7 +11,7 @@ use Rattle.operations.specs.declared.rows.Row.{Row}
 abbrev pub row-in : Row → AnswerRow
 row-in r = row (r .kind) (r .number) (r .length)
 
--- the answers that such a row holds: a binary of up to 63 bits (K21), a node of 32 bits, one of the ends
+-- the answers that such a row holds: a binary of up to 63 bits (K21), a node of 32 bits, one of the ends (R4); the integers of the code have 64 bits
 abbrev pub storable : Answer → Bool
 storable indeterminate = true
 storable (integer z) = true

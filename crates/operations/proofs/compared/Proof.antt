@@ -6,4 +6,7 @@ use Rattle.operations.proofs.compared.Tie as tie
 pub compared-spec : {M : Type 1} → statement M
 compared-spec =
     tie.close
-    (tie.spec (λ c. search needs) (λ c. search needs) (λ c κs. tt) (λ c. search needs) (λ c. search needs) (λ c κs. tt) (λ c. search needs) (λ c. search needs) (λ c κs. tt) (λ c. search needs) (λ c. search needs) (λ c κs. tt) (λ c. search orders) (λ c. search orders) (λ c. search orders) (λ c. search orders) (λ c. search orders) (λ c. search orders) (λ c. search orders) (λ c. search orders) (λ c. search orders))
+    (tie.spec (λ c. search needs) (λ c. search needs) (λ c κs. tt) (λ c. search needs) (λ c. search needs) (λ c κs. tt) (λ c. search needs)
+    (λ c. search needs) (λ c κs. tt) (λ c. search needs) (λ c. search needs) (λ c κs. tt) (λ c. search orders) (λ c. search orders)
+    (λ c. search orders) (λ c. search orders) (λ c. search orders) (λ c. search orders) (λ c. search orders) (λ c. search orders)
+    (λ c. search orders))

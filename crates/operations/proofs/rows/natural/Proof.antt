@@ -6,4 +6,5 @@ use Rattle.operations.proofs.rows.natural.Tie as tie
 pub natural-spec : {M : Type 1} → statement M
 natural-spec =
     tie.close
-    (tie.spec (λ c. below-zero (c .before .fits .z) (c .if1 .taken)) (λ c. plus-casts (c .before .fits .z) (c .if1 .left)) (λ c. from-zero (c .before .fits .z) (c .if1 .left)))
+    (tie.spec (λ c. below-zero (c .before .fits .z) (c .if1 .taken)) (λ c. plus-casts (c .before .fits .z) (c .if1 .left))
+    (λ c. from-zero (c .before .fits .z) (c .if1 .left)))

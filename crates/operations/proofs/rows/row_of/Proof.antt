@@ -6,4 +6,6 @@ use Rattle.operations.proofs.rows.row_of.Tie as tie
 pub row-of-spec : {M : Type 1} → statement M
 row-of-spec =
     tie.close
-    (tie.spec (λ c. search needs) (λ c κs. tt) (λ c. search needs) (λ c. search needs) (λ c κs. tt) (λ c. search needs) (λ c. search needs) (λ c κs. tt) (λ c. search needs) (λ c. search needs) (λ c. search needs) (λ c κs. tt) (λ c. search rows) (λ c. search rows) (λ c. search rows) (λ c. search rows) (λ c. search rows) (λ c. search rows))
+    (tie.spec (λ c. search needs) (λ c κs. tt) (λ c. search needs) (λ c. search needs) (λ c κs. tt) (λ c. search needs) (λ c. search needs)
+    (λ c κs. tt) (λ c. search needs) (λ c. search needs) (λ c. search needs) (λ c κs. tt) (λ c. search rows) (λ c. search rows) (λ c. search rows)
+    (λ c. search rows) (λ c. search rows) (λ c. search rows))
