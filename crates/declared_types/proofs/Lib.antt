@@ -1,0 +1,4 @@
+pub mod Passing
+pub mod Sorting
+pub mod Whole
+pub mod Declaring
