@@ -2,3 +2,4 @@ pub mod Passing
 pub mod Sorting
 pub mod Whole
 pub mod Declaring
+pub mod Examples
