@@ -22,8 +22,8 @@ pub record ColumnsOf (t : Table) (terminals kinds tokens sizes : List ℕ) : Typ
   pub tokens-are : t .tokens ≡ tokens
   pub sizes-are : t .sizes ≡ sizes
 
--- A file that the stages before have accepted: it is derived, its names are in order (R17) and bound (N18), and its declarations stand in an order, each
--- type after those that it renames (N7). It has as few nodes as 32 bits allow, and the column an entry for each.
+-- A file that the stages before have accepted: it is derived, its names are right (R17) and bound (N18), and its declarations stand in an order, each type
+-- after those that it renames (N7; `type-order` of proofs/Examples). Every number fits into 32 bits, and the column has an entry for each node.
 pub record Accepted (t : Table) (b order column : List ℕ) : Type 0 where
   pub read : Read file t
   pub named : WellNamed t

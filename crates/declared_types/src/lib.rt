@@ -92,7 +92,7 @@ fn base(
     at(column, binding - 1)
 }
 
-// The first node below a node (G30).
+// The first node of a subtree (G30).
 fn first_node(sizes: &[u32], node: u32) -> usize
     ensures { λ r. ⌜ r ≡ node + 1 - getD (now (sizes .entry)) node 0 ⌝ }
 {
@@ -123,7 +123,8 @@ fn underlying(
         (now (bindings .entry)) (now (column .entry)) node ⌝ }
 {
     let first = first_node(sizes, node);
-    if byte_at(kinds, first) == codes::nodes::ITEM {
+    let lists_items = byte_at(kinds, first) == codes::nodes::ITEM;
+    if lists_items {
         return enumeration(index(node));
     }
     if !renames(tokens, node, first) {
@@ -261,7 +262,8 @@ fn store_constants(
     }
 }
 
-// Writes the numbers of all enumeration items, types and constants; no other entry changes.
+// Stores the numbers of all enumeration items, types and constants; `order` has the declarations, each type after those that
+// it renames. No other entry changes.
 pub fn declared_types(
     terminals: &[u8],
     kinds: &[u8],

@@ -3,7 +3,7 @@ use borrow.Author.Needs.{needs}
 use Rattle.declared_types.proofs.underlying.Statement.{statement}
 use Rattle.declared_types.proofs.underlying.Tie as tie
 use mathlib.Core.Path.{sym, _∙_}
-use borrow.Author.Tests.{eq-eqb, ne-eqb, not-true, not-false}
+use borrow.Author.Tests.{not-true, not-false}
 use Rattle.declared_types.specs.Storing.{base-number, type-number}
 
 first-node-requires : tie.Need-first-node-requires
@@ -24,7 +24,7 @@ returns c =
     simp (
       c .enumeration .ensures,
       c .before .index .ensures,
-      eq-eqb _ _ (rw (c .before .before .before .byte-at .ensures, c .before .before .before .before .first-node .ensures) at (c .before .before .if1 .taken)),
+      rw (c .before .before .before .byte-at .ensures, c .before .before .before .before .first-node .ensures) at (c .before .before .if1 .taken),
     )
 
 renames-requires : tie.Need-renames-requires
@@ -34,7 +34,7 @@ returns-2 : tie.Need-returns-2
 unfolding type-number
 returns-2 c =
     simp (
-      ne-eqb _ _ (rw (c .before .before .before .byte-at .ensures, c .before .before .before .before .first-node .ensures) at (c .before .before .if1 .left)),
+      rw (c .before .before .before .byte-at .ensures, c .before .before .before .before .first-node .ensures) at (c .before .before .if1 .left),
       rw (c .before .before .before .before .first-node .ensures) at (sym (c .before .renames .ensures) ∙ not-true _ (c .if2 .taken)),
     )
 
@@ -47,7 +47,7 @@ returns-3 c =
     simp (
       c .base .ensures,
       c .before .before .before .before .before .first-node .ensures,
-      ne-eqb _ _ (rw (c .before .before .before .before .byte-at .ensures, c .before .before .before .before .before .first-node .ensures) at (c .before .before .before .if1 .left)),
+      rw (c .before .before .before .before .byte-at .ensures, c .before .before .before .before .before .first-node .ensures) at (c .before .before .before .if1 .left),
       rw (c .before .before .before .before .before .first-node .ensures) at (sym (c .before .before .renames .ensures) ∙ not-false _ (c .before .if2 .left)),
     )
 
