@@ -2,6 +2,7 @@ pub mod Answer
 pub mod AnswerRow
 pub mod Bits
 pub mod Declared
+pub mod DeclaredColumn
 pub mod Evaluate
 pub mod Integer
 pub mod Kind

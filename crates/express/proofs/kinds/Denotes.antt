@@ -144,7 +144,7 @@ module _ {t : Table} (R : Read file t) (W : WellNamed t) where
       by several e = absurd (some-binding (at ∙ ap binding-of e))
       by (one j) e = let q : getD b n 0 ≡ j + 1 = at ∙ ap binding-of e in e ∙ ap one (omega arith)
 
-  bound-is : (n k : ℕ) → bound t b k n ≡ true → is t k (declaration b n) ≡ true
+  pub bound-is : (n k : ℕ) → bound t (bindings t) k n ≡ true → is t k (declaration (bindings t) n) ≡ true
   bound-is n k h = and-snd (not (eqb (getD b n 0) 0)) (is t k (declaration b n)) h
 
   -- a type is no value
@@ -190,13 +190,17 @@ module _ {t : Table} (R : Read file t) (W : WellNamed t) where
       by false false true e i j m = absurd (item-type (type-meant t n) (rw (e, i, j) at m))
       by false false false e i j m = absurd (let z : _≡_ {A = ℕ} 0 1 = let c : scope.none ≡ one (declaration b n) = rw (e, i, j) at m in cc in omega arith)
 
+  -- what is bound to a type is a name
+  pub bound-name : (n : ℕ) → n < count t → bound t (bindings t) node.type n ≡ true → is t node.name n ≡ true
+  bound-name n l h = type-name n l h .is-name
+
   -- ---- a renaming is an edge
 
   below-count : (d k : ℕ) → is t k d ≡ true → k ≢ 0 → d < count t
   below-count d k h z =
       ⊎-elim (λ (g : count t ≤ d). absurd (z (sym (eqb-true (kind t d) k h) ∙ List·getD-eq-default (t .kinds) 0 g))) (λ g. g) (le-or (count t) d)
 
-  type-below : (d : ℕ) → is t node.type d ≡ true → d < count t
+  pub type-below : (d : ℕ) → is t node.type d ≡ true → d < count t
   type-below d h = below-count d node.type h (λ (z : _≡_ {A = ℕ} 18 0). omega arith)
 
   -- the nodes of a type, by kind and role
@@ -212,7 +216,9 @@ module _ {t : Table} (R : Read file t) (W : WellNamed t) where
       first-of (is-declaration t) (count t) n d (omega arith) (type-below d h) (rw (eqb-true (kind t d) node.type h))
       (λ j lo hi. undeclared t j set.below-type refl (and-fst (in-type (kind t j)) _ (inside-type d h j (omega arith) hi)))
 
-  renaming-edge : (d : ℕ) → is t node.type d ≡ true → bound t b node.type (first t d) ≡ true → Joins (type-edges t) d (declaration b (first t d))
+  pub renaming-edge :
+      (d : ℕ) → is t node.type d ≡ true → bound t (bindings t) node.type (first t d) ≡ true →
+      Joins (type-edges t) d (declaration (bindings t) (first t d))
   unfolding type-edges renaming-edges
   renaming-edge d h i =
       let l = type-below d h in
@@ -328,7 +334,7 @@ module _ {t : Table} (R : Read file t) (W : WellNamed t) where
       (cond (renames t (declaration b n)) (denoted t b (first t (declaration b n))) other)) other)
 
   -- what a type that renames begins with is no type
-  base-known : (d : ℕ) → is t node.type d ≡ true → renames t d ≡ true → (first t d < count t) × (is t node.type (first t d) ≡ false)
+  pub base-known : (d : ℕ) → is t node.type d ≡ true → renames t d ≡ true → (first t d < count t) × (is t node.type (first t d) ≡ false)
   unfolding mem
   base-known d h r =
       let l = type-below d h in

@@ -1,0 +1,5 @@
+pub mod Passing
+pub mod Sorting
+pub mod Whole
+pub mod Declaring
+pub mod Examples

@@ -1,0 +1,52 @@
+-- `declared_types::store_constants` meets its contract: what is left to store, from node i on, gives what is wanted. Assumes nothing.
+use Rattle.declared_types.proofs.store_constants.Statement.{statement}
+use Rattle.declared_types.proofs.store_constants.Tie as tie
+use borrow.Author.Needs.{needs}
+use Prim.Native.Nat.{_-_}
+use lib.ListN.{length}
+use Rattle.declared_types.specs.Storing.{table-of, constant-stored, constants-stored}
+use Rattle.declared_types.proofs.Passing.{Up, up-starts, up-goes-on, up-ends}
+
+abbrev Inv-loop : tie.InvT-loop
+Inv-loop terminals kinds tokens sizes bindings column₀ i₀ column i = Up (constant-stored (table-of terminals kinds tokens sizes) bindings) (length kinds) column₀ column i
+
+abbrev μ-loop : tie.MeasureT-loop
+μ-loop terminals kinds tokens sizes bindings column₀ i₀ column i = length kinds - i
+
+loop-holds : tie.Need-loop-holds Inv-loop μ-loop
+loop-holds c = up-starts _ _ _
+
+store-constant-requires : tie.Need-store-constant-requires Inv-loop μ-loop
+store-constant-requires c κs = search needs
+
+add-i : tie.Need-add-i Inv-loop μ-loop
+add-i c = search needs
+
+loop-less : tie.Need-loop-less Inv-loop μ-loop
+loop-less c = search needs
+
+loop-again : tie.Need-loop-again Inv-loop μ-loop
+loop-again c =
+    up-goes-on _ _ (c .before .before .before .before .loop-test .taken) (c .before .before .before .before .before .loop .inv)
+    (c .before .before .store-constant .kept .1 .1 .1 .1 .1 .0) (c .before .before .store-constant .ensures)
+
+same-length : tie.Need-same-length Inv-loop μ-loop
+same-length c = c .before .loop .inv .long
+
+returns : tie.Need-returns Inv-loop μ-loop
+unfolding constants-stored
+returns c = up-ends _ _ (c .loop-test .left) (c .before .loop .inv)
+
+pub store-constants-spec : {M : Type 1} → statement M
+store-constants-spec =
+    tie.close
+    (tie.spec
+    Inv-loop
+    μ-loop
+    loop-holds
+    store-constant-requires
+    add-i
+    loop-less
+    loop-again
+    same-length
+    returns)

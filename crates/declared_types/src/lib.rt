@@ -1,0 +1,282 @@
+// What constants and types are declared with, seen through renamings: a number for each, in a column with an entry for each node.
+pub mod numbers;
+
+ghost use mathlib.Core.Path.{_≡_};
+ghost use mathlib.Core.Bool.{cond};
+ghost use mathlib.Core.List.{[]};
+ghost use Prim.Native.Nat.{_+_, _-_};
+ghost use lib.ListN.{getD, set};
+ghost use lib.Dec.{eqb};
+ghost use Rattle.express.specs.syntax.NodeKind.{enumeration-item};
+ghost use Rattle.express.specs.kinds.Declared.{simple};
+ghost use Rattle.express.specs.kinds.DeclaredColumn.{declared-number};
+ghost use Rattle.scopes.specs.Standing.{declares};
+ghost use Rattle.declared_types.specs.Storing.{table-of, enumeration-number, base-number, type-number};
+ghost use Rattle.declared_types.specs.Storing.{type-stored, constant-stored, items-stored, types-stored, constants-stored};
+ghost use Rattle.declared_types.specs.Promise.{Declares};
+use columns::index;
+use columns::put32;
+use columns::saturating_sub;
+
+// The number at an index; past the end of the column 0.
+fn at(column: &[u32], i: usize) -> u32
+    ensures { λ r. ⌜ r ≡ getD (now (column .entry)) i 0 ⌝ }
+{
+    if i < column.len() {
+        return column[i];
+    }
+    0
+}
+
+fn byte_at(column: &[u8], i: usize) -> u8
+    ensures { λ r. ⌜ r ≡ getD (now (column .entry)) i 0 ⌝ }
+{
+    if i < column.len() {
+        return column[i];
+    }
+    0
+}
+
+// The number of the enumeration whose type is a node.
+fn enumeration(node: usize) -> u32
+    ensures { λ r. ⌜ r ≡ enumeration-number node ⌝ }
+{
+    if numbers::LAST_NODE < node {
+        return numbers::OTHER;
+    }
+    columns::number(node) + numbers::FIRST_ENUMERATION
+}
+
+// The number of a simple type, by its word.
+fn simple_type(word: u8) -> u32
+    ensures { λ r. ⌜ r ≡ declared-number (simple word) ⌝ }
+{
+    if word == codes::INTEGER {
+        return numbers::INTEGER;
+    }
+    if word == codes::BOOLEAN {
+        return numbers::BOOLEAN;
+    }
+    if word == codes::LOGICAL {
+        return numbers::LOGICAL;
+    }
+    if word == codes::BINARY {
+        return numbers::BINARY;
+    }
+    numbers::OTHER
+}
+
+// The number of what a node is or names; those of the types that names are bound to stand in the column.
+fn base(
+    terminals: &[u8],
+    kinds: &[u8],
+    tokens: &[u32],
+    bindings: &[u32],
+    column: &[u32],
+    node: usize,
+) -> u32
+    ensures { λ r. ⌜ r ≡ base-number
+        (table-of (now (terminals .entry)) (now (kinds .entry)) (now (tokens .entry)) [])
+        (now (bindings .entry)) (now (column .entry)) node ⌝ }
+{
+    if byte_at(kinds, node) == codes::nodes::SIMPLE_TYPE {
+        return simple_type(byte_at(terminals, index(at(tokens, node))));
+    }
+    let binding = index(at(bindings, node));
+    if binding == 0 {
+        return numbers::OTHER;
+    }
+    if byte_at(kinds, binding - 1) != codes::nodes::TYPE {
+        return numbers::OTHER;
+    }
+    at(column, binding - 1)
+}
+
+// The first node of a subtree (G30).
+fn first_node(sizes: &[u32], node: u32) -> usize
+    ensures { λ r. ⌜ r ≡ node + 1 - getD (now (sizes .entry)) node 0 ⌝ }
+{
+    let n = index(node);
+    saturating_sub(n + 1, index(at(sizes, n)))
+}
+
+// Does a type rename what its first node is or names? That stands two tokens after the type's name, the names of a select
+// list further on.
+fn renames(tokens: &[u32], node: u32, first: usize) -> bool
+    ensures { λ r. ⌜ r ≡ eqb (getD (now (tokens .entry)) first 0) (getD (now (tokens .entry)) node 0 + 2) ⌝ }
+{
+    index(at(tokens, first)) == index(at(tokens, index(node))) + 2
+}
+
+// The number of a type, by its first node: an item, what it renames, or the first name of a select list.
+fn underlying(
+    terminals: &[u8],
+    kinds: &[u8],
+    tokens: &[u32],
+    sizes: &[u32],
+    bindings: &[u32],
+    column: &[u32],
+    node: u32,
+) -> u32
+    ensures { λ r. ⌜ r ≡ type-number
+        (table-of (now (terminals .entry)) (now (kinds .entry)) (now (tokens .entry)) (now (sizes .entry)))
+        (now (bindings .entry)) (now (column .entry)) node ⌝ }
+{
+    let first = first_node(sizes, node);
+    let lists_items = byte_at(kinds, first) == codes::nodes::ITEM;
+    if lists_items {
+        return enumeration(index(node));
+    }
+    if !renames(tokens, node, first) {
+        return numbers::OTHER;
+    }
+    base(terminals, kinds, tokens, bindings, column, first)
+}
+
+// The type of a constant stands before its expression, the last of its nodes but itself.
+fn type_node(sizes: &[u32], constant: usize) -> usize
+    ensures { λ r. ⌜ r ≡ (constant - 1) - getD (now (sizes .entry)) (constant - 1) 0 ⌝ }
+{
+    let last = saturating_sub(constant, 1);
+    saturating_sub(last, index(at(sizes, last)))
+}
+
+// The declaration that node i is or lies in, from its kind and from that of the next node.
+fn owner(kind: u8, i: usize, after: usize) -> usize
+    ensures { λ r. ⌜ r ≡ cond (declares kind) i after ⌝ }
+{
+    if scopes::is_declaration(kind) {
+        return i;
+    }
+    after
+}
+
+fn store_item(kind: u8, column: &mut [u32], i: usize, owner: usize)
+    ensures { λ _. ⌜ now (column .exit) ≡ cond (eqb kind enumeration-item)
+        (set (now (column .entry)) i (enumeration-number owner)) (now (column .entry)) ⌝ }
+{
+    if kind != codes::nodes::ITEM {
+        return;
+    }
+    put32(column, i, enumeration(owner));
+}
+
+fn store_type(
+    terminals: &[u8],
+    kinds: &[u8],
+    tokens: &[u32],
+    sizes: &[u32],
+    bindings: &[u32],
+    column: &mut [u32],
+    node: u32,
+)
+    ensures { λ _. ⌜ now (column .exit) ≡ type-stored
+        (table-of (now (terminals .entry)) (now (kinds .entry)) (now (tokens .entry)) (now (sizes .entry)))
+        (now (bindings .entry)) (now (column .entry)) node ⌝ }
+{
+    if byte_at(kinds, index(node)) != codes::nodes::TYPE {
+        return;
+    }
+    let number = underlying(terminals, kinds, tokens, sizes, bindings, column, node);
+    put32(column, index(node), number);
+}
+
+fn store_constant(
+    terminals: &[u8],
+    kinds: &[u8],
+    tokens: &[u32],
+    sizes: &[u32],
+    bindings: &[u32],
+    column: &mut [u32],
+    i: usize,
+)
+    ensures { λ _. ⌜ now (column .exit) ≡ constant-stored
+        (table-of (now (terminals .entry)) (now (kinds .entry)) (now (tokens .entry)) (now (sizes .entry)))
+        (now (bindings .entry)) (now (column .entry)) i ⌝ }
+{
+    if byte_at(kinds, i) != codes::nodes::CONSTANT {
+        return;
+    }
+    let number = base(
+        terminals,
+        kinds,
+        tokens,
+        bindings,
+        column,
+        type_node(sizes, i),
+    );
+    put32(column, i, number);
+}
+
+// The items, from the last node to the first.
+fn store_items(kinds: &[u8], column: &mut [u32])
+    ensures { λ _. ⌜ now (column .exit) ≡ items-stored (table-of [] (now (kinds .entry)) [] []) (now (column .entry)) ⌝ }
+{
+    let mut declaration = kinds.len();
+    let mut i = kinds.len();
+    while 0 < i {
+        i -= 1;
+        let kind = kinds[i];
+        declaration = owner(kind, i, declaration);
+        store_item(kind, column, i, declaration);
+    }
+}
+
+// The types, each after those that it renames.
+fn store_types(
+    terminals: &[u8],
+    kinds: &[u8],
+    tokens: &[u32],
+    sizes: &[u32],
+    bindings: &[u32],
+    order: &[u32],
+    column: &mut [u32],
+)
+    ensures { λ _. ⌜ now (column .exit) ≡ types-stored
+        (table-of (now (terminals .entry)) (now (kinds .entry)) (now (tokens .entry)) (now (sizes .entry)))
+        (now (bindings .entry)) (now (order .entry)) (now (column .entry)) ⌝ }
+{
+    let mut i = 0;
+    while i < order.len() {
+        store_type(terminals, kinds, tokens, sizes, bindings, column, order[i]);
+        i += 1;
+    }
+}
+
+fn store_constants(
+    terminals: &[u8],
+    kinds: &[u8],
+    tokens: &[u32],
+    sizes: &[u32],
+    bindings: &[u32],
+    column: &mut [u32],
+)
+    ensures { λ _. ⌜ now (column .exit) ≡ constants-stored
+        (table-of (now (terminals .entry)) (now (kinds .entry)) (now (tokens .entry)) (now (sizes .entry)))
+        (now (bindings .entry)) (now (column .entry)) ⌝ }
+{
+    let mut i = 0;
+    while i < kinds.len() {
+        store_constant(terminals, kinds, tokens, sizes, bindings, column, i);
+        i += 1;
+    }
+}
+
+// Stores the numbers of all enumeration items, types and constants; `order` has the declarations, each type after those that
+// it renames. No other entry changes.
+pub fn declared_types(
+    terminals: &[u8],
+    kinds: &[u8],
+    tokens: &[u32],
+    sizes: &[u32],
+    bindings: &[u32],
+    order: &[u32],
+    column: &mut [u32],
+)
+    ensures { λ _. ⌜ Declares (now (terminals .entry)) (now (kinds .entry)) (now (tokens .entry)) (now (sizes .entry))
+        (now (bindings .entry)) (now (order .entry)) (now (column .entry)) (now (column .exit)) ⌝ }
+{
+    store_items(kinds, column);
+    store_types(terminals, kinds, tokens, sizes, bindings, order, column);
+    store_constants(terminals, kinds, tokens, sizes, bindings, column);
+}
