@@ -1,0 +1,2 @@
+// The typing of constants.
+pub mod kinds;
