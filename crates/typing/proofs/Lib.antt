@@ -1,1 +1,4 @@
 pub mod Numbered
+pub mod Nodes
+pub mod Assembled
+pub mod Walking
