@@ -47,7 +47,7 @@ module _ {k w n : ℕ} {sizes scratch : List ℕ} {v m : ℕ} (M : m ≡ n - 1) 
   operates-sign h {o} S A =
       record {
         is = λ t b e c q i j p.
-            A ∙ ap₂ applied (S ∙ ap (λ (x : ℕ). class-of-sign (sign-of x)) (sym j)) (held scratch M E) ∙ at-sign t b e c (kind-at (kinds-of scratch)) n (i ∙ h)
+            A ∙ ap₂ applied (S ∙ ap (λ (x : ℕ). class-of-sign (sign-of x)) (sym j)) (held scratch M E) ∙ at-sign t b e c (kind-at (kinds-of scratch)) n (i ∙ h);
       }
 
   pub operates-operator :
@@ -57,7 +57,7 @@ module _ {k w n : ℕ} {sizes scratch : List ℕ} {v m : ℕ} (M : m ≡ n - 1) 
       record {
         is = λ t b e c q i j p.
             A ∙ ap₂ applied (S ∙ ap (λ (z : ℕ). class-of (operator-of z)) (sym j))
-            (common-kind x v y C ∙ ap₂ common (held scratch (L .is e q) X) (held scratch M E)) ∙ at-operator t b e c (kind-at (kinds-of scratch)) n (i ∙ h)
+            (common-kind x v y C ∙ ap₂ common (held scratch (L .is e q) X) (held scratch M E)) ∙ at-operator t b e c (kind-at (kinds-of scratch)) n (i ∙ h);
       }
 
   pub operates-interval :
@@ -67,7 +67,7 @@ module _ {k w n : ℕ} {sizes scratch : List ℕ} {v m : ℕ} (M : m ≡ n - 1) 
   operates-interval h {a} {x} {d} {y} L X D Y A =
       record {
         is = λ t b e c q i j p.
-            A ∙ rw (held scratch (L .is e q) X, held scratch (D .is e q) Y, held scratch M E) (at-interval t b e c (kind-at (kinds-of scratch)) n (i ∙ h))
+            A ∙ rw (held scratch (L .is e q) X, held scratch (D .is e q) Y, held scratch M E) (at-interval t b e c (kind-at (kinds-of scratch)) n (i ∙ h));
       }
 
 module _ {k w n : ℕ} {sizes scratch : List ℕ} {r : Finding} where
@@ -75,7 +75,7 @@ module _ {k w n : ℕ} {sizes scratch : List ℕ} {r : Finding} where
   operates-type h X A =
       record {
         is = λ t b e c q i j p.
-            A .is (simple (terminal e n)) (X ∙ ap (λ (z : ℕ). declared-number (simple z)) (sym j)) ∙ at-simple-type t b e c (kind-at (kinds-of scratch)) n (i ∙ h)
+            A .is (simple (terminal e n)) (X ∙ ap (λ (z : ℕ). declared-number (simple z)) (sym j)) ∙ at-simple-type t b e c (kind-at (kinds-of scratch)) n (i ∙ h);
       }
 
   pub operates-leaf :
@@ -85,7 +85,7 @@ module _ {k w n : ℕ} {sizes scratch : List ℕ} {r : Finding} where
       record {
         is = λ t b e c q i j p.
             A ∙ ap leaf-found (sym i) ∙
-            at-leaf t b e c (kind-at (kinds-of scratch)) n (rw i p) (λ h. u (sym i ∙ h)) (λ h. o (sym i ∙ h)) (λ h. v (sym i ∙ h)) (λ h. s (sym i ∙ h))
+            at-leaf t b e c (kind-at (kinds-of scratch)) n (rw i p) (λ h. u (sym i ∙ h)) (λ h. o (sym i ∙ h)) (λ h. v (sym i ∙ h)) (λ h. s (sym i ∙ h));
       }
 
 -- ---- names
@@ -98,7 +98,7 @@ module _ {kinds file-kinds declared : List ℕ} {x : ℕ} where
     pub named-item : k ≡ node.enumeration-item → Named kinds x file-kinds declared (OfKind y)
     named-item h =
         record {
-          is = λ t b e c g n N q l s. ap (λ (u : ℕ). of-kind (of-number u)) Y ∙ bound-item t b e c g n kinds file-kinds declared N l s x q z (sym K ∙ h)
+          is = λ t b e c g n N q l s. ap (λ (u : ℕ). of-kind (of-number u)) Y ∙ bound-item t b e c g n kinds file-kinds declared N l s x q z (sym K ∙ h);
         }
 
     pub named-constant : k ≡ node.constant → {v : ℕ} {r : Finding} → KindOfType y v → Evaluated y v r → Named kinds x file-kinds declared r
@@ -106,7 +106,7 @@ module _ {kinds file-kinds declared : List ℕ} {x : ℕ} where
         record {
           is = λ t b e c g n N q l s.
               bound-constant t b e c g n kinds file-kinds declared N l s x q z (sym K ∙ h)
-              (λ d i. E .is d (Y ∙ i) ∙ ap (if-evaluated d) (T .is d (Y ∙ i)))
+              (λ d i. E .is d (Y ∙ i) ∙ ap (if-evaluated d) (T .is d (Y ∙ i)));
         }
 
     module _ (u : k ≡ node.enumeration-item → ⊥) (w : k ≡ node.constant → ⊥) {j : ℕ} (J : j ≡ getD kinds (x - 1) 0) where
@@ -114,13 +114,13 @@ module _ {kinds file-kinds declared : List ℕ} {x : ℕ} where
       named-type h {r} E =
           record {
             is = λ t b e c g n N q l s.
-                bound-type t b e c g n kinds file-kinds declared N l s x q z (λ i. u (K ∙ i)) (λ i. w (K ∙ i)) (sym J ∙ h) (λ d i. E .is d (Y ∙ i))
+                bound-type t b e c g n kinds file-kinds declared N l s x q z (λ i. u (K ∙ i)) (λ i. w (K ∙ i)) (sym J ∙ h) (λ d i. E .is d (Y ∙ i));
           }
 
       pub named-other : (j ≡ node.type → ⊥) → Named kinds x file-kinds declared (Fault 14)
       named-other h =
           record {
-            is = λ t b e c g n N q l s. bound-other t b e c g n kinds file-kinds declared N l s x q z (λ i. u (K ∙ i)) (λ i. w (K ∙ i)) (λ i. h (J ∙ i))
+            is = λ t b e c g n N q l s. bound-other t b e c g n kinds file-kinds declared N l s x q z (λ i. u (K ∙ i)) (λ i. w (K ∙ i)) (λ i. h (J ∙ i));
           }
 
 -- ---- nodes
@@ -138,7 +138,7 @@ module _ {terminals kinds tokens sizes bindings file-kinds declared scratch : Li
         record {
           is = λ t b e A.
               N .is t b e bindings (kind-at (kinds-of scratch)) n (A .names) (sym X) (known e n 5 (own n K A ∙ h)) (λ i. let z = own n K A ∙ h in omega arith) ∙
-              at-name t b e bindings (kind-at (kinds-of scratch)) n (own n K A ∙ h)
+              at-name t b e bindings (kind-at (kinds-of scratch)) n (own n K A ∙ h);
         }
 
     pub finds-item : k ≡ node.qualified-item → Finds terminals kinds tokens sizes bindings file-kinds declared scratch n r
@@ -146,7 +146,7 @@ module _ {terminals kinds tokens sizes bindings file-kinds declared scratch : Li
         record {
           is = λ t b e A.
               N .is t b e bindings (kind-at (kinds-of scratch)) n (A .names) (sym X) (known e n 6 (own n K A ∙ h)) (λ i. let z = own n K A ∙ h in omega arith) ∙
-              at-item t b e bindings (kind-at (kinds-of scratch)) n (own n K A ∙ h)
+              at-item t b e bindings (kind-at (kinds-of scratch)) n (own n K A ∙ h);
         }
 
   pub finds-constant : k ≡ node.constant → {y m v : ℕ} → y ≡ getD declared n 0 → m ≡ n - 1 → v ≡ getD scratch m 0 → Held y v r → Finds terminals kinds tokens sizes bindings file-kinds declared scratch n r
@@ -155,7 +155,7 @@ module _ {terminals kinds tokens sizes bindings file-kinds declared scratch : Li
         is = λ t b e A.
             let i = own n K A ∙ h in
             H .is (declared-type e bindings n) (Y ∙ A .names .own-declared .constants n (known e n 16 i) i) ∙
-            rw (held scratch M E) (at-constant t b e bindings (kind-at (kinds-of scratch)) n i)
+            rw (held scratch M E) (at-constant t b e bindings (kind-at (kinds-of scratch)) n i);
       }
 
   pub finds-operation :
@@ -165,5 +165,5 @@ module _ {terminals kinds tokens sizes bindings file-kinds declared scratch : Li
       record {
         is = λ t d e A.
             O .is t d e bindings (A .sizes-are) (own n K A) (rw (A .terminals-are, A .tokens-are, ← J) (sym W))
-            (record { no-name = a; no-item = b; no-constant = c })
+            (record { no-name = a; no-item = b; no-constant = c });
       }

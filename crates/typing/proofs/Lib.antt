@@ -2,3 +2,4 @@ pub mod Numbered
 pub mod Nodes
 pub mod Assembled
 pub mod Walking
+pub mod Constants

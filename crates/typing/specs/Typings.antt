@@ -82,9 +82,16 @@ pub record TypesNodes (terminals kinds tokens sizes bindings : List ℕ) (lo hi 
       (t : Table) (b : List ℕ) (e : Table) → Against t b e terminals kinds tokens sizes bindings file-kinds declared →
       type-nodes-in t b e bindings (span lo (hi - lo)) (kinds-of scratch) ≡ typing-of r scratch′
 
--- THE TYPING OF A FILE'S CONSTANTS, whatever the lent column held
+-- the columns of a file that is read, and the column of what it declares
+pub record OfFile (t : Table) (terminals kinds tokens sizes bindings declared : List ℕ) : Type 0 where
+  pub read : Read file t
+  pub terminals-are : t .terminals ≡ terminals
+  pub kinds-are : t .kinds ≡ kinds
+  pub tokens-are : t .tokens ≡ tokens
+  pub sizes-are : t .sizes ≡ sizes
+  pub declares : DeclaredColumn t bindings declared
+
+-- THE TYPING OF A FILE'S CONSTANTS, whatever the lent column held: typed, or the first fault
 pub record TypesConstants (terminals kinds tokens sizes bindings declared scratch scratch′ : List ℕ) (r : Typing) : Type 0 where
   pub kept : length scratch′ ≡ length scratch
-  pub is :
-      (t : Table) → Read file t → t .terminals ≡ terminals → t .kinds ≡ kinds → t .tokens ≡ tokens → t .sizes ≡ sizes →
-      DeclaredColumn t bindings declared → count t ≤ length scratch → r ≡ outcome (typing t bindings)
+  pub is : (t : Table) → OfFile t terminals kinds tokens sizes bindings declared → count t ≤ length scratch → r ≡ outcome (typing t bindings)

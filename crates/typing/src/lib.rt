@@ -7,9 +7,18 @@ ghost use Prim.Native.Nat.{_-_};
 ghost use lib.ListN.{getD};
 ghost use Rattle.express.specs.syntax.Tree as Tree;
 ghost use Rattle.typing.specs.Typings.{Child, Named, Operates, Finds, TypesNodes, TypesConstants};
-
-use crate::kinds::{Finding, apply, common, constant, evaluated, interval, kind_of_type, leaf};
-use crate::kinds::{UNTYPED, operator_class, sign_class, simple};
+use crate::kinds::Finding;
+use crate::kinds::UNTYPED;
+use crate::kinds::apply;
+use crate::kinds::common;
+use crate::kinds::constant;
+use crate::kinds::evaluated;
+use crate::kinds::interval;
+use crate::kinds::kind_of_type;
+use crate::kinds::leaf;
+use crate::kinds::operator_class;
+use crate::kinds::sign_class;
+use crate::kinds::simple;
 
 // What the typing of some nodes comes to: the reply and the node of the first fault.
 pub enum Typing {
@@ -104,10 +113,17 @@ fn operation(kind: u8, terminal: u8, sizes: &[u32], scratch: &[u32], n: usize) -
         return apply(sign_class(terminal), value);
     }
     if kind == codes::nodes::TWO_OPERAND {
-        return apply(operator_class(terminal), common(at32(scratch, left(sizes, n)), value));
+        return apply(
+            operator_class(terminal),
+            common(at32(scratch, left(sizes, n)), value),
+        );
     }
     if kind == codes::nodes::INTERVAL {
-        return interval(at32(scratch, low(sizes, n)), at32(scratch, middle(sizes, n)), value);
+        return interval(
+            at32(scratch, low(sizes, n)),
+            at32(scratch, middle(sizes, n)),
+            value,
+        );
     }
     if kind == codes::nodes::SIMPLE_TYPE {
         return evaluated(simple(terminal), UNTYPED);
@@ -159,7 +175,17 @@ pub fn type_expression(
 {
     let mut n = lo;
     while n < hi {
-        let found = found_at(terminals, kinds, tokens, sizes, bindings, file_kinds, declared, scratch, n);
+        let found = found_at(
+            terminals,
+            kinds,
+            tokens,
+            sizes,
+            bindings,
+            file_kinds,
+            declared,
+            scratch,
+            n,
+        );
         match found {
             Finding::OfKind(k) => {
                 columns::put32(scratch, n, k);
@@ -189,16 +215,29 @@ pub fn type_constants(
     while n < kinds.len() {
         if kinds[n] == codes::nodes::CONSTANT {
             let first = columns::saturating_sub(n + 1, index_at(sizes, n));
-            let typing =
-                type_expression(terminals, kinds, tokens, sizes, bindings, first, n + 1, kinds, declared, scratch);
+            let typing = type_expression(
+                terminals,
+                kinds,
+                tokens,
+                sizes,
+                bindings,
+                first,
+                n + 1,
+                kinds,
+                declared,
+                scratch,
+            );
             match typing {
-                Typing::Typed => {}
+                Typing::Typed => {
+                    n += 1;
+                }
                 Typing::Fault(f, m) => {
                     return Typing::Fault(f, m);
                 }
             }
+        } else {
+            n += 1;
         }
-        n += 1;
     }
     Typing::Typed
 }
