@@ -1,22 +1,22 @@
 -- What the functions at a node answer, from what their calls gave and their tests said.
-use mathlib.Core.Path.{_≡_, refl, sym, ap, ap₂, _∙_}
-use mathlib.Core.Bool.{Bool, _&&_}
+use mathlib.Core.Path.{_≡_, sym, ap, ap₂, _∙_}
+use mathlib.Core.Bool.{_&&_}
 use mathlib.Core.List.{List}
 use Prim.Native.Nat.{ℕ, _-_}
 use native.Mathlib.Omega.{arith}
 use lib.ListN.{getD}
 use Rattle.express.specs.syntax.NodeKind as node
-use Rattle.express.specs.syntax.Tree.{Table, kind, terminal, last, before, left, middle, lower, low}
+use Rattle.express.specs.syntax.Tree.{Table, kind, terminal, before, left, middle, low}
 use Rattle.express.specs.kinds.Declared.{simple, declared-type}
 use Rattle.express.specs.kinds.DeclaredColumn.{declared-number}
 use Rattle.express.specs.kinds.Shape.{operator-of, sign-of}
-use Rattle.express.specs.kinds.Operate.{Kind, logicals, comparable}
+use Rattle.express.specs.kinds.Operate.{logicals, comparable}
 use Rattle.express.specs.kinds.Kind.{kind-number, of-number, common, of-kind, if-fits, if-evaluated, kind-at}
 use Rattle.typing.specs.declared.kinds.Class.{Class}
 use Rattle.typing.specs.declared.kinds.Finding.{Finding}
 use Rattle.typing.specs.declared.kinds.Finding.the-variants.{OfKind, Fault}
 use Rattle.typing.specs.Findings.{finding-of, class-of, class-of-sign, applied, leaf-found, KindOfType, Evaluated, Held}
-use Rattle.typing.specs.Typings.{kinds-of, Child, Against, Named, Plain, Operates, Finds}
+use Rattle.typing.specs.Typings.{kinds-of, Child, Against, Named, Operates, Finds}
 use Rattle.typing.proofs.Numbered.{common-kind}
 use Rattle.typing.proofs.Nodes.{known, kind-held, at-sign, at-operator, at-interval, at-simple-type, at-leaf, at-constant, at-name, at-item}
 use Rattle.typing.proofs.Nodes.{unbound, bound-item, bound-constant, bound-type, bound-other}
@@ -149,7 +149,9 @@ module _ {terminals kinds tokens sizes bindings file-kinds declared scratch : Li
               at-item t b e bindings (kind-at (kinds-of scratch)) n (own n K A ∙ h);
         }
 
-  pub finds-constant : k ≡ node.constant → {y m v : ℕ} → y ≡ getD declared n 0 → m ≡ n - 1 → v ≡ getD scratch m 0 → Held y v r → Finds terminals kinds tokens sizes bindings file-kinds declared scratch n r
+  pub finds-constant :
+      k ≡ node.constant → {y m v : ℕ} → y ≡ getD declared n 0 → m ≡ n - 1 → v ≡ getD scratch m 0 → Held y v r →
+      Finds terminals kinds tokens sizes bindings file-kinds declared scratch n r
   finds-constant h {y} {m} {v} Y M E H =
       record {
         is = λ t b e A.

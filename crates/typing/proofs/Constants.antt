@@ -13,11 +13,12 @@ use Rattle.express.specs.syntax.NodeKind as node
 use Rattle.express.specs.syntax.Tree.{Table, count, kind, size, first, nodes, is, within}
 use Rattle.express.specs.kinds.Shape.{shape-in}
 use Rattle.express.specs.kinds.Operate.{Kind, untyped}
-use Rattle.express.specs.kinds.Kind.{of-number, Finding, of-kind, fault, finding-in, kind-at, typed, ill-typed, if-found, if-typed, type-nodes-in, type-expression-in, type-constants, constants, typing}
+use Rattle.express.specs.kinds.Kind.{of-number, Finding, of-kind, fault, finding-in, kind-at, typed, if-found, if-typed}
+use Rattle.express.specs.kinds.Kind.{type-nodes-in, type-expression-in, type-constants, constants, typing}
 use Rattle.express.specs.kinds.Kind as express
 use Rattle.express.proofs.syntax.Formed.{Formed}
 use Rattle.express.proofs.syntax.FormedRows.{formed-rows}
-use Rattle.express.proofs.kinds.Scratch.{Root, Same, both-typed, both-ill, type-any}
+use Rattle.express.proofs.kinds.Scratch.{Same, both-typed, both-ill, type-any}
 use Rattle.express.proofs.kinds.Backward.{keep-step}
 use Rattle.typing.specs.declared.Typing.{Typing}
 use Rattle.typing.specs.declared.Typing.the-variants.{Typed, Fault}

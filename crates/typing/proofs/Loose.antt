@@ -2,14 +2,14 @@
 use mathlib.Core.Path.{_≡_, refl, sym, _∙_}
 use mathlib.Core.Bool.{true, false, false≢true, not}
 use mathlib.Core.List.{List}
-use Prim.Native.Nat.{ℕ, suc, _<_}
+use Prim.Native.Nat.{ℕ, suc}
 use borrow.Author.Tests.{eqb-true}
 use lib.Dec.{eqb}
 use lib.ListN.{getD}
 use Rattle.ebnf.specs.Set.{mem}
 use Rattle.relations.proofs.Select.{and-snd}
 use Rattle.express.specs.syntax.NodeKind as node
-use Rattle.express.specs.syntax.Tree.{Table, count, kind, is}
+use Rattle.express.specs.syntax.Tree.{Table, kind, is}
 use Rattle.express.specs.syntax.Grammar.{expression}
 use Rattle.express.specs.syntax.Syntax.{Read}
 use Rattle.express.specs.kinds.Declared.{declaration}

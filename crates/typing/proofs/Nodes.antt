@@ -1,20 +1,21 @@
 -- What is found at a node, by what its row and the columns hold.
 use mathlib.Core.Path.{_≡_, refl, sym, ap, _∙_}
-use mathlib.Core.Logic.{_≢_, ⊎-elim}
-use mathlib.Core.Bool.{Bool, true, false, cond, not, _&&_, _||_}
+use mathlib.Core.Logic.{⊎-elim}
+use mathlib.Core.Bool.{Bool, true, false, cond, not, _&&_}
 use mathlib.Core.Option.{Option, none, some}
-use mathlib.Core.List.{List, map}
-use Prim.Native.Nat.{ℕ, zero, suc, _+_, _-_, _≤_, _<_}
+use mathlib.Core.List.{List}
+use Prim.Native.Nat.{ℕ, zero, suc, _-_, _≤_, _<_}
 use native.Mathlib.Omega.{arith}
-use borrow.Author.Tests.{eq-eqb, ne-eqb}
+use borrow.Author.Tests.{ne-eqb}
 use lib.Dec.{eqb}
-use lib.ListN.{length, getD, List·getD-eq-default, List·getD-map}
+use lib.ListN.{getD, List·getD-eq-default, List·getD-map}
 use Rattle.express.specs.tokens.Lexis.{integer-value, binary-bits}
 use Rattle.express.specs.syntax.NodeKind as node
 use Rattle.express.specs.syntax.Tree.{Table, count, kind, terminal, owner, last, left, middle, low, is}
 use Rattle.express.specs.kinds.Declared.{Declared, other, declaration, bound, simple, denoted-in, denoted, declared-type}
-use Rattle.express.specs.kinds.DeclaredColumn.{declared-number, DeclaredColumn}
-use Rattle.express.specs.kinds.Shape.{Operator, plus, arithmetic, relation, connective, Sign, positive, negative, Shape, constant, unevaluated, operator-of, sign-of, evaluated, name-shape-in, shape-in}
+use Rattle.express.specs.kinds.DeclaredColumn.{declared-number}
+use Rattle.express.specs.kinds.Shape.{Operator, plus, arithmetic, relation, connective, Sign, positive, negative, unevaluated}
+use Rattle.express.specs.kinds.Shape.{operator-of, sign-of, evaluated, name-shape-in, shape-in}
 use Rattle.express.specs.kinds.Shape as shape
 use Rattle.express.specs.kinds.Answer.{Logical}
 use Rattle.express.specs.kinds.Operate.{Kind, integers, logicals, binaries, items, undetermined, untyped, comparable}

@@ -7,7 +7,7 @@ use Rattle.relations.specs.Select.{span}
 use Rattle.relations.proofs.Select.{span-step, span-end}
 use Rattle.express.specs.syntax.Tree.{Table}
 use Rattle.express.specs.kinds.Shape.{shape-in}
-use Rattle.express.specs.kinds.Kind.{of-number, Finding, of-kind, fault, finding-in, kind-at, typed, ill-typed, if-found, type-nodes-in}
+use Rattle.express.specs.kinds.Kind.{of-number, Finding, of-kind, finding-in, kind-at, typed, if-found, type-nodes-in}
 use Rattle.express.specs.kinds.Kind as express
 use Rattle.typing.specs.declared.kinds.Finding as found
 use Rattle.typing.specs.declared.kinds.Finding.the-variants.{OfKind}

@@ -143,7 +143,8 @@ fn found_at(
     scratch: &[u32],
     n: usize,
 ) -> Finding
-    ensures { λ r. ⌜ Finds (now (terminals .entry)) (now (kinds .entry)) (now (tokens .entry)) (now (sizes .entry)) (now (bindings .entry)) (now («file_kinds» .entry)) (now (declared .entry)) (now (scratch .entry)) n r ⌝ }
+    ensures { λ r. ⌜ Finds (now (terminals .entry)) (now (kinds .entry)) (now (tokens .entry)) (now (sizes .entry)) (now (bindings .entry))
+        (now («file_kinds» .entry)) (now (declared .entry)) (now (scratch .entry)) n r ⌝ }
 {
     let kind = at8(kinds, n);
     if kind == codes::nodes::NAME {
@@ -171,7 +172,8 @@ pub fn type_expression(
     declared: &[u32],
     scratch: &mut [u32],
 ) -> Typing
-    ensures { λ r. ⌜ TypesNodes (now (terminals .entry)) (now (kinds .entry)) (now (tokens .entry)) (now (sizes .entry)) (now (bindings .entry)) lo hi (now («file_kinds» .entry)) (now (declared .entry)) (now (scratch .entry)) (now (scratch .exit)) r ⌝ }
+    ensures { λ r. ⌜ TypesNodes (now (terminals .entry)) (now (kinds .entry)) (now (tokens .entry)) (now (sizes .entry)) (now (bindings .entry))
+        lo hi (now («file_kinds» .entry)) (now (declared .entry)) (now (scratch .entry)) (now (scratch .exit)) r ⌝ }
 {
     let mut n = lo;
     while n < hi {
@@ -187,12 +189,8 @@ pub fn type_expression(
             n,
         );
         match found {
-            Finding::OfKind(k) => {
-                columns::put32(scratch, n, k);
-            }
-            Finding::Fault(f) => {
-                return Typing::Fault(f, n);
-            }
+            Finding::OfKind(k) => columns::put32(scratch, n, k),
+            Finding::Fault(f) => return Typing::Fault(f, n),
         }
         n += 1;
     }
@@ -209,7 +207,8 @@ pub fn type_constants(
     declared: &[u32],
     scratch: &mut [u32],
 ) -> Typing
-    ensures { λ r. ⌜ TypesConstants (now (terminals .entry)) (now (kinds .entry)) (now (tokens .entry)) (now (sizes .entry)) (now (bindings .entry)) (now (declared .entry)) (now (scratch .entry)) (now (scratch .exit)) r ⌝ }
+    ensures { λ r. ⌜ TypesConstants (now (terminals .entry)) (now (kinds .entry)) (now (tokens .entry)) (now (sizes .entry))
+        (now (bindings .entry)) (now (declared .entry)) (now (scratch .entry)) (now (scratch .exit)) r ⌝ }
 {
     let mut n = 0;
     while n < kinds.len() {
@@ -228,12 +227,8 @@ pub fn type_constants(
                 scratch,
             );
             match typing {
-                Typing::Typed => {
-                    n += 1;
-                }
-                Typing::Fault(f, m) => {
-                    return Typing::Fault(f, m);
-                }
+                Typing::Typed => n += 1,
+                Typing::Fault(f, m) => return Typing::Fault(f, m),
             }
         } else {
             n += 1;

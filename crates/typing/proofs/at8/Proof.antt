@@ -1,20 +1,16 @@
+-- `typing::at8` meets its contract: past the end of a list its default stands. Assumes nothing.
 use borrow.Author.Needs.{needs}
 use Rattle.typing.proofs.at8.Statement.{statement}
 use Rattle.typing.proofs.at8.Tie as tie
-use Rattle.typing.proofs.at8.Reads as reads
-use Rattle.typing.proofs.at8.Lts as lts
 use lib.ListN.{List·getD-eq-default}
 use mathlib.Core.Path.{sym}
 
--- src/lib.rt:25:16
 shared-slice-read-result : tie.Need-shared-slice-read-result
 shared-slice-read-result c = search needs
 
--- src/lib.rt:25:9
 returns : tie.Need-returns
 returns c = search needs
 
--- src/lib.rt:21:1
 returns-2 : tie.Need-returns-2
 returns-2 c = sym (List·getD-eq-default (c .before .args .column .now) 0 (c .if1 .left))
 

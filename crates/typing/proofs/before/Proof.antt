@@ -1,21 +1,15 @@
+-- `typing::before` meets its contract: the size stands in the column. Assumes nothing.
 use borrow.Author.Needs.{needs}
 use Rattle.typing.proofs.before.Statement.{statement}
 use Rattle.typing.proofs.before.Tie as tie
-use Rattle.typing.proofs.before.Reads as reads
-use Rattle.typing.proofs.before.Lts as lts
-use Rattle.columns.proofs.saturating_sub.Reads as saturating-sub-reads
-use Rattle.typing.proofs.index_at.Reads as index-at-reads
 use Rattle.typing.proofs.Assembled.{child-before}
 
--- src/lib.rt:55:32
 index-at-requires : tie.Need-index-at-requires
 index-at-requires c κs = search needs
 
--- src/lib.rt:55:5
 saturating-sub-requires : tie.Need-saturating-sub-requires
 saturating-sub-requires c κs = search needs
 
--- src/lib.rt:52:1
 returns : tie.Need-returns
 returns c = child-before (c .before .index-at .ensures) (c .saturating-sub .ensures)
 

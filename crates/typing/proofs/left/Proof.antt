@@ -1,21 +1,15 @@
+-- `typing::left` meets its contract: the child before the last. Assumes nothing.
 use borrow.Author.Needs.{needs}
 use Rattle.typing.proofs.left.Statement.{statement}
 use Rattle.typing.proofs.left.Tie as tie
-use Rattle.typing.proofs.left.Reads as reads
-use Rattle.typing.proofs.left.Lts as lts
-use Rattle.typing.proofs.before.Reads as before-reads
-use Rattle.typing.proofs.last.Reads as last-reads
 use Rattle.typing.proofs.Assembled.{child-left}
 
--- src/lib.rt:61:19
 last-requires : tie.Need-last-requires
 last-requires c κs = search needs
 
--- src/lib.rt:61:5
 before-requires : tie.Need-before-requires
 before-requires c κs = search needs
 
--- src/lib.rt:58:1
 returns : tie.Need-returns
 returns c = child-left (c .before .last .ensures) (c .before2 .ensures)
 

@@ -1,61 +1,53 @@
+-- `typing::named` meets its contract: the tests are those of the definition, in its order. Assumes nothing.
 use borrow.Author.Needs.{needs}
 use Rattle.typing.proofs.named.Statement.{statement}
 use Rattle.typing.proofs.named.Tie as tie
-use Rattle.typing.proofs.named.Reads as reads
-use Rattle.typing.proofs.named.Lts as lts
-use Rattle.typing.proofs.at32.Reads as at32-reads
-use Rattle.typing.proofs.at8.Reads as at8-reads
-use Rattle.typing.proofs.kinds.evaluated.Reads as evaluated-reads
-use Rattle.typing.proofs.kinds.kind_of_type.Reads as kind-of-type-reads
 use Rattle.typing.proofs.Assembled.{named-unbound, named-item, named-constant, named-type, named-other}
 
--- src/lib.rt:81:9
 returns : tie.Need-returns
 returns c = named-unbound (c .if1 .taken)
 
--- src/lib.rt:83:13
 sub-d : tie.Need-sub-d
 sub-d c = search needs
 
--- src/lib.rt:84:9
 at32-requires : tie.Need-at32-requires
 at32-requires c κs = search needs
 
--- src/lib.rt:85:9
 at8-requires : tie.Need-at8-requires
 at8-requires c κs = search needs
 
--- src/lib.rt:87:9
 returns-2 : tie.Need-returns-2
 returns-2 c = named-item (c .before .before .before .if1 .left) (c .before .before .at32 .ensures) (c .before .at8 .ensures) (c .if2 .taken)
 
--- src/lib.rt:90:34
 kind-of-type-requires : tie.Need-kind-of-type-requires
 kind-of-type-requires c κs = search needs
 
--- src/lib.rt:90:9
 evaluated-requires : tie.Need-evaluated-requires
 evaluated-requires c κs = search needs
 
--- src/lib.rt:90:9
 returns-3 : tie.Need-returns-3
-returns-3 c = named-constant (c .before .before .before .before .before .before .if1 .left) (c .before .before .before .before .before .at32 .ensures) (c .before .before .before .before .at8 .ensures) (c .before .before .if3 .taken) (c .before .kind-of-type .ensures) (c .evaluated .ensures)
+returns-3 c =
+    named-constant (c .before .before .before .before .before .before .if1 .left) (c .before .before .before .before .before .at32 .ensures)
+    (c .before .before .before .before .at8 .ensures) (c .before .before .if3 .taken) (c .before .kind-of-type .ensures) (c .evaluated .ensures)
 
--- src/lib.rt:92:8
 at8-requires-2 : tie.Need-at8-requires-2
 at8-requires-2 c κs = search needs
 
--- src/lib.rt:93:9
 evaluated-requires-2 : tie.Need-evaluated-requires-2
 evaluated-requires-2 c κs = search needs
 
--- src/lib.rt:93:9
 returns-4 : tie.Need-returns-4
-returns-4 c = named-type (c .before .before .before .before .before .before .before .if1 .left) (c .before .before .before .before .before .before .at32 .ensures) (c .before .before .before .before .before .at8 .ensures) (c .before .before .before .before .if2 .left) (c .before .before .before .if3 .left) (c .before .before .at82 .ensures) (c .before .if4 .taken) (c .evaluated2 .ensures)
+returns-4 c =
+    named-type (c .before .before .before .before .before .before .before .if1 .left)
+    (c .before .before .before .before .before .before .at32 .ensures) (c .before .before .before .before .before .at8 .ensures)
+    (c .before .before .before .before .if2 .left) (c .before .before .before .if3 .left) (c .before .before .at82 .ensures) (c .before .if4 .taken)
+    (c .evaluated2 .ensures)
 
--- src/lib.rt:77:1
 returns-5 : tie.Need-returns-5
-returns-5 c = named-other (c .before .before .before .before .before .before .if1 .left) (c .before .before .before .before .before .at32 .ensures) (c .before .before .before .before .at8 .ensures) (c .before .before .before .if2 .left) (c .before .before .if3 .left) (c .before .at82 .ensures) (c .if4 .left)
+returns-5 c =
+    named-other (c .before .before .before .before .before .before .if1 .left) (c .before .before .before .before .before .at32 .ensures)
+    (c .before .before .before .before .at8 .ensures) (c .before .before .before .if2 .left) (c .before .before .if3 .left) (c .before .at82 .ensures)
+    (c .if4 .left)
 
 pub named-spec : {M : Type 1} → statement M
 named-spec =

@@ -1,110 +1,86 @@
+-- `typing::operation` meets its contract: each test is the shape of a node. Assumes nothing.
 use borrow.Author.Needs.{needs}
 use Rattle.typing.proofs.operation.Statement.{statement}
 use Rattle.typing.proofs.operation.Tie as tie
-use Rattle.typing.proofs.operation.Reads as reads
-use Rattle.typing.proofs.operation.Lts as lts
-use Rattle.typing.proofs.at32.Reads as at32-reads
-use Rattle.typing.proofs.kinds.apply.Reads as apply-reads
-use Rattle.typing.proofs.kinds.common.Reads as common-reads
-use Rattle.typing.proofs.kinds.evaluated.Reads as evaluated-reads
-use Rattle.typing.proofs.kinds.interval.Reads as interval-reads
-use Rattle.typing.proofs.kinds.leaf.Reads as leaf-reads
-use Rattle.typing.proofs.kinds.operator_class.Reads as operator-class-reads
-use Rattle.typing.proofs.kinds.sign_class.Reads as sign-class-reads
-use Rattle.typing.proofs.kinds.simple.Reads as simple-reads
-use Rattle.typing.proofs.last.Reads as last-reads
-use Rattle.typing.proofs.left.Reads as left-reads
-use Rattle.typing.proofs.low.Reads as low-reads
-use Rattle.typing.proofs.middle.Reads as middle-reads
 use Rattle.typing.proofs.Assembled.{operates-sign, operates-operator, operates-interval, operates-type, operates-leaf}
 
--- src/lib.rt:102:31
 last-requires : tie.Need-last-requires
 last-requires c κs = search needs
 
--- src/lib.rt:102:9
 at32-requires : tie.Need-at32-requires
 at32-requires c κs = search needs
 
--- src/lib.rt:104:22
 sign-class-requires : tie.Need-sign-class-requires
 sign-class-requires c κs = search needs
 
--- src/lib.rt:104:9
 apply-requires : tie.Need-apply-requires
 apply-requires c κs = search needs
 
--- src/lib.rt:104:9
 returns : tie.Need-returns
-returns c = operates-sign (c .before .before .before .before .last .ensures) (c .before .before .before .at32 .ensures) (c .before .before .if1 .taken) (c .before .sign-class .ensures) (c .apply .ensures)
+returns c =
+    operates-sign (c .before .before .before .before .last .ensures) (c .before .before .before .at32 .ensures) (c .before .before .if1 .taken)
+    (c .before .sign-class .ensures) (c .apply .ensures)
 
--- src/lib.rt:107:22
 operator-class-requires : tie.Need-operator-class-requires
 operator-class-requires c κs = search needs
 
--- src/lib.rt:107:69
 left-requires : tie.Need-left-requires
 left-requires c κs = search needs
 
--- src/lib.rt:107:55
 at32-requires-2 : tie.Need-at32-requires-2
 at32-requires-2 c κs = search needs
 
--- src/lib.rt:107:48
 common-requires : tie.Need-common-requires
 common-requires c κs = search needs
 
--- src/lib.rt:107:9
 apply-requires-2 : tie.Need-apply-requires-2
 apply-requires-2 c κs = search needs
 
--- src/lib.rt:107:9
 returns-2 : tie.Need-returns-2
-returns-2 c = operates-operator (c .before .before .before .before .before .before .before .before .last .ensures) (c .before .before .before .before .before .before .before .at32 .ensures) (c .before .before .before .before .before .if2 .taken) (c .before .before .before .before .operator-class .ensures) (c .before .before .before .left .ensures) (c .before .before .at322 .ensures) (c .before .common .ensures) (c .apply2 .ensures)
+returns-2 c =
+    operates-operator (c .before .before .before .before .before .before .before .before .last .ensures)
+    (c .before .before .before .before .before .before .before .at32 .ensures) (c .before .before .before .before .before .if2 .taken)
+    (c .before .before .before .before .operator-class .ensures) (c .before .before .before .left .ensures) (c .before .before .at322 .ensures)
+    (c .before .common .ensures) (c .apply2 .ensures)
 
--- src/lib.rt:110:39
 low-requires : tie.Need-low-requires
 low-requires c κs = search needs
 
--- src/lib.rt:110:25
 at32-requires-3 : tie.Need-at32-requires-3
 at32-requires-3 c κs = search needs
 
--- src/lib.rt:110:69
 middle-requires : tie.Need-middle-requires
 middle-requires c κs = search needs
 
--- src/lib.rt:110:55
 at32-requires-4 : tie.Need-at32-requires-4
 at32-requires-4 c κs = search needs
 
--- src/lib.rt:110:9
 interval-requires : tie.Need-interval-requires
 interval-requires c κs = search needs
 
--- src/lib.rt:110:9
 returns-3 : tie.Need-returns-3
-returns-3 c = operates-interval (c .before .before .before .before .before .before .before .before .before .last .ensures) (c .before .before .before .before .before .before .before .before .at32 .ensures) (c .before .before .before .before .before .if3 .taken) (c .before .before .before .before .low .ensures) (c .before .before .before .at323 .ensures) (c .before .before .middle .ensures) (c .before .at324 .ensures) (c .interval .ensures)
+returns-3 c =
+    operates-interval (c .before .before .before .before .before .before .before .before .before .last .ensures)
+    (c .before .before .before .before .before .before .before .before .at32 .ensures) (c .before .before .before .before .before .if3 .taken)
+    (c .before .before .before .before .low .ensures) (c .before .before .before .at323 .ensures) (c .before .before .middle .ensures)
+    (c .before .at324 .ensures) (c .interval .ensures)
 
--- src/lib.rt:113:26
 simple-requires : tie.Need-simple-requires
 simple-requires c κs = search needs
 
--- src/lib.rt:113:9
 evaluated-requires : tie.Need-evaluated-requires
 evaluated-requires c κs = search needs
 
--- src/lib.rt:113:9
 returns-4 : tie.Need-returns-4
 returns-4 c = operates-type (c .before .before .if4 .taken) (c .before .simple .ensures) (c .evaluated .ensures)
 
--- src/lib.rt:115:5
 leaf-requires : tie.Need-leaf-requires
 leaf-requires c κs = search needs
 
--- src/lib.rt:99:1
 returns-5 : tie.Need-returns-5
-returns-5 c = operates-leaf (c .before .before .before .before .if1 .left) (c .before .before .before .if2 .left) (c .before .before .if3 .left) (c .before .if4 .left) (c .leaf .ensures)
+returns-5 c =
+    operates-leaf (c .before .before .before .before .if1 .left) (c .before .before .before .if2 .left) (c .before .before .if3 .left)
+    (c .before .if4 .left) (c .leaf .ensures)
 
 pub operation-spec : {M : Type 1} → statement M
 operation-spec =

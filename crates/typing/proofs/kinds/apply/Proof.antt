@@ -1,84 +1,60 @@
+-- `typing::kinds::apply` meets its contract: class by class. Assumes nothing.
 use borrow.Author.Needs.{needs}
 use Rattle.typing.proofs.kinds.apply.Statement.{statement}
 use Rattle.typing.proofs.kinds.apply.Tie as tie
-use Rattle.typing.proofs.kinds.apply.Reads as reads
-use Rattle.typing.proofs.kinds.apply.Lts as lts
-use Rattle.typing.proofs.kinds.fits.Reads as fits-reads
-use Rattle.typing.proofs.kinds.is_comparable.Reads as is-comparable-reads
-use Rattle.typing.proofs.kinds.is_integral.Reads as is-integral-reads
-use Rattle.typing.proofs.kinds.is_summable.Reads as is-summable-reads
-use Rattle.typing.proofs.kinds.is_truthful.Reads as is-truthful-reads
 use mathlib.Core.Path.{_∙_}
 
--- src/kinds.rt:111:29
 enum-told : tie.Need-enum-told
 enum-told c = search needs
 
--- src/kinds.rt:111:29
 is-summable-requires : tie.Need-is-summable-requires
 is-summable-requires c κs = search needs
 
--- src/kinds.rt:111:24
 fits-requires : tie.Need-fits-requires
 fits-requires c κs = search needs
 
--- src/kinds.rt:112:35
 enum-told-2 : tie.Need-enum-told-2
 enum-told-2 c = search needs
 
--- src/kinds.rt:112:35
 is-integral-requires : tie.Need-is-integral-requires
 is-integral-requires c κs = search needs
 
--- src/kinds.rt:112:30
 fits-requires-2 : tie.Need-fits-requires-2
 fits-requires-2 c κs = search needs
 
--- src/kinds.rt:113:33
 enum-told-3 : tie.Need-enum-told-3
 enum-told-3 c = search needs
 
--- src/kinds.rt:113:33
 is-comparable-requires : tie.Need-is-comparable-requires
 is-comparable-requires c κs = search needs
 
--- src/kinds.rt:113:28
 fits-requires-3 : tie.Need-fits-requires-3
 fits-requires-3 c κs = search needs
 
--- src/kinds.rt:114:35
 enum-told-4 : tie.Need-enum-told-4
 enum-told-4 c = search needs
 
--- src/kinds.rt:114:35
 is-truthful-requires : tie.Need-is-truthful-requires
 is-truthful-requires c κs = search needs
 
--- src/kinds.rt:114:30
 fits-requires-4 : tie.Need-fits-requires-4
 fits-requires-4 c κs = search needs
 
--- src/kinds.rt:115:31
 enum-told-5 : tie.Need-enum-told-5
 enum-told-5 c = search needs
 
--- src/kinds.rt:107:1
 returns : tie.Need-returns
 returns c = rw (c .before .before .enum-told .given .1) (c .fits2 .ensures ∙ rw (c .before .is-summable .ensures))
 
--- src/kinds.rt:107:1
 returns-2 : tie.Need-returns-2
 returns-2 c = rw (c .before .before .enum-told2 .given .1) (c .fits3 .ensures ∙ rw (c .before .is-integral .ensures))
 
--- src/kinds.rt:107:1
 returns-3 : tie.Need-returns-3
 returns-3 c = rw (c .before .before .enum-told3 .given .1) (c .fits4 .ensures ∙ rw (c .before .is-comparable .ensures))
 
--- src/kinds.rt:107:1
 returns-4 : tie.Need-returns-4
 returns-4 c = rw (c .before .before .enum-told4 .given .1) (c .fits5 .ensures ∙ rw (c .before .is-truthful .ensures))
 
--- src/kinds.rt:107:1
 returns-5 : tie.Need-returns-5
 returns-5 c = search needs
 

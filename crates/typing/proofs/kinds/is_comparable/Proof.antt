@@ -1,12 +1,9 @@
+-- `typing::kinds::is_comparable` meets its contract: 0 is the number of what has no kind. Assumes nothing.
 use Rattle.typing.proofs.kinds.is_comparable.Statement.{statement}
 use Rattle.typing.proofs.kinds.is_comparable.Tie as tie
-use Rattle.typing.proofs.kinds.is_comparable.Reads as reads
-use Rattle.typing.proofs.kinds.is_comparable.Lts as lts
-use borrow.Author.Needs.{needs}
 use mathlib.Core.Path.{sym}
 use Rattle.typing.proofs.Numbered.{comparable-is}
 
--- src/kinds.rt:100:1
 returns : tie.Need-returns
 returns c = sym (comparable-is (c .args .k))
 

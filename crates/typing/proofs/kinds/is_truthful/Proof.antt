@@ -1,17 +1,13 @@
+-- `typing::kinds::is_truthful` meets its contract: by the numbers of the kinds. Assumes nothing.
 use Rattle.typing.proofs.kinds.is_truthful.Statement.{statement}
 use Rattle.typing.proofs.kinds.is_truthful.Tie as tie
-use Rattle.typing.proofs.kinds.is_truthful.Reads as reads
-use Rattle.typing.proofs.kinds.is_truthful.Lts as lts
-use borrow.Author.Needs.{needs}
 use mathlib.Core.Path.{sym, _∙_}
 use borrow.Author.Tests.{eq-eqb, ne-eqb}
 use Rattle.typing.proofs.Numbered.{truthful-is}
 
--- src/kinds.rt:83:9
 returns : tie.Need-returns
 returns c = sym (truthful-is (c .before .args .k) ∙ rw (eq-eqb _ _ (c .if1 .taken)))
 
--- src/kinds.rt:79:1
 returns-2 : tie.Need-returns-2
 returns-2 c = sym (truthful-is (c .before .args .k) ∙ rw (ne-eqb _ _ (c .if1 .left)))
 
