@@ -9,7 +9,7 @@ ghost use Rattle.express.specs.kinds.Kind.{kind-number, of-number, if-fits};
 ghost use Rattle.express.specs.kinds.Kind as Kind;
 ghost use Rattle.typing.specs.Findings.{finding-of, class-of, class-of-sign, applied, leaf-found, KindOfType, Evaluated, Held};
 
-// The kinds; an enumeration is its node and so many more.
+// The kinds; that of the items of an enumeration is 5 more than the node of its type.
 pub const UNTYPED: u32 = 0;
 
 pub const UNDETERMINED: u32 = 1;
@@ -25,7 +25,7 @@ pub const NOT_EVALUATED: u32 = 0;
 
 pub const BOOLEAN: u32 = 1;
 
-// What operators take and give.
+// Operators by what they take and give; `/` is not evaluated.
 pub enum Class {
     Plus,
     Arithmetic,
@@ -66,7 +66,7 @@ pub fn fits(test: bool, k: u32) -> Finding
     Finding::Fault(codes::replies::MISFIT)
 }
 
-// Do integers do?
+// What arithmetic takes, what connectives do, what `+` does and what relations do.
 fn is_integral(k: u32) -> bool
     ensures { λ r. ⌜ r ≡ integral (of-number k) ⌝ }
 {
@@ -142,7 +142,7 @@ pub fn sign_class(terminal: u8) -> Class
     Class::Arithmetic
 }
 
-// Are two kinds comparable with each other?
+// Do two kinds agree?
 fn agree(j: u32, k: u32) -> bool
     ensures { λ r. ⌜ r ≡ comparable (Kind.common (of-number j) (of-number k)) ⌝ }
 {
@@ -200,7 +200,7 @@ pub fn simple(terminal: u8) -> u32
     }
 }
 
-// The leaves that are the same everywhere.
+// A node that has neither operands nor a name, and is no type.
 pub fn leaf(kind: u8) -> Finding
     ensures { λ r. ⌜ finding-of r ≡ leaf-found kind ⌝ }
 {

@@ -131,7 +131,7 @@ fn operation(kind: u8, terminal: u8, sizes: &[u32], scratch: &[u32], n: usize) -
     leaf(kind)
 }
 
-// What is found at a node.
+// What is found at a node, from the kinds of its children.
 fn found_at(
     terminals: &[u8],
     kinds: &[u8],
