@@ -60,7 +60,7 @@ pub(crate) fn key(sort: u64, scope: usize, symbol: u32) -> u64
 }
 
 // The scope in which what is declared must differ from all of its sort: the file, the schema, or the owner.
-fn scope(sort: u64, here: Here) -> usize
+pub fn scope(sort: u64, here: Here) -> usize
     ensures { λ r. ⌜ r ≡ scope-by sort (here .schema) (here .owner) ⌝ }
 {
     if sort <= crate::SCHEMAS {
@@ -72,7 +72,7 @@ fn scope(sort: u64, here: Here) -> usize
     here.owner
 }
 
-fn put(column: &mut [u64], at: usize, value: u64)
+pub fn put(column: &mut [u64], at: usize, value: u64)
     ensures { λ _. ⌜ now (column .exit) ≡ set (now (column .entry)) at value ⌝ }
 {
     if at < column.len() {

@@ -10,6 +10,7 @@ ghost use lib.ListN.{getD};
 ghost use Rattle.express.specs.syntax.NodeKind.{name, supertype-name};
 ghost use Rattle.scopes.specs.Standing.{declares, is-member, sort-by, entry-count, Passed, Ended, More, Counting};
 ghost use Rattle.scopes.specs.Entries.{radix};
+ghost use Rattle.scopes.specs.Range.{DeclarationAt};
 
 // The sorts of keys.
 pub const NO_SORT: u64 = 0;
@@ -58,7 +59,7 @@ pub fn is_declaration(kind: u8) -> bool
 }
 
 // Is it an attribute or a rule with a label?
-fn is_scope_member(kind: u8, role: u32) -> bool
+pub fn is_scope_member(kind: u8, role: u32) -> bool
     ensures { λ r. ⌜ r ≡ is-member kind role ⌝ }
 {
     if kind == codes::nodes::ATTRIBUTE_NAME {
@@ -160,13 +161,52 @@ pub fn passed(kind: u8, role: u32, i: usize, after: Here) -> Here
 }
 
 // The number at an index; past the end of the column 0.
-fn at(column: &[u32], i: usize) -> u32
+pub fn at(column: &[u32], i: usize) -> u32
     ensures { λ r. ⌜ r ≡ getD (now (column .entry)) i 0 ⌝ }
 {
     if i < column.len() {
         return column[i];
     }
     0
+}
+
+// The same of a column of bytes.
+pub fn at8(column: &[u8], i: usize) -> u8
+    ensures { λ r. ⌜ r ≡ getD (now (column .entry)) i 0 ⌝ }
+{
+    if i < column.len() {
+        return column[i];
+    }
+    0
+}
+
+// The number at an index of a column of keys; past its end 0.
+pub fn at64(column: &[u64], i: usize) -> u64
+    ensures { λ r. ⌜ r ≡ getD (now (column .entry)) i 0 ⌝ }
+{
+    if i < column.len() {
+        return column[i];
+    }
+    0
+}
+
+// A constant, type or entity, by its number among these: its schema, its node, and the first node behind the declaration before it.
+pub struct Declaration {
+    pub schema: usize,
+    pub from: usize,
+    pub node: usize,
+}
+
+pub fn declaration(keys: &[u64], nodes: &[u32], vertex: usize) -> Declaration
+    ensures { λ r. ⌜ DeclarationAt (now (keys .entry)) (now (nodes .entry)) vertex r ⌝ }
+{
+    let schema = (at64(keys, vertex) / RADIX % RADIX) as usize;
+    let node = columns::index(at(nodes, vertex));
+    if vertex == 0 {
+        return Declaration { schema, from: 0, node };
+    }
+    let from = columns::index(at(nodes, vertex - 1)) + 1;
+    Declaration { schema, from, node }
 }
 
 // One more node, before which there are so many entries.
