@@ -317,7 +317,8 @@ module _ (tokens starts keys nodes next : List ℕ) where
     least-more l R q =
         record {
           upto = omega (arith, L .upto);
-          is = λ h I. q ∙ sym (step h I ∙ ap (λ (x : Fault). sooner x (fault-of r)) (ap (λ (b : Bool). cond b (entry-fault tokens starts keys nodes (e - 1)) fine) (lt-ltb (getD keys (e - 1) 0) schema-items l) ∙ sym (R .is h I)));
+          is = λ h I. q ∙ sym (step h I ∙ ap (λ (x : Fault). sooner x (fault-of r)) (ap (λ (b : Bool). cond b (entry-fault tokens starts keys nodes (e - 1)) fine)
+              (lt-ltb (getD keys (e - 1) 0) schema-items l) ∙ sym (R .is h I)));
         }
 
     pub least-same : schema-items ≤ getD keys (e - 1) 0 → LeastFrom (e - 1) r

@@ -2,7 +2,8 @@
 use mathlib.Core.Path.{_≡_, refl, sym, ap, _∙_}
 use mathlib.Core.Logic.{_⊎_, inl, inr, ⊎-elim}
 use mathlib.Core.Bool.{Bool, true, false, cond, _&&_, _||_, not, false≢true}
-use mathlib.Core.List.{List, [], _∷_, _++_, map, map-append, flatMap, append-assoc, List·Memᴰ, List·Memᴰ·head, List·Memᴰ·tail, List·Memᴰ·cases-cons, List·Memᴰ·not-nil, List·Memᴰ·append-cases, List·Memᴰ·eq-of-singleton}
+use mathlib.Core.List.{List, [], _∷_, _++_, map, map-append, flatMap, append-assoc}
+use mathlib.Core.List.{List·Memᴰ, List·Memᴰ·head, List·Memᴰ·tail, List·Memᴰ·cases-cons, List·Memᴰ·not-nil, List·Memᴰ·append-cases, List·Memᴰ·eq-of-singleton}
 use Prim.Native.Nat.{ℕ, zero, suc, _+_, _*_, _-_, _≤_, _<_}
 use native.Mathlib.Omega.{arith}
 use borrow.Author.Tests.{eqb-true, eqb-false, eq-eqb, ne-eqb}
@@ -16,7 +17,8 @@ use Rattle.express.specs.names.Fault.{sort}
 use Rattle.express.specs.names.Scope as express
 use Rattle.express.proofs.names.Meaning.{Only, meaning-one, spelled-ascending, declarations-iff, Candidate}
 use Rattle.index.specs.Dictionary.{has, Indexed}
-use Rattle.scopes.specs.Entries.{none, declared, items-of-types, items-of-schemas, radix, key-of, Entry, own-key, own-entry, schema-entry, entries-by, other-entries, entries, with-key, vertex, others-before, entry-number}
+use Rattle.scopes.specs.Entries.{none, declared, items-of-types, items-of-schemas, radix, key-of}
+use Rattle.scopes.specs.Entries.{Entry, own-key, own-entry, schema-entry, entries-by, other-entries, entries, with-key, vertex, others-before, entry-number}
 use Rattle.scopes.specs.Preparation.{Consistent, Prepared, keys-of, nodes-of}
 use Rattle.scopes.specs.LookUp.{numbers, entry-meant, node-meant}
 use Rattle.scopes.specs.declared.look_ups.Meaning.{Meaning}

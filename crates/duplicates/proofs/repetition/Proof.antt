@@ -38,7 +38,17 @@ fault-at-requires : tie.Need-fault-at-requires
 fault-at-requires c κs = search needs
 
 returns-2 : tie.Need-returns-2
-returns-2 c = found-repetition (c .before .before .before .before .before .before .before .before .before .next-of .ensures) (c .before .before .before .before .before .before .before .later .given .1) (cc (c .fault-at .ensures, c .before .at3 .ensures, c .before .before .index2 .ensures, c .before .before .before .at2 .ensures, c .before .before .before .before .index .ensures, c .before .before .before .before .before .at .ensures))
+returns-2 c =
+    found-repetition (c .before .before .before .before .before .before .before .before .before .next-of .ensures) (c .before .before .before .before .before
+    .before .before .later .given .1) (cc (
+      c .fault-at .ensures,
+      c .before .at3 .ensures,
+      c .before .before .index2 .ensures,
+      c .before .before .before .at2
+          .ensures,
+      c .before .before .before .before .index .ensures,
+      c .before .before .before .before .before .at .ensures,
+    ))
 
 pub repetition-spec : {M : Type 1} → statement M
 repetition-spec =

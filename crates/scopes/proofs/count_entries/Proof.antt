@@ -5,7 +5,7 @@ use borrow.Author.Needs.{needs}
 use mathlib.Core.Path.{refl, _≡_}
 use mathlib.Core.List.{List, []}
 use Prim.Native.Nat.{ℕ, _-_, _≤_, _<_}
-use lib.ListN.{length, getD}
+use lib.ListN.{length}
 use Rattle.columns.specs.Column.{tabulated}
 use Rattle.scopes.specs.Entries.{radix}
 use Rattle.scopes.specs.Standing.{table-of, class-table, Counted}
@@ -13,7 +13,8 @@ use Rattle.scopes.proofs.Passing.{counted-starts, counted-step, counted
 use native.Mathlib.Omega.{arith}
 
 abbrev Inv-loop : tie.InvT-loop
-Inv-loop kinds roles so-far₀ classes i₀ so-far i = (i ≤ length kinds) × (length kinds < radix) × ((tokens symbols : List ℕ) → Counted (table-of kinds tokens roles symbols) i so-far)
+Inv-loop kinds roles so-far₀ classes i₀ so-far i =
+    (i ≤ length kinds) × (length kinds < radix) × ((tokens symbols : List ℕ) → Counted (table-of kinds tokens roles symbols) i so-far)
 
 abbrev μ-loop : tie.MeasureT-loop
 μ-loop kinds roles so-far₀ classes i₀ so-far i = length kinds - i
@@ -35,7 +36,13 @@ unfolding class-table tabulated
 class-requires c κs = refl
 
 more-requires : tie.Need-more-requires Inv-loop μ-loop
-more-requires c κs = counted-small (c .before .before .before .before .before .loop .inv .2 [] []) (omega (arith, c .before .before .before .before .before .loop .inv .0, c .before .before .before .before .before .loop .inv .1))
+more-requires c κs =
+    counted-small (c .before .before .before .before .before .loop .inv .2 [] []) (omega (
+      arith,
+      c .before .before .before .before .before .loop .inv .0,
+      c .before
+          .before .before .before .before .loop .inv .1,
+    ))
 
 add-i : tie.Need-add-i Inv-loop μ-loop
 add-i c = search needs
@@ -44,12 +51,23 @@ loop-less : tie.Need-loop-less Inv-loop μ-loop
 loop-less c = search needs
 
 loop-again : tie.Need-loop-again Inv-loop μ-loop
-loop-again c = (omega (arith, c .before .before .before .before .before .loop-test .taken), c .before .before .before .before .before .before .loop .inv .1, λ k s. counted-step (c .before .before .before .before .before .before .loop .inv .2 k s) (c .more .ensures .is (getD (c .before .before .before .before .before .before .before .before .before .before .args .kinds .now) (c .before .before .before .before .before .before .loop .i) 0) (getD (c .before .before .before .before .before .before .before .before .before .before .args .roles .now) (c .before .before .before .before .before .before .loop .i) 0) (rw (c .before .before .at .ensures) at (c .before .class .ensures))))
+loop-again c = (
+  omega (arith, c .before .before .before .before .before .loop-test .taken),
+  c .before .before .before .before .before .before .loop .inv .1,
+  λ k s.
+      counted-step (c .before .before .before .before .before .before .loop .inv .2 k s) (rw (c .before .before .at .ensures) at (c .before .class .ensures)) (c .more
+      .ensures),
+)
 
 returns-2 : tie.Need-returns-2 Inv-loop μ-loop
 returns-2 c =
     record {
-      is = λ l k s. let e : c .before .loop .i ≡ length (c .before .before .before .before .before .args .kinds .now) = omega (arith, c .before .loop .inv .0, c .loop-test .left) in rw e at (c .before .loop .inv .2 k s);
+      is = λ l k s. let e : c .before .loop .i ≡ length (c .before .before .before .before .before .args .kinds .now) = omega (
+        arith,
+        c .before .loop .inv .0,
+        c
+            .loop-test .left,
+      ) in rw e at (c .before .loop .inv .2 k s);
     }
 
 pub count-entries-spec : {M : Type 1} → statement M

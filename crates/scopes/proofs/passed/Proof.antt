@@ -27,8 +27,17 @@ saturating-sub-requires-2 c κs = search needs
 
 returns : tie.Need-returns
 returns c =
-    passed-by (cc (c .before .before .before .before .before .choose .ensures, c .before .before .before .before .before .before .sort-in .ensures)) (cc (c .before .before .before .before .choose2 .ensures, c .before .before .before .before .before .before .sort-in .ensures))
-    (cc (c .before .before .saturating-sub .ensures, c .before .before .before .choose3 .ensures, c .before .before .before .before .before .before .sort-in .ensures)) (cc (c .saturating-sub2 .ensures, c .before .entries-in .ensures))
+    passed-by (cc (c .before .before .before .before .before .choose .ensures, c .before .before .before .before .before .before .sort-in .ensures)) (cc (
+      c .before
+          .before .before .before .choose2 .ensures,
+      c .before .before .before .before .before .before .sort-in .ensures,
+    ))
+    (cc (
+      c .before .before .saturating-sub .ensures,
+      c .before .before .before .choose3 .ensures,
+      c .before .before .before .before .before .before .sort-in
+          .ensures,
+    )) (cc (c .saturating-sub2 .ensures, c .before .entries-in .ensures))
 
 pub passed-spec : {M : Type 1} → statement M
 passed-spec =
