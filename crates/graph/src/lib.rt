@@ -137,3 +137,42 @@ pub fn reachable(
     spread(first, to, from, &mut mark[..n], &mut queue[..n]);
     Marking::Marked
 }
+
+// Marks the targets of u's arcs with a stamp, and puts those that are new into the queue.
+fn stamp_targets(first: &[u32], to: &[u32], u: usize, stamp: u32, mark: &mut [u32], queue: &mut [u32], tail: usize) -> usize {
+    let mut t = tail;
+    let mut e = columns::index(entry(first, u));
+    let end = columns::index(entry(first, u + 1));
+    while e < end {
+        let w = columns::index(entry(to, e));
+        if w < mark.len() {
+            if mark[w] != stamp {
+                mark[w] = stamp;
+                columns::put32(queue, t, columns::number(w));
+                t += 1;
+            }
+        }
+        e += 1;
+    }
+    t
+}
+
+fn entry(column: &[u32], i: usize) -> u32 {
+    if i < column.len() {
+        return column[i];
+    }
+    0
+}
+
+// Marks all that a vertex reaches over one or more arcs with a stamp that no mark has yet, and lists them in the queue: so many.
+// The work goes by what is reached, and nothing is cleared.
+pub fn search(first: &[u32], to: &[u32], from: usize, stamp: u32, mark: &mut [u32], queue: &mut [u32]) -> usize {
+    let mut tail = stamp_targets(first, to, from, stamp, mark, queue, 0);
+    let mut head = 0;
+    while head < tail {
+        let u = columns::index(entry(queue, head));
+        tail = stamp_targets(first, to, u, stamp, mark, queue, tail);
+        head += 1;
+    }
+    tail
+}

@@ -1,8 +1,10 @@
 pub mod Sorting
+pub mod Classes
 pub mod WithKey
 pub mod Passing
 pub mod Filling
 pub mod Numbering
+pub mod Ranges
 pub mod Repeated
 pub mod Checking
 pub mod Looking

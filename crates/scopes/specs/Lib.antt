@@ -2,3 +2,4 @@ pub mod Entries
 pub mod Standing
 pub mod Preparation
 pub mod LookUp
+pub mod Range

@@ -60,7 +60,7 @@ pub(crate) fn key(sort: u64, scope: usize, symbol: u32) -> u64
 }
 
 // The scope in which what is declared must differ from all of its sort: the file, the schema, or the owner.
-fn scope(sort: u64, here: Here) -> usize
+pub fn scope(sort: u64, here: Here) -> usize
     ensures { λ r. ⌜ r ≡ scope-by sort (here .schema) (here .owner) ⌝ }
 {
     if sort <= crate::SCHEMAS {
@@ -72,7 +72,7 @@ fn scope(sort: u64, here: Here) -> usize
     here.owner
 }
 
-fn put(column: &mut [u64], at: usize, value: u64)
+pub fn put(column: &mut [u64], at: usize, value: u64)
     ensures { λ _. ⌜ now (column .exit) ≡ set (now (column .entry)) at value ⌝ }
 {
     if at < column.len() {
@@ -138,21 +138,21 @@ fn fill(
     ensures { λ _. ⌜ Filled (λ (e : Entry). e .key) (table-of (now (kinds .entry)) (now (tokens .entry)) (now (roles .entry)) (now (symbols .entry))) (now (keys .entry)) (now (keys .exit)) ⌝ }
     ensures { λ _. ⌜ Filled (λ (e : Entry). e .node) (table-of (now (kinds .entry)) (now (tokens .entry)) (now (roles .entry)) (now (symbols .entry))) (now (nodes .entry)) (now (nodes .exit)) ⌝ }
 {
+    let classes = crate::CLASSES;
     let declarations = counts.declarations;
     let mut here = crate::ended(kinds.len(), counts);
     let mut i = kinds.len();
     while 0 < i {
         i -= 1;
-        let kind = kinds[i];
-        let role = roles[i];
+        let class = crate::class(&classes, kinds[i], roles[i]);
         let k = index(tokens[i]);
-        here = crate::passed(kind, role, i, here);
+        here = crate::passed(class, i, here);
         enter_node(
             keys,
             nodes,
             declarations + here.other,
             here,
-            crate::sort(kind, role),
+            crate::sort_in(class),
             symbols[k],
             i,
         );

@@ -1,0 +1,188 @@
+// Inherited attributes: for each use, attribute and label of an entity that has supertypes, what its symbol means among the
+// attributes of all that the entity reaches over supertypes. One search for each such entity; the attributes of a file stand
+// in a dictionary of their own, by their symbols.
+use columns::index;
+use columns::number;
+use columns::put32;
+use columns::saturating_sub;
+use index::dictionary::Found;
+use index::dictionary::find;
+use index::dictionary::next_of;
+use scopes::at;
+use scopes::at8;
+
+// Several meanings; one meaning is one more than a node, and 0 is none.
+pub const SEVERAL: u32 = 4294967295;
+
+fn is_attribute(kind: u8) -> bool {
+    if kind == codes::nodes::ATTRIBUTE_NAME {
+        return true;
+    }
+    kind == codes::nodes::DERIVED_ATTRIBUTE
+}
+
+// ---- the attributes of a file
+
+// The key of a symbol: 0 is none.
+fn symbol_key(symbol: u32) -> u64 {
+    symbol as u64 + 1
+}
+
+// The attributes among the nodes from lo up to hi, of a vertex, stored before those that stand there already.
+fn collect_range(
+    kinds: &[u8],
+    tokens: &[u32],
+    symbols: &[u32],
+    vertex: usize,
+    lo: usize,
+    hi: usize,
+    stored: usize,
+    keys: &mut [u64],
+    nodes: &mut [u32],
+    owners: &mut [u32],
+) -> usize {
+    let mut from = stored;
+    let mut i = hi;
+    while lo < i {
+        i -= 1;
+        if is_attribute(at8(kinds, i)) {
+            from = saturating_sub(from, 1);
+            scopes::dictionary::put(keys, from, symbol_key(at(symbols, index(at(tokens, i)))));
+            put32(nodes, from, number(i));
+            put32(owners, from, number(vertex));
+        }
+    }
+    from
+}
+
+// Stores the attributes of a file at the end of three columns: the keys of their symbols, their nodes, and the vertices of their owners;
+// answers where they begin.
+pub fn collect_attributes(
+    kinds: &[u8],
+    tokens: &[u32],
+    symbols: &[u32],
+    entry_keys: &[u64],
+    entry_nodes: &[u32],
+    vertices: usize,
+    keys: &mut [u64],
+    nodes: &mut [u32],
+    owners: &mut [u32],
+) -> usize {
+    let mut from = keys.len();
+    let mut v = vertices;
+    while 0 < v {
+        v -= 1;
+        let d = scopes::declaration(entry_keys, entry_nodes, v);
+        from = collect_range(kinds, tokens, symbols, v, d.from, d.node, from, keys, nodes, owners);
+    }
+    from
+}
+
+// ---- what is inherited
+
+// One node more among the meanings.
+fn more(meaning: u32, node: u32) -> u32 {
+    if meaning == 0 {
+        return number(index(node) + 1);
+    }
+    SEVERAL
+}
+
+// What a symbol means among the attributes whose owners have the stamp.
+fn inherited(
+    keys: &[u64],
+    nodes: &[u32],
+    owners: &[u32],
+    heads: &[u32],
+    next: &[u32],
+    mark: &[u32],
+    stamp: u32,
+    symbol: u32,
+) -> u32 {
+    let mut meaning = 0;
+    let mut found = find(keys, heads, next, symbol_key(symbol));
+    loop {
+        let Found::At(a) = found else {
+            return meaning;
+        };
+        if at(mark, index(at(owners, a))) == stamp {
+            meaning = more(meaning, at(nodes, a));
+        }
+        found = next_of(keys, next, a);
+    }
+}
+
+// Is it a name in an expression, or an attribute or label?
+fn asks(kind: u8, role: u32) -> bool {
+    if kind == codes::nodes::NAME {
+        return role == codes::roles::IN_EXPRESSION;
+    }
+    scopes::is_scope_member(kind, role)
+}
+
+// Stores what the nodes from lo up to hi inherit.
+fn store_inherited(
+    kinds: &[u8],
+    tokens: &[u32],
+    roles: &[u32],
+    symbols: &[u32],
+    keys: &[u64],
+    nodes: &[u32],
+    owners: &[u32],
+    heads: &[u32],
+    next: &[u32],
+    mark: &[u32],
+    stamp: u32,
+    lo: usize,
+    hi: usize,
+    bound: &mut [u32],
+) {
+    let mut i = hi;
+    while lo < i {
+        i -= 1;
+        if asks(at8(kinds, i), at(roles, i)) {
+            let symbol = at(symbols, index(at(tokens, i)));
+            put32(bound, i, inherited(keys, nodes, owners, heads, next, mark, stamp, symbol));
+        }
+    }
+}
+
+// Is it an entity with supertypes?
+fn inherits(kinds: &[u8], first: &[u32], node: usize, vertex: usize) -> bool {
+    if at8(kinds, node) != codes::nodes::ENTITY {
+        return false;
+    }
+    at(first, vertex) < at(first, vertex + 1)
+}
+
+// Stores at each use, attribute and label what its symbol means among the attributes that its owner inherits.
+pub fn inherit_all(
+    kinds: &[u8],
+    tokens: &[u32],
+    roles: &[u32],
+    symbols: &[u32],
+    entry_keys: &[u64],
+    entry_nodes: &[u32],
+    first: &[u32],
+    to: &[u32],
+    keys: &[u64],
+    nodes: &[u32],
+    owners: &[u32],
+    heads: &[u32],
+    next: &[u32],
+    mark: &mut [u32],
+    queue: &mut [u32],
+    bound: &mut [u32],
+) {
+    columns::clear32(mark, 0);
+    let mut v = saturating_sub(first.len(), 1);
+    while 0 < v {
+        let stamp = number(v);
+        v -= 1;
+        let d = scopes::declaration(entry_keys, entry_nodes, v);
+        if inherits(kinds, first, d.node, v) {
+            graph::search(first, to, v, stamp, mark, queue);
+            store_inherited(kinds, tokens, roles, symbols, keys, nodes, owners, heads, next, mark, stamp, d.from, d.node, bound);
+        }
+    }
+}
