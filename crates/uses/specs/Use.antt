@@ -1,18 +1,18 @@
 -- What a name in an expression means, as the code answers it, and what is found of it.
 use mathlib.Core.Path.{_≡_}
-use mathlib.Core.Bool.{Bool, true, false, cond}
+use mathlib.Core.Bool.{Bool, false}
 use mathlib.Core.List.{List}
-use Prim.Native.Nat.{ℕ, _+_, _<_}
+use Prim.Native.Nat.{ℕ, _<_}
 use lib.ListN.{getD}
 use Rattle.relations.specs.Select.{nearest}
 use Rattle.express.specs.syntax.NodeKind.{constant}
 use Rattle.express.specs.syntax.Tree.{Table, is}
 use Rattle.express.specs.names.Scope.{Meaning, none, one, several, meaning, own, inherited, declarations, items, binding-of}
 use Rattle.express.specs.names.Fault as express
-use Rattle.scopes.specs.Entries.{vertex}
 use Rattle.scopes.specs.Range.{vertex-count}
 use Rattle.scopes.specs.Preparation.{Prepared}
 use Rattle.faults.specs.Meaning.{fault-of}
+use Rattle.dependencies.specs.Target.{constant-of}
 use Rattle.inheritance.specs.Inherited.{code}
 use Rattle.uses.specs.declared.Finding.{Finding}
 use Rattle.uses.specs.declared.Use.{Use}
@@ -41,14 +41,8 @@ pub record UseMeans (keys nodes heads next : List ℕ) (meant : Table → Meanin
 abbrev pub use-meant : Table → ℕ → ℕ → ℕ → Meaning
 use-meant t o h s = meaning (nearest (own t o s) (nearest (inherited t o s) (nearest (declarations t h s) (items t h s))))
 
--- of the constant that is meant, one more than its number among the declarations; else 0
-abbrev pub constant-vertex : Table → Meaning → ℕ
-constant-vertex t none = 0
-constant-vertex t several = 0
-constant-vertex t (one k) = cond (is t constant k) (vertex t k + 1) 0
-
 -- what is found of a name that has a meaning and must pass a test
 pub record FoundName (t : Table) (right : ℕ → Bool) (m : Meaning) (p : ℕ) (f : Finding) : Type 0 where
   pub fault-is : fault-of (f .fault) ≡ express.judged right m p
   pub binding-is : f .binding ≡ binding-of m
-  pub vertex-is : f .vertex ≡ constant-vertex t m
+  pub target-is : f .target ≡ constant-of t m
