@@ -1,6 +1,8 @@
-// What a name in an expression means, by the dictionary of a file and by what its owner inherits.
-ghost use Rattle.express.specs.names.Scope.{value-meant};
-ghost use Rattle.uses.specs.Use.{UseMeans, ByNode, UseMeant};
+// What a name in an expression means, by the dictionary of a file and by what its owner inherits; and what is found of it: its
+// fault, its binding, and the constant that it names.
+
+
+ghost use Rattle.meanings.specs.Use.{ValueMeans, ByNode, InheritedOrValue, InDeclaration};
 use columns::index;
 use scopes::at;
 use scopes::look_ups::Meaning;
@@ -36,7 +38,7 @@ pub fn value_meant(
     schema: usize,
     symbol: u32,
 ) -> Use
-    ensures { λ r. ⌜ UseMeans (now (keys .entry)) (now (nodes .entry)) (now (heads .entry)) (now (next .entry)) (λ t. value-meant t schema symbol) r ⌝ }
+    ensures { λ r. ⌜ ValueMeans (now (keys .entry)) (now (nodes .entry)) (now (heads .entry)) (now (next .entry)) schema symbol r ⌝ }
 {
     let declared = declaration_meant(keys, heads, next, schema, symbol);
     match declared {
@@ -46,25 +48,24 @@ pub fn value_meant(
     }
 }
 
-// What is not declared in the owner: an inherited attribute, else what it means in the schema.
+// What is not declared in the owner: what it inherits, else what it means in the schema.
 fn inherited_or_value(
     keys: &[u64],
     nodes: &[u32],
     heads: &[u32],
     next: &[u32],
-    inherited: u32,
+    inherited: Use,
     schema: usize,
     symbol: u32,
 ) -> Use
     ensures { λ r. ⌜ InheritedOrValue (now (keys .entry)) (now (nodes .entry)) (now (heads .entry)) (now (next .entry)) inherited schema symbol r ⌝ }
 {
-    if inherited == 0 {
-        return value_meant(keys, nodes, heads, next, schema, symbol);
+    match inherited {
+        Use::Nothing => value_meant(keys, nodes, heads, next, schema, symbol),
+        Use::Several => inherited,
+        Use::Node(_) => inherited,
+        Use::Declaration(_) => inherited,
     }
-    if inherited == inheritance::SEVERAL {
-        return Use::Several;
-    }
-    Use::Node(index(inherited - 1))
 }
 
 // In a declaration of a schema: the nearest of an own attribute or label, an inherited attribute, a declaration of the schema, an
@@ -74,17 +75,17 @@ pub fn use_meant(
     nodes: &[u32],
     heads: &[u32],
     next: &[u32],
-    inherited: u32,
+    inherited: Use,
     owner: usize,
     schema: usize,
     symbol: u32,
 ) -> Use
-    ensures { λ r. ⌜ UseMeant (now (keys .entry)) (now (nodes .entry)) (now (heads .entry)) (now (next .entry)) inherited owner schema symbol r ⌝ }
+    ensures { λ r. ⌜ InDeclaration (now (keys .entry)) (now (nodes .entry)) (now (heads .entry)) (now (next .entry)) inherited owner schema symbol r ⌝ }
 {
     let own = own_meant(keys, heads, next, owner, symbol);
     match own {
         Meaning::Nothing => inherited_or_value(keys, nodes, heads, next, inherited, schema, symbol),
-        Meaning::One(e) => by_node(nodes, own),
+        Meaning::One(_) => by_node(nodes, own),
         Meaning::Several => by_node(nodes, own),
     }
 }
