@@ -139,7 +139,15 @@ pub fn reachable(
 }
 
 // Marks the targets of u's arcs with a stamp, and puts those that are new into the queue.
-fn stamp_targets(first: &[u32], to: &[u32], u: usize, stamp: u32, mark: &mut [u32], queue: &mut [u32], tail: usize) -> usize {
+fn stamp_targets(
+    first: &[u32],
+    to: &[u32],
+    u: usize,
+    stamp: u32,
+    mark: &mut [u32],
+    queue: &mut [u32],
+    tail: usize,
+) -> usize {
     let mut t = tail;
     let mut e = columns::index(entry(first, u));
     let end = columns::index(entry(first, u + 1));
@@ -166,7 +174,14 @@ fn entry(column: &[u32], i: usize) -> u32 {
 
 // Marks all that a vertex reaches over one or more arcs with a stamp that no mark has yet, and lists them in the queue: so many.
 // The work goes by what is reached, and nothing is cleared.
-pub fn search(first: &[u32], to: &[u32], from: usize, stamp: u32, mark: &mut [u32], queue: &mut [u32]) -> usize {
+pub fn search(
+    first: &[u32],
+    to: &[u32],
+    from: usize,
+    stamp: u32,
+    mark: &mut [u32],
+    queue: &mut [u32],
+) -> usize {
     let mut tail = stamp_targets(first, to, from, stamp, mark, queue, 0);
     let mut head = 0;
     while head < tail {

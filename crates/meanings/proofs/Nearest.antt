@@ -11,9 +11,9 @@ use lib.ListN.{getD}
 use Rattle.relations.specs.Select.{nearest}
 use Rattle.relations.proofs.Select.{or-cases, and-fst}
 use Rattle.express.specs.syntax.NodeKind as node
-use Rattle.express.specs.syntax.Tree.{Table, kind, is, is-scope-member}
+use Rattle.express.specs.syntax.Tree.{Table, count, kind, is, is-scope-member, is-attribute}
 use Rattle.express.specs.names.Scope.{Meaning, none, one, several, meaning, own, inherited, declarations, items, value-meant}
-use Rattle.express.proofs.names.Meaning.{or-else, meaning-nearest, meaning-one, spelled-ascending, items-iff, own-iff}
+use Rattle.express.proofs.names.Meaning.{or-else, meaning-nearest, meaning-one, spelled-ascending, items-iff, own-iff, inherited-iff}
 use Rattle.scopes.specs.LookUp.{Means, node-meant}
 use Rattle.scopes.specs.Preparation.{Prepared}
 use Rattle.scopes.specs.declared.look_ups.Meaning as entries
@@ -27,23 +27,33 @@ use Rattle.meanings.specs.declared.Use.the-variants.{Nothing, Several, N
 other-kind : (t : Table) (k c : ℕ) → is t c k ≡ true → (c ≡ node.constant → ⊥) → is t node.constant k ≡ false
 other-kind t k c e d = ne-eqb (kind t k) node.constant (λ q. d (sym (eqb-true (kind t k) c e) ∙ q))
 
-item-sort : (t : Table) (h s k : ℕ) → meaning (items t h s) ≡ one k → is t node.constant k ≡ false
+item-sort : (t : Table) (h s k : ℕ) → meaning (items t h s) ≡ one k → (k < count t) × (is t node.constant k ≡ false)
 unfolding items
 item-sort t h s k e =
     let O = meaning-one (items t h s) (spelled-ascending t s _) k .0 e in
-    other-kind t k node.enumeration-item (items-iff t h s k .0 (O .member) .suits .0) (λ q. omega (arith, q))
+    let C = items-iff t h s k .0 (O .member) in
+    (C .within, other-kind t k node.enumeration-item (C .suits .0) (λ q. omega (arith, q)))
+
+attribute-sort : (t : Table) (k : ℕ) → is-attribute t k ≡ true → is t node.constant k ≡ false
+attribute-sort t k e =
+    ⊎-elim (λ b. other-kind t k node.attribute-name b (λ q. omega (arith, q))) (λ b. other-kind t k node.derived-attribute b (λ q. omega (arith, q))) (or-cases _ _ e)
 
 member-sort : (t : Table) (k : ℕ) → is-scope-member t k ≡ true → is t node.constant k ≡ false
-member-sort t k e =
-    ⊎-elim
-    (λ a. ⊎-elim (λ b. other-kind t k node.attribute-name b (λ q. omega (arith, q))) (λ b. other-kind t k node.derived-attribute b (λ q. omega (arith, q))) (or-cases _ _ a))
-    (λ a. other-kind t k node.rule (and-fst _ _ a) (λ q. omega (arith, q))) (or-cases _ _ e)
+member-sort t k e = ⊎-elim (attribute-sort t k) (λ a. other-kind t k node.rule (and-fst _ _ a) (λ q. omega (arith, q))) (or-cases _ _ e)
 
-own-sort : (t : Table) (o s k : ℕ) → meaning (own t o s) ≡ one k → is t node.constant k ≡ false
+own-sort : (t : Table) (o s k : ℕ) → meaning (own t o s) ≡ one k → (k < count t) × (is t node.constant k ≡ false)
 unfolding own
 own-sort t o s k e =
     let O = meaning-one (own t o s) (spelled-ascending t s _) k .0 e in
-    member-sort t k (own-iff t o s k .0 (O .member) .suits .0)
+    let C = own-iff t o s k .0 (O .member) in
+    (C .within, member-sort t k (C .suits .0))
+
+pub inherited-sort : (t : Table) (o s k : ℕ) → meaning (inherited t o s) ≡ one k → (k < count t) × (is t node.constant k ≡ false)
+unfolding inherited
+inherited-sort t o s k e =
+    let O = meaning-one (inherited t o s) (spelled-ascending t s _) k .0 e in
+    let C = inherited-iff t o s k .0 (O .member) in
+    (C .within, attribute-sort t k (C .suits .0))
 
 -- a nearer list without candidates, and one with a meaning
 passed-over : (xs ys : List ℕ) (m : Meaning) → meaning xs ≡ none → meaning ys ≡ m → meaning (nearest xs ys) ≡ m
