@@ -203,7 +203,11 @@ pub fn declaration(keys: &[u64], nodes: &[u32], vertex: usize) -> Extent
     let schema = (at64(keys, vertex) / RADIX % RADIX) as usize;
     let node = columns::index(at(nodes, vertex));
     if vertex == 0 {
-        return Extent { schema, from: 0, node };
+        return Extent {
+            schema,
+            from: 0,
+            node,
+        };
     }
     let from = columns::index(at(nodes, vertex - 1)) + 1;
     Extent { schema, from, node }
