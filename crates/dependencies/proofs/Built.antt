@@ -13,7 +13,7 @@ use Rattle.graph.specs.Graph.{vertices, Graph, Arc}
 use Rattle.graph.proofs.Arcs.{arc-source}
 use Rattle.express.specs.syntax.Tree.{Table}
 use Rattle.scopes.specs.Range.{vertex-count, node-of, range-start}
-use Rattle.scopes.proofs.Ranges.{node-declares, range-next, range-rises}
+use Rattle.scopes.proofs.Ranges.{range-next, range-rises}
 use Rattle.dependencies.specs.Target.{Targets, behind-all, led-to, led-to-from}
 use Rattle.dependencies.specs.Graph.{Storing, Building, Names, GraphOf}
 use Rattle.dependencies.proofs.Places.{at-mem, mem-at}
@@ -126,16 +126,7 @@ module _ {t : Table} {target : ℕ → ℕ} {was : List ℕ} {first : List ℕ} 
     named w m =
         let M = led-made target (span (range-start t v) (range-start t (v + 1) - range-start t v)) w m in
         let r = span-mem (range-start t v) (range-start t (v + 1) - range-start t v) (M .node) (M .among) in
-        let e = M .target-is in
-        let z = T .none (node-of t v) (node-declares t v l) in
-        record {
-          node = M .node;
-          source = l;
-          from = r .0;
-          upto = by-cases (ℕ-discrete (M .node) (node-of t v)) (λ q. let y = ap target q in absurd (omega arith))
-              (λ q. omega (arith, q, r .1, rises, range-next t v));
-          target-is = e;
-        }
+        record { node = M .node; source = l; from = r .0; upto = omega (arith, r .1, rises, range-next t v); target-is = M .target-is }
 
     names : (w : ℕ) → Names t target v w → List·Memᴰ w own
     names w N =
