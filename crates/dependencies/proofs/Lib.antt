@@ -5,3 +5,4 @@ pub mod Built
 pub mod Naming
 pub mod Cycle
 pub mod Arranging
+pub mod Instances
