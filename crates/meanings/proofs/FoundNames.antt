@@ -24,7 +24,7 @@ use Rattle.scopes.proofs.Ranges.{declared-meant, column-node, node-below, node-
 use Rattle.faults.specs.Meaning.{fault-of}
 use Rattle.faults.specs.declared.Fault as code
 use Rattle.meanings.specs.Use.{use-meaning, Sorted, StandsFor}
-use Rattle.meanings.specs.Finding.{value-kind, limit, constant-of, Made, OneMore, TargetOf, FoundName, NodeFinding, DeclarationFinding, UseFinding, TellsEnumeration, ItemFinding, TypeFinding, QualifiedFinding}
+use Rattle.meanings.specs.Finding.{value-kind, limit, Made, OneMore, TargetOf, FoundName, NodeFinding, DeclarationFinding, UseFinding, TellsEnumeration, ItemFinding, TypeFinding, QualifiedFinding}
 use Rattle.meanings.specs.declared.Use.{Use}
 use Rattle.meanings.specs.declared.Use.the-variants.{Nothing, Several, Node, Declaration}
 use Rattle.meanings.specs.declared.findings.Finding.{Finding}

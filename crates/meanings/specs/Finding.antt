@@ -6,11 +6,11 @@ use Prim.Native.Nat.{ℕ, _+_, _-_, _<_}
 use lib.Dec.{eqb}
 use lib.ListN.{length, getD}
 use Rattle.express.specs.syntax.NodeKind.{enumeration-item, constant, type, attribute-name, derived-attribute}
-use Rattle.express.specs.syntax.Tree.{Table, count, is}
-use Rattle.express.specs.names.Scope.{Meaning, none, one, several, meaning, declarations, qualified-meant, items-of, binding-of}
+use Rattle.express.specs.syntax.Tree.{Table, count}
+use Rattle.express.specs.names.Scope.{Meaning, one, meaning, declarations, qualified-meant, items-of, binding-of}
 use Rattle.express.specs.names.Fault as express
 use Rattle.scopes.specs.Preparation.{Prepared}
-use Rattle.scopes.specs.Entries.{vertex}
+use Rattle.dependencies.specs.Target.{constant-of}
 use Rattle.faults.specs.Meaning.{fault-of}
 use Rattle.faults.specs.declared.Fault.{Fault}
 use Rattle.meanings.specs.Use.{StandsFor}
@@ -20,12 +20,6 @@ use Rattle.meanings.specs.declared.findings.Finding.{Finding}
 -- N12: `is-value` of express, of a node of a kind
 abbrev pub value-kind : ℕ → Bool
 value-kind kind = (eqb kind attribute-name || eqb kind derived-attribute) || eqb kind constant || eqb kind enumeration-item
-
--- TEMPORARY
-abbrev pub constant-of : Table → Meaning → ℕ
-constant-of t none = 0
-constant-of t several = 0
-constant-of t (one y) = cond (is t constant y) (vertex t y + 1) 0
 
 -- bindings and targets are numbers of 32 bits
 abbrev pub limit : ℕ
