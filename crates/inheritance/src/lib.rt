@@ -73,7 +73,18 @@ pub fn collect_attributes(
     while 0 < v {
         v -= 1;
         let d = scopes::declaration(entry_keys, entry_nodes, v);
-        from = collect_range(kinds, tokens, symbols, v, d.from, d.node, from, keys, nodes, owners);
+        from = collect_range(
+            kinds,
+            tokens,
+            symbols,
+            v,
+            d.from,
+            d.node,
+            from,
+            keys,
+            nodes,
+            owners,
+        );
     }
     from
 }
@@ -142,7 +153,11 @@ fn store_inherited(
         i -= 1;
         if asks(at8(kinds, i), at(roles, i)) {
             let symbol = at(symbols, index(at(tokens, i)));
-            put32(bound, i, inherited(keys, nodes, owners, heads, next, mark, stamp, symbol));
+            put32(
+                bound,
+                i,
+                inherited(keys, nodes, owners, heads, next, mark, stamp, symbol),
+            );
         }
     }
 }
@@ -182,7 +197,22 @@ pub fn inherit_all(
         let d = scopes::declaration(entry_keys, entry_nodes, v);
         if inherits(kinds, first, d.node, v) {
             graph::search(first, to, v, stamp, mark, queue);
-            store_inherited(kinds, tokens, roles, symbols, keys, nodes, owners, heads, next, mark, stamp, d.from, d.node, bound);
+            store_inherited(
+                kinds,
+                tokens,
+                roles,
+                symbols,
+                keys,
+                nodes,
+                owners,
+                heads,
+                next,
+                mark,
+                stamp,
+                d.from,
+                d.node,
+                bound,
+            );
         }
     }
 }
