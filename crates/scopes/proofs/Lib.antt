@@ -3,6 +3,7 @@ pub mod WithKey
 pub mod Passing
 pub mod Filling
 pub mod Numbering
+pub mod Ranges
 pub mod Repeated
 pub mod Checking
 pub mod Looking

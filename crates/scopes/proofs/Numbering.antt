@@ -224,7 +224,7 @@ pub record Ranked (p : ℕ → Bool) (i d w k : ℕ) : Type 0 where
   pub passes : p k ≡ true
   pub rank : length (keep p (span i (k - i))) ≡ w
 
-ranked : (p : ℕ → Bool) (i d w : ℕ) → w < length (keep p (span i d)) → Ranked p i d w (getD (keep p (span i d)) w 0)
+pub ranked : (p : ℕ → Bool) (i d w : ℕ) → w < length (keep p (span i d)) → Ranked p i d w (getD (keep p (span i d)) w 0)
 unfolding keep span
 ranked p i zero w l = absurd (omega arith)
 ranked p i (suc d) w l = by (p i) refl l (λ w′ l′. ranked p (suc i) d w′ l′)

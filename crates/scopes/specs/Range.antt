@@ -9,7 +9,7 @@ use Rattle.relations.specs.Select.{keep}
 use Rattle.express.specs.syntax.Tree.{Table, count, nodes, is-declaration, schema-of}
 use Rattle.scopes.specs.Entries.{vertex}
 use Rattle.scopes.specs.Preparation.{Prepared}
-use Rattle.scopes.specs.declared.Declaration.{Declaration}
+use Rattle.scopes.specs.declared.Extent.{Extent}
 
 abbrev pub declared-nodes : Table → List ℕ
 declared-nodes t = keep (is-declaration t) (nodes t)
@@ -27,7 +27,7 @@ abbrev pub range-start : Table → ℕ → ℕ
 range-start t v = cond (eqb v 0) 0 (node-of t (v - 1) + 1)
 
 -- what the columns of a file's dictionary say of a number
-pub record DeclarationAt (keys nodes : List ℕ) (v : ℕ) (d : Declaration) : Type 0 where
+pub record DeclarationAt (keys nodes : List ℕ) (v : ℕ) (d : Extent) : Type 0 where
   pub node-is : (t : Table) (heads next : List ℕ) → Prepared t keys nodes heads next → v < vertex-count t → d .node ≡ node-of t v
   pub from-is : (t : Table) (heads next : List ℕ) → Prepared t keys nodes heads next → v < vertex-count t → d .from ≡ range-start t v
   pub schema-is : (t : Table) (heads next : List ℕ) → Prepared t keys nodes heads next → v < vertex-count t → d .schema ≡ schema-of t (node-of t v)

@@ -191,22 +191,22 @@ pub fn at64(column: &[u64], i: usize) -> u64
 }
 
 // A constant, type or entity, by its number among these: its schema, its node, and the first node behind the declaration before it.
-pub struct Declaration {
+pub struct Extent {
     pub schema: usize,
     pub from: usize,
     pub node: usize,
 }
 
-pub fn declaration(keys: &[u64], nodes: &[u32], vertex: usize) -> Declaration
+pub fn declaration(keys: &[u64], nodes: &[u32], vertex: usize) -> Extent
     ensures { λ r. ⌜ DeclarationAt (now (keys .entry)) (now (nodes .entry)) vertex r ⌝ }
 {
     let schema = (at64(keys, vertex) / RADIX % RADIX) as usize;
     let node = columns::index(at(nodes, vertex));
     if vertex == 0 {
-        return Declaration { schema, from: 0, node };
+        return Extent { schema, from: 0, node };
     }
     let from = columns::index(at(nodes, vertex - 1)) + 1;
-    Declaration { schema, from, node }
+    Extent { schema, from, node }
 }
 
 // One more node, before which there are so many entries.
