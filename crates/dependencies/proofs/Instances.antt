@@ -210,8 +210,7 @@ module _ {t : Table} (d : Read file t) where
       let n = B .name in
       let u = and-fst (is-use t n) (in-constant t n) (B .passes) in
       let C : Constant t n y = record { used = u; meant = binding-one t n y .0 (B .bound); constant = r .1 } in
-      let k = constant-declared t y (r .1) in
-      (
+      let k = constant-declared t y (r .1) in (
         record {
           node = n;
           known = B .known;

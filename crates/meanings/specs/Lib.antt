@@ -1,2 +1,3 @@
 pub mod Use
 pub mod Finding
+pub mod Node
