@@ -28,7 +28,7 @@ use Rattle.express.proofs.names.Edges.{Bound, binding-one, constant-edge-iff, s
 use Rattle.scopes.specs.Entries.{vertex}
 use Rattle.scopes.specs.Range.{vertex-count, node-of}
 use Rattle.scopes.proofs.Ranges.{node-number, number-below, number-node, Numbered}
-use Rattle.dependencies.specs.Target.{Targets, Leads, Edges, target-of, makes-arc, type-target, constant-of, constant-target}
+use Rattle.dependencies.specs.Target.{Targets, Leads, Edges, target-of, type-target, constant-of, constant-target}
 use Rattle.dependencies.specs.Graph.{GraphOf}
 use Rattle.dependencies.specs.Arrangement.{Asked}
 use Rattle.dependencies.proofs.Cycle.{declared-known}
@@ -63,19 +63,29 @@ module _ {t : Table} (d : Read file t) (n : ℕ) (l : n < count t) (h : is t nod
 -- ---- the names of types
 
 abbrev is-type-arc : Table → ℕ → Bool
-is-type-arc t n = is t node.name n && makes-arc (role t n)
+is-type-arc t n = is-name-in t node.renamed-type n || is-name-in t node.select-name n || is-name-in t node.supertype-name n
+
+-- of a name, by its role
+abbrev pub makes-arc : ℕ → Bool
+makes-arc role = eqb role node.renamed-type || eqb role node.select-name || eqb role node.supertype-name
 
 module _ (t : Table) where
-  -- the roles are three, and that of a name in an expression is none of them
+  by-role : (n : ℕ) → is-type-arc t n ≡ is t node.name n && makes-arc (role t n)
+  by-role n = by (is t node.name n)
+    where
+      by : (b : Bool) → b && eqb (role t n) node.renamed-type || b && eqb (role t n) node.select-name || b && eqb (role t n) node.supertype-name ≡ b && makes-arc (role t n)
+      by true = refl
+      by false = refl
+
+  -- the role of a name in an expression is none of the three
   not-use : (n : ℕ) → makes-arc (role t n) ≡ true → eqb (role t n) node.in-expression ≡ false
   not-use n h = untrue (eqb (role t n) node.in-expression) (λ e. false≢true (rw (eqb-true (role t n) node.in-expression e) at h))
 
-  arc-roles : (n : ℕ) → (is-name-in t node.renamed-type n || is-name-in t node.select-name n) || is-name-in t node.supertype-name n ≡ is-type-arc t n
-  arc-roles n = by (is t node.name n)
-    where
-      by : (b : Bool) → (b && eqb (role t n) node.renamed-type || b && eqb (role t n) node.select-name) || b && eqb (role t n) node.supertype-name ≡ b && makes-arc (role t n)
-      by true = refl
-      by false = refl
+  arc-named : (n : ℕ) → is-type-arc t n ≡ true → is t node.name n ≡ true
+  arc-named n h = and-fst (is t node.name n) (makes-arc (role t n)) (sym (by-role n) ∙ h)
+
+  arc-role : (n : ℕ) → is-type-arc t n ≡ true → eqb (role t n) node.in-expression ≡ false
+  arc-role n h = not-use n (and-snd (is t node.name n) (makes-arc (role t n)) (sym (by-role n) ∙ h))
 
   -- what the name of a type means
   type-means : (n : ℕ) → is t node.name n ≡ true → makes-arc (role t n) ≡ true → means t n ≡ meaning (declarations-of t n)
@@ -83,7 +93,7 @@ module _ (t : Table) where
   type-means n h e = rw (h, not-use n e)
 
   pub type-target-is : (n : ℕ) → is t node.name n ≡ true → type-target t n ≡ cond (makes-arc (role t n)) (target-of t (meaning (declarations-of t n))) 0
-  type-target-is n h = rw h (by (makes-arc (role t n)) refl)
+  type-target-is n h = ap (λ (b : Bool). cond b (target-of t (means t n)) 0) (by-role n) ∙ rw h (by (makes-arc (role t n)) refl)
     where
       by : (b : Bool) → makes-arc (role t n) ≡ b → cond b (target-of t (means t n)) 0 ≡ cond b (target-of t (meaning (declarations-of t n))) 0
       by true e = ap (target-of t) (type-means n h e)
@@ -91,12 +101,11 @@ module _ (t : Table) where
 
   -- no other node has a target
   pub type-target-other : (n : ℕ) → is t node.name n && not (eqb (role t n) node.in-expression) ≡ false → type-target t n ≡ 0
-  type-target-other n h = by (is t node.name n) (makes-arc (role t n)) refl h
+  type-target-other n h = by (is-type-arc t n) refl
     where
-      by : (a b : Bool) → makes-arc (role t n) ≡ b → a && not (eqb (role t n) node.in-expression) ≡ false → cond (a && b) (target-of t (means t n)) 0 ≡ 0
-      by false b e g = refl
-      by true false e g = refl
-      by true true e g = absurd (false≢true (sym g ∙ ap not (not-use n e)))
+      by : (b : Bool) → is-type-arc t n ≡ b → cond b (target-of t (means t n)) 0 ≡ 0
+      by false e = refl
+      by true e = absurd (false≢true (sym h ∙ rw (arc-named n e, arc-role n e)))
 
   -- a declaration that is found by its number
   pub target-number : {nodes : List ℕ} {h s e : ℕ} → Numbered t nodes h s e → target-of t (meaning (declarations t h s)) ≡ e + 1
@@ -105,10 +114,7 @@ module _ (t : Table) where
   -- what is meant is a declaration
   type-declared : (n y : ℕ) → is-type-arc t n ≡ true → means t n ≡ one y → is-declaration t y ≡ true
   unfolding candidates-of
-  type-declared n y h e =
-      declarations-iff t _ _ y .0
-      (rw (and-fst (is t node.name n) (makes-arc (role t n)) h, not-use n (and-snd (is t node.name n) (makes-arc (role t n)) h)) at (means-one t n y .0 e .member))
-      .suits .0
+  type-declared n y h e = declarations-iff t _ _ y .0 (rw (arc-named n h, arc-role n h) at (means-one t n y .0 e .member)) .suits .0
 
   pub type-targets : Targets t (type-target t)
   type-targets = record { below = λ n. low n (is-type-arc t n) (means t n) refl refl; none = λ n d. rw (not-name t n d) }
@@ -125,14 +131,14 @@ module _ {t : Table} (d : Read file t) (types : Passes (nodes t) (type-name-faul
   type-edge-iff x y = (
     λ e.
         ⊎-elim
-        (λ m. let B = renaming-edge-iff t types x y .0 m in bound-by B (or-left (renames (B .name)) (inherits (B .name)) (B .passes)))
-        (λ m. let B = super-edge-iff t types x y .0 m in bound-by B (or-right (renames (B .name)) (inherits (B .name)) (B .passes)))
+        (λ m. let B = renaming-edge-iff t types x y .0 m in other B (or-left (renames (B .name)) (inherits (B .name)) (B .passes)))
+        (λ m. let B = super-edge-iff t types x y .0 m in other B (or-right (renames (B .name)) (inherits (B .name)) (B .passes)))
         (List·Memᴰ·append-cases (renaming-edges t) e),
     λ B.
         ⊎-elim
         (λ a. Memᴰ·append-left (super-edges t) (renaming-edge-iff t types x y .1 (other B a)))
         (λ a. Memᴰ·append-right (renaming-edges t) (super-edge-iff t types x y .1 (other B a)))
-        (or-cases (renames (B .name)) (inherits (B .name)) (arc-roles t (B .name) ∙ B .passes)),
+        (or-cases (renames (B .name)) (inherits (B .name)) (B .passes)),
   )
     where
       renames : ℕ → Bool
@@ -144,9 +150,6 @@ module _ {t : Table} (d : Read file t) (types : Passes (nodes t) (type-name-faul
       other : {p q : ℕ → Bool} (B : Bound t p x y) → q (B .name) ≡ true → Bound t q x y
       other B a = record { name = B .name; known = B .known; passes = a; owned = B .owned; bound = B .bound }
 
-      bound-by : {p : ℕ → Bool} (B : Bound t p x y) → renames (B .name) || inherits (B .name) ≡ true → Bound t (is-type-arc t) x y
-      bound-by B a = other B (sym (arc-roles t (B .name)) ∙ a)
-
   type-leads : (x y : ℕ) → Bound t (is-type-arc t) x y → Leads t (type-target t) x y
   type-leads x y B =
       let n = B .name in
@@ -156,7 +159,7 @@ module _ {t : Table} (d : Read file t) (types : Passes (nodes t) (type-name-faul
         node = n;
         known = B .known;
         owned = B .owned;
-        source = rw (B .owned) at (owner-declared d n (B .known) (and-fst (is t node.name n) (makes-arc (role t n)) (B .passes)));
+        source = rw (B .owned) at (owner-declared d n (B .known) (arc-named t n (B .passes)));
         target-known = declared-known t y k;
         declared = k;
         target-is = rw (B .passes, e);

@@ -63,8 +63,8 @@ module _ {t : Table} {target : ℕ → ℕ} where
         record { room = m; fits = rw q (omega arith); is = b ∙ ap (λ (x : List ℕ). set x (arcs - 1) y) (S .is) ∙ c ∙ rw (q, a) }
 
     -- a node whose target was given to `add_arc`
-    pub storing-adds : {x r : ℕ} {to′ : List ℕ} → x ≡ target (j - 1) → Added to arcs x r to′ → Storing t target was (j - 1) r to′
-    storing-adds {x} {r} {to′} g A = by (eqb (target (j - 1)) 0) refl (rw g at (A .arcs-are)) (rw g at (A .to-is))
+    pub storing-adds : {r : ℕ} {to′ : List ℕ} → Added to arcs (target (j - 1)) r to′ → Storing t target was (j - 1) r to′
+    storing-adds {r} {to′} A = by (eqb (target (j - 1)) 0) refl (A .arcs-are) (A .to-is)
       where
         by : (b : Bool) → eqb (target (j - 1)) 0 ≡ b → r ≡ cond b arcs (arcs - 1) → to′ ≡ cond b to (set to (arcs - 1) (target (j - 1) - 1)) → Storing t target was (j - 1) r to′
         by true e p q = rw (p, q) (storing-passes (eqb-true (target (j - 1)) 0 e))

@@ -1,13 +1,13 @@
 -- The arcs between the declarations of a file: a target for each node, 0 for none, else one more than the vertex that its name means.
 use mathlib.Core.Path.{_≡_}
-use mathlib.Core.Bool.{Bool, true, cond, not, _&&_, _||_}
+use mathlib.Core.Bool.{Bool, true, cond, not, _||_}
 use mathlib.Core.List.{List, map}
 use Prim.Native.Nat.{ℕ, _+_, _-_, _≤_, _<_}
 use lib.Dec.{eqb}
 use Rattle.relations.specs.Select.{span, keep}
 use Rattle.relations.specs.Reach.{Edge, Joins}
-use Rattle.express.specs.syntax.NodeKind.{name, constant, renamed-type, select-name, supertype-name}
-use Rattle.express.specs.syntax.Tree.{Table, count, role, is, is-declaration, owner}
+use Rattle.express.specs.syntax.NodeKind.{constant, renamed-type, select-name, supertype-name}
+use Rattle.express.specs.syntax.Tree.{Table, count, is, is-name-in, is-declaration, owner}
 use Rattle.express.specs.names.Scope.{Meaning, none, one, several, is-use, means}
 use Rattle.scopes.specs.Entries.{vertex}
 use Rattle.scopes.specs.Range.{vertex-count, range-start}
@@ -55,11 +55,8 @@ target-of t several = 0
 target-of t (one y) = vertex t y + 1
 
 -- N7: the names of what is renamed, selected or a supertype
-abbrev pub makes-arc : ℕ → Bool
-makes-arc role = eqb role renamed-type || eqb role select-name || eqb role supertype-name
-
 abbrev pub type-target : Table → ℕ → ℕ
-type-target t n = cond (is t name n && makes-arc (role t n)) (target-of t (means t n)) 0
+type-target t n = cond (is-name-in t renamed-type n || is-name-in t select-name n || is-name-in t supertype-name n) (target-of t (means t n)) 0
 
 abbrev pub constant-of : Table → Meaning → ℕ
 constant-of t none = 0
