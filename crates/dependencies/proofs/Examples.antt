@@ -1,7 +1,6 @@
 -- Two types that rename each other, and two constants of which one names the other, computed.
 use mathlib.Core.Path.{_≡_, refl}
-use mathlib.Core.List.{List, [], _∷_}
-use Prim.Native.Nat.{ℕ}
+use mathlib.Core.List.{[], _∷_}
 use Rattle.relations.specs.Select.{span, first-from, keep}
 use Rattle.express.specs.syntax.NodeKind.{integer-literal, name, in-expression, renamed-type, simple-type, constant, type, schema, file}
 use Rattle.express.specs.syntax.Tree.{Table, owner, schema-of}

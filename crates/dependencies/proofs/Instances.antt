@@ -2,7 +2,7 @@
 use mathlib.Core.Path.{_≡_, refl, sym, ap, _∙_}
 use mathlib.Core.Logic.{_↔_, _≢_, ⊎-elim}
 use mathlib.Core.Bool.{Bool, true, false, cond, not, _&&_, _||_, false≢true}
-use mathlib.Core.List.{List, List·Memᴰ, List·Memᴰ·append-cases, Memᴰ·append-left, Memᴰ·append-right}
+use mathlib.Core.List.{List, List·Memᴰ·append-cases, Memᴰ·append-left, Memᴰ·append-right}
 use Prim.Native.Nat.{ℕ, _+_, _≤_, _<_}
 use native.Mathlib.Omega.{arith}
 use borrow.Author.Tests.{eqb-true}
@@ -23,7 +23,7 @@ use Rattle.express.specs.names.Names.{Passes}
 use Rattle.express.proofs.syntax.KindSets as set
 use Rattle.express.proofs.syntax.Within.{owner-over}
 use Rattle.express.proofs.names.Meaning.{candidates-of, means-one, declarations-iff}
-use Rattle.express.proofs.names.Owned.{in-schema, in-constant-is, undeclared}
+use Rattle.express.proofs.names.Owned.{in-schema, in-constant-is}
 use Rattle.express.proofs.names.Edges.{Bound, binding-one, constant-edge-iff, super-edge-iff, renaming-edge-iff}
 use Rattle.scopes.specs.Entries.{vertex}
 use Rattle.scopes.specs.Range.{vertex-count, node-of}
