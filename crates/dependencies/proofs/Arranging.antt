@@ -1,9 +1,9 @@
 -- What `arrange` answers, by what `topological_order` does.
 use mathlib.Core.Path.{_≡_, refl, sym, ap, _∙_}
-use mathlib.Core.List.{List, map}
+use mathlib.Core.List.{List}
 use Prim.Native.Nat.{ℕ, _-_, _≤_, _<_}
 use native.Mathlib.Omega.{arith}
-use lib.ListN.{length, getD, take, drop}
+use lib.ListN.{length, getD, drop}
 use Rattle.cycles.specs.Answer.{Lent, lent, no-cycle, cycle-at, InOrder, NoOrder, NoGraph, ColumnLacks, ScratchLacks, OrderAnswers}
 use Rattle.cycles.specs.declared.Dependencies.{Dependencies}
 use Rattle.cycles.specs.declared.Dependencies.the-variants.{Acyclic, Cyclic, Malformed, ColumnShort, ScratchShort}
@@ -11,7 +11,7 @@ use Rattle.express.specs.names.Fault as express
 use Rattle.scopes.specs.Range.{vertex-count, node-of}
 use Rattle.faults.specs.Meaning.{fault-of}
 use Rattle.faults.specs.declared.Fault.{Fault}
-use Rattle.dependencies.specs.Arrangement.{named, Asked, Answer, Arranges}
+use Rattle.dependencies.specs.Arrangement.{named, Arranges}
 use Rattle.dependencies.proofs.Naming.{named-front, named-rest, named-long}
 use Rattle.dependencies.proofs.Cycle.{many, acyclic-fine, cyclic-least, order-arranged}
 

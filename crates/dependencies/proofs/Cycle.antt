@@ -9,9 +9,9 @@ use lib.ListN.{length, getD, take, List·getD-eq-default}
 use Rattle.relations.specs.Select.{span}
 use Rattle.relations.specs.Reach.{Reaches, direct, onward, Edge, Joins, reaches}
 use Rattle.relations.specs.Sorted.{Sorted, done, next, Arranged}
-use Rattle.relations.proofs.Select.{and-fst, and-snd, le-or, untrue, mem-upto, upto-mem, keep-mem, mem-keep}
+use Rattle.relations.proofs.Select.{and-snd, le-or, mem-upto, upto-mem, keep-mem, mem-keep}
 use Rattle.relations.proofs.Reach.{reaches-iff}
-use Rattle.graph.specs.Graph.{vertices, Graph, Arc, OnCycle}
+use Rattle.graph.specs.Graph.{vertices, Arc, OnCycle}
 use Rattle.graph.proofs.Arcs.{arc-target}
 use Rattle.cycles.specs.Answer.{Least, Acyclic, Ordered}
 use Rattle.cycles.proofs.Caller.{order-sorted, order-complete, order-among}

@@ -1,38 +1,38 @@
 -- The two graphs of a file that the grammar derives: by the names of types, and by the names of constants.
 use mathlib.Core.Path.{_≡_, refl, sym, ap, _∙_}
 use mathlib.Core.Logic.{_↔_, _≢_, ⊎-elim}
-use mathlib.Core.Bool.{Bool, true, false, cond, _&&_, _||_, false≢true}
-use mathlib.Core.List.{List·Memᴰ, List·Memᴰ·append-cases, Memᴰ·append-left, Memᴰ·append-right}
+use mathlib.Core.Bool.{Bool, true, false, cond, not, _&&_, _||_, false≢true}
+use mathlib.Core.List.{List, List·Memᴰ·append-cases, Memᴰ·append-left, Memᴰ·append-right}
 use Prim.Native.Nat.{ℕ, _+_, _≤_, _<_}
 use native.Mathlib.Omega.{arith}
 use borrow.Author.Tests.{eqb-true}
 use lib.Dec.{eqb}
+use lib.ListN.{length, getD}
 use Rattle.ebnf.specs.Set.{mem}
-use Rattle.relations.specs.Reach.{Joins}
+use Rattle.relations.specs.Reach.{Edge, Joins}
 use Rattle.relations.proofs.Select.{and-fst, and-snd, and-both, or-cases, or-left, or-right, untrue}
+use Rattle.cycles.specs.State.{needed}
 use Rattle.express.specs.syntax.NodeKind as node
 use Rattle.express.specs.syntax.Tree.{Table, count, kind, role, nodes, is, is-name-in, is-declaration, owner, in-constant}
 use Rattle.express.specs.syntax.Grammar.{file}
 use Rattle.express.specs.syntax.Syntax.{Read}
 use Rattle.express.specs.tokens.Scanned.{Scanned}
-use Rattle.express.specs.names.Scope.{Meaning, none, one, several, is-use, means, renaming-edges, super-edges, type-edges}
-use Rattle.express.specs.names.Fault.{sort, type-name-fault, constant-edges}
+use Rattle.express.specs.names.Scope.{Meaning, none, one, several, meaning, declarations, declarations-of, is-use, means, renaming-edges, super-edges, type-edges}
+use Rattle.express.specs.names.Fault.{type-name-fault, constant-edges}
 use Rattle.express.specs.names.Names.{Passes}
 use Rattle.express.proofs.syntax.KindSets as set
-use Rattle.express.proofs.syntax.TokenOrder.{scanned-rising}
 use Rattle.express.proofs.syntax.Within.{owner-over}
 use Rattle.express.proofs.names.Meaning.{candidates-of, means-one, declarations-iff}
-use Rattle.express.proofs.names.Owned.{in-schema, in-constant-is, undeclared}
+use Rattle.express.proofs.names.Owned.{in-schema, in-constant-is}
 use Rattle.express.proofs.names.Edges.{Bound, binding-one, constant-edge-iff, super-edge-iff, renaming-edge-iff}
-use Rattle.express.proofs.names.Later.{later}
-use Rattle.scopes.specs.Entries.{declared, vertex}
+use Rattle.scopes.specs.Entries.{vertex}
 use Rattle.scopes.specs.Range.{vertex-count, node-of}
-use Rattle.scopes.proofs.Sorting.{declared-sort}
-use Rattle.scopes.proofs.Numbering.{declared-some}
-use Rattle.scopes.proofs.Ranges.{number-below, number-node}
+use Rattle.scopes.proofs.Ranges.{node-number, number-below, number-node, Numbered}
 use Rattle.dependencies.specs.Target.{Targets, Leads, Edges, target-of, type-target, constant-of, constant-target}
-use Rattle.dependencies.specs.Arrangement.{InTextOrder}
+use Rattle.dependencies.specs.Graph.{GraphOf}
+use Rattle.dependencies.specs.Arrangement.{Asked}
 use Rattle.dependencies.proofs.Cycle.{declared-known}
+use Rattle.dependencies.proofs.TextOrder.{in-text-order}
 
 -- ---- names and declarations
 
@@ -65,23 +65,56 @@ module _ {t : Table} (d : Read file t) (n : ℕ) (l : n < count t) (h : is t nod
 abbrev is-type-arc : Table → ℕ → Bool
 is-type-arc t n = is-name-in t node.renamed-type n || is-name-in t node.select-name n || is-name-in t node.supertype-name n
 
-module _ (t : Table) where
-  -- a name in one of the roles
-  type-named : (n : ℕ) → is-type-arc t n ≡ true → (is t node.name n ≡ true) × (eqb (role t n) node.in-expression ≡ false)
-  type-named n h =
-      ⊎-elim
-      (λ a. ⊎-elim (λ b. by node.renamed-type refl b) (λ b. by node.select-name refl b) (or-cases (is-name-in t node.renamed-type n) (is-name-in t node.select-name n) a))
-      (λ a. by node.supertype-name refl a) (or-cases (is-name-in t node.renamed-type n || is-name-in t node.select-name n) (is-name-in t node.supertype-name n) h)
-    where
-      by : (r : ℕ) → eqb r node.in-expression ≡ false → is-name-in t r n ≡ true → (is t node.name n ≡ true) × (eqb (role t n) node.in-expression ≡ false)
-      by r f e = (and-fst (is t node.name n) (eqb (role t n) r) e, rw (eqb-true (role t n) r (and-snd (is t node.name n) (eqb (role t n) r) e)) f)
+-- of a name, by its role
+abbrev pub makes-arc : ℕ → Bool
+makes-arc role = eqb role node.renamed-type || eqb role node.select-name || eqb role node.supertype-name
 
-  -- means a declaration
+module _ (t : Table) where
+  by-role : (n : ℕ) → is-type-arc t n ≡ is t node.name n && makes-arc (role t n)
+  by-role n = by (is t node.name n)
+    where
+      by : (b : Bool) → b && eqb (role t n) node.renamed-type || b && eqb (role t n) node.select-name || b && eqb (role t n) node.supertype-name ≡ b && makes-arc (role t n)
+      by true = refl
+      by false = refl
+
+  -- the role of a name in an expression is none of the three
+  not-use : (n : ℕ) → makes-arc (role t n) ≡ true → eqb (role t n) node.in-expression ≡ false
+  not-use n h = untrue (eqb (role t n) node.in-expression) (λ e. false≢true (rw (eqb-true (role t n) node.in-expression e) at h))
+
+  arc-named : (n : ℕ) → is-type-arc t n ≡ true → is t node.name n ≡ true
+  arc-named n h = and-fst (is t node.name n) (makes-arc (role t n)) (sym (by-role n) ∙ h)
+
+  arc-role : (n : ℕ) → is-type-arc t n ≡ true → eqb (role t n) node.in-expression ≡ false
+  arc-role n h = not-use n (and-snd (is t node.name n) (makes-arc (role t n)) (sym (by-role n) ∙ h))
+
+  -- what the name of a type means
+  type-means : (n : ℕ) → is t node.name n ≡ true → makes-arc (role t n) ≡ true → means t n ≡ meaning (declarations-of t n)
+  unfolding means
+  type-means n h e = rw (h, not-use n e)
+
+  pub type-target-is : (n : ℕ) → is t node.name n ≡ true → type-target t n ≡ cond (makes-arc (role t n)) (target-of t (meaning (declarations-of t n))) 0
+  type-target-is n h = ap (λ (b : Bool). cond b (target-of t (means t n)) 0) (by-role n) ∙ rw h (by (makes-arc (role t n)) refl)
+    where
+      by : (b : Bool) → makes-arc (role t n) ≡ b → cond b (target-of t (means t n)) 0 ≡ cond b (target-of t (meaning (declarations-of t n))) 0
+      by true e = ap (target-of t) (type-means n h e)
+      by false e = refl
+
+  -- no other node has a target
+  pub type-target-other : (n : ℕ) → is t node.name n && not (eqb (role t n) node.in-expression) ≡ false → type-target t n ≡ 0
+  type-target-other n h = by (is-type-arc t n) refl
+    where
+      by : (b : Bool) → is-type-arc t n ≡ b → cond b (target-of t (means t n)) 0 ≡ 0
+      by false e = refl
+      by true e = absurd (false≢true (sym h ∙ rw (arc-named n e, arc-role n e)))
+
+  -- a declaration that is found by its number
+  pub target-number : {nodes : List ℕ} {h s e : ℕ} → Numbered t nodes h s e → target-of t (meaning (declarations t h s)) ≡ e + 1
+  target-number {e = e} F = ap (target-of t) (F .meant) ∙ ap (λ (k : ℕ). k + 1) (node-number t e (F .number))
+
+  -- what is meant is a declaration
   type-declared : (n y : ℕ) → is-type-arc t n ≡ true → means t n ≡ one y → is-declaration t y ≡ true
   unfolding candidates-of
-  type-declared n y h e =
-      let k = type-named n h in
-      declarations-iff t _ _ y .0 (rw (k .0, k .1) at (means-one t n y .0 e .member)) .suits .0
+  type-declared n y h e = declarations-iff t _ _ y .0 (rw (arc-named n h, arc-role n h) at (means-one t n y .0 e .member)) .suits .0
 
   pub type-targets : Targets t (type-target t)
   type-targets = record { below = λ n. low n (is-type-arc t n) (means t n) refl refl; none = λ n d. rw (not-name t n d) }
@@ -98,25 +131,24 @@ module _ {t : Table} (d : Read file t) (types : Passes (nodes t) (type-name-faul
   type-edge-iff x y = (
     λ e.
         ⊎-elim
-        (λ m.
-        let B = renaming-edge-iff t types x y .0 m in
-        record { name = B .name; known = B .known; passes = or-left _ (is-name-in t node.supertype-name (B .name)) (B .passes); owned = B .owned; bound = B .bound })
-        (λ m.
-        let B = super-edge-iff t types x y .0 m in
-        record {
-          name = B .name;
-          known = B .known;
-          passes = or-right (is-name-in t node.renamed-type (B .name) || is-name-in t node.select-name (B .name)) (is-name-in t node.supertype-name (B .name)) (B .passes);
-          owned = B .owned;
-          bound = B .bound;
-        })
+        (λ m. let B = renaming-edge-iff t types x y .0 m in other B (or-left (renames (B .name)) (inherits (B .name)) (B .passes)))
+        (λ m. let B = super-edge-iff t types x y .0 m in other B (or-right (renames (B .name)) (inherits (B .name)) (B .passes)))
         (List·Memᴰ·append-cases (renaming-edges t) e),
     λ B.
         ⊎-elim
-        (λ a. Memᴰ·append-left (super-edges t) (renaming-edge-iff t types x y .1 (record { name = B .name; known = B .known; passes = a; owned = B .owned; bound = B .bound })))
-        (λ a. Memᴰ·append-right (renaming-edges t) (super-edge-iff t types x y .1 (record { name = B .name; known = B .known; passes = a; owned = B .owned; bound = B .bound })))
-        (or-cases (is-name-in t node.renamed-type (B .name) || is-name-in t node.select-name (B .name)) (is-name-in t node.supertype-name (B .name)) (B .passes)),
+        (λ a. Memᴰ·append-left (super-edges t) (renaming-edge-iff t types x y .1 (other B a)))
+        (λ a. Memᴰ·append-right (renaming-edges t) (super-edge-iff t types x y .1 (other B a)))
+        (or-cases (renames (B .name)) (inherits (B .name)) (B .passes)),
   )
+    where
+      renames : ℕ → Bool
+      renames n = is-name-in t node.renamed-type n || is-name-in t node.select-name n
+
+      inherits : ℕ → Bool
+      inherits n = is-name-in t node.supertype-name n
+
+      other : {p q : ℕ → Bool} (B : Bound t p x y) → q (B .name) ≡ true → Bound t q x y
+      other B a = record { name = B .name; known = B .known; passes = a; owned = B .owned; bound = B .bound }
 
   type-leads : (x y : ℕ) → Bound t (is-type-arc t) x y → Leads t (type-target t) x y
   type-leads x y B =
@@ -127,7 +159,7 @@ module _ {t : Table} (d : Read file t) (types : Passes (nodes t) (type-name-faul
         node = n;
         known = B .known;
         owned = B .owned;
-        source = rw (B .owned) at (owner-declared d n (B .known) (type-named t n (B .passes) .0));
+        source = rw (B .owned) at (owner-declared d n (B .known) (arc-named t n (B .passes)));
         target-known = declared-known t y k;
         declared = k;
         target-is = rw (B .passes, e);
@@ -182,6 +214,10 @@ module _ (t : Table) where
           at : (b : Bool) → is t node.constant k ≡ b → cond b (vertex t k + 1) 0 ≡ w + 1 → (y : ℕ) × (vertex t y ≡ w) × Constant n y
           at true g q = (k, omega arith, record { used = e; meant = f; constant = g })
           at false g q = absurd (omega arith)
+
+  -- a declaration that is found by its number
+  pub constant-number : (e : ℕ) → e < vertex-count t → constant-of t (one (node-of t e)) ≡ cond (is t node.constant (node-of t e)) (e + 1) 0
+  constant-number e l = rw (node-number t e l)
 
   pub constant-targets : Targets t (constant-target t)
   constant-targets = record { below = λ n. low n (is-use t n) (means t n); none = λ n d. rw (not-name t n d) }
@@ -244,11 +280,26 @@ module _ {t : Table} (d : Read file t) where
         (record { name = n; known = M .known; passes = and-both (is-use t n) (in-constant t n) (C .used) i; owned = M .owned; bound = binding-one t n y .1 (C .meant) }, C .constant);
   }
 
--- ---- declarations in the order of the text
-module _ {t : Table} (d : Read file t) (scanned : Scanned t) where
-  declares-sort : (n : ℕ) → is-declaration t n ≡ true → sort t n ≡ declared
-  declares-sort n h = eqb-true (sort t n) declared (declared-sort t n ∙ h)
+-- ---- what `arrange` is asked of a file
+module _ {t : Table} (d : Read file t) (scanned : Scanned t) {tokens starts column first to order scratch : List ℕ} (tokens-are : tokens ≡ t .tokens) (starts-are : starts ≡ t .starts)
+    (nodes-are : (v : ℕ) → v < vertex-count t → getD column v 0 ≡ node-of t v) (order-room : vertex-count t ≤ length order)
+    (scratch-room : needed (vertex-count t) ≤ length scratch) where
+  asked : {target : ℕ → ℕ} {p : ℕ → Bool} {es : List Edge} → GraphOf t target first to → Edges t target p es → Asked t target p es tokens starts column first to order scratch
+  asked G E = record {
+    tokens-are = tokens-are;
+    starts-are = starts-are;
+    nodes-are = nodes-are;
+    text-order = in-text-order d scanned;
+    graph = G;
+    edges = E;
+    order-room = order-room;
+    scratch-room = scratch-room;
+  }
 
-  pub in-text-order : InTextOrder t
-  in-text-order x y a b h =
-      omega (arith, later d (scanned-rising t scanned) x y h (declared-known t y b) (declared-some t y b) (declares-sort x a ∙ sym (declares-sort y b)))
+  pub asked-types :
+      Passes (nodes t) (type-name-fault t) → GraphOf t (type-target t) first to →
+      Asked t (type-target t) (is-declaration t) (type-edges t) tokens starts column first to order scratch
+  asked-types types G = asked G (type-arcs d types)
+
+  pub asked-constants : GraphOf t (constant-target t) first to → Asked t (constant-target t) (is t node.constant) (constant-edges t) tokens starts column first to order scratch
+  asked-constants G = asked G (constant-arcs d)

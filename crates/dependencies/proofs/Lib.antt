@@ -5,4 +5,6 @@ pub mod Built
 pub mod Naming
 pub mod Cycle
 pub mod Arranging
+pub mod TextOrder
 pub mod Instances
+pub mod Examples

@@ -1,10 +1,10 @@
 -- Vertices that become the nodes of their declarations, one after the other.
 use mathlib.Core.Path.{_≡_, refl, sym, ap, _∙_}
-use mathlib.Core.List.{List, [], _∷_, _++_, map}
-use Prim.Native.Nat.{ℕ, zero, suc, _+_, _-_, _≤_, _<_}
+use mathlib.Core.List.{List, [], _∷_, map}
+use Prim.Native.Nat.{ℕ, zero, suc, _+_, _≤_, _<_}
 use native.Mathlib.Omega.{arith}
 use native.Mathlib.Numerals.{add-one}
-use lib.ListN.{length, getD, set, take, drop, length-append, length-map, take-append-drop}
+use lib.ListN.{length, getD, set, take, drop, length-map}
 use lib.Seq.{length-take-le, take-at, drop-at}
 use Rattle.dependencies.specs.Arrangement.{named}
 

@@ -45,7 +45,8 @@ pub fn arrange(
     order: &mut [u32],
     scratch: &mut [u32],
 ) -> Fault
-    ensures { λ r. ⌜ Arranges (now (tokens .entry)) (now (starts .entry)) (now (nodes .entry)) (now (first .entry)) (now (to .entry)) (now (order .entry)) (now (scratch .entry)) r (now (order .exit)) (now (scratch .exit)) ⌝ }
+    ensures { λ r. ⌜ Arranges (now (tokens .entry)) (now (starts .entry)) (now (nodes .entry)) (now (first .entry)) (now (to .entry)) (now (order .entry))
+        (now (scratch .entry)) r (now (order .exit)) (now (scratch .exit)) ⌝ }
 {
     let answer = cycles::topological_order(first, to, order, scratch);
     match answer {
