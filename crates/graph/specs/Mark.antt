@@ -1,7 +1,9 @@
 -- What a vertex reaches, marked.
 use mathlib.Core.Path.{_≡_}
+use mathlib.Core.Bool.{Bool, cond, not, _&&_}
 use mathlib.Core.List.{List}
 use Prim.Native.Nat.{ℕ, zero, suc, _+_, _≤_, _<_, min}
+use lib.Dec.{eqb, ltb}
 use lib.ListN.{length, getD, take, drop}
 use Rattle.columns.specs.Column.{cleared-before}
 use Rattle.relations.specs.Reach.{Reaches}
@@ -19,10 +21,6 @@ flag (suc x) = 1
 unfoldable pub nonzero : (ℕ → ℕ) → ℕ → ℕ
 nonzero f zero = 0
 nonzero f (suc n) = flag (f n) + nonzero f n
-
--- the entries of a column, 0 behind them
-abbrev pub entries : List ℕ → ℕ → ℕ
-entries l i = getD l i 0
 
 -- ---- the contract
 
@@ -72,21 +70,72 @@ Answers first to from was is (Short needed) = Lacking first to from needed was i
 abbrev pub lent : List ℕ → List ℕ → Lent
 lent mark queue = record { mark = mark; queue = queue }
 
--- ---- between the steps of the search
+-- ---- the search that marks with a stamp
 
--- the marked vertices are those in the queue, and each is reached
-pub record Spread (first to : List ℕ) (from : ℕ) (mark queue : List ℕ) (tail : ℕ) : Type 0 where
+-- a mark that is the stamp counts 1
+abbrev pub stamped-at : ℕ → List ℕ → ℕ → ℕ
+stamped-at stamp mark v = cond (eqb (getD mark v 0) stamp) 1 0
+
+-- how many of the first n marks are the stamp
+abbrev pub stamped : ℕ → List ℕ → ℕ → ℕ
+stamped stamp mark n = nonzero (stamped-at stamp mark) n
+
+-- an index among the marks whose mark is not the stamp
+abbrev pub unstamped : ℕ → List ℕ → ℕ → Bool
+unstamped stamp mark v = ltb v (length mark) && not (eqb (getD mark v 0) stamp)
+
+-- a stamp that no vertex has as its mark yet
+pub record Searchable (first to : List ℕ) (from stamp : ℕ) (mark queue : List ℕ) : Type 0 where
   pub markable : Markable first to from mark queue
-  pub counted : nonzero (entries mark) (vertices first) ≡ tail
-  pub bits : (v : ℕ) → getD mark v 0 ≤ 1
+  pub fresh : (v : ℕ) → v < vertices first → getD mark v 0 ≡ stamp → ⊥
+
+-- afterwards a vertex has the stamp exactly if it is reached over one or more arcs, and every other mark is as it was
+pub record Stamps (first to : List ℕ) (from stamp : ℕ) (mark mark′ : List ℕ) : Type 0 where
+  pub sound : (v : ℕ) → v < vertices first → getD mark′ v 0 ≡ stamp → Reaches (Arc first to) from v
+  pub complete : (v : ℕ) → Reaches (Arc first to) from v → getD mark′ v 0 ≡ stamp
+  pub others : (v : ℕ) → (getD mark′ v 0 ≡ stamp → ⊥) → getD mark′ v 0 ≡ getD mark v 0
+  pub behind : (v : ℕ) → vertices first ≤ v → getD mark′ v 0 ≡ getD mark v 0
+
+-- the first entries of the queue, so many, are the vertices that are reached, each once
+pub record Lists (first to : List ℕ) (from : ℕ) (queue : List ℕ) (n : ℕ) : Type 0 where
+  pub sound : (k : ℕ) → k < n → Reaches (Arc first to) from (getD queue k 0)
+  pub complete : (v : ℕ) → Reaches (Arc first to) from v → (k : ℕ) × (k < n) × (getD queue k 0 ≡ v)
+  pub once : (j k : ℕ) → j < k → k < n → getD queue j 0 ≡ getD queue k 0 → ⊥
+
+-- THE SEARCH: whatever the columns hold, it ends
+pub record Searches (first to : List ℕ) (from stamp : ℕ) (mark queue mark′ queue′ : List ℕ) (n : ℕ) : Type 0 where
+  pub stamps : Searchable first to from stamp mark queue → Stamps first to from stamp mark mark′
+  pub lists : Searchable first to from stamp mark queue → Lists first to from queue′ n
+
+-- ---- between its steps
+
+-- the vertices that got the stamp are those in the queue, and each is reached
+pub record Spread (first to : List ℕ) (from stamp : ℕ) (mark₀ mark queue : List ℕ) (tail : ℕ) : Type 0 where
+  pub markable : Markable first to from mark queue
+  pub counted : stamped stamp mark (vertices first) ≡ tail
+  pub others : (v : ℕ) → (getD mark v 0 ≡ stamp → ⊥) → getD mark v 0 ≡ getD mark₀ v 0
+  pub behind : (v : ℕ) → vertices first ≤ v → getD mark v 0 ≡ getD mark₀ v 0
   pub low : (k : ℕ) → k < tail → getD queue k 0 < vertices first
   pub reached : (k : ℕ) → k < tail → Reaches (Arc first to) from (getD queue k 0)
-  pub queued : (v : ℕ) → getD mark v 0 ≡ 1 → (k : ℕ) × (k < tail) × (getD queue k 0 ≡ v)
+  pub marked : (k : ℕ) → k < tail → getD mark (getD queue k 0) 0 ≡ stamp
+  pub queued : (v : ℕ) → v < vertices first → getD mark v 0 ≡ stamp → (k : ℕ) × (k < tail) × (getD queue k 0 ≡ v)
+  pub once : (j k : ℕ) → j < k → k < tail → getD queue j 0 ≡ getD queue k 0 → ⊥
 
--- what follows u is marked too
-pub record Expanded (first to : List ℕ) (from u : ℕ) (mark queue : List ℕ) (tail : ℕ) (mark′ queue′ : List ℕ) (tail′ : ℕ) : Type 0 where
-  pub spread : Spread first to from mark′ queue′ tail′
+-- what follows u has the stamp too
+pub record Expanded (first to : List ℕ) (from stamp u : ℕ) (mark₀ mark queue : List ℕ) (tail : ℕ) (mark′ queue′ : List ℕ) (tail′ : ℕ) : Type 0 where
+  pub spread : Spread first to from stamp mark₀ mark′ queue′ tail′
   pub grown : tail ≤ tail′
   pub kept : (k : ℕ) → k < tail → getD queue′ k 0 ≡ getD queue k 0
-  pub marks : (v : ℕ) → getD mark v 0 ≡ 1 → getD mark′ v 0 ≡ 1
-  pub all : (w : ℕ) → Arc first to u w → getD mark′ w 0 ≡ 1
+  pub marks : (v : ℕ) → getD mark v 0 ≡ stamp → getD mark′ v 0 ≡ stamp
+  pub all : (w : ℕ) → Arc first to u w → getD mark′ w 0 ≡ stamp
+
+-- a vertex all of whose targets are reached
+pub record Source (first to : List ℕ) (from u : ℕ) : Type 0 where
+  pub vertex : u < vertices first
+  pub leads : (w : ℕ) → Arc first to u w → Reaches (Arc first to) from w
+
+-- each that is put into the queue has the stamp, whatever the columns hold, and so the search ends
+pub record Expands (first to : List ℕ) (u stamp : ℕ) (mark queue : List ℕ) (tail : ℕ) (mark′ queue′ : List ℕ) (tail′ : ℕ) : Type 0 where
+  pub ends : tail′ ≤ stamped stamp mark′ (length mark′)
+  pub is : (from : ℕ) (mark₀ : List ℕ) → Spread first to from stamp mark₀ mark queue tail → Source first to from u
+      → Expanded first to from stamp u mark₀ mark queue tail mark′ queue′ tail′

@@ -3,9 +3,8 @@ ghost use mathlib.Core.Path.{_≡_};
 ghost use mathlib.Core.Bool.{true, false};
 ghost use Prim.Native.Nat.{ℕ, _+_, _-_, _≤_, _<_};
 ghost use lib.ListN.{length, getD, replicate};
-ghost use Rattle.relations.specs.Reach.{Reaches};
-ghost use Rattle.graph.specs.Graph.{vertices, Graph, Arc, Tells};
-ghost use Rattle.graph.specs.Mark.{Markable, Marks, lent, Answers, Spread, Expanded};
+ghost use Rattle.graph.specs.Graph.{Graph, Tells};
+ghost use Rattle.graph.specs.Mark.{Markable, Marks, lent, Answers, stamped, unstamped, Searches, Expands};
 
 // Whether all that is reached is marked; a queue or a column of marks that is too short is told the entries that it needs.
 pub enum Marking {
@@ -68,34 +67,78 @@ pub fn valid(first: &[u32], to: &[u32]) -> bool
     inside(to, columns::index(first[0]), end, n)
 }
 
-// Marks the targets of u's arcs, and puts those that are new into the queue.
-// (The vertex that the search goes from is there for the contract.)
+// The number at an index; past the end of the column 0.
+fn entry(column: &[u32], i: usize) -> u32
+    ensures { λ r. ⌜ r ≡ getD (now (column .entry)) i 0 ⌝ }
+{
+    if i < column.len() {
+        return column[i];
+    }
+    0
+}
+
+// Is it an index of a mark that is not the stamp?
+fn is_unstamped(mark: &[u32], v: usize, stamp: u32) -> bool
+    ensures { λ r. ⌜ r ≡ unstamped stamp (now (mark .entry)) v ⌝ }
+{
+    if v < mark.len() {
+        return mark[v] != stamp;
+    }
+    false
+}
+
+// Marks the targets of u's arcs with the stamp, and puts those that are new into the queue.
 fn expand(
     first: &[u32],
     to: &[u32],
-    from: usize,
     u: usize,
+    stamp: u32,
     mark: &mut [u32],
     queue: &mut [u32],
     tail: usize,
 ) -> usize
-    requires { ⌜ Spread (now first) (now to) from (now mark) (now queue) tail ⌝ }
-    requires { ⌜ (u < vertices (now first)) × ((w : ℕ) → Arc (now first) (now to) u w → Reaches (Arc (now first) (now to)) from w) ⌝ }
-    ensures { λ r. ⌜ Expanded (now (first .entry)) (now (to .entry)) from u (now (mark .entry)) (now (queue .entry)) tail (now (mark .exit)) (now (queue .exit)) r ⌝ }
+    requires { ⌜ tail ≤ stamped stamp (now mark) (length (now mark)) ⌝ }
+    ensures { λ r. ⌜ Expands (now (first .entry)) (now (to .entry)) u stamp (now (mark .entry)) (now (queue .entry)) tail (now (mark .exit)) (now (queue .exit)) r ⌝ }
 {
-    let mut e = columns::index(first[u]);
-    let end = columns::index(first[u + 1]);
+    if first.len() <= u {
+        return tail;
+    }
+    let mut e = columns::index(entry(first, u));
+    let end = columns::index(entry(first, u + 1));
     let mut t = tail;
     while e < end {
-        let w = columns::index(to[e]);
-        if mark[w] == 0 {
-            mark[w] = 1;
-            queue[t] = columns::number(w);
+        let target = entry(to, e);
+        let w = columns::index(target);
+        if is_unstamped(mark, w, stamp) {
+            columns::put32(mark, w, stamp);
+            columns::put32(queue, t, target);
             t += 1;
         }
         e += 1;
     }
     t
+}
+
+// Marks all that a vertex reaches over one or more arcs with a stamp that no mark has yet, and lists them in the queue: so many.
+// The work goes by what is reached, and nothing is cleared.
+pub fn search(
+    first: &[u32],
+    to: &[u32],
+    from: usize,
+    stamp: u32,
+    mark: &mut [u32],
+    queue: &mut [u32],
+) -> usize
+    ensures { λ r. ⌜ Searches (now (first .entry)) (now (to .entry)) from stamp (now (mark .entry)) (now (queue .entry)) (now (mark .exit)) (now (queue .exit)) r ⌝ }
+{
+    let mut tail = expand(first, to, from, stamp, mark, queue, 0);
+    let mut head = 0;
+    while head < tail {
+        let u = columns::index(entry(queue, head));
+        tail = expand(first, to, u, stamp, mark, queue, tail);
+        head += 1;
+    }
+    tail
 }
 
 // Marks all that is reached, where there is room; the queue is left with zeros.
@@ -104,13 +147,7 @@ fn spread(first: &[u32], to: &[u32], from: usize, mark: &mut [u32], queue: &mut 
     ensures { λ _. ⌜ Marks (now (first .entry)) (now (to .entry)) from (now (mark .exit)) × (now (queue .exit) ≡ replicate (length (now (queue .entry))) 0) ⌝ }
 {
     columns::clear32(mark, 0);
-    let mut tail = expand(first, to, from, from, mark, queue, 0);
-    let mut head = 0;
-    while head < tail {
-        let u = columns::index(queue[head]);
-        tail = expand(first, to, from, u, mark, queue, tail);
-        head += 1;
-    }
+    search(first, to, from, 1, mark, queue);
     columns::clear32(queue, 0);
 }
 
@@ -136,43 +173,4 @@ pub fn reachable(
     }
     spread(first, to, from, &mut mark[..n], &mut queue[..n]);
     Marking::Marked
-}
-
-// Marks the targets of u's arcs with a stamp, and puts those that are new into the queue.
-fn stamp_targets(first: &[u32], to: &[u32], u: usize, stamp: u32, mark: &mut [u32], queue: &mut [u32], tail: usize) -> usize {
-    let mut t = tail;
-    let mut e = columns::index(entry(first, u));
-    let end = columns::index(entry(first, u + 1));
-    while e < end {
-        let w = columns::index(entry(to, e));
-        if w < mark.len() {
-            if mark[w] != stamp {
-                mark[w] = stamp;
-                columns::put32(queue, t, columns::number(w));
-                t += 1;
-            }
-        }
-        e += 1;
-    }
-    t
-}
-
-fn entry(column: &[u32], i: usize) -> u32 {
-    if i < column.len() {
-        return column[i];
-    }
-    0
-}
-
-// Marks all that a vertex reaches over one or more arcs with a stamp that no mark has yet, and lists them in the queue: so many.
-// The work goes by what is reached, and nothing is cleared.
-pub fn search(first: &[u32], to: &[u32], from: usize, stamp: u32, mark: &mut [u32], queue: &mut [u32]) -> usize {
-    let mut tail = stamp_targets(first, to, from, stamp, mark, queue, 0);
-    let mut head = 0;
-    while head < tail {
-        let u = columns::index(entry(queue, head));
-        tail = stamp_targets(first, to, u, stamp, mark, queue, tail);
-        head += 1;
-    }
-    tail
 }

@@ -1,6 +1,12 @@
 // Inherited attributes: for each use, attribute and label of an entity that has supertypes, what its symbol means among the
 // attributes of all that the entity reaches over supertypes. One search for each such entity; the attributes of a file stand
 // in a dictionary of their own, by their symbols.
+ghost use mathlib.Core.Path.{_≡_};
+ghost use Prim.Native.Nat.{_+_, _<_};
+ghost use lib.ListN.{length, getD};
+ghost use Rattle.inheritance.specs.Attributes.{Collects};
+ghost use Rattle.inheritance.specs.Inheritance.{several-code, Inherits};
+ghost use Rattle.inheritance.specs.Steps.{attribute-kind, asks-by, Entered, CollectsRange, joined, Gathers, Stores, inherits-by, InheritsIn};
 use columns::index;
 use columns::number;
 use columns::put32;
@@ -14,18 +20,46 @@ use scopes::at8;
 // Several meanings; one meaning is one more than a node, and 0 is none.
 pub const SEVERAL: u32 = 4294967295;
 
-fn is_attribute(kind: u8) -> bool {
+// ---- the attributes of a file
+
+fn is_attribute(kind: u8) -> bool
+    ensures { λ r. ⌜ r ≡ attribute-kind kind ⌝ }
+{
     if kind == codes::nodes::ATTRIBUTE_NAME {
         return true;
     }
     kind == codes::nodes::DERIVED_ATTRIBUTE
 }
 
-// ---- the attributes of a file
+// The symbol of a node.
+fn symbol(tokens: &[u32], symbols: &[u32], node: usize) -> u32
+    ensures { λ r. ⌜ r ≡ getD (now (symbols .entry)) (getD (now (tokens .entry)) node 0) 0 ⌝ }
+{
+    at(symbols, index(at(tokens, node)))
+}
 
 // The key of a symbol: 0 is none.
-fn symbol_key(symbol: u32) -> u64 {
+fn key(symbol: u32) -> u64
+    ensures { λ r. ⌜ r ≡ symbol + 1 ⌝ }
+{
     symbol as u64 + 1
+}
+
+// Stores an attribute of a vertex.
+fn enter(
+    keys: &mut [u64],
+    nodes: &mut [u32],
+    owners: &mut [u32],
+    at: usize,
+    key: u64,
+    node: usize,
+    vertex: usize,
+)
+    ensures { λ _. ⌜ Entered (now (keys .entry)) (now (nodes .entry)) (now (owners .entry)) at key node vertex (now (keys .exit)) (now (nodes .exit)) (now (owners .exit)) ⌝ }
+{
+    scopes::dictionary::put(keys, at, key);
+    put32(nodes, at, number(node));
+    put32(owners, at, number(vertex));
 }
 
 // The attributes among the nodes from lo up to hi, of a vertex, stored before those that stand there already.
@@ -40,16 +74,16 @@ fn collect_range(
     keys: &mut [u64],
     nodes: &mut [u32],
     owners: &mut [u32],
-) -> usize {
+) -> usize
+    ensures { λ r. ⌜ CollectsRange (now (kinds .entry)) (now (tokens .entry)) (now (symbols .entry)) vertex lo hi stored (now (keys .entry)) (now (nodes .entry)) (now (owners .entry)) r (now (keys .exit)) (now (nodes .exit)) (now (owners .exit)) ⌝ }
+{
     let mut from = stored;
     let mut i = hi;
     while lo < i {
         i -= 1;
         if is_attribute(at8(kinds, i)) {
             from = saturating_sub(from, 1);
-            scopes::dictionary::put(keys, from, symbol_key(at(symbols, index(at(tokens, i)))));
-            put32(nodes, from, number(i));
-            put32(owners, from, number(vertex));
+            enter(keys, nodes, owners, from, key(symbol(tokens, symbols, i)), i, vertex);
         }
     }
     from
@@ -67,7 +101,9 @@ pub fn collect_attributes(
     keys: &mut [u64],
     nodes: &mut [u32],
     owners: &mut [u32],
-) -> usize {
+) -> usize
+    ensures { λ r. ⌜ Collects (now (kinds .entry)) (now (tokens .entry)) (now (symbols .entry)) (now («entry_keys» .entry)) (now («entry_nodes» .entry)) vertices (now (keys .entry)) (now (nodes .entry)) (now (owners .entry)) r (now (keys .exit)) (now (nodes .exit)) (now (owners .exit)) ⌝ }
+{
     let mut from = keys.len();
     let mut v = vertices;
     while 0 < v {
@@ -81,7 +117,9 @@ pub fn collect_attributes(
 // ---- what is inherited
 
 // One node more among the meanings.
-fn more(meaning: u32, node: u32) -> u32 {
+fn more(meaning: u32, node: u32) -> u32
+    ensures { λ r. ⌜ (node < several-code → r ≡ joined meaning node) ⌝ }
+{
     if meaning == 0 {
         return number(index(node) + 1);
     }
@@ -98,9 +136,11 @@ fn inherited(
     mark: &[u32],
     stamp: u32,
     symbol: u32,
-) -> u32 {
+) -> u32
+    ensures { λ r. ⌜ Gathers (now (keys .entry)) (now (nodes .entry)) (now (owners .entry)) (now (heads .entry)) (now (next .entry)) (now (mark .entry)) stamp symbol r ⌝ }
+{
     let mut meaning = 0;
-    let mut found = find(keys, heads, next, symbol_key(symbol));
+    let mut found = find(keys, heads, next, key(symbol));
     loop {
         let Found::At(a) = found else {
             return meaning;
@@ -113,7 +153,9 @@ fn inherited(
 }
 
 // Is it a name in an expression, or an attribute or label?
-fn asks(kind: u8, role: u32) -> bool {
+fn asks(kind: u8, role: u32) -> bool
+    ensures { λ r. ⌜ r ≡ asks-by kind role ⌝ }
+{
     if kind == codes::nodes::NAME {
         return role == codes::roles::IN_EXPRESSION;
     }
@@ -136,23 +178,61 @@ fn store_inherited(
     lo: usize,
     hi: usize,
     bound: &mut [u32],
-) {
+)
+    ensures { λ _. ⌜ Stores (now (kinds .entry)) (now (tokens .entry)) (now (roles .entry)) (now (symbols .entry)) (now (keys .entry)) (now (nodes .entry)) (now (owners .entry)) (now (heads .entry)) (now (next .entry)) (now (mark .entry)) stamp lo hi (now (bound .entry)) (now (bound .exit)) ⌝ }
+{
     let mut i = hi;
     while lo < i {
         i -= 1;
         if asks(at8(kinds, i), at(roles, i)) {
-            let symbol = at(symbols, index(at(tokens, i)));
-            put32(bound, i, inherited(keys, nodes, owners, heads, next, mark, stamp, symbol));
+            let name = symbol(tokens, symbols, i);
+            let meaning = inherited(keys, nodes, owners, heads, next, mark, stamp, name);
+            put32(bound, i, meaning);
         }
     }
 }
 
 // Is it an entity with supertypes?
-fn inherits(kinds: &[u8], first: &[u32], node: usize, vertex: usize) -> bool {
+fn inherits(kinds: &[u8], first: &[u32], node: usize, vertex: usize) -> bool
+    requires { ⌜ vertex < length (now first) ⌝ }
+    ensures { λ r. ⌜ r ≡ inherits-by (now (kinds .entry)) (now (first .entry)) node vertex ⌝ }
+{
     if at8(kinds, node) != codes::nodes::ENTITY {
         return false;
     }
     at(first, vertex) < at(first, vertex + 1)
+}
+
+// Stores at each use, attribute and label of a declaration what its symbol means among the attributes that the declaration inherits.
+// The stamp of a vertex is one more.
+fn inherit_in(
+    kinds: &[u8],
+    tokens: &[u32],
+    roles: &[u32],
+    symbols: &[u32],
+    entry_keys: &[u64],
+    entry_nodes: &[u32],
+    first: &[u32],
+    to: &[u32],
+    keys: &[u64],
+    nodes: &[u32],
+    owners: &[u32],
+    heads: &[u32],
+    next: &[u32],
+    v: usize,
+    mark: &mut [u32],
+    queue: &mut [u32],
+    bound: &mut [u32],
+)
+    requires { ⌜ v < length (now first) ⌝ }
+    ensures { λ _. ⌜ InheritsIn (now (kinds .entry)) (now (tokens .entry)) (now (roles .entry)) (now (symbols .entry)) (now («entry_keys» .entry)) (now («entry_nodes» .entry)) (now (first .entry)) (now (to .entry)) (now (keys .entry)) (now (nodes .entry)) (now (owners .entry)) (now (heads .entry)) (now (next .entry)) v (now (mark .entry)) (now (queue .entry)) (now (bound .entry)) (now (mark .exit)) (now (bound .exit)) ⌝ }
+{
+    let d = scopes::declaration(entry_keys, entry_nodes, v);
+    if inherits(kinds, first, d.node, v) {
+        let stamp = number(v + 1);
+        graph::search(first, to, v, stamp, mark, queue);
+        store_inherited(kinds, tokens, roles, symbols, keys, nodes, owners, heads, next, mark, stamp, d.from, d.node, bound);
+    }
 }
 
 // Stores at each use, attribute and label what its symbol means among the attributes that its owner inherits.
@@ -173,16 +253,13 @@ pub fn inherit_all(
     mark: &mut [u32],
     queue: &mut [u32],
     bound: &mut [u32],
-) {
+)
+    ensures { λ _. ⌜ Inherits (now (kinds .entry)) (now (tokens .entry)) (now (roles .entry)) (now (symbols .entry)) (now («entry_keys» .entry)) (now («entry_nodes» .entry)) (now (first .entry)) (now (to .entry)) (now (keys .entry)) (now (nodes .entry)) (now (owners .entry)) (now (heads .entry)) (now (next .entry)) (now (mark .entry)) (now (queue .entry)) (now (bound .entry)) (now (bound .exit)) ⌝ }
+{
     columns::clear32(mark, 0);
     let mut v = saturating_sub(first.len(), 1);
     while 0 < v {
-        let stamp = number(v);
         v -= 1;
-        let d = scopes::declaration(entry_keys, entry_nodes, v);
-        if inherits(kinds, first, d.node, v) {
-            graph::search(first, to, v, stamp, mark, queue);
-            store_inherited(kinds, tokens, roles, symbols, keys, nodes, owners, heads, next, mark, stamp, d.from, d.node, bound);
-        }
+        inherit_in(kinds, tokens, roles, symbols, entry_keys, entry_nodes, first, to, keys, nodes, owners, heads, next, v, mark, queue, bound);
     }
 }

@@ -106,7 +106,17 @@ fn node_finding(
     i: usize,
 ) -> Finding {
     let token = index(at(tokens, i));
-    type_name(kinds, keys, nodes, heads, next, role, schema, at(symbols, token), at(starts, token))
+    type_name(
+        kinds,
+        keys,
+        nodes,
+        heads,
+        next,
+        role,
+        schema,
+        at(symbols, token),
+        at(starts, token),
+    )
 }
 
 // So many arcs are stored, and this is the fault with the smallest place.
@@ -140,7 +150,19 @@ fn bind_range(
         i -= 1;
         if is_type_name(at8(kinds, i), at(roles, i)) {
             let role = at(roles, i);
-            let found = node_finding(kinds, tokens, symbols, starts, keys, nodes, heads, next, role, schema, i);
+            let found = node_finding(
+                kinds,
+                tokens,
+                symbols,
+                starts,
+                keys,
+                nodes,
+                heads,
+                next,
+                role,
+                schema,
+                i,
+            );
             put32(bound, i, found.binding);
             arcs = dependencies::add_arc(to, arcs, target(role, found.vertex));
             least = faults::sooner(found.fault, least);
@@ -165,13 +187,32 @@ pub fn bind_type_names(
     to: &mut [u32],
 ) -> Fault {
     columns::clear32(bound, 0);
-    let mut so_far = Progress { arcs: to.len(), least: faults::fine() };
+    let mut so_far = Progress {
+        arcs: to.len(),
+        least: faults::fine(),
+    };
     let mut v = columns::saturating_sub(first.len(), 1);
     while 0 < v {
         put32(first, v, number(so_far.arcs));
         v -= 1;
         let d = scopes::declaration(keys, nodes, v);
-        so_far = bind_range(kinds, tokens, roles, symbols, starts, keys, nodes, heads, next, d.schema, d.from, d.node, so_far, bound, to);
+        so_far = bind_range(
+            kinds,
+            tokens,
+            roles,
+            symbols,
+            starts,
+            keys,
+            nodes,
+            heads,
+            next,
+            d.schema,
+            d.from,
+            d.node,
+            so_far,
+            bound,
+            to,
+        );
     }
     put32(first, 0, number(so_far.arcs));
     so_far.least

@@ -5,7 +5,6 @@ use columns::number;
 use columns::put32;
 use columns::saturating_sub;
 use faults::Fault;
-use type_names::Progress;
 use scopes::at;
 use scopes::at8;
 use scopes::look_ups::Meaning;
@@ -13,6 +12,7 @@ use scopes::look_ups::declaration_meant;
 use scopes::look_ups::item_meant;
 use scopes::look_ups::own_meant;
 use scopes::look_ups::schema_item_meant;
+use type_names::Progress;
 
 // What a name in an expression means: an attribute, a label or an item by its node, or a declaration by its vertex.
 pub enum Use {
@@ -32,7 +32,14 @@ fn by_node(nodes: &[u32], meaning: Meaning) -> Use {
 }
 
 // A name that stands for a value in a schema: one of its declarations, else an item.
-pub fn value_meant(keys: &[u64], nodes: &[u32], heads: &[u32], next: &[u32], schema: usize, symbol: u32) -> Use {
+pub fn value_meant(
+    keys: &[u64],
+    nodes: &[u32],
+    heads: &[u32],
+    next: &[u32],
+    schema: usize,
+    symbol: u32,
+) -> Use {
     let declared = declaration_meant(keys, heads, next, schema, symbol);
     match declared {
         Meaning::Nothing => by_node(nodes, schema_item_meant(keys, heads, next, schema, symbol)),
@@ -42,7 +49,15 @@ pub fn value_meant(keys: &[u64], nodes: &[u32], heads: &[u32], next: &[u32], sch
 }
 
 // A name that is not declared in its owner: an inherited attribute, else what it means in the schema.
-fn inherited_or_value(keys: &[u64], nodes: &[u32], heads: &[u32], next: &[u32], inherited: u32, schema: usize, symbol: u32) -> Use {
+fn inherited_or_value(
+    keys: &[u64],
+    nodes: &[u32],
+    heads: &[u32],
+    next: &[u32],
+    inherited: u32,
+    schema: usize,
+    symbol: u32,
+) -> Use {
     if inherited == 0 {
         return value_meant(keys, nodes, heads, next, schema, symbol);
     }
@@ -53,7 +68,16 @@ fn inherited_or_value(keys: &[u64], nodes: &[u32], heads: &[u32], next: &[u32], 
 }
 
 // The nearest of: an own attribute or label, an inherited attribute, a declaration of the schema, an item.
-pub fn use_meant(keys: &[u64], nodes: &[u32], heads: &[u32], next: &[u32], inherited: u32, owner: usize, schema: usize, symbol: u32) -> Use {
+pub fn use_meant(
+    keys: &[u64],
+    nodes: &[u32],
+    heads: &[u32],
+    next: &[u32],
+    inherited: u32,
+    owner: usize,
+    schema: usize,
+    symbol: u32,
+) -> Use {
     let own = own_meant(keys, heads, next, owner, symbol);
     match own {
         Meaning::Nothing => inherited_or_value(keys, nodes, heads, next, inherited, schema, symbol),
@@ -105,11 +129,19 @@ fn use_finding(kinds: &[u8], nodes: &[u32], meaning: Use, place: u32) -> Finding
     match meaning {
         Use::Nothing => found(faults::fault(codes::replies::NOT_FOUND, place), 0, 0),
         Use::Several => found(faults::fault(codes::replies::AMBIGUOUS, place), 0, 0),
-        Use::Node(k) => found(faults::wrong_sort(is_value(at8(kinds, k)), place), number(k + 1), 0),
+        Use::Node(k) => found(
+            faults::wrong_sort(is_value(at8(kinds, k)), place),
+            number(k + 1),
+            0,
+        ),
         Use::Declaration(v) => {
             let k = index(at(nodes, v));
             let kind = at8(kinds, k);
-            found(faults::wrong_sort(is_value(kind), place), number(k + 1), constant_vertex(kind, v))
+            found(
+                faults::wrong_sort(is_value(kind), place),
+                number(k + 1),
+                constant_vertex(kind, v),
+            )
         }
     }
 }
@@ -124,7 +156,15 @@ fn is_enumeration(kinds: &[u8], sizes: &[u32], node: usize) -> bool {
 }
 
 // The item of a type, by the symbol of its name.
-fn qualified_item(keys: &[u64], nodes: &[u32], heads: &[u32], next: &[u32], node: usize, symbol: u32, place: u32) -> Finding {
+fn qualified_item(
+    keys: &[u64],
+    nodes: &[u32],
+    heads: &[u32],
+    next: &[u32],
+    node: usize,
+    symbol: u32,
+    place: u32,
+) -> Finding {
     let meaning = item_meant(keys, heads, next, node, symbol);
     let fault = faults::judged(meaning, true, place);
     let Meaning::One(e) = meaning else {
@@ -158,7 +198,14 @@ pub fn qualified_finding(
 }
 
 // A node that is no name: SELF in a constant, or an own name that is inherited too.
-fn other_fault(kinds: &[u8], kind: u8, role: u32, owner: usize, inherited: u32, place: u32) -> Fault {
+fn other_fault(
+    kinds: &[u8],
+    kind: u8,
+    role: u32,
+    owner: usize,
+    inherited: u32,
+    place: u32,
+) -> Fault {
     if kind == codes::nodes::SELF_REFERENCE {
         return faults::wrong_sort(at8(kinds, owner) != codes::nodes::CONSTANT, place);
     }
@@ -198,9 +245,25 @@ fn node_finding(
     }
     if kind == codes::nodes::QUALIFIED_ITEM {
         let of_type = saturating_sub(token, 2);
-        return qualified_finding(kinds, sizes, keys, nodes, heads, next, schema, at(symbols, of_type), at(starts, of_type), symbol, place);
+        return qualified_finding(
+            kinds,
+            sizes,
+            keys,
+            nodes,
+            heads,
+            next,
+            schema,
+            at(symbols, of_type),
+            at(starts, of_type),
+            symbol,
+            place,
+        );
     }
-    found(other_fault(kinds, kind, role, owner, inherited, place), 0, 0)
+    found(
+        other_fault(kinds, kind, role, owner, inherited, place),
+        0,
+        0,
+    )
 }
 
 // Is it a node that may have a fault: a name in an expression, `type.item`, SELF, an attribute or label?
@@ -244,7 +307,23 @@ fn bind_range(
         let kind = at8(kinds, i);
         let role = at(roles, i);
         if asks(kind, role) {
-            let found = node_finding(kinds, tokens, sizes, symbols, starts, keys, nodes, heads, next, kind, role, hi, schema, at(bound, i), i);
+            let found = node_finding(
+                kinds,
+                tokens,
+                sizes,
+                symbols,
+                starts,
+                keys,
+                nodes,
+                heads,
+                next,
+                kind,
+                role,
+                hi,
+                schema,
+                at(bound, i),
+                i,
+            );
             put32(bound, i, found.binding);
             arcs = dependencies::add_arc(to, arcs, found.vertex);
             least = faults::sooner(found.fault, least);
@@ -270,13 +349,33 @@ pub fn bind_uses(
     first: &mut [u32],
     to: &mut [u32],
 ) -> Fault {
-    let mut so_far = Progress { arcs: to.len(), least: faults::fine() };
+    let mut so_far = Progress {
+        arcs: to.len(),
+        least: faults::fine(),
+    };
     let mut v = saturating_sub(first.len(), 1);
     while 0 < v {
         put32(first, v, number(so_far.arcs));
         v -= 1;
         let d = scopes::declaration(keys, nodes, v);
-        so_far = bind_range(kinds, tokens, sizes, roles, symbols, starts, keys, nodes, heads, next, d.schema, d.from, d.node, so_far, bound, to);
+        so_far = bind_range(
+            kinds,
+            tokens,
+            sizes,
+            roles,
+            symbols,
+            starts,
+            keys,
+            nodes,
+            heads,
+            next,
+            d.schema,
+            d.from,
+            d.node,
+            so_far,
+            bound,
+            to,
+        );
     }
     put32(first, 0, number(so_far.arcs));
     so_far.least

@@ -2,125 +2,71 @@
 use Rattle.graph.proofs.expand.Statement.{statement}
 use Rattle.graph.proofs.expand.Tie as tie
 use borrow.Author.Needs.{needs}
-use Rattle.graph.proofs.Mark.{Going, going-start, going-place, going-low, going-step, going-end, tail-low, tail-room}
-use Prim.Native.Nat.{_+_, _-_}
+use Rattle.graph.proofs.Mark.{Going, going-start, going-step, going-end, expands-none, stamps-room}
+use Prim.Native.Nat.{ℕ, _-_}
 use mathlib.Core.Logic.{⊎-elim, inl, inr}
+use mathlib.Core.Path.{sym, _∙_, ap}
 use native.Mathlib.Omega.{arith}
+use lib.ListN.{set}
 
 abbrev Inv-loop : tie.InvT-loop
-Inv-loop first to from u mark₀ queue₀ tail e₀ end t₀ mark queue e t = Going first to from u mark₀ queue₀ tail end mark queue e t
+Inv-loop first to u stamp mark₀ queue₀ tail e₀ end t₀ mark queue e t = Going first to u stamp mark₀ queue₀ tail end mark queue e t
 
 abbrev μ-loop : tie.MeasureT-loop
-μ-loop first to from u mark₀ queue₀ tail e₀ end t₀ mark queue e t = end - e
+μ-loop first to u stamp mark₀ queue₀ tail e₀ end t₀ mark queue e t = end - e
 
-mul-index : tie.Need-mul-index Inv-loop μ-loop
-mul-index c = omega (arith, c .before .before .before .before .pre .1 .0, c .before .before .before .before .pre .0 .markable .graph .small)
+returns : tie.Need-returns Inv-loop μ-loop
+returns c = expands-none (c .before .before .before .before .before .pre) (c .if1 .taken)
 
-shared-slice-read-index : tie.Need-shared-slice-read-index Inv-loop μ-loop
-shared-slice-read-index c = omega (arith, c .before .before .before .before .before .pre .1 .0)
+entry-requires : tie.Need-entry-requires Inv-loop μ-loop
+entry-requires c κs = search needs
 
 index-requires : tie.Need-index-requires Inv-loop μ-loop
 index-requires c κs = search needs
 
-add-index : tie.Need-add-index Inv-loop μ-loop
-add-index c = omega (arith, c .before .before .before .before .before .before .pre .1 .0, c .before .before .before .before .before .before .pre .0 .markable .graph .small)
+add-entry : tie.Need-add-entry Inv-loop μ-loop
+add-entry c = search needs
 
-mul-index-2 : tie.Need-mul-index-2 Inv-loop μ-loop
-mul-index-2 c = omega (arith, c .before .before .before .before .before .before .pre .1 .0, c .before .before .before .before .before .before .pre .0 .markable .graph .small)
-
-shared-slice-read-index-2 : tie.Need-shared-slice-read-index-2 Inv-loop μ-loop
-shared-slice-read-index-2 c = omega (arith, c .before .before .before .before .before .before .before .pre .1 .0)
+entry-requires-2 : tie.Need-entry-requires-2 Inv-loop μ-loop
+entry-requires-2 c κs = search needs
 
 index-requires-2 : tie.Need-index-requires-2 Inv-loop μ-loop
 index-requires-2 c κs = search needs
 
 loop-holds : tie.Need-loop-holds Inv-loop μ-loop
-loop-holds c =
-    going-start (c .before .before .before .before .before .before .before .before .pre .0)
-    (c .before .before .before .before .before .before .before .before .pre .1) (c .before .before .index .ensures) (c .index2 .ensures)
+loop-holds c = going-start (c .before .before .before .before .before .before .before .before .before .pre) (c .before .before .index .ensures ∙ c .before .before .before .entry .ensures) (c .index2 .ensures ∙ c .before .entry2 .ensures)
 
-mul-index-3 : tie.Need-mul-index-3 Inv-loop μ-loop
-mul-index-3 c =
-    omega (
-      arith,
-      c .loop-test .taken,
-      c .before .before .index2 .ensures,
-      c .before .before .before .shared-slice-known4 .given
-          (c .before .before .before .before .before .before .before .before .before .before .args .u + 1),
-    )
-
-shared-slice-read-index-3 : tie.Need-shared-slice-read-index-3 Inv-loop μ-loop
-shared-slice-read-index-3 c = going-place (c .before .before .loop .inv) (c .before .loop-test .taken)
+entry-requires-3 : tie.Need-entry-requires-3 Inv-loop μ-loop
+entry-requires-3 c κs = search needs
 
 index-requires-3 : tie.Need-index-requires-3 Inv-loop μ-loop
 index-requires-3 c κs = search needs
 
-mul-if1 : tie.Need-mul-if1 Inv-loop μ-loop
-mul-if1 c =
-    let l = going-low (c .before .before .before .loop .inv) (c .before .before .loop-test .taken) _ (c .index3 .ensures) in omega (
-      arith,
-      l,
-      c .before .before .before .loop .inv .spread .markable .graph .small,
-    )
+is-unstamped-requires : tie.Need-is-unstamped-requires Inv-loop μ-loop
+is-unstamped-requires c κs = search needs
 
-slice-read-if1 : tie.Need-slice-read-if1 Inv-loop μ-loop
-slice-read-if1 c =
-    let l = going-low (c .before .before .before .before .loop .inv) (c .before .before .before .loop-test .taken) _ (c .before .index3 .ensures) in omega
-    (arith, l, c .before .before .before .before .loop .inv .spread .markable .mark-room)
+put32-requires : tie.Need-put32-requires Inv-loop μ-loop
+put32-requires c κs = search needs
 
-mul-mark : tie.Need-mul-mark Inv-loop μ-loop
-mul-mark c =
-    let l = going-low (c .before .before .before .before .before .loop .inv) (c .before .before .before .before .loop-test .taken) _
-    (c .before .before .index3 .ensures) in omega (arith, l, c .before .before .before .before .before .loop .inv .spread .markable .graph .small)
-
-slice-write-mark : tie.Need-slice-write-mark Inv-loop μ-loop
-slice-write-mark c =
-    let l = going-low (c .before .before .before .before .before .loop .inv) (c .before .before .before .before .loop-test .taken) _
-    (c .before .before .index3 .ensures) in omega (arith, l, c .before .before .before .before .before .loop .inv .spread .markable .mark-room)
-
-number-requires : tie.Need-number-requires Inv-loop μ-loop
-number-requires c κs = search needs
-
-mul-queue : tie.Need-mul-queue Inv-loop μ-loop
-mul-queue c =
-    omega (
-      arith,
-      tail-low (c .before .before .before .before .before .before .loop .inv .spread),
-      c .before .before .before .before .before .before .loop .inv .spread .markable .graph .small,
-    )
-
-slice-write-queue : tie.Need-slice-write-queue Inv-loop μ-loop
-slice-write-queue c =
-    let l = going-low (c .before .before .before .before .before .before .loop .inv) (c .before .before .before .before .before .loop-test .taken) _ (c .before .before .before .index3 .ensures) in
-    omega (
-      arith,
-      tail-room (c .before .before .before .before .before .before .loop .inv .spread) _ l (c .before .if1 .taken),
-      c .before .before .before .before .before .before .loop .inv .spread .markable .queue-room,
-    )
+put32-requires-2 : tie.Need-put32-requires-2 Inv-loop μ-loop
+put32-requires-2 c κs = search needs
 
 add-t : tie.Need-add-t Inv-loop μ-loop
-add-t c = omega (arith, tail-low (c .before .before .before .before .before .before .loop .inv .spread), c .before .before .before .before .before .before .loop .inv .spread .markable .graph .small)
+add-t c = omega (arith, stamps-room (c .before .before .before .before .before .before .before .before .before .before .before .before .before .before .before .before .before .before .before .before .before .before .before .before .args .stamp) (c .before .before .before .before .before .before .before .before .before .before .before .before .before .before .loop .mark) (c .before .before .before .before .before .before .before .before .before .before .before .index3 .result) (c .before .before .before .before .before .before .before .before .before .before .before .before .before .before .loop .inv .ends) (sym (c .before .before .before .before .before .before .before .before .before .is-unstamped .ensures) ∙ c .before .before .before .before .before .before .before .before .if2 .taken), c .before .before .before .before .before .before .before .before .before .before .before .before .before .before .loop .inv .mark-long)
 
 add-e : tie.Need-add-e Inv-loop μ-loop
-add-e c =
-    omega (
-      arith,
-      c .before .before .before .before .loop-test .taken,
-      c .before .before .before .before .before .before .index2 .ensures,
-      c .before .before .before .before .before .before .before .shared-slice-known4 .given
-          (c .before .before .before .before .before .before .before .before .before .before .before .before .before .before .args .u + 1),
-    )
+add-e c = search needs
 
 loop-less : tie.Need-loop-less Inv-loop μ-loop
-loop-less c = omega (arith, c .before .before .before .before .loop-test .taken)
+loop-less c = search needs
 
 loop-again : tie.Need-loop-again Inv-loop μ-loop
 loop-again c =
-    let here = c .before .before .before .before .before .loop .inv in
-    let l = going-low here (c .before .before .before .before .loop-test .taken) _ (c .before .before .index3 .ensures) in
-    going-step here (c .before .before .before .before .loop-test .taken) _ (c .before .before .index3 .ensures) _ _ _
-    (⊎-elim (λ w. let q = w .1 .ensures (omega (arith, l, here .spread .markable .graph .small)) in inl (w .0 .taken, w .2, rw q at (w .3), w .4))
-    (λ w. inr (w .0 .left, w .1, w .2, w .3)) (c .if1 .came))
+    going-step (c .before .before .before .before .before .before .loop .inv) (c .before .before .before .before .before .loop-test .taken) (c .before .before .before .index3 .result) (c .before .before .before .index3 .ensures ∙ c .before .before .before .before .entry3 .ensures) _ _ _
+    (⊎-elim
+    (λ w. inl
+    (sym (c .before .is-unstamped .ensures) ∙ w .0 .taken, w .9 ∙ w .2 .ensures, w .10 ∙ w .6 .ensures ∙ ap (λ (x : ℕ). set (c .before .before .before .before .before .before .loop .queue) (c .before .before .before .before .before .before .loop .t) x) (sym (c .before .before .before .index3 .ensures)), w .11))
+    (λ w. inr (sym (c .before .is-unstamped .ensures) ∙ w .0 .left, w .1, w .2, w .3)) (c .if2 .came))
 
 same-length : tie.Need-same-length Inv-loop μ-loop
 same-length c = c .before .loop .inv .mark-long
@@ -128,8 +74,8 @@ same-length c = c .before .loop .inv .mark-long
 same-length-2 : tie.Need-same-length-2 Inv-loop μ-loop
 same-length-2 c = c .before .loop .inv .queue-long
 
-returns : tie.Need-returns Inv-loop μ-loop
-returns c = going-end (c .before .loop .inv) (c .loop-test .left)
+returns-2 : tie.Need-returns-2 Inv-loop μ-loop
+returns-2 c = going-end (c .before .loop .inv) (c .loop-test .left)
 
 pub expand-spec : {M : Type 1} → statement M
 expand-spec =
@@ -137,28 +83,22 @@ expand-spec =
     (tie.spec
     Inv-loop
     μ-loop
-    mul-index
-    shared-slice-read-index
+    returns
+    entry-requires
     index-requires
-    add-index
-    mul-index-2
-    shared-slice-read-index-2
+    add-entry
+    entry-requires-2
     index-requires-2
     loop-holds
-    mul-index-3
-    shared-slice-read-index-3
+    entry-requires-3
     index-requires-3
-    mul-if1
-    slice-read-if1
-    mul-mark
-    slice-write-mark
-    number-requires
-    mul-queue
-    slice-write-queue
+    is-unstamped-requires
+    put32-requires
+    put32-requires-2
     add-t
     add-e
     loop-less
     loop-again
     same-length
     same-length-2
-    returns)
+    returns-2)
