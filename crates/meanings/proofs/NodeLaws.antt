@@ -10,7 +10,7 @@ use lib.Dec.{eqb}
 use lib.ListN.{getD}
 use Rattle.ebnf.specs.Set.{mem}
 use Rattle.relations.specs.Select.{empty}
-use Rattle.relations.proofs.Select.{or-cases, and-fst, and-snd}
+use Rattle.relations.proofs.Select.{or-cases, or-left, or-right, and-fst, and-snd}
 use Rattle.express.specs.syntax.NodeKind as node
 use Rattle.express.specs.syntax.Grammar.{file}
 use Rattle.express.specs.syntax.Syntax.{Read}
@@ -220,7 +220,7 @@ module _ {kinds tokens sizes symbols starts keys nodes heads next : List ℕ} {k
     found = λ t R C P W.
         let y = asked-use t n (W .asked) (sym (W .kind-is) ∙ e) in
         let s = symbol-is E C in
-        let G : StandsFor t nodes (meaning (inherited t o sy)) u = rw s (W .inherits) in
+        let G : StandsFor t nodes (meaning (inherited t o sy)) u = rw s (W .inherited-is (or-left (is-use t n) (is-scope-member t n) y)) in
         let q : use-meant t o h sy ≡ means t n = rw (W .owner-is, W .schema-is, s) (sym (use-means t n y)) in
         let F = U .found t keys heads next (C .kinds-are) P (use-meant t o h sy) (D .stands t P G) in
         use-found t n y (F .fault-is ∙ ap₂ (judged (is-value t)) q (place-is E C)) (F .binding-is ∙ ap binding-of q) (F .target-is ∙ ap (constant-of t) q);
@@ -271,8 +271,9 @@ module _ {kinds tokens sizes symbols starts keys nodes heads next : List ℕ} {k
         let a : kind t n ≡ node.name → ⊥ = λ (q : kind t n ≡ node.name). x (i ∙ q) in
         let b : kind t n ≡ node.qualified-item → ⊥ = λ (q : kind t n ≡ node.qualified-item). y (i ∙ q) in
         let c : kind t n ≡ node.self → ⊥ = λ (q : kind t n ≡ node.self). z (i ∙ q) in
-        member-found t n a b c (asked-member t n (W .asked) a b c)
-        (M .is t nodes (inherited t o (symbol t n)) (W .inherits) ∙ rw (W .owner-is, place-is E C)) F;
+        let m = asked-member t n (W .asked) a b c in
+        member-found t n a b c m
+        (M .is t nodes (inherited t o (symbol t n)) (W .inherited-is (or-right (is-use t n) (is-scope-member t n) m)) ∙ rw (W .owner-is, place-is E C)) F;
   }
 
 pub ruleset nodes-found = (name-node, item-node, self-node, member-node)
