@@ -1,7 +1,7 @@
 -- Vertex by vertex, from the last to the first: a law for each step.
 use mathlib.Core.Path.{_≡_, refl, sym, ap, ap₂, _∙_}
-use mathlib.Core.Logic.{_⊎_, inl, inr, ⊎-elim, by-cases}
-use mathlib.Core.Bool.{Bool, true, false, cond, _&&_}
+use mathlib.Core.Logic.{_⊎_, inl, inr, by-cases}
+use mathlib.Core.Bool.{Bool, true, false, cond}
 use mathlib.Core.List.{List, []}
 use Prim.Native.Nat.{ℕ, _+_, _-_, _≤_, _<_}
 use native.Mathlib.Omega.{arith}
@@ -9,17 +9,16 @@ use native.Mathlib.Decide.{ℕ-discrete}
 use borrow.Author.Tests.{eqb-true}
 use lib.Dec.{eqb, ltb}
 use lib.ListN.{length, getD, List·getD-eq-default}
-use Rattle.relations.specs.Select.{span}
 use Rattle.relations.proofs.Select.{le-or, and-fst}
 use Rattle.express.specs.syntax.NodeKind.{entity}
-use Rattle.express.specs.syntax.Tree.{Table, count, kind, role, symbol, owner}
+use Rattle.express.specs.syntax.Tree.{Table, count, kind, symbol, owner}
 use Rattle.express.specs.names.Scope.{inherited, meaning}
 use Rattle.express.proofs.names.Owned.{nothing-inherited}
 use Rattle.graph.specs.Graph.{vertices}
-use Rattle.graph.specs.Mark.{Markable, Searchable, Stamps, Searches}
+use Rattle.graph.specs.Mark.{Searchable, Stamps, Searches}
 use Rattle.scopes.specs.Range.{vertex-count, node-of, range-start, DeclarationAt}
 use Rattle.scopes.specs.declared.Extent.{Extent}
-use Rattle.scopes.proofs.Ranges.{node-below, node-declares, range-next, range-rises, range-owner, range-end}
+use Rattle.scopes.proofs.Ranges.{node-declares, range-next, range-rises, range-owner, range-end}
 use Rattle.inheritance.specs.Inheritance.{code, asks, inherited-code, ColumnsOf, Inheriting, InheritanceRoom, Inherits}
 use Rattle.inheritance.specs.Steps.{asks-by, inherits-by, Stores, Done, InheritsIn}
 use Rattle.inheritance.proofs.Asking.{declaration-silent}

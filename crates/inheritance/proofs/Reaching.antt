@@ -25,8 +25,7 @@ use Rattle.express.specs.names.Names.{Passes}
 use Rattle.express.proofs.names.Meaning.{edge-start, declarations-iff, no-members, inherited-iff}
 use Rattle.express.proofs.names.Owned.{nothing-inherited}
 use Rattle.express.proofs.names.TypeCycle.{from-entity}
-use Rattle.index.specs.Dictionary.{has}
-use Rattle.graph.specs.Graph.{vertices, Graph, Arc}
+use Rattle.graph.specs.Graph.{vertices, Arc}
 use Rattle.graph.specs.Mark.{Stamps}
 use Rattle.graph.proofs.Arcs.{arc-source, arc-target}
 use Rattle.scopes.specs.Entries.{vertex, radix}

@@ -1,57 +1,44 @@
+-- `inheritance::inherit_in` meets its contract. Assumes nothing.
 use borrow.Author.Needs.{needs}
 use Rattle.inheritance.proofs.inherit_in.Statement.{statement}
 use Rattle.inheritance.proofs.inherit_in.Tie as tie
-use Rattle.inheritance.proofs.inherit_in.Reads as reads
-use Rattle.inheritance.proofs.inherit_in.Lts as lts
-use Rattle.columns.proofs.number.Reads as number-reads
-use Rattle.graph.proofs.search.Reads as search-reads
-use Rattle.inheritance.proofs.inherits.Reads as inherits-reads
-use Rattle.inheritance.proofs.store_inherited.Reads as store-inherited-reads
-use Rattle.scopes.proofs.declaration.Reads as declaration-reads
 use Rattle.inheritance.proofs.Doing.{inherits-in-none, inherits-in-more}
 use mathlib.Core.Path.{sym, _∙_}
 
--- src/lib.rt:230:9
 declaration-requires : tie.Need-declaration-requires
 declaration-requires c κs = search needs
 
--- src/lib.rt:231:8
 inherits-requires : tie.Need-inherits-requires
 inherits-requires c κs = search needs
 
--- src/lib.rt:232:28
 add-number : tie.Need-add-number
 add-number c = search needs
 
--- src/lib.rt:232:13
 number-requires : tie.Need-number-requires
 number-requires c κs = search needs
 
--- src/lib.rt:233:9
 search-requires : tie.Need-search-requires
 search-requires c κs = search needs
 
--- src/lib.rt:234:9
 store-inherited-requires : tie.Need-store-inherited-requires
 store-inherited-requires c κs = search needs
 
--- src/lib.rt:208:1
 same-length : tie.Need-same-length
 same-length c = search needs
 
--- src/lib.rt:208:1
 same-length-2 : tie.Need-same-length-2
 same-length-2 c = search needs
 
--- src/lib.rt:208:1
 same-length-3 : tie.Need-same-length-3
 same-length-3 c = search needs
 
--- src/lib.rt:208:1
 returns : tie.Need-returns
-returns c = inherits-in-more (c .before .before .before .before .before .before .before .before .before .before .before .before .before .before .before .declaration .ensures) (sym (c .before .before .before .before .before .before .before .before .before .before .before .before .before .before .inherits .ensures) ∙ c .before .before .before .before .before .before .before .before .before .before .before .before .before .if1 .taken) (c .before .before .before .before .before .before .before .before .before .before .before .before .number .ensures) (c .before .before .before .before .before .before .before .before .before .search .ensures) (c .before .before .store-inherited .ensures)
+returns c = inherits-in-more (c .before .before .before .before .before .before .before .before .before .before .before .before .before .before .before
+    .declaration .ensures) (sym (c .before .before .before .before .before .before .before .before .before .before .before .before .before .before .inherits
+    .ensures) ∙ c .before .before .before .before .before .before .before .before .before .before .before .before .before .if1 .taken) (c .before .before
+    .before .before .before .before .before .before .before .before .before .before .number .ensures) (c .before .before .before .before .before .before .before
+    .before .before .search .ensures) (c .before .before .store-inherited .ensures)
 
--- src/lib.rt:208:1
 returns-2 : tie.Need-returns-2
 returns-2 c = inherits-in-none (c .before .before .declaration .ensures) (sym (c .before .inherits .ensures) ∙ c .if1 .left)
 
