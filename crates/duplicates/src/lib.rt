@@ -1,4 +1,5 @@
 // Reply 9: what is declared twice in one scope, at the later name.
+ghost use Rattle.duplicates.specs.Duplicates.{Repetition, Duplicates};
 use columns::index;
 use faults::Fault;
 use index::dictionary::Found;
@@ -15,7 +16,9 @@ fn repetition(
     nodes: &[u32],
     next: &[u32],
     e: usize,
-) -> Fault {
+) -> Fault
+    ensures { λ r. ⌜ Repetition (now (tokens .entry)) (now (starts .entry)) (now (keys .entry)) (now (nodes .entry)) (now (next .entry)) e r ⌝ }
+{
     let later = index::dictionary::next_of(keys, next, e);
     let Found::At(j) = later else {
         return faults::fine();
@@ -31,7 +34,9 @@ pub fn least_duplicate(
     keys: &[u64],
     nodes: &[u32],
     next: &[u32],
-) -> Fault {
+) -> Fault
+    ensures { λ r. ⌜ Duplicates (now (tokens .entry)) (now (starts .entry)) (now (keys .entry)) (now (nodes .entry)) (now (next .entry)) r ⌝ }
+{
     let mut least = faults::fine();
     let mut e = keys.len();
     while 0 < e {

@@ -29,7 +29,7 @@ use Rattle.meanings.specs.Finding.{Made, UseFinding, QualifiedFinding}
 use Rattle.meanings.specs.Node.{asks, MemberFault, ColumnsOf, FoundAt, Standing, NodeFindings}
 use Rattle.meanings.specs.declared.Use.{Use}
 use Rattle.meanings.specs.declared.Use.the-variants.{Nothing, Several, Node, Declaration}
-use Rattle.meanings.specs.declared.findings.Finding.{Finding}
+use Rattle.type_names.specs.declared.Finding.{Finding}
 
 -- ---- an own attribute or label
 

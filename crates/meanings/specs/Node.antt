@@ -16,7 +16,7 @@ use Rattle.faults.specs.Meaning.{fault-of}
 use Rattle.faults.specs.declared.Fault.{Fault}
 use Rattle.meanings.specs.Use.{StandsFor}
 use Rattle.meanings.specs.declared.Use.{Use}
-use Rattle.meanings.specs.declared.findings.Finding.{Finding}
+use Rattle.type_names.specs.declared.Finding.{Finding}
 
 -- the nodes at which the stage of expressions can find a fault: a name in an expression, `type.item`, SELF, an own attribute or label
 abbrev pub asks : Table → ℕ → Bool
