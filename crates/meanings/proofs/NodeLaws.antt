@@ -67,11 +67,11 @@ member-declared {u} {v} {p} {f} e a =
 -- ---- by the kind of a node
 
 module _ {A : Type 0} where
-  chosen : (b : Bool) (x y : A) → b ≡ true → cond b x y ≡ x
+  pub chosen : (b : Bool) (x y : A) → b ≡ true → cond b x y ≡ x
   chosen true x y e = refl
   chosen false x y e = absurd (false≢true e)
 
-  passed : (b : Bool) (x y : A) → b ≡ false → cond b x y ≡ y
+  pub passed : (b : Bool) (x y : A) → b ≡ false → cond b x y ≡ y
   passed false x y e = refl
   passed true x y e = absurd (false≢true (sym e))
 
@@ -80,7 +80,7 @@ same-test p q none l h = refl
 same-test p q several l h = refl
 same-test p q (one k) l h = ap (λ (b : Bool). cond b express.fine (express.fault 11 l)) (h k)
 
-both-false : (a b : Bool) → a ≡ false → (a && b) ≡ false
+pub both-false : (a b : Bool) → a ≡ false → (a && b) ≡ false
 both-false false b e = refl
 both-false true b e = absurd (false≢true (sym e))
 
@@ -96,7 +96,7 @@ module _ (t : Table) (n : ℕ) where
       ⊎-elim (λ x. ⊎-elim (λ y. a (eqb-true (kind t n) node.attribute-name y)) (λ y. b (eqb-true (kind t n) node.derived-attribute y)) (or-cases _ _ x))
       (λ x. c (eqb-true (kind t n) node.rule (and-fst _ _ x))) (or-cases _ _ e)
 
-  asked : {P : Type 0} → asks t n ≡ true → (is-use t n ≡ true → P) → (is t node.qualified-item n ≡ true → P) → (is t node.self n ≡ true → P) → (is-scope-member t n ≡ true → P) → P
+  pub asked : {P : Type 0} → asks t n ≡ true → (is-use t n ≡ true → P) → (is t node.qualified-item n ≡ true → P) → (is t node.self n ≡ true → P) → (is-scope-member t n ≡ true → P) → P
   asked a u q s m =
       ⊎-elim (λ x. ⊎-elim (λ y. ⊎-elim u q (or-cases (is-use t n) (is t node.qualified-item n) y)) s (or-cases (is-use t n || is t node.qualified-item n) (is t node.self n) x)) m
       (or-cases (is-use t n || is t node.qualified-item n || is t node.self n) (is-scope-member t n) a)
@@ -116,7 +116,7 @@ module _ (t : Table) (n : ℕ) where
   unfolding means
   unnamed x y = passed (is-use t n) _ _ (no-use x) ∙ passed (is t node.name n) _ _ (kind-not node.name x) ∙ passed (is t node.qualified-item n) _ _ (kind-not node.qualified-item y)
 
-  unbound : (kind t n ≡ node.name → ⊥) → (kind t n ≡ node.qualified-item → ⊥) → 0 ≡ binding t n
+  pub unbound : (kind t n ≡ node.name → ⊥) → (kind t n ≡ node.qualified-item → ⊥) → 0 ≡ binding t n
   unfolding binding
   unbound x y = sym (ap binding-of (unnamed x y))
 
