@@ -1,0 +1,4 @@
+pub mod Places
+pub mod LedTo
+pub mod Storing
+pub mod Built
