@@ -2,8 +2,9 @@
 use mathlib.Core.Path.{_≡_}
 use mathlib.Core.Bool.{Bool, true, cond, not, _&&_, _||_}
 use mathlib.Core.List.{List}
-use Prim.Native.Nat.{ℕ}
+use Prim.Native.Nat.{ℕ, _+_, _<_}
 use lib.Dec.{eqb}
+use lib.ListN.{getD}
 use Rattle.express.specs.syntax.NodeKind.{name, type, entity, in-expression, renamed-type, select-name, supertype-name}
 use Rattle.express.specs.syntax.Tree.{Table, is, schema-of}
 use Rattle.express.specs.syntax.Grammar.{file}
@@ -45,6 +46,18 @@ abbrev pub target-by : ℕ → ℕ → ℕ
 target-by role vertex = cond (makes-arc role) vertex 0
 
 -- ---- what is found
+
+-- a name at place p that means nothing, or several declarations
+pub record Unbound (number p : ℕ) (f : Finding) : Type 0 where
+  pub fault-is : fault-of (f .fault) ≡ express.fault number p
+  pub binding-none : f .binding ≡ 0
+  pub target-none : f .target ≡ 0
+
+-- a name in a role, at place p, that means the declaration with this number
+pub record BoundTo (kinds nodes : List ℕ) (role vertex p : ℕ) (f : Finding) : Type 0 where
+  pub fault-is : fault-of (f .fault) ≡ cond (suits-by role (getD kinds (getD nodes vertex 0) 0)) express.fine (express.fault 11 p)
+  pub binding-is : getD nodes vertex 0 + 1 < 4294967296 → f .binding ≡ getD nodes vertex 0 + 1
+  pub target-is : vertex + 1 < 4294967296 → f .target ≡ target-by role (vertex + 1)
 
 -- a name in a role, at place p, by the declarations of a schema with its symbol
 pub record TypeNameMeant (kinds keys nodes heads next : List ℕ) (role schema symbol p : ℕ) (f : Finding) : Type 0 where

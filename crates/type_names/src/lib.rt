@@ -1,8 +1,9 @@
 // Replies 10 and 11 of the names of types and supertypes; what each of them is bound to, and the graph of the declarations
 // by what they rename, select or are subtypes of.
 ghost use mathlib.Core.Path.{_≡_};
+ghost use Prim.Native.Nat.{_<_};
 ghost use Rattle.type_names.specs.Pass.{Stored};
-ghost use Rattle.type_names.specs.TypeName.{is-type-name-by, suits-by, makes-arc, target-by, TypeNameMeant, FoundTypeName};
+ghost use Rattle.type_names.specs.TypeName.{is-type-name-by, suits-by, makes-arc, target-by, Unbound, BoundTo, TypeNameMeant, FoundTypeName};
 ghost use Rattle.type_names.specs.Binding.{BindsRange, BindsTypeNames};
 use columns::index;
 use columns::number;
@@ -86,6 +87,34 @@ pub fn is_type_name(kind: u8, role: u32) -> bool
     false
 }
 
+// A name that means no declaration, or several.
+fn unbound(number: u8, place: u32) -> Finding
+    ensures { λ r. ⌜ Unbound number place r ⌝ }
+{
+    let fault = faults::fault_at(number, place);
+    Finding {
+        fault,
+        binding: 0,
+        target: 0,
+    }
+}
+
+// A name in a role that means one declaration, by its vertex.
+fn bound_to(kinds: &[u8], nodes: &[u32], role: u32, vertex: usize, place: u32) -> Finding
+    requires { ⌜ vertex < 18446744073709551615 ⌝ }
+    ensures { λ r. ⌜ BoundTo (now (kinds .entry)) (now (nodes .entry)) role vertex place r ⌝ }
+{
+    let node = index(at(nodes, vertex));
+    let fault = faults::wrong_sort(suits(role, at8(kinds, node)), place);
+    let binding = number(node + 1);
+    let target = target(role, number(vertex + 1));
+    Finding {
+        fault,
+        binding,
+        target,
+    }
+}
+
 // A name of a type, looked up in its schema.
 fn type_name(
     kinds: &[u8],
@@ -101,23 +130,10 @@ fn type_name(
     ensures { λ r. ⌜ TypeNameMeant (now (kinds .entry)) (now (keys .entry)) (now (nodes .entry)) (now (heads .entry)) (now (next .entry)) role schema symbol place r ⌝ }
 {
     let meaning = declaration_meant(keys, heads, next, schema, symbol);
-    let Meaning::One(e) = meaning else {
-        let fault = faults::judged(meaning, false, place);
-        return Finding {
-            fault,
-            binding: 0,
-            target: 0,
-        };
-    };
-    let node = index(at(nodes, e));
-    let right = suits(role, at8(kinds, node));
-    let fault = faults::judged(meaning, right, place);
-    let binding = number(node + 1);
-    let target = target(role, number(e + 1));
-    Finding {
-        fault,
-        binding,
-        target,
+    match meaning {
+        Meaning::Nothing => unbound(codes::replies::NOT_FOUND, place),
+        Meaning::One(vertex) => bound_to(kinds, nodes, role, vertex, place),
+        Meaning::Several => unbound(codes::replies::AMBIGUOUS, place),
     }
 }
 
