@@ -1,7 +1,7 @@
 -- What the loop over the declarations leaves: the graph of the file.
-use mathlib.Core.Path.{_≡_, refl, sym, ap, _∙_}
-use mathlib.Core.Logic.{_↔_, by-cases}
-use mathlib.Core.List.{List, [], _∷_, _++_, append-assoc, List·Memᴰ, Memᴰ·cast}
+use mathlib.Core.Path.{_≡_, sym, ap, _∙_}
+use mathlib.Core.Logic.{by-cases}
+use mathlib.Core.List.{List, _++_, append-assoc, List·Memᴰ, Memᴰ·cast}
 use Prim.Native.Nat.{ℕ, _+_, _-_, _≤_, _<_}
 use native.Mathlib.Omega.{arith}
 use native.Mathlib.Decide.{ℕ-discrete}
@@ -9,15 +9,15 @@ use lib.ListN.{length, getD, set, take, length-set, length-append, List·getD-ap
 use lib.Seq.{length-take-le, getD-append-add}
 use Rattle.relations.specs.Select.{span}
 use Rattle.relations.proofs.Select.{span-mem, mem-span}
-use Rattle.graph.specs.Graph.{vertices, Graph, Arc}
+use Rattle.graph.specs.Graph.{vertices, Graph}
 use Rattle.graph.proofs.Arcs.{arc-source}
 use Rattle.express.specs.syntax.Tree.{Table}
-use Rattle.scopes.specs.Range.{vertex-count, node-of, range-start}
-use Rattle.scopes.proofs.Ranges.{node-declares, range-next, range-rises}
+use Rattle.scopes.specs.Range.{vertex-count, range-start}
+use Rattle.scopes.proofs.Ranges.{range-next, range-rises}
 use Rattle.dependencies.specs.Target.{Targets, behind-all, led-to, led-to-from}
-use Rattle.dependencies.specs.Graph.{Storing, Building, Names, GraphOf}
+use Rattle.dependencies.specs.Graph.{Building, Names, GraphOf}
 use Rattle.dependencies.proofs.Places.{at-mem, mem-at}
-use Rattle.dependencies.proofs.LedTo.{Made, led-made, made-led, from-end, from-parts, from-shorter}
+use Rattle.dependencies.proofs.LedTo.{led-made, made-led, from-parts, from-shorter}
 use Rattle.dependencies.proofs.Storing.{before-all, arcs-low, offset-stored}
 
 -- a range starts before the end of all
@@ -126,16 +126,7 @@ module _ {t : Table} {target : ℕ → ℕ} {was : List ℕ} {first : List ℕ} 
     named w m =
         let M = led-made target (span (range-start t v) (range-start t (v + 1) - range-start t v)) w m in
         let r = span-mem (range-start t v) (range-start t (v + 1) - range-start t v) (M .node) (M .among) in
-        let e = M .target-is in
-        let z = T .none (node-of t v) (node-declares t v l) in
-        record {
-          node = M .node;
-          source = l;
-          from = r .0;
-          upto = by-cases (ℕ-discrete (M .node) (node-of t v)) (λ q. let y = ap target q in absurd (omega arith))
-              (λ q. omega (arith, q, r .1, rises, range-next t v));
-          target-is = e;
-        }
+        record { node = M .node; source = l; from = r .0; upto = omega (arith, r .1, rises, range-next t v); target-is = M .target-is }
 
     names : (w : ℕ) → Names t target v w → List·Memᴰ w own
     names w N =

@@ -1,5 +1,5 @@
 -- What some nodes lead to, node by node and part by part.
-use mathlib.Core.Path.{_≡_, refl, sym, ap, _∙_}
+use mathlib.Core.Path.{_≡_, refl, ap, _∙_}
 use mathlib.Core.Bool.{Bool, true, false, cond, not}
 use mathlib.Core.List.{List, [], _∷_, _++_, map, map-append, List·Memᴰ, Memᴰ·map, Memᴰ·of-map, Memᴰ·cast}
 use Prim.Native.Nat.{ℕ, _+_, _-_, _≤_, _<_}
@@ -8,7 +8,7 @@ use borrow.Author.Tests.{eqb-false, ne-eqb, eq-eqb, not-true}
 use lib.Dec.{eqb}
 use lib.ListN.{length, length-append}
 use Rattle.relations.specs.Select.{span, keep}
-use Rattle.relations.proofs.Select.{span-step, span-end, span-append, span-mem, mem-span, keep-cons, keep-append, keep-mem, mem-keep}
+use Rattle.relations.proofs.Select.{span-step, span-end, span-append, keep-cons, keep-append, keep-mem, mem-keep}
 use Rattle.dependencies.specs.Target.{led-to}
 
 module _ (target : ℕ → ℕ) where

@@ -1,17 +1,16 @@
 -- Storing arcs, for the loops over nodes and over declarations: one law for each step.
 use mathlib.Core.Path.{_≡_, refl, sym, ap, _∙_}
-use mathlib.Core.Logic.{⊎-elim}
 use mathlib.Core.Bool.{Bool, true, false, cond}
-use mathlib.Core.List.{List, [], _∷_, _++_, append-nil}
+use mathlib.Core.List.{List, _∷_, _++_, append-nil}
 use Prim.Native.Nat.{ℕ, suc, _+_, _-_, _≤_, _<_}
 use native.Mathlib.Omega.{arith}
 use native.Mathlib.Decide.{ℕ-discrete}
 use mathlib.Core.Logic.{by-cases}
-use borrow.Author.Tests.{eqb-true, eq-eqb, ne-eqb}
+use borrow.Author.Tests.{eqb-true, ne-eqb}
 use lib.Dec.{eqb}
-use lib.ListN.{length, getD, set, take, length-set, length-append, length-take}
+use lib.ListN.{length, getD, set, take, length-set}
 use lib.Seq.{take-suc, take-length, append-snoc, set-at, length-take-le, getD-set-same, getD-set-other}
-use Rattle.express.specs.syntax.Tree.{Table, is-declaration}
+use Rattle.express.specs.syntax.Tree.{Table}
 use Rattle.scopes.specs.Range.{vertex-count, node-of, range-start}
 use Rattle.scopes.proofs.Ranges.{node-declares, nodes-rise, range-next}
 use Rattle.dependencies.specs.Target.{Targets, behind-all, led-to-from}
@@ -62,7 +61,7 @@ module _ {t : Table} {target : ℕ → ℕ} where
         ap (λ (k : ℕ). set (take k was ++ rest) (arcs - 1) y) p ∙ store-last was (arcs - 1) y rest (omega arith) in
         record { room = m; fits = rw q (omega arith); is = b ∙ ap (λ (x : List ℕ). set x (arcs - 1) y) (S .is) ∙ c ∙ rw (q, a) }
 
-    -- a node that was given to `add_arc`
+    -- a node whose target was given to `add_arc`
     pub storing-adds : {r : ℕ} {to′ : List ℕ} → Added to arcs (target (j - 1)) r to′ → Storing t target was (j - 1) r to′
     storing-adds {r} {to′} A = by (eqb (target (j - 1)) 0) refl (A .arcs-are) (A .to-is)
       where

@@ -41,7 +41,7 @@ pub record Names (t : Table) (target : ℕ → ℕ) (v w : ℕ) : Type 0 where
   pub node : ℕ
   pub source : v < vertex-count t
   pub from : range-start t v ≤ node
-  pub upto : node < node-of t v
+  pub upto : node ≤ node-of t v
   pub target-is : target node ≡ w + 1
 
 -- THE GRAPH of a file

@@ -39,8 +39,8 @@ pub record Leads (t : Table) (target : ℕ → ℕ) (x y : ℕ) : Type 0 where
   pub declared : is-declaration t y ≡ true
   pub target-is : target node ≡ vertex t y + 1
 
--- The arcs of a file as edges between its nodes, from nodes that pass a test: each edge is an arc, and each arc is an edge that goes on from another, so
--- that both have the same cycles.
+-- The arcs of a file as edges between its nodes, from nodes that pass a test: each edge is an arc, and an arc is an edge where another arc leads to its
+-- start. So both have the same cycles.
 pub record Edges (t : Table) (target : ℕ → ℕ) (p : ℕ → Bool) (es : List Edge) : Type 0 where
   pub starts : (x y : ℕ) → Joins es x y → p x ≡ true
   pub arc : (x y : ℕ) → Joins es x y → Leads t target x y
