@@ -7,7 +7,7 @@ use Prim.Native.Nat.{ℕ, _+_, _-_, _≤_, _<_}
 use native.Mathlib.Omega.{arith}
 use native.Mathlib.Decide.{ℕ-discrete}
 use borrow.Author.Tests.{le-leb, lt-leb, leb-true}
-use lib.Dec.{leb}
+use lib.Dec.{eqb, leb}
 use lib.ListN.{length, getD, set, length-set}
 use lib.Seq.{getD-set-same, getD-set-other}
 use Rattle.relations.specs.Select.{span}
@@ -53,6 +53,18 @@ module _ (s : Stage) where
       ap (least s) c ∙ least-front (span 0 k) (span k (n - k)) f
 
 -- ---- one node
+
+-- a store keeps the lengths
+module _ {n : ℕ} {f : Finding} {before : Progress} {bound to : List ℕ} {after : Progress} {bound′ to′ : List ℕ} (S : Stored n f before bound to after bound′ to′) where
+  stored-bound : length bound′ ≡ length bound
+  stored-bound = ap length (S .bound-is) ∙ length-set bound n (f .binding)
+
+  stored-to : length to′ ≡ length to
+  stored-to = ap length (S .added .to-is) ∙ by (eqb (f .target) 0)
+    where
+      by : (b : Bool) → length (cond b to (set to (before .arcs - 1) (f .target - 1))) ≡ length to
+      by true = refl
+      by false = length-set to (before .arcs - 1) (f .target - 1)
 
 -- a test of a range one node longer, at the other nodes
 leb-other : (j n : ℕ) → 0 < j → (n ≡ j - 1 → ⊥) → leb (j - 1) n ≡ leb j n
@@ -109,7 +121,7 @@ module _ {t : Table} {p : Pass} {was : List ℕ} {j : ℕ} {so-far : Progress} {
         record {
           least-is = S .least-is ∙ ap (λ (g : Fault). sooner g (fault-of (so-far .least))) (F .fault-is) ∙ sym (least-more before-end);
           storing = storing-adds (P .storing) v l some upto (rw (F .target-is) at (S .added));
-          room = omega (arith, P .room, ap length (S .bound-is) ∙ length-set bound (j - 1) (f .binding));
+          room = omega (arith, P .room, stored-bound S);
           entries = λ n h.
               let e : getD bound′ n 0 ≡ getD (set bound (j - 1) (f .binding)) n 0 = ap (λ (c : List ℕ). getD c n 0) (S .bound-is) in
               by-cases (ℕ-discrete n (j - 1))
@@ -125,11 +137,13 @@ module _ {t : Table} {p : Pass} {was : List ℕ} {j : ℕ} {so-far : Progress} {
 pub record PassingRange (Asked : Table → ℕ → Type 0) (pass : Table → Pass) (lo hi : ℕ) (before : Progress) (bound to : List ℕ) (i : ℕ) (after : Progress) (bound′ to′ : List ℕ) : Type 0 where
   pub upto : i ≤ hi
   pub from : lo ≤ hi → lo ≤ i
+  pub bound-long : length bound′ ≡ length bound
+  pub to-long : length to′ ≡ length to
   pub passes : PassesRange Asked pass lo hi before bound to i after bound′ to′
 
 module _ {Asked : Table → ℕ → Type 0} {pass : Table → Pass} {lo hi : ℕ} {before : Progress} {bound to : List ℕ} where
   pub range-starts : PassingRange Asked pass lo hi before bound to hi before bound to
-  range-starts = record { upto = omega arith; from = λ h. h; passes = record { is = λ t was v R A P. P } }
+  range-starts = record { upto = omega arith; from = λ h. h; bound-long = refl; to-long = refl; passes = record { is = λ t was v R A P. P } }
 
   module _ {i : ℕ} {so-far : Progress} {bound′ to′ : List ℕ} (G : PassingRange Asked pass lo hi before bound to i so-far bound′ to′) where
     module _ (more : lo < i) where
@@ -143,6 +157,8 @@ module _ {Asked : Table → ℕ → Type 0} {pass : Table → Pass} {lo hi : ℕ
           record {
             upto = omega (arith, G .upto);
             from = λ h. omega arith;
+            bound-long = G .bound-long;
+            to-long = G .to-long;
             passes = record { is = λ t was v R A P. passing-skips (G .passes .is t was v R A P) (omega arith) v (R .number) (upto-node R) (K t v R A) };
           }
 
@@ -154,10 +170,12 @@ module _ {Asked : Table → ℕ → Type 0} {pass : Table → Pass} {lo hi : ℕ
           record {
             upto = omega (arith, G .upto);
             from = λ h. omega arith;
+            bound-long = stored-bound S ∙ G .bound-long;
+            to-long = stored-to S ∙ G .to-long;
             passes = record { is = λ t was v R A P. passing-stores (G .passes .is t was v R A P) (omega arith) v (R .number) (upto-node R) (F t v R A) S };
           }
 
-    pub range-ends : (lo < i → ⊥) → PassesRange Asked pass lo hi before bound to lo so-far bound′ to′
+    pub range-ends : i ≤ lo → PassesRange Asked pass lo hi before bound to lo so-far bound′ to′
     range-ends d =
         record {
           is = λ t was v R A P.
@@ -227,7 +245,7 @@ module _ {Asked : Table → Type 0} {pass : Table → Pass} (within : (t : Table
         }
 
     -- THE END: all nodes are passed
-    pub file-ends : (0 < v → ⊥) → (t : Table) → Asked t → PassedAll t (pass t) (so-far .least) bound first′ to
+    pub file-ends : v ≤ 0 → (t : Table) → Asked t → PassedAll t (pass t) (so-far .least) bound first′ to
     file-ends d t A = at (G .is t A) (omega (arith, d))
       where
         at : PassingFrom t (pass t) was v first so-far bound to → v ≡ 0 → PassedAll t (pass t) (so-far .least) bound first′ to

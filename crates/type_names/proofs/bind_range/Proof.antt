@@ -8,18 +8,21 @@ use Rattle.type_names.proofs.is_type_name.Reads as is-type-name-reads
 use Rattle.type_names.proofs.node_finding.Reads as node-finding-reads
 use Rattle.type_names.proofs.store.Reads as store-reads
 use borrow.Author.Needs.{needs}
+use Rattle.type_names.proofs.Passes.{PassingRange, range-starts, range-ends, range-skips, range-stores}
+use Rattle.type_names.specs.Binding.{RangeAsked}
+use Rattle.type_names.specs.TypeName.{type-names}
+use mathlib.Core.Path.{sym}
+use Rattle.type_names.proofs.TypeNames.{range-other, range-name}
 
 abbrev Inv-loop : tie.InvT-loop
-Inv-loop kinds tokens roles symbols starts keys nodes heads next schema lo hi bound₀ to₀ so-far₀ i₀ bound to so-far i =
-    ?
+Inv-loop kinds tokens roles symbols starts keys nodes heads next schema lo hi bound₀ to₀ so-far₀ i₀ bound to so-far i = PassingRange (RangeAsked kinds tokens roles symbols starts keys nodes heads next schema) type-names lo hi so-far₀ bound₀ to₀ i so-far bound to
 
 abbrev μ-loop : tie.MeasureT-loop
-μ-loop kinds tokens roles symbols starts keys nodes heads next schema lo hi bound₀ to₀ so-far₀ i₀ bound to so-far i =
-    ?
+μ-loop kinds tokens roles symbols starts keys nodes heads next schema lo hi bound₀ to₀ so-far₀ i₀ bound to so-far i = i
 
 -- src/lib.rt:179:5
 loop-holds : tie.Need-loop-holds Inv-loop μ-loop
-loop-holds c = search needs
+loop-holds c = range-starts
 
 -- src/lib.rt:180:9
 sub-i : tie.Need-sub-i Inv-loop μ-loop
@@ -51,7 +54,10 @@ loop-less c = search needs
 
 -- src/lib.rt:179:5
 loop-again : tie.Need-loop-again Inv-loop μ-loop
-loop-again c = search needs
+loop-again c =
+    range-stores (c .before .before .before .before .before .before .before .before .before .before .before .before .before .loop .inv) (c .before .before .before .before .before .before .before .before .before .before .before .before .loop-test .taken)
+    (range-name (c .before .before .before .before .before .before .before .before .before .before .before .before .before .loop .i) (c .before .before .before .before .before .before .before .before .before .before .before .at8 .ensures) (c .before .before .before .before .before .before .before .before .before .before .at .ensures) (c .before .before .before .before .before .before .before .before .before .is-type-name .ensures) (c .before .before .before .before .before .before .before .before .before .before .before .before .loop-test .taken) (c .before .before .before .before .before .before .before .before .before .before .before .before .before .loop .inv .upto) (c .before .before .before .before .before .before .before .before .if1 .taken) (c .before .before .before .before .before .before .before .node-finding .ensures))
+    (c .before .before .before .before .store .ensures)
 
 -- src/lib.rt:179:5
 loop-less-2 : tie.Need-loop-less-2 Inv-loop μ-loop
@@ -59,19 +65,19 @@ loop-less-2 c = search needs
 
 -- src/lib.rt:179:5
 loop-again-2 : tie.Need-loop-again-2 Inv-loop μ-loop
-loop-again-2 c = search needs
+loop-again-2 c = range-skips (c .before .before .before .before .before .loop .inv) (c .before .before .before .before .loop-test .taken) (range-other (c .before .before .before .before .before .loop .i) (c .before .before .before .at8 .ensures) (c .before .before .at .ensures) (c .before .is-type-name .ensures) (c .if1 .left))
 
 -- src/lib.rt:156:1
 same-length : tie.Need-same-length Inv-loop μ-loop
-same-length c = search needs
+same-length c = c .before .loop .inv .bound-long
 
 -- src/lib.rt:156:1
 same-length-2 : tie.Need-same-length-2 Inv-loop μ-loop
-same-length-2 c = search needs
+same-length-2 c = c .before .loop .inv .to-long
 
 -- src/lib.rt:156:1
 returns : tie.Need-returns Inv-loop μ-loop
-returns c = search needs
+returns c = range-ends (c .before .loop .inv) (c .loop-test .left)
 
 pub bind-range-spec : {M : Type 1} → statement M
 bind-range-spec =

@@ -10,6 +10,7 @@ use Rattle.scopes.proofs.at.Reads as at-reads
 use Rattle.scopes.proofs.at8.Reads as at8-reads
 use Rattle.type_names.proofs.suits.Reads as suits-reads
 use Rattle.type_names.proofs.target.Reads as target-reads
+use Rattle.type_names.proofs.TypeNames.{bound-to}
 
 -- src/lib.rt:107:22
 at-requires : tie.Need-at-requires
@@ -53,7 +54,7 @@ target-requires c κs = search needs
 
 -- src/lib.rt:103:1
 returns : tie.Need-returns
-returns c = search needs
+returns c = bound-to (c .before .before .before .before .before .before .before .at .ensures) (c .before .before .before .before .before .before .index .ensures) (c .before .before .before .before .before .at8 .ensures) (c .before .before .before .before .suits .ensures) (c .before .before .before .wrong-sort .ensures) (c .before .before .number .ensures) (c .before .number2 .ensures) (c .target .ensures)
 
 pub bound-to-spec : {M : Type 1} → statement M
 bound-to-spec =
