@@ -29,7 +29,13 @@ pub struct Progress {
 }
 
 // Stores what is found of a node, before what is found of the nodes behind it.
-pub fn store(bound: &mut [u32], to: &mut [u32], node: usize, found: Finding, before: Progress) -> Progress
+pub fn store(
+    bound: &mut [u32],
+    to: &mut [u32],
+    node: usize,
+    found: Finding,
+    before: Progress,
+) -> Progress
     ensures { λ r. ⌜ Stored node found before (now (bound .entry)) (now (to .entry)) r (now (bound .exit)) (now (to .exit)) ⌝ }
 {
     put32(bound, node, found.binding);
@@ -68,7 +74,7 @@ fn makes_arc(role: u32) -> bool
 }
 
 // The target of the arc that a name makes: one more than a vertex, or 0.
-fn target(role: u32, vertex: u32) -> u32
+fn arc_target(role: u32, vertex: u32) -> u32
     ensures { λ r. ⌜ r ≡ target-by role vertex ⌝ }
 {
     if makes_arc(role) {
@@ -107,7 +113,7 @@ fn bound_to(kinds: &[u8], nodes: &[u32], role: u32, vertex: usize, place: u32) -
     let node = index(at(nodes, vertex));
     let fault = faults::wrong_sort(suits(role, at8(kinds, node)), place);
     let binding = number(node + 1);
-    let target = target(role, number(vertex + 1));
+    let target = arc_target(role, number(vertex + 1));
     Finding {
         fault,
         binding,
@@ -149,42 +155,23 @@ fn node_finding(
     heads: &[u32],
     next: &[u32],
     schema: usize,
-<<<<<<< HEAD
-    i: usize,
-) -> Finding {
-    let token = index(at(tokens, i));
-=======
     node: usize,
 ) -> Finding
     ensures { λ r. ⌜ FoundTypeName (now (kinds .entry)) (now (tokens .entry)) (now (roles .entry)) (now (symbols .entry)) (now (starts .entry))
         (now (keys .entry)) (now (nodes .entry)) (now (heads .entry)) (now (next .entry)) schema node r ⌝ }
 {
     let token = index(at(tokens, node));
->>>>>>> w-types
     type_name(
         kinds,
         keys,
         nodes,
         heads,
         next,
-<<<<<<< HEAD
-        role,
-=======
         at(roles, node),
->>>>>>> w-types
         schema,
         at(symbols, token),
         at(starts, token),
     )
-<<<<<<< HEAD
-}
-
-// So many arcs are stored, and this is the fault with the smallest place.
-pub struct Progress {
-    pub arcs: usize,
-    pub least: Fault,
-=======
->>>>>>> w-types
 }
 
 // Binds the names of types among the nodes of one declaration, from the last to the first.
@@ -214,37 +201,20 @@ fn bind_range(
     while lo < i {
         i -= 1;
         if is_type_name(at8(kinds, i), at(roles, i)) {
-<<<<<<< HEAD
-            let role = at(roles, i);
-            let found = node_finding(
-                kinds,
-                tokens,
-=======
             let found = node_finding(
                 kinds,
                 tokens,
                 roles,
->>>>>>> w-types
                 symbols,
                 starts,
                 keys,
                 nodes,
                 heads,
                 next,
-<<<<<<< HEAD
-                role,
-                schema,
-                i,
-            );
-            put32(bound, i, found.binding);
-            arcs = dependencies::add_arc(to, arcs, target(role, found.vertex));
-            least = faults::sooner(found.fault, least);
-=======
                 schema,
                 i,
             );
             so_far = store(bound, to, i, found, so_far);
->>>>>>> w-types
         }
     }
     so_far
