@@ -7,13 +7,13 @@ use Prim.Native.Nat.{ℕ, _+_, _-_, _≤_, _<_}
 use native.Mathlib.Omega.{arith}
 use borrow.Author.Tests.{eqb-true, eq-eqb, lt-leb}
 use lib.Dec.{eqb, leb}
-use lib.ListN.{length, getD}
-use Rattle.ebnf.specs.Set.{mem}
+use lib.ListN.{length, getD, set}
+use Rattle.ebnf.specs.Set.{mem, disjoint}
 use Rattle.relations.proofs.Select.{or-cases, or-left, or-right, and-fst, le-or, untrue}
 use Rattle.express.specs.syntax.NodeKind as node
 use Rattle.express.specs.syntax.Grammar.{file}
 use Rattle.express.specs.syntax.Syntax.{Read}
-use Rattle.express.specs.syntax.Tree.{Table, count, kind, role, symbol, is, is-declaration, is-scope-member, owner, schema-of, in-constant}
+use Rattle.express.specs.syntax.Tree.{Table, count, kind, role, symbol, is, is-declaration, is-attribute, is-scope-member, owner, schema-of, in-constant}
 use Rattle.express.specs.names.Scope.{Meaning, none, one, several, meaning, inherited, is-use, means, binding}
 use Rattle.express.specs.names.Fault as express
 use Rattle.express.specs.names.Fault.{Fault, expression}
@@ -21,15 +21,17 @@ use Rattle.express.proofs.syntax.KindSets as set
 use Rattle.express.proofs.syntax.Within.{Over}
 use Rattle.express.proofs.names.Owned.{undeclared, in-owner, owner-schema}
 use Rattle.scopes.specs.Preparation.{Prepared}
-use Rattle.scopes.specs.Range.{vertex-count, node-of, range-start}
+use Rattle.scopes.specs.Range.{node-of, DeclarationAt}
+use Rattle.scopes.specs.declared.Extent.{Extent}
 use Rattle.scopes.proofs.Ranges.{node-below, range-owner, range-end}
 use Rattle.faults.specs.Meaning.{fault-of}
 use Rattle.dependencies.specs.Target.{Targets, constant-target, behind-all}
 use Rattle.dependencies.proofs.Instances.{constant-targets}
 use Rattle.type_names.specs.TypeName.{is-type-name}
-use Rattle.type_names.specs.Pass.{Pass, Finds, Skipped, Stored, Passing, RangeOf, PassesRange, WithinDeclarations}
+use Rattle.type_names.specs.Pass.{Finds, Skipped, RangeOf, WithinDeclarations}
 use Rattle.type_names.specs.declared.Finding.{Finding}
 use Rattle.type_names.specs.declared.Progress.{Progress}
+use Rattle.type_names.proofs.Passes.{PassingFile, file-starts, file-goes-on, file-ends}
 use Rattle.inheritance.specs.Inheritance.{several-code, code, inherited-code}
 use Rattle.meanings.specs.Use.{StandsFor}
 use Rattle.meanings.specs.Node.{asks, inherits, ColumnsOf, FoundAt, Standing, NodeFindings}
@@ -37,7 +39,11 @@ use Rattle.meanings.specs.declared.Use.{Use}
 use Rattle.meanings.specs.declared.Use.the-variants.{Nothing, Several, Node, Declaration}
 use Rattle.meanings.proofs.Nearest.{inherited-sort}
 use Rattle.meanings.proofs.NodeLaws.{asked, chosen, passed, both-false, unbound}
-use Rattle.uses.specs.Binding.{asks-by, Decodes, inherited-before, uses, FileOf, FindingAt, RangeAsked, FileAsked}
+use Rattle.uses.specs.Binding.{asks-by, Decodes, inherited-before, uses, FileOf, FindingAt, RangeAsked, FileAsked, BindsRange, BindsUses}
+
+pub or-none : (b : Bool) → b ≡ b || false || false || false
+or-none true = refl
+or-none false = refl
 
 -- ---- codes
 
@@ -152,23 +158,23 @@ module _ (t : Table) (n : ℕ) where
   asked-kind : asks t n ≡ true → mem (kind t n) asking-kinds ≡ true
   unfolding mem
   asked-kind a =
-      asked t n a (λ e. rw (eqb-true (kind t n) node.name (and-fst _ _ e))) (λ e. rw (eqb-true (kind t n) node.qualified-item e)) (λ e. rw (eqb-true (kind t n) node.self e))
+      asked t n a (λ e. rw (eqb-true (kind t n) node.name (and-fst (is t node.name n) (eqb (role t n) node.in-expression) e))) (λ e. rw (eqb-true (kind t n) node.qualified-item e)) (λ e. rw (eqb-true (kind t n) node.self e))
       (λ e.
-          ⊎-elim (λ x. ⊎-elim (λ y. rw (eqb-true (kind t n) node.attribute-name y)) (λ y. rw (eqb-true (kind t n) node.derived-attribute y)) (or-cases _ _ x))
-          (λ x. rw (eqb-true (kind t n) node.rule (and-fst _ _ x))) (or-cases _ _ e))
+      ⊎-elim (λ x. ⊎-elim (λ y. rw (eqb-true (kind t n) node.attribute-name y)) (λ y. rw (eqb-true (kind t n) node.derived-attribute y)) (or-cases (is t node.attribute-name n) (is t node.derived-attribute n) x))
+      (λ x. rw (eqb-true (kind t n) node.rule (and-fst (is t node.rule n) (eqb (role t n) node.labelled) x))) (or-cases (is-attribute t n) (is t node.rule n && eqb (role t n) node.labelled) e))
 
   -- stand below a schema
   pub asked-below : asks t n ≡ true → mem (kind t n) set.below-schema ≡ true
   unfolding mem
   asked-below a =
-      asked t n a (λ e. rw (eqb-true (kind t n) node.name (and-fst _ _ e))) (λ e. rw (eqb-true (kind t n) node.qualified-item e)) (λ e. rw (eqb-true (kind t n) node.self e))
+      asked t n a (λ e. rw (eqb-true (kind t n) node.name (and-fst (is t node.name n) (eqb (role t n) node.in-expression) e))) (λ e. rw (eqb-true (kind t n) node.qualified-item e)) (λ e. rw (eqb-true (kind t n) node.self e))
       (λ e.
-          ⊎-elim (λ x. ⊎-elim (λ y. rw (eqb-true (kind t n) node.attribute-name y)) (λ y. rw (eqb-true (kind t n) node.derived-attribute y)) (or-cases _ _ x))
-          (λ x. rw (eqb-true (kind t n) node.rule (and-fst _ _ x))) (or-cases _ _ e))
+      ⊎-elim (λ x. ⊎-elim (λ y. rw (eqb-true (kind t n) node.attribute-name y)) (λ y. rw (eqb-true (kind t n) node.derived-attribute y)) (or-cases (is t node.attribute-name n) (is t node.derived-attribute n) x))
+      (λ x. rw (eqb-true (kind t n) node.rule (and-fst (is t node.rule n) (eqb (role t n) node.labelled) x))) (or-cases (is-attribute t n) (is t node.rule n && eqb (role t n) node.labelled) e))
 
   -- and are no declarations
   declared-asks : is-declaration t n ≡ true → asks t n ≡ false
-  unfolding mem
+  unfolding mem disjoint
   declared-asks d = untrue (asks t n) (λ a. false≢true (sym (undeclared t n asking-kinds refl (asked-kind a)) ∙ d))
 
   -- nor stand behind all of these
@@ -177,30 +183,67 @@ module _ (t : Table) (n : ℕ) where
 
 pub within : (t : Table) → Read file t → WithinDeclarations t (uses t)
 within t R = record {
-  targets = constant-targets t R;
+  targets = constant-targets t;
   declared = λ n d. skipped t n (declared-asks t n d);
   behind = λ n b l. skipped t n (behind-asks t n R b l);
 }
 
 -- ---- in the range of a declaration
 
-module _ {kinds tokens sizes roles symbols starts keys nodes heads next : List ℕ} {schema lo hi n k r : ℕ} {b : Bool}
-    (K : k ≡ getD kinds n 0) (L : r ≡ getD roles n 0) (B : b ≡ asks-by k r) where
-  asks-is : (t : Table) → kinds ≡ t .kinds → roles ≡ t .roles → b ≡ asks t n
-  asks-is t x y = B ∙ ap₂ asks-by (K ∙ ap (λ (l : List ℕ). getD l n 0) x) (L ∙ ap (λ (l : List ℕ). getD l n 0) y)
+asks-is :
+    (kinds roles : List ℕ) (n : ℕ) {k r : ℕ} {b : Bool} → k ≡ getD kinds n 0 → r ≡ getD roles n 0 → b ≡ asks-by k r → (t : Table) → kinds ≡ t .kinds → roles ≡ t .roles → asks t n ≡ b
+asks-is kinds roles n K L B t x y = sym (B ∙ ap₂ asks-by (K ∙ ap (λ (l : List ℕ). getD l n 0) x) (L ∙ ap (λ (l : List ℕ). getD l n 0) y))
 
-  pub range-skipped : b ≡ false → (t : Table) (v : ℕ) → RangeOf t v lo hi → RangeAsked kinds tokens sizes roles symbols starts keys nodes heads next schema t v → Skipped (uses t) n
-  range-skipped e t v R A = skipped t n (sym (asks-is t (A .of-file .columns .kinds-are) (A .roles-are)) ∙ e)
+module _ {kinds tokens sizes roles symbols starts keys nodes heads next : List ℕ} {schema k r : ℕ} {b : Bool} (i : ℕ)
+    (K : k ≡ getD kinds (i - 1) 0) (L : r ≡ getD roles (i - 1) 0) (B : b ≡ asks-by k r) where
+  tested : {t : Table} {v : ℕ} → RangeAsked kinds tokens sizes roles symbols starts keys nodes heads next schema t v → asks t (i - 1) ≡ b
+  tested {t} A = asks-is kinds roles (i - 1) K L B t (A .of-file .columns .kinds-are) (A .roles-are)
 
-  pub range-found :
-      {c i : ℕ} {f : Finding} {so-far : Progress} {bound to : List ℕ} → b ≡ true → lo ≤ n → n < hi → n < i → c ≡ getD bound n 0 →
-      FindingAt kinds tokens sizes symbols starts keys nodes heads next hi schema c n f → (t : Table) (was : List ℕ) (v : ℕ) → RangeOf t v lo hi →
-      RangeAsked kinds tokens sizes roles symbols starts keys nodes heads next schema t v → Passing t (uses t) was i so-far bound to → Finds (uses t) n f
-  range-found {c} {i} e low high before C F t was v R A P =
-      let a : asks t n ≡ true = sym (asks-is t (A .of-file .columns .kinds-are) (A .roles-are)) ∙ e in
+  pub range-other :
+      {lo hi : ℕ} → b ≡ false → (t : Table) (v : ℕ) → RangeOf t v lo hi → RangeAsked kinds tokens sizes roles symbols starts keys nodes heads next schema t v →
+      Skipped (uses t) (i - 1)
+  range-other e t v R A = skipped t (i - 1) (tested A ∙ e)
+
+  pub range-use :
+      {lo hi c : ℕ} {f : Finding} (bound : List ℕ) → lo < i → i ≤ hi → b ≡ true → c ≡ getD bound (i - 1) 0 →
+      FindingAt kinds tokens sizes symbols starts keys nodes heads next hi schema c (i - 1) f → (t : Table) (v : ℕ) → RangeOf t v lo hi →
+      RangeAsked kinds tokens sizes roles symbols starts keys nodes heads next schema t v → getD bound (i - 1) 0 ≡ inherited-before t (i - 1) → Finds (uses t) (i - 1) f
+  range-use bound low high e C F t v R A w =
+      let n = i - 1 in
+      let a : asks t n ≡ true = tested A ∙ e in
       let o : owner t n ≡ node-of t v = range-owner t v n (R .number) (omega (arith, R .from-is)) (omega (arith, R .upto-is)) in
       let l : n < count t = omega (arith, R .upto-is, node-below t v (R .number)) in
-      let s : schema ≡ schema-of t n = A .schema-is ∙ ap (schema-of t) (sym o) ∙ owner-schema (A .of-file .read) n l (asked-below t n a) in
-      let z : leb i n ≡ false = lt-leb i n before in
-      let w : getD bound n 0 ≡ inherited-before t n = P .entries n l ∙ passed (leb i n) _ _ z in
+      let s : _ ≡ schema-of t n = A .schema-is ∙ ap (schema-of t) (sym o) ∙ owner-schema (A .of-file .read) n l (asked-below t n a) in
       F .is t (A .of-file) l a (R .upto-is ∙ sym o) s (λ h. C ∙ w ∙ chosen (inherits t n) _ _ h)
+
+-- ---- in the loop over the declarations
+
+module _ {kinds tokens sizes roles symbols starts keys nodes heads next : List ℕ} where
+  within-file : {b : List ℕ} {f a : ℕ} (t : Table) → FileAsked kinds tokens sizes roles symbols starts keys nodes heads next b f a t → WithinDeclarations t (uses t)
+  within-file t A = within t (A .of-file .read)
+
+  pub uses-start :
+      {first bound to : List ℕ} {v : ℕ} {so-far : Progress} → v ≡ length first - 1 → so-far .arcs ≡ length to → fault-of (so-far .least) ≡ express.fine →
+      PassingFile (FileAsked kinds tokens sizes roles symbols starts keys nodes heads next bound (length first) (length to)) uses bound first to v first so-far bound to
+  uses-start e a f = file-starts within-file e a f (λ t A. A .graph-room) (λ t A. A .bound-room) (λ t A n l. A .bound-is n l)
+
+  module _ {bound₀ first₀ was : List ℕ} {b : List ℕ} {f a : ℕ} {v : ℕ} {first : List ℕ} {so-far : Progress} {bound to : List ℕ}
+      (G : PassingFile (FileAsked kinds tokens sizes roles symbols starts keys nodes heads next b f a) uses bound₀ first₀ was v first so-far bound to)
+      {x : ℕ} {first′ : List ℕ} (n : so-far .arcs < 4294967296 → x ≡ so-far .arcs) where
+    pub uses-go-on :
+        {d : Extent} {after : Progress} {bound′ to′ : List ℕ} → first′ ≡ set first v x → 0 < v → DeclarationAt keys nodes (v - 1) d →
+        BindsRange kinds tokens sizes roles symbols starts keys nodes heads next (d .schema) (d .from) (d .node) so-far bound to (d .from) after bound′ to′ →
+        length bound′ ≡ length bound → length to′ ≡ length to →
+        PassingFile (FileAsked kinds tokens sizes roles symbols starts keys nodes heads next b f a) uses bound₀ first₀ was (v - 1) first′ after bound′ to′
+    uses-go-on s h D =
+        file-goes-on within-file G n s h
+        (λ t A l.
+        let P = A .of-file .prepared in (
+          record { number = l; from-is = D .from-is t heads next P l; upto-is = D .node-is t heads next P l },
+          record { of-file = A .of-file; roles-are = A .roles-are; schema-is = D .schema-is t heads next P l },
+        ))
+
+    pub uses-end :
+        {first-before to-before : List ℕ} → first′ ≡ set first 0 x → v ≤ 0 → f ≡ length first-before → a ≡ length to-before →
+        BindsUses kinds tokens sizes roles symbols starts keys nodes heads next b first-before to-before (so-far .least) bound first′ to
+    uses-end s h ef ea = record { is = λ t A. file-ends within-file G n s h t (rw (ef, ea) A) }

@@ -1,6 +1,6 @@
 -- The names in expressions of a file are bound: stage 4 of N19.
 use mathlib.Core.Path.{_≡_}
-use mathlib.Core.Bool.{Bool, true, cond, _&&_, _||_}
+use mathlib.Core.Bool.{Bool, true, false, cond, _&&_, _||_}
 use mathlib.Core.List.{List}
 use Prim.Native.Nat.{ℕ, _≤_, _<_}
 use lib.Dec.{eqb}
@@ -66,13 +66,13 @@ module _ (kinds tokens sizes roles symbols starts keys nodes heads next : List �
   BindsRange schema lo hi = PassesRange (RangeAsked schema) uses lo hi
 
   -- the columns are those of a file, there is room, and the column of bindings holds what is inherited
-  pub record FileAsked (bound first to : List ℕ) (t : Table) : Type 0 where
+  pub record FileAsked (bound : List ℕ) (offsets places : ℕ) (t : Table) : Type 0 where
     pub of-file : FileOf kinds tokens sizes symbols starts keys nodes heads next t
     pub roles-are : roles ≡ t .roles
     pub bound-room : count t ≤ length bound
     pub bound-is : (n : ℕ) → n < count t → getD bound n 0 ≡ inherited-before t n
-    pub graph-room : Room t (constant-target t) (length first) (length to)
+    pub graph-room : Room t (constant-target t) offsets places
 
   -- `bind_uses`: the fault of the stage of expressions, the bindings of all names, and the graph of N17
   pub record BindsUses (bound first to : List ℕ) (r : Fault) (bound′ first′ to′ : List ℕ) : Type 0 where
-    pub is : (t : Table) → FileAsked bound first to t → PassedAll t (uses t) r bound′ first′ to′
+    pub is : (t : Table) → FileAsked bound (length first) (length to) t → PassedAll t (uses t) r bound′ first′ to′

@@ -64,7 +64,19 @@ fn finding_at(
     let kind = at8(kinds, node);
     let inherited = decoded(code);
     meanings::nodes::node_finding(
-        kinds, tokens, sizes, symbols, starts, keys, nodes, heads, next, kind, owner, schema, inherited,
+        kinds,
+        tokens,
+        sizes,
+        symbols,
+        starts,
+        keys,
+        nodes,
+        heads,
+        next,
+        kind,
+        owner,
+        schema,
+        inherited,
         node,
     )
 }
@@ -99,7 +111,19 @@ fn bind_range(
         if asks(at8(kinds, i), at(roles, i)) {
             let code = at(bound, i);
             let found = finding_at(
-                kinds, tokens, sizes, symbols, starts, keys, nodes, heads, next, hi, schema, code, i,
+                kinds,
+                tokens,
+                sizes,
+                symbols,
+                starts,
+                keys,
+                nodes,
+                heads,
+                next,
+                hi,
+                schema,
+                code,
+                i,
             );
             so_far = store(bound, to, i, found, so_far);
         }
@@ -138,8 +162,22 @@ pub fn bind_uses(
         v -= 1;
         let d = scopes::declaration(keys, nodes, v);
         so_far = bind_range(
-            kinds, tokens, sizes, roles, symbols, starts, keys, nodes, heads, next, d.schema, d.from,
-            d.node, so_far, bound, to,
+            kinds,
+            tokens,
+            sizes,
+            roles,
+            symbols,
+            starts,
+            keys,
+            nodes,
+            heads,
+            next,
+            d.schema,
+            d.from,
+            d.node,
+            so_far,
+            bound,
+            to,
         );
     }
     put32(first, 0, number(so_far.arcs));
