@@ -1,6 +1,6 @@
 -- The search from one vertex: a law for each step.
 use mathlib.Core.Path.{_≡_, refl, sym, ap, _∙_}
-use mathlib.Core.Bool.{Bool, true, false, cond, not, _&&_}
+use mathlib.Core.Bool.{Bool, true, false, cond, not}
 use mathlib.Core.List.{List, _++_}
 use mathlib.Core.Logic.{_⊎_, inl, inr, by-cases}
 use Prim.Native.Nat.{ℕ, _+_, _-_, _≤_, _<_}
@@ -15,7 +15,7 @@ use Rattle.relations.specs.Reach.{Reaches, direct, onward}
 use Rattle.relations.proofs.Reach.{reaches-trans}
 use Rattle.relations.proofs.Select.{and-fst, and-snd}
 use Rattle.graph.specs.Graph.{vertices, Arc}
-use Rattle.graph.specs.Mark.{flag, Markable, Marks, lent, Marked-all, stamped-at, stamped, unstamped, Searchable, Stamps, Lists, Searches, Spread, Expanded, Source, Expands}
+use Rattle.graph.specs.Mark.{flag, Markable, Marks, lent, Marked-all, stamped-at, stamped, unstamped, Searchable, Stamps, Lists, Searches, Spread, Source, Expands}
 use Rattle.graph.proofs.Store.{Put, put}
 use Rattle.graph.proofs.Nonzero.{nonzero-none, nonzero-le, nonzero-fewer, nonzero-more, nonzero-agree}
 use Rattle.graph.proofs.Arcs.{arc-target, reaches-target}

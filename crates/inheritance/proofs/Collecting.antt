@@ -1,20 +1,18 @@
 -- The attributes of a file, stored from the last to the first.
 use mathlib.Core.Path.{_≡_, refl, sym, ap, _∙_}
-use mathlib.Core.Logic.{_⊎_, inl, inr}
 use mathlib.Core.Bool.{Bool, true, false, cond, _&&_}
 use mathlib.Core.List.{List, [], _∷_, _++_, map, append-nil, append-assoc}
-use Prim.Native.Nat.{ℕ, zero, suc, _+_, _-_, _≤_, _<_}
+use Prim.Native.Nat.{ℕ, suc, _+_, _-_, _≤_, _<_}
 use native.Mathlib.Omega.{arith}
-use native.Mathlib.Numerals.{add-one}
 use borrow.Author.Tests.{lt-ltb, le-ltb}
-use lib.Dec.{eqb, ltb}
-use lib.ListN.{length, getD, set, take, drop, length-append, length-take, length-set}
+use lib.Dec.{ltb}
+use lib.ListN.{length, getD, set, take, drop, length-append}
 use lib.Seq.{take-all, take-suc, set-at, length-take-le, drop-at}
 use Rattle.relations.specs.Select.{span, keep}
 use Rattle.relations.proofs.Select.{span-append, keep-append, keep-nothing, span-mem}
-use Rattle.express.specs.syntax.Tree.{Table, count, kind, symbol, is-attribute, owner, is-declaration}
+use Rattle.express.specs.syntax.Tree.{Table, count, is-attribute, owner}
 use Rattle.express.proofs.kinds.Backward.{keep-step}
-use Rattle.scopes.specs.Entries.{vertex, radix}
+use Rattle.scopes.specs.Entries.{vertex}
 use Rattle.scopes.specs.Preparation.{Prepared}
 use Rattle.scopes.specs.Range.{vertex-count, node-of, range-start, DeclarationAt}
 use Rattle.scopes.specs.declared.Extent.{Extent}
@@ -266,6 +264,8 @@ pub collected-end : {t : Table} {keys nodes owners keys′ nodes′ owners′ : 
     → (drop from keys′ ≡ map (symbol-key t) (attributes t)) × (drop from nodes′ ≡ attributes t) × (drop from owners′ ≡ map (owner-vertex t) (attributes t))
 collected-end {t} {keys} {nodes} {owners} {from = from} m c =
     let b = c .begins in
-    let at : (xs vs : List ℕ) → length xs ≡ length keys → drop from (take from xs ++ vs) ≡ vs = λ xs vs q. drop-at (take from xs) vs from (length-take-le from xs (omega arith)) in
-    (ap (drop from) (c .keys-are) ∙ at keys (map (symbol-key t) (attributes t)) refl, ap (drop from) (c .nodes-are) ∙ at nodes (attributes t) (m .nodes-long),
-    ap (drop from) (c .owners-are) ∙ at owners (map (owner-vertex t) (attributes t)) (m .owners-long))
+    let at : (xs vs : List ℕ) → length xs ≡ length keys → drop from (take from xs ++ vs) ≡ vs = λ xs vs q. drop-at (take from xs) vs from (length-take-le from xs (omega arith)) in (
+      ap (drop from) (c .keys-are) ∙ at keys (map (symbol-key t) (attributes t)) refl,
+      ap (drop from) (c .nodes-are) ∙ at nodes (attributes t) (m .nodes-long),
+      ap (drop from) (c .owners-are) ∙ at owners (map (owner-vertex t) (attributes t)) (m .owners-long),
+    )

@@ -1,15 +1,15 @@
 -- What a symbol means among the entries under its key whose owners have the stamp, entry by entry.
 use mathlib.Core.Path.{_≡_, refl, sym, ap, _∙_}
 use mathlib.Core.Logic.{_⊎_, inl, inr}
-use mathlib.Core.Bool.{Bool, true, false, cond, _&&_, not}
-use mathlib.Core.List.{List, [], _∷_, _++_, map}
+use mathlib.Core.Bool.{Bool, true, false, cond}
+use mathlib.Core.List.{List, [], _∷_, map}
 use Prim.Native.Nat.{ℕ, _+_, _-_, _≤_, _<_}
 use native.Mathlib.Omega.{arith}
 use borrow.Author.Tests.{eq-eqb, ne-eqb, ltb-true, ltb-false}
 use lib.Dec.{eqb, ltb}
 use lib.ListN.{length, getD}
 use Rattle.relations.specs.Select.{span, keep, first-from}
-use Rattle.relations.proofs.Select.{span-append, keep-append, keep-nothing, span-mem, span-end, First, first-is}
+use Rattle.relations.proofs.Select.{span-append, keep-append, keep-nothing, span-mem, First, first-is}
 use Rattle.express.specs.names.Scope.{meaning}
 use Rattle.express.proofs.kinds.Backward.{keep-step, keep-end}
 use Rattle.index.specs.Dictionary.{has, first-with, Indexed, Holds, Finds, Continues}

@@ -2,3 +2,5 @@ pub mod Asking
 pub mod Collecting
 pub mod Gathering
 pub mod Storing
+pub mod Reaching
+pub mod Doing

@@ -1,7 +1,7 @@
 -- What the inner functions go by.
 use mathlib.Core.Path.{_≡_}
 use mathlib.Core.Bool.{Bool, true, false, cond, _&&_, _||_}
-use mathlib.Core.List.{List, [], _∷_, map}
+use mathlib.Core.List.{List, map}
 use Prim.Native.Nat.{ℕ, _+_, _-_, _≤_, _<_}
 use lib.Dec.{eqb, ltb}
 use lib.ListN.{length, getD, set}
@@ -13,7 +13,7 @@ use Rattle.index.specs.Dictionary.{has, Indexed}
 use Rattle.scopes.specs.Standing.{is-member}
 use Rattle.scopes.specs.Range.{vertex-count, node-of, range-start}
 use Rattle.inheritance.specs.Attributes.{AttributeRoom, Collected}
-use Rattle.inheritance.specs.Inheritance.{several-code, code, asks, inherited-code, ColumnsOf, Inheriting, InheritanceRoom}
+use Rattle.inheritance.specs.Inheritance.{several-code, code, asks, inherited-code, ColumnsOf, Inheriting}
 
 -- ---- of a kind and a role: what `is-attribute` of express and `asks` say of a node that has them
 

@@ -75,7 +75,8 @@ fn collect_range(
     nodes: &mut [u32],
     owners: &mut [u32],
 ) -> usize
-    ensures { λ r. ⌜ CollectsRange (now (kinds .entry)) (now (tokens .entry)) (now (symbols .entry)) vertex lo hi stored (now (keys .entry)) (now (nodes .entry)) (now (owners .entry)) r (now (keys .exit)) (now (nodes .exit)) (now (owners .exit)) ⌝ }
+    ensures { λ r. ⌜ CollectsRange (now (kinds .entry)) (now (tokens .entry)) (now (symbols .entry)) vertex lo hi stored (now (keys .entry))
+        (now (nodes .entry)) (now (owners .entry)) r (now (keys .exit)) (now (nodes .exit)) (now (owners .exit)) ⌝ }
 {
     let mut from = stored;
     let mut i = hi;
@@ -83,7 +84,15 @@ fn collect_range(
         i -= 1;
         if is_attribute(at8(kinds, i)) {
             from = saturating_sub(from, 1);
-            enter(keys, nodes, owners, from, key(symbol(tokens, symbols, i)), i, vertex);
+            enter(
+                keys,
+                nodes,
+                owners,
+                from,
+                key(symbol(tokens, symbols, i)),
+                i,
+                vertex,
+            );
         }
     }
     from
@@ -102,14 +111,27 @@ pub fn collect_attributes(
     nodes: &mut [u32],
     owners: &mut [u32],
 ) -> usize
-    ensures { λ r. ⌜ Collects (now (kinds .entry)) (now (tokens .entry)) (now (symbols .entry)) (now («entry_keys» .entry)) (now («entry_nodes» .entry)) vertices (now (keys .entry)) (now (nodes .entry)) (now (owners .entry)) r (now (keys .exit)) (now (nodes .exit)) (now (owners .exit)) ⌝ }
+    ensures { λ r. ⌜ Collects (now (kinds .entry)) (now (tokens .entry)) (now (symbols .entry)) (now («entry_keys» .entry))
+        (now («entry_nodes» .entry)) vertices (now (keys .entry)) (now (nodes .entry)) (now (owners .entry)) r (now (keys .exit)) (now (nodes .exit))
+        (now (owners .exit)) ⌝ }
 {
     let mut from = keys.len();
     let mut v = vertices;
     while 0 < v {
         v -= 1;
         let d = scopes::declaration(entry_keys, entry_nodes, v);
-        from = collect_range(kinds, tokens, symbols, v, d.from, d.node, from, keys, nodes, owners);
+        from = collect_range(
+            kinds,
+            tokens,
+            symbols,
+            v,
+            d.from,
+            d.node,
+            from,
+            keys,
+            nodes,
+            owners,
+        );
     }
     from
 }
@@ -179,7 +201,9 @@ fn store_inherited(
     hi: usize,
     bound: &mut [u32],
 )
-    ensures { λ _. ⌜ Stores (now (kinds .entry)) (now (tokens .entry)) (now (roles .entry)) (now (symbols .entry)) (now (keys .entry)) (now (nodes .entry)) (now (owners .entry)) (now (heads .entry)) (now (next .entry)) (now (mark .entry)) stamp lo hi (now (bound .entry)) (now (bound .exit)) ⌝ }
+    ensures { λ _. ⌜ Stores (now (kinds .entry)) (now (tokens .entry)) (now (roles .entry)) (now (symbols .entry)) (now (keys .entry))
+        (now (nodes .entry)) (now (owners .entry)) (now (heads .entry)) (now (next .entry)) (now (mark .entry)) stamp lo hi (now (bound .entry))
+        (now (bound .exit)) ⌝ }
 {
     let mut i = hi;
     while lo < i {
@@ -225,13 +249,31 @@ fn inherit_in(
     bound: &mut [u32],
 )
     requires { ⌜ v < length (now first) ⌝ }
-    ensures { λ _. ⌜ InheritsIn (now (kinds .entry)) (now (tokens .entry)) (now (roles .entry)) (now (symbols .entry)) (now («entry_keys» .entry)) (now («entry_nodes» .entry)) (now (first .entry)) (now (to .entry)) (now (keys .entry)) (now (nodes .entry)) (now (owners .entry)) (now (heads .entry)) (now (next .entry)) v (now (mark .entry)) (now (queue .entry)) (now (bound .entry)) (now (mark .exit)) (now (bound .exit)) ⌝ }
+    ensures { λ _. ⌜ InheritsIn (now (kinds .entry)) (now (tokens .entry)) (now (roles .entry)) (now (symbols .entry)) (now («entry_keys» .entry))
+        (now («entry_nodes» .entry)) (now (first .entry)) (now (to .entry)) (now (keys .entry)) (now (nodes .entry)) (now (owners .entry))
+        (now (heads .entry)) (now (next .entry)) v (now (mark .entry)) (now (queue .entry)) (now (bound .entry)) (now (mark .exit))
+        (now (bound .exit)) ⌝ }
 {
     let d = scopes::declaration(entry_keys, entry_nodes, v);
     if inherits(kinds, first, d.node, v) {
         let stamp = number(v + 1);
         graph::search(first, to, v, stamp, mark, queue);
-        store_inherited(kinds, tokens, roles, symbols, keys, nodes, owners, heads, next, mark, stamp, d.from, d.node, bound);
+        store_inherited(
+            kinds,
+            tokens,
+            roles,
+            symbols,
+            keys,
+            nodes,
+            owners,
+            heads,
+            next,
+            mark,
+            stamp,
+            d.from,
+            d.node,
+            bound,
+        );
     }
 }
 
@@ -254,12 +296,32 @@ pub fn inherit_all(
     queue: &mut [u32],
     bound: &mut [u32],
 )
-    ensures { λ _. ⌜ Inherits (now (kinds .entry)) (now (tokens .entry)) (now (roles .entry)) (now (symbols .entry)) (now («entry_keys» .entry)) (now («entry_nodes» .entry)) (now (first .entry)) (now (to .entry)) (now (keys .entry)) (now (nodes .entry)) (now (owners .entry)) (now (heads .entry)) (now (next .entry)) (now (mark .entry)) (now (queue .entry)) (now (bound .entry)) (now (bound .exit)) ⌝ }
+    ensures { λ _. ⌜ Inherits (now (kinds .entry)) (now (tokens .entry)) (now (roles .entry)) (now (symbols .entry)) (now («entry_keys» .entry))
+        (now («entry_nodes» .entry)) (now (first .entry)) (now (to .entry)) (now (keys .entry)) (now (nodes .entry)) (now (owners .entry))
+        (now (heads .entry)) (now (next .entry)) (now (mark .entry)) (now (queue .entry)) (now (bound .entry)) (now (bound .exit)) ⌝ }
 {
     columns::clear32(mark, 0);
     let mut v = saturating_sub(first.len(), 1);
     while 0 < v {
         v -= 1;
-        inherit_in(kinds, tokens, roles, symbols, entry_keys, entry_nodes, first, to, keys, nodes, owners, heads, next, v, mark, queue, bound);
+        inherit_in(
+            kinds,
+            tokens,
+            roles,
+            symbols,
+            entry_keys,
+            entry_nodes,
+            first,
+            to,
+            keys,
+            nodes,
+            owners,
+            heads,
+            next,
+            v,
+            mark,
+            queue,
+            bound,
+        );
     }
 }

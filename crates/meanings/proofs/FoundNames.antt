@@ -27,7 +27,7 @@ use Rattle.meanings.specs.Use.{use-meaning, Sorted, StandsFor}
 use Rattle.meanings.specs.Finding.{value-kind, limit, Made, OneMore, TargetOf, FoundName, NodeFinding, DeclarationFinding, UseFinding, TellsEnumeration, ItemFinding, TypeFinding, QualifiedFinding}
 use Rattle.meanings.specs.declared.Use.{Use}
 use Rattle.meanings.specs.declared.Use.the-variants.{Nothing, Several, Node, Declaration}
-use Rattle.meanings.specs.declared.findings.Finding.{Finding}
+use Rattle.type_names.specs.declared.Finding.{Finding}
 
 item-low : (t : Table) (y s k : ℕ) → meaning (items-of t y s) ≡ one k → k < count t
 unfolding items-of

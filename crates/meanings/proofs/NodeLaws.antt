@@ -10,7 +10,7 @@ use lib.Dec.{eqb}
 use lib.ListN.{getD}
 use Rattle.ebnf.specs.Set.{mem}
 use Rattle.relations.specs.Select.{empty}
-use Rattle.relations.proofs.Select.{or-cases, and-fst, and-snd}
+use Rattle.relations.proofs.Select.{or-cases, or-left, or-right, and-fst, and-snd}
 use Rattle.express.specs.syntax.NodeKind as node
 use Rattle.express.specs.syntax.Grammar.{file}
 use Rattle.express.specs.syntax.Syntax.{Read}
@@ -29,7 +29,7 @@ use Rattle.meanings.specs.Finding.{Made, UseFinding, QualifiedFinding}
 use Rattle.meanings.specs.Node.{asks, MemberFault, ColumnsOf, FoundAt, Standing, NodeFindings}
 use Rattle.meanings.specs.declared.Use.{Use}
 use Rattle.meanings.specs.declared.Use.the-variants.{Nothing, Several, Node, Declaration}
-use Rattle.meanings.specs.declared.findings.Finding.{Finding}
+use Rattle.type_names.specs.declared.Finding.{Finding}
 
 -- ---- an own attribute or label
 
@@ -67,11 +67,11 @@ member-declared {u} {v} {p} {f} e a =
 -- ---- by the kind of a node
 
 module _ {A : Type 0} where
-  chosen : (b : Bool) (x y : A) → b ≡ true → cond b x y ≡ x
+  pub chosen : (b : Bool) (x y : A) → b ≡ true → cond b x y ≡ x
   chosen true x y e = refl
   chosen false x y e = absurd (false≢true e)
 
-  passed : (b : Bool) (x y : A) → b ≡ false → cond b x y ≡ y
+  pub passed : (b : Bool) (x y : A) → b ≡ false → cond b x y ≡ y
   passed false x y e = refl
   passed true x y e = absurd (false≢true (sym e))
 
@@ -80,7 +80,7 @@ same-test p q none l h = refl
 same-test p q several l h = refl
 same-test p q (one k) l h = ap (λ (b : Bool). cond b express.fine (express.fault 11 l)) (h k)
 
-both-false : (a b : Bool) → a ≡ false → (a && b) ≡ false
+pub both-false : (a b : Bool) → a ≡ false → (a && b) ≡ false
 both-false false b e = refl
 both-false true b e = absurd (false≢true (sym e))
 
@@ -96,7 +96,7 @@ module _ (t : Table) (n : ℕ) where
       ⊎-elim (λ x. ⊎-elim (λ y. a (eqb-true (kind t n) node.attribute-name y)) (λ y. b (eqb-true (kind t n) node.derived-attribute y)) (or-cases _ _ x))
       (λ x. c (eqb-true (kind t n) node.rule (and-fst _ _ x))) (or-cases _ _ e)
 
-  asked : {P : Type 0} → asks t n ≡ true → (is-use t n ≡ true → P) → (is t node.qualified-item n ≡ true → P) → (is t node.self n ≡ true → P) → (is-scope-member t n ≡ true → P) → P
+  pub asked : {P : Type 0} → asks t n ≡ true → (is-use t n ≡ true → P) → (is t node.qualified-item n ≡ true → P) → (is t node.self n ≡ true → P) → (is-scope-member t n ≡ true → P) → P
   asked a u q s m =
       ⊎-elim (λ x. ⊎-elim (λ y. ⊎-elim u q (or-cases (is-use t n) (is t node.qualified-item n) y)) s (or-cases (is-use t n || is t node.qualified-item n) (is t node.self n) x)) m
       (or-cases (is-use t n || is t node.qualified-item n || is t node.self n) (is-scope-member t n) a)
@@ -116,7 +116,7 @@ module _ (t : Table) (n : ℕ) where
   unfolding means
   unnamed x y = passed (is-use t n) _ _ (no-use x) ∙ passed (is t node.name n) _ _ (kind-not node.name x) ∙ passed (is t node.qualified-item n) _ _ (kind-not node.qualified-item y)
 
-  unbound : (kind t n ≡ node.name → ⊥) → (kind t n ≡ node.qualified-item → ⊥) → 0 ≡ binding t n
+  pub unbound : (kind t n ≡ node.name → ⊥) → (kind t n ≡ node.qualified-item → ⊥) → 0 ≡ binding t n
   unfolding binding
   unbound x y = sym (ap binding-of (unnamed x y))
 
@@ -220,7 +220,7 @@ module _ {kinds tokens sizes symbols starts keys nodes heads next : List ℕ} {k
     found = λ t R C P W.
         let y = asked-use t n (W .asked) (sym (W .kind-is) ∙ e) in
         let s = symbol-is E C in
-        let G : StandsFor t nodes (meaning (inherited t o sy)) u = rw s (W .inherits) in
+        let G : StandsFor t nodes (meaning (inherited t o sy)) u = rw s (W .inherited-is (or-left (is-use t n) (is-scope-member t n) y)) in
         let q : use-meant t o h sy ≡ means t n = rw (W .owner-is, W .schema-is, s) (sym (use-means t n y)) in
         let F = U .found t keys heads next (C .kinds-are) P (use-meant t o h sy) (D .stands t P G) in
         use-found t n y (F .fault-is ∙ ap₂ (judged (is-value t)) q (place-is E C)) (F .binding-is ∙ ap binding-of q) (F .target-is ∙ ap (constant-of t) q);
@@ -271,8 +271,9 @@ module _ {kinds tokens sizes symbols starts keys nodes heads next : List ℕ} {k
         let a : kind t n ≡ node.name → ⊥ = λ (q : kind t n ≡ node.name). x (i ∙ q) in
         let b : kind t n ≡ node.qualified-item → ⊥ = λ (q : kind t n ≡ node.qualified-item). y (i ∙ q) in
         let c : kind t n ≡ node.self → ⊥ = λ (q : kind t n ≡ node.self). z (i ∙ q) in
-        member-found t n a b c (asked-member t n (W .asked) a b c)
-        (M .is t nodes (inherited t o (symbol t n)) (W .inherits) ∙ rw (W .owner-is, place-is E C)) F;
+        let m = asked-member t n (W .asked) a b c in
+        member-found t n a b c m
+        (M .is t nodes (inherited t o (symbol t n)) (W .inherited-is (or-right (is-use t n) (is-scope-member t n) m)) ∙ rw (W .owner-is, place-is E C)) F;
   }
 
 pub ruleset nodes-found = (name-node, item-node, self-node, member-node)

@@ -15,7 +15,7 @@ use Rattle.faults.specs.Meaning.{fault-of}
 use Rattle.faults.specs.declared.Fault.{Fault}
 use Rattle.meanings.specs.Use.{StandsFor}
 use Rattle.meanings.specs.declared.Use.{Use}
-use Rattle.meanings.specs.declared.findings.Finding.{Finding}
+use Rattle.type_names.specs.declared.Finding.{Finding}
 
 -- N12: `is-value` of express, of a node of a kind
 abbrev pub value-kind : ℕ → Bool

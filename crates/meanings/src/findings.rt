@@ -12,13 +12,7 @@ use scopes::at8;
 use scopes::look_ups::Meaning;
 use scopes::look_ups::declaration_meant;
 use scopes::look_ups::item_meant;
-
-// A binding is one more than a node, or 0; a target one more than the number of a declaration, or 0.
-pub struct Finding {
-    pub fault: Fault,
-    pub binding: u32,
-    pub target: u32,
-}
+use type_names::Finding;
 
 pub fn found(fault: Fault, binding: u32, target: u32) -> Finding
     ensures { λ r. ⌜ Made fault binding target r ⌝ }

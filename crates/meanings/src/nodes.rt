@@ -1,7 +1,6 @@
 // What is found of a node in an expression, or of an own attribute or label.
 ghost use Rattle.meanings.specs.Node.{MemberFault, NodeFindings};
 use crate::Use;
-use crate::findings::Finding;
 use crate::findings::found;
 use crate::findings::qualified_finding;
 use crate::findings::use_finding;
@@ -10,6 +9,7 @@ use columns::saturating_sub;
 use faults::Fault;
 use scopes::at;
 use scopes::at8;
+use type_names::Finding;
 
 // How many tokens before an item's name the name of its type stands.
 const QUALIFIER: usize = 2;

@@ -65,7 +65,7 @@ module _ (t : Table) (types : Passes (nodes t) (type-name-fault t)) where
     which a b e = List·Memᴰ·append-cases (renaming-edges t) e
 
     -- from an entity only supertypes are reached
-    from-entity : {a b : ℕ} → Reaches (Joins (type-edges t)) a b → kind t a ≡ node.entity → Reaches (Joins (super-edges t)) a b × (kind t b ≡ node.entity)
+    pub from-entity : {a b : ℕ} → Reaches (Joins (type-edges t)) a b → kind t a ≡ node.entity → Reaches (Joins (super-edges t)) a b × (kind t b ≡ node.entity)
     from-entity (direct {a} {b} e) h =
         ⊎-elim (λ r. let z = renaming-start a b r in absurd (omega arith)) (λ s. (direct s, super-end a b s)) (which a b e)
     from-entity (onward {a} {b} {c} e r) h =

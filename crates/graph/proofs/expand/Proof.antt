@@ -34,7 +34,8 @@ index-requires-2 : tie.Need-index-requires-2 Inv-loop μ-loop
 index-requires-2 c κs = search needs
 
 loop-holds : tie.Need-loop-holds Inv-loop μ-loop
-loop-holds c = going-start (c .before .before .before .before .before .before .before .before .before .pre) (c .before .before .index .ensures ∙ c .before .before .before .entry .ensures) (c .index2 .ensures ∙ c .before .entry2 .ensures)
+loop-holds c = going-start (c .before .before .before .before .before .before .before .before .before .pre) (c .before .before .index .ensures ∙ c .before
+    .before .before .entry .ensures) (c .index2 .ensures ∙ c .before .entry2 .ensures)
 
 entry-requires-3 : tie.Need-entry-requires-3 Inv-loop μ-loop
 entry-requires-3 c κs = search needs
@@ -52,7 +53,17 @@ put32-requires-2 : tie.Need-put32-requires-2 Inv-loop μ-loop
 put32-requires-2 c κs = search needs
 
 add-t : tie.Need-add-t Inv-loop μ-loop
-add-t c = omega (arith, stamps-room (c .before .before .before .before .before .before .before .before .before .before .before .before .before .before .before .before .before .before .before .before .before .before .before .before .args .stamp) (c .before .before .before .before .before .before .before .before .before .before .before .before .before .before .loop .mark) (c .before .before .before .before .before .before .before .before .before .before .before .index3 .result) (c .before .before .before .before .before .before .before .before .before .before .before .before .before .before .loop .inv .ends) (sym (c .before .before .before .before .before .before .before .before .before .is-unstamped .ensures) ∙ c .before .before .before .before .before .before .before .before .if2 .taken), c .before .before .before .before .before .before .before .before .before .before .before .before .before .before .loop .inv .mark-long)
+add-t c = omega (
+  arith,
+  stamps-room (c .before .before .before .before .before .before .before .before .before .before .before .before .before .before .before
+      .before .before .before .before .before .before .before .before .before .args .stamp) (c .before .before .before .before .before .before .before .before
+      .before .before .before .before .before .before .loop .mark) (c .before .before .before .before .before .before .before .before .before .before .before
+      .index3 .result) (c .before .before .before .before .before .before .before .before .before .before .before .before .before .before .loop .inv .ends) (sym
+      (c .before .before .before .before .before .before .before .before .before .is-unstamped .ensures) ∙ c .before .before .before .before .before .before
+      .before .before .if2 .taken),
+  c .before .before .before .before .before .before .before .before .before .before .before .before .before .before .loop .inv
+      .mark-long,
+)
 
 add-e : tie.Need-add-e Inv-loop μ-loop
 add-e c = search needs
@@ -62,10 +73,17 @@ loop-less c = search needs
 
 loop-again : tie.Need-loop-again Inv-loop μ-loop
 loop-again c =
-    going-step (c .before .before .before .before .before .before .loop .inv) (c .before .before .before .before .before .loop-test .taken) (c .before .before .before .index3 .result) (c .before .before .before .index3 .ensures ∙ c .before .before .before .before .entry3 .ensures) _ _ _
+    going-step (c .before .before .before .before .before .before .loop .inv) (c .before .before .before .before .before .loop-test .taken) (c .before .before
+    .before .index3 .result) (c .before .before .before .index3 .ensures ∙ c .before .before .before .before .entry3 .ensures) _ _ _
     (⊎-elim
-    (λ w. inl
-    (sym (c .before .is-unstamped .ensures) ∙ w .0 .taken, w .9 ∙ w .2 .ensures, w .10 ∙ w .6 .ensures ∙ ap (λ (x : ℕ). set (c .before .before .before .before .before .before .loop .queue) (c .before .before .before .before .before .before .loop .t) x) (sym (c .before .before .before .index3 .ensures)), w .11))
+    (λ w. inl (
+      sym (c .before .is-unstamped .ensures) ∙ w .0 .taken,
+      w .9 ∙ w .2 .ensures,
+      w .10 ∙ w .6 .ensures ∙ ap (λ (x : ℕ). set (c .before .before .before .before
+          .before .before .loop .queue) (c .before .before .before .before .before .before .loop .t) x) (sym (c .before .before .before .index3 .ensures)),
+      w
+          .11,
+    ))
     (λ w. inr (sym (c .before .is-unstamped .ensures) ∙ w .0 .left, w .1, w .2, w .3)) (c .if2 .came))
 
 same-length : tie.Need-same-length Inv-loop μ-loop

@@ -30,13 +30,26 @@ expand-requires-2 : tie.Need-expand-requires-2 Inv-loop μ-loop
 expand-requires-2 c κs = c .before .before .before .before .before .before .loop .inv .ends
 
 add-head : tie.Need-add-head Inv-loop μ-loop
-add-head c = omega (arith, head-low (c .before .before .before .before .before .before .before .before .before .before .before .loop .inv) (c .before .before .before .before .before .before .before .before .before .before .loop-test .taken), c .before .before .before .before .before .before .before .before .before .before .before .before .before .before .before .before .expand .kept .1 .1 .1 .1 .0)
+add-head c = omega (
+  arith,
+  head-low (c .before .before .before .before .before .before .before .before .before .before .before .loop .inv) (c .before .before
+      .before .before .before .before .before .before .before .before .loop-test .taken),
+  c .before .before .before .before .before .before .before .before
+      .before .before .before .before .before .before .before .before .expand .kept .1 .1 .1 .1 .0,
+)
 
 loop-less : tie.Need-loop-less Inv-loop μ-loop
-loop-less c = omega (arith, head-low (c .before .before .before .before .before .before .before .before .before .before .before .loop .inv) (c .before .before .before .before .before .before .before .before .before .before .loop-test .taken))
+loop-less c = omega (
+  arith,
+  head-low (c .before .before .before .before .before .before .before .before .before .before .before .loop .inv) (c .before .before
+      .before .before .before .before .before .before .before .before .loop-test .taken),
+)
 
 loop-again : tie.Need-loop-again Inv-loop μ-loop
-loop-again c = front-step (c .before .before .before .before .before .before .before .before .before .before .before .loop .inv) _ (c .before .before .before .before .before .before .before .before .before .before .loop-test .taken) (c .before .before .before .before .before .before .before .index .ensures ∙ c .before .before .before .before .before .before .before .before .entry .ensures) (c .before .before .before .before .expand2 .ensures) (c .before .before .before .before .expand2 .kept .1 .1 .1 .1 .0) (c .before .before .before .before .expand2 .kept .1 .1 .1 .1 .1 .0)
+loop-again c = front-step (c .before .before .before .before .before .before .before .before .before .before .before .loop .inv) _ (c .before .before .before
+    .before .before .before .before .before .before .before .loop-test .taken) (c .before .before .before .before .before .before .before .index .ensures ∙ c
+    .before .before .before .before .before .before .before .before .entry .ensures) (c .before .before .before .before .expand2 .ensures) (c .before .before
+    .before .before .expand2 .kept .1 .1 .1 .1 .0) (c .before .before .before .before .expand2 .kept .1 .1 .1 .1 .1 .0)
 
 same-length : tie.Need-same-length Inv-loop μ-loop
 same-length c = c .before .loop .inv .mark-long ∙ c .before .before .before .before .before .before .expand .kept .1 .1 .1 .1 .0

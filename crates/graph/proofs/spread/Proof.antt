@@ -4,7 +4,7 @@ use Rattle.graph.proofs.spread.Statement.{statement}
 use Rattle.graph.proofs.spread.Tie as tie
 use Rattle.graph.proofs.Store.{zeros, all-zeros}
 use Rattle.graph.proofs.Mark.{markable-set, ones}
-use mathlib.Core.Path.{refl, _∙_}
+use mathlib.Core.Path.{refl}
 
 clear32-requires : tie.Need-clear32-requires
 clear32-requires c κs = search needs
@@ -23,8 +23,13 @@ same-length-2 c = search needs
 
 returns : tie.Need-returns
 returns c = (
-  ones (markable-set (c .before .before .before .before .before .before .before .before .before .before .before .before .before .before .before .before .before .before .before .pre) _ _ (c .before .before .before .before .before .before .before .before .before .before .before .before .before .clear32 .kept .0) refl) (zeros (c .before .before .before .before .before .before .before .before .before .before .before .before .before .before .before .before .before .before .before .args .mark .now) _ (c .before .before .before .before .before .before .before .before .before .before .before .before .before .clear32 .ensures)) (c .before .before .before .before .before .before .before .before .search .ensures),
-  all-zeros (c .before .before .before .before .before .before .before .before .search .last .1 .1 .1 .1 .1 .0) (c .before .before .clear322 .ensures) (c .before .before .before .before .before .before .before .before .search .kept .1 .1 .1 .1 .1 .0),
+  ones (markable-set (c .before .before .before .before .before .before .before .before .before .before .before .before .before .before .before .before .before
+      .before .before .pre) _ _ (c .before .before .before .before .before .before .before .before .before .before .before .before .before .clear32 .kept .0)
+      refl) (zeros (c .before .before .before .before .before .before .before .before .before .before .before .before .before .before .before .before .before
+      .before .before .args .mark .now) _ (c .before .before .before .before .before .before .before .before .before .before .before .before .before .clear32
+      .ensures)) (c .before .before .before .before .before .before .before .before .search .ensures),
+  all-zeros (c .before .before .before .before .before .before .before .before .search .last .1 .1 .1 .1 .1 .0) (c .before .before .clear322 .ensures) (c
+      .before .before .before .before .before .before .before .before .search .kept .1 .1 .1 .1 .1 .0),
 )
 
 pub spread-spec : {M : Type 1} → statement M

@@ -1,56 +1,48 @@
+-- `inheritance::collect_attributes` meets its contract. Assumes nothing.
 use Rattle.inheritance.proofs.collect_attributes.Statement.{statement}
 use Rattle.inheritance.proofs.collect_attributes.Tie as tie
-use Rattle.inheritance.proofs.collect_attributes.Reads as reads
-use Rattle.inheritance.proofs.collect_attributes.Lts as lts
-use Rattle.inheritance.proofs.collect_range.Reads as collect-range-reads
-use Rattle.scopes.proofs.declaration.Reads as declaration-reads
 use borrow.Author.Needs.{needs}
 use Rattle.inheritance.proofs.Collecting.{CollectingAll, collecting-all-starts, collecting-all-goes, collecting-all-ends}
 use mathlib.Core.Path.{refl}
 
 abbrev Inv-loop : tie.InvT-loop
-Inv-loop kinds tokens symbols entry-keys entry-nodes vertices keys₀ nodes₀ owners₀ from₀ v₀ keys nodes owners from v = CollectingAll kinds tokens symbols entry-keys entry-nodes vertices keys₀ nodes₀ owners₀ keys nodes owners from v
+Inv-loop kinds tokens symbols entry-keys entry-nodes vertices keys₀ nodes₀ owners₀ from₀ v₀ keys nodes owners from v = CollectingAll kinds tokens symbols
+    entry-keys entry-nodes vertices keys₀ nodes₀ owners₀ keys nodes owners from v
 
 abbrev μ-loop : tie.MeasureT-loop
 μ-loop kinds tokens symbols entry-keys entry-nodes vertices keys₀ nodes₀ owners₀ from₀ v₀ keys nodes owners from v = v
 
--- src/lib.rt:109:5
 loop-holds : tie.Need-loop-holds Inv-loop μ-loop
 loop-holds c = collecting-all-starts refl
 
--- src/lib.rt:110:9
 sub-v : tie.Need-sub-v Inv-loop μ-loop
 sub-v c = search needs
 
--- src/lib.rt:111:13
 declaration-requires : tie.Need-declaration-requires Inv-loop μ-loop
 declaration-requires c κs = search needs
 
--- src/lib.rt:112:9
 collect-range-requires : tie.Need-collect-range-requires Inv-loop μ-loop
 collect-range-requires c κs = search needs
 
--- src/lib.rt:109:5
 loop-less : tie.Need-loop-less Inv-loop μ-loop
 loop-less c = search needs
 
--- src/lib.rt:109:5
 loop-again : tie.Need-loop-again Inv-loop μ-loop
-loop-again c = collecting-all-goes (c .before .before .before .before .before .before .before .before .before .before .before .before .loop .inv) (c .before .before .before .before .before .before .before .before .before .before .before .loop-test .taken) (c .before .before .before .before .before .before .before .before .before .before .declaration .ensures) (c .before .before .before .before .before .before .collect-range .ensures) (c .before .before .before .before .before .before .collect-range .kept .1 .1 .1 .1 .1 .1 .1 .0) (c .before .before .before .before .before .before .collect-range .kept .1 .1 .1 .1 .1 .1 .1 .1 .0) (c .before .before .before .before .before .before .collect-range .kept .1 .1 .1 .1 .1 .1 .1 .1 .1 .0)
+loop-again c = collecting-all-goes (c .before .before .before .before .before .before .before .before .before .before .before .before .loop .inv) (c .before
+    .before .before .before .before .before .before .before .before .before .before .loop-test .taken) (c .before .before .before .before .before .before
+    .before .before .before .before .declaration .ensures) (c .before .before .before .before .before .before .collect-range .ensures) (c .before .before
+    .before .before .before .before .collect-range .kept .1 .1 .1 .1 .1 .1 .1 .0) (c .before .before .before .before .before .before .collect-range .kept .1 .1
+    .1 .1 .1 .1 .1 .1 .0) (c .before .before .before .before .before .before .collect-range .kept .1 .1 .1 .1 .1 .1 .1 .1 .1 .0)
 
--- src/lib.rt:94:1
 same-length : tie.Need-same-length Inv-loop μ-loop
 same-length c = c .before .loop .inv .keys-long
 
--- src/lib.rt:94:1
 same-length-2 : tie.Need-same-length-2 Inv-loop μ-loop
 same-length-2 c = c .before .loop .inv .nodes-long
 
--- src/lib.rt:94:1
 same-length-3 : tie.Need-same-length-3 Inv-loop μ-loop
 same-length-3 c = c .before .loop .inv .owners-long
 
--- src/lib.rt:94:1
 returns : tie.Need-returns Inv-loop μ-loop
 returns c = collecting-all-ends (c .before .loop .inv) (c .loop-test .left)
 

@@ -1,13 +1,6 @@
+-- `inheritance::inherited` meets its contract. Assumes nothing.
 use Rattle.inheritance.proofs.inherited.Statement.{statement}
 use Rattle.inheritance.proofs.inherited.Tie as tie
-use Rattle.inheritance.proofs.inherited.Reads as reads
-use Rattle.inheritance.proofs.inherited.Lts as lts
-use Rattle.columns.proofs.index.Reads as index-reads
-use Rattle.index.proofs.dictionary.find.Reads as find-reads
-use Rattle.index.proofs.dictionary.next_of.Reads as next-of-reads
-use Rattle.inheritance.proofs.key.Reads as key-reads
-use Rattle.inheritance.proofs.more.Reads as more-reads
-use Rattle.scopes.proofs.at.Reads as at-reads
 use borrow.Author.Needs.{needs}
 use Rattle.inheritance.proofs.Gathering.{Gathering, entries-left, gathering-starts, gathering-ends, gathering-less, gathering-goes}
 use mathlib.Core.Path.{sym, _∙_, ap}
@@ -24,65 +17,59 @@ Inv-loop keys nodes owners heads next mark stamp symbol meaning₀ found₀ mean
 abbrev μ-loop : tie.MeasureT-loop
 μ-loop keys nodes owners heads next mark stamp symbol meaning₀ found₀ meaning found = entries-left keys found
 
--- src/lib.rt:143:45
 key-requires : tie.Need-key-requires Inv-loop μ-loop
 key-requires c κs = search needs
 
--- src/lib.rt:143:9
 find-requires : tie.Need-find-requires Inv-loop μ-loop
 find-requires c κs = search needs
 
--- src/lib.rt:144:5
 loop-holds : tie.Need-loop-holds Inv-loop μ-loop
 loop-holds c = gathering-starts (c .before .key .ensures) (c .find .ensures)
 
--- src/lib.rt:145:23
 enum-known-found : tie.Need-enum-known-found Inv-loop μ-loop
 enum-known-found c = search needs
 
--- src/lib.rt:146:13
 enum-told : tie.Need-enum-told Inv-loop μ-loop
 enum-told c = search needs
 
--- src/lib.rt:146:13
 returns : tie.Need-returns Inv-loop μ-loop
 returns c = gathering-ends (c .before .before .loop .inv) (c .enum-told .given .1)
 
--- src/lib.rt:148:27
 at-requires : tie.Need-at-requires Inv-loop μ-loop
 at-requires c κs = search needs
 
--- src/lib.rt:148:21
 index-requires : tie.Need-index-requires Inv-loop μ-loop
 index-requires c κs = search needs
 
--- src/lib.rt:148:12
 at-requires-2 : tie.Need-at-requires-2 Inv-loop μ-loop
 at-requires-2 c κs = search needs
 
--- src/lib.rt:149:37
 at-requires-3 : tie.Need-at-requires-3 Inv-loop μ-loop
 at-requires-3 c κs = search needs
 
--- src/lib.rt:149:13
 more-requires : tie.Need-more-requires Inv-loop μ-loop
 more-requires c κs = search needs
 
--- src/lib.rt:151:9
 next-of-requires : tie.Need-next-of-requires Inv-loop μ-loop
 next-of-requires c κs = search needs
 
--- src/lib.rt:144:5
 loop-less : tie.Need-loop-less Inv-loop μ-loop
-loop-less c = gathering-less (c .before .before .before .before .before .before .before .before .loop .inv) (c .before .before .before .before .before .before .found .given .1) (c .next-of .ensures)
+loop-less c = gathering-less (c .before .before .before .before .before .before .before .before .loop .inv) (c .before .before .before .before .before .before
+    .found .given .1) (c .next-of .ensures)
 
--- src/lib.rt:144:5
 loop-again : tie.Need-loop-again Inv-loop μ-loop
 loop-again c =
-    let is = c .before .before .at2 .ensures ∙ ap (λ (i : ℕ). getD (c .before .before .before .before .before .before .before .before .before .before .before .before .before .before .before .before .before .args .mark .now) i 0) (c .before .before .before .index .ensures ∙ c .before .before .before .before .at .ensures) in
-    gathering-goes (c .before .before .before .before .before .before .before .before .loop .inv) (c .before .before .before .before .before .before .found .given .1) (c .next-of .ensures) (c .before .if1 .meaning)
+    let is = c .before .before .at2 .ensures ∙ ap (λ (i : ℕ). getD (c .before .before .before .before .before .before .before .before .before .before .before
+    .before .before .before .before .before .before .args .mark .now) i 0) (c .before .before .before .index .ensures ∙ c .before .before .before .before
+    .at .ensures) in
+    gathering-goes (c .before .before .before .before .before .before .before .before .loop .inv) (c .before .before .before .before .before .before .found
+    .given .1) (c .next-of .ensures) (c .before .if1 .meaning)
     (⊎-elim
-    (λ w. inl (eq-eqb _ _ (sym is ∙ w .0 .taken), λ l. w .3 ∙ w .2 .ensures (omega (arith, w .1 .ensures, l)) ∙ ap (joined (c .before .before .before .before .before .before .before .before .loop .meaning)) (w .1 .ensures)))
+    (λ w. inl (
+      eq-eqb _ _ (sym is ∙ w .0 .taken),
+      λ l. w .3 ∙ w .2 .ensures (omega (arith, w .1 .ensures, l)) ∙ ap (joined (c .before .before .before .before
+          .before .before .before .before .loop .meaning)) (w .1 .ensures),
+    ))
     (λ w. inr (ne-eqb _ _ (λ e. w .0 .left (is ∙ e)), w .1)) (c .before .if1 .came))
 
 pub inherited-spec : {M : Type 1} → statement M

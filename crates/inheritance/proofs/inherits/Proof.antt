@@ -1,34 +1,25 @@
+-- `inheritance::inherits` meets its contract. Assumes nothing.
 use borrow.Author.Needs.{needs}
 use Rattle.inheritance.proofs.inherits.Statement.{statement}
 use Rattle.inheritance.proofs.inherits.Tie as tie
-use Rattle.inheritance.proofs.inherits.Reads as reads
-use Rattle.inheritance.proofs.inherits.Lts as lts
-use Rattle.scopes.proofs.at.Reads as at-reads
-use Rattle.scopes.proofs.at8.Reads as at8-reads
 use borrow.Author.Tests.{eq-eqb, ne-eqb}
 use mathlib.Core.Path.{sym}
 
--- src/lib.rt:200:8
 at8-requires : tie.Need-at8-requires
 at8-requires c κs = search needs
 
--- src/lib.rt:201:9
 returns : tie.Need-returns
 returns c = rw (sym (c .before .at8 .ensures), ne-eqb _ _ (c .if1 .taken))
 
--- src/lib.rt:203:5
 at-requires : tie.Need-at-requires
 at-requires c κs = search needs
 
--- src/lib.rt:203:35
 add-at : tie.Need-add-at
 add-at c = search needs
 
--- src/lib.rt:203:25
 at-requires-2 : tie.Need-at-requires-2
 at-requires-2 c κs = search needs
 
--- src/lib.rt:196:1
 returns-2 : tie.Need-returns-2
 returns-2 c = rw (sym (c .before .before .before .at8 .ensures), sym (c .before .at .ensures), sym (c .at2 .ensures)) (simp (eq-eqb _ _ (c .before .before .if1 .left)))
 

@@ -1,32 +1,25 @@
+-- `inheritance::more` meets its contract. Assumes nothing.
 use borrow.Author.Needs.{needs}
 use Rattle.inheritance.proofs.more.Statement.{statement}
 use Rattle.inheritance.proofs.more.Tie as tie
-use Rattle.inheritance.proofs.more.Reads as reads
-use Rattle.inheritance.proofs.more.Lts as lts
-use Rattle.columns.proofs.index.Reads as index-reads
-use Rattle.columns.proofs.number.Reads as number-reads
 use borrow.Author.Tests.{eq-eqb, ne-eqb}
-use mathlib.Core.Path.{refl, ap, _∙_}
+use mathlib.Core.Path.{ap, _∙_}
 use native.Mathlib.Omega.{arith}
 use Prim.Native.Nat.{ℕ, _+_}
 
--- src/lib.rt:124:23
 index-requires : tie.Need-index-requires
 index-requires c κs = search needs
 
--- src/lib.rt:124:23
 add-number : tie.Need-add-number
 add-number c = search needs
 
--- src/lib.rt:124:9
 number-requires : tie.Need-number-requires
 number-requires c κs = search needs
 
--- src/lib.rt:124:9
 returns : tie.Need-returns
-returns c = λ l. simp (eq-eqb _ _ (c .before .before .if1 .taken)) (c .number .ensures (omega (arith, c .before .index .ensures, l)) ∙ ap (λ (x : ℕ). x + 1) (c .before .index .ensures))
+returns c = λ l. simp (eq-eqb _ _ (c .before .before .if1 .taken)) (c .number .ensures (omega (arith, c .before .index .ensures, l)) ∙ ap (λ (x : ℕ). x + 1) (c
+    .before .index .ensures))
 
--- src/lib.rt:120:1
 returns-2 : tie.Need-returns-2
 returns-2 c = λ l. simp (ne-eqb _ _ (c .if1 .left))
 

@@ -1,77 +1,62 @@
+-- `inheritance::store_inherited` meets its contract. Assumes nothing.
 use Rattle.inheritance.proofs.store_inherited.Statement.{statement}
 use Rattle.inheritance.proofs.store_inherited.Tie as tie
-use Rattle.inheritance.proofs.store_inherited.Reads as reads
-use Rattle.inheritance.proofs.store_inherited.Lts as lts
-use Rattle.columns.proofs.put32.Reads as put32-reads
-use Rattle.inheritance.proofs.asks.Reads as asks-reads
-use Rattle.inheritance.proofs.inherited.Reads as inherited-reads
-use Rattle.inheritance.proofs.symbol.Reads as symbol-reads
-use Rattle.scopes.proofs.at.Reads as at-reads
-use Rattle.scopes.proofs.at8.Reads as at8-reads
 use borrow.Author.Needs.{needs}
 use Rattle.inheritance.proofs.Storing.{Storing, storing-starts, storing-ends, storing-skip, storing-more}
 use Rattle.inheritance.specs.Steps.{asks-by}
 use mathlib.Core.Path.{ap₂, sym, _∙_}
 
 abbrev Inv-loop : tie.InvT-loop
-Inv-loop kinds tokens roles symbols keys nodes owners heads next mark stamp lo hi bound₀ i₀ bound i = Storing kinds tokens roles symbols keys nodes owners heads next mark stamp lo hi bound₀ bound i
+Inv-loop kinds tokens roles symbols keys nodes owners heads next mark stamp lo hi bound₀ i₀ bound i = Storing kinds tokens roles symbols keys nodes owners heads
+    next mark stamp lo hi bound₀ bound i
 
 abbrev μ-loop : tie.MeasureT-loop
 μ-loop kinds tokens roles symbols keys nodes owners heads next mark stamp lo hi bound₀ i₀ bound i = i
 
--- src/lib.rt:185:5
 loop-holds : tie.Need-loop-holds Inv-loop μ-loop
 loop-holds c = storing-starts
 
--- src/lib.rt:186:9
 sub-i : tie.Need-sub-i Inv-loop μ-loop
 sub-i c = search needs
 
--- src/lib.rt:187:17
 at8-requires : tie.Need-at8-requires Inv-loop μ-loop
 at8-requires c κs = search needs
 
--- src/lib.rt:187:32
 at-requires : tie.Need-at-requires Inv-loop μ-loop
 at-requires c κs = search needs
 
--- src/lib.rt:187:12
 asks-requires : tie.Need-asks-requires Inv-loop μ-loop
 asks-requires c κs = search needs
 
--- src/lib.rt:188:17
 symbol-requires : tie.Need-symbol-requires Inv-loop μ-loop
 symbol-requires c κs = search needs
 
--- src/lib.rt:189:17
 inherited-requires : tie.Need-inherited-requires Inv-loop μ-loop
 inherited-requires c κs = search needs
 
--- src/lib.rt:190:13
 put32-requires : tie.Need-put32-requires Inv-loop μ-loop
 put32-requires c κs = search needs
 
--- src/lib.rt:185:5
 loop-less : tie.Need-loop-less Inv-loop μ-loop
 loop-less c = search needs
 
--- src/lib.rt:185:5
 loop-again : tie.Need-loop-again Inv-loop μ-loop
-loop-again c = storing-more (c .before .before .before .before .before .before .before .before .before .before .before .loop .inv) (c .before .before .before .before .before .before .before .before .before .before .loop-test .taken) (ap₂ asks-by (sym (c .before .before .before .before .before .before .before .before .before .at8 .ensures)) (sym (c .before .before .before .before .before .before .before .before .at .ensures)) ∙ sym (c .before .before .before .before .before .before .before .asks .ensures) ∙ c .before .before .before .before .before .before .if1 .taken) (c .before .before .before .before .before .symbol .ensures) (c .before .before .before .before .inherited .ensures) (c .before .before .put32 .ensures)
+loop-again c = storing-more (c .before .before .before .before .before .before .before .before .before .before .before .loop .inv) (c .before .before .before
+    .before .before .before .before .before .before .before .loop-test .taken) (ap₂ asks-by (sym (c .before .before .before .before .before .before .before
+    .before .before .at8 .ensures)) (sym (c .before .before .before .before .before .before .before .before .at .ensures)) ∙ sym (c .before .before .before
+    .before .before .before .before .asks .ensures) ∙ c .before .before .before .before .before .before .if1 .taken) (c .before .before .before .before .before
+    .symbol .ensures) (c .before .before .before .before .inherited .ensures) (c .before .before .put32 .ensures)
 
--- src/lib.rt:185:5
 loop-less-2 : tie.Need-loop-less-2 Inv-loop μ-loop
 loop-less-2 c = search needs
 
--- src/lib.rt:185:5
 loop-again-2 : tie.Need-loop-again-2 Inv-loop μ-loop
-loop-again-2 c = storing-skip (c .before .before .before .before .before .loop .inv) (c .before .before .before .before .loop-test .taken) (ap₂ asks-by (sym (c .before .before .before .at8 .ensures)) (sym (c .before .before .at .ensures)) ∙ sym (c .before .asks .ensures) ∙ c .if1 .left)
+loop-again-2 c = storing-skip (c .before .before .before .before .before .loop .inv) (c .before .before .before .before .loop-test .taken) (ap₂ asks-by (sym (c
+    .before .before .before .at8 .ensures)) (sym (c .before .before .at .ensures)) ∙ sym (c .before .asks .ensures) ∙ c .if1 .left)
 
--- src/lib.rt:166:1
 same-length : tie.Need-same-length Inv-loop μ-loop
 same-length c = c .before .loop .inv .long
 
--- src/lib.rt:166:1
 returns : tie.Need-returns Inv-loop μ-loop
 returns c = storing-ends (c .before .loop .inv) (c .loop-test .left)
 

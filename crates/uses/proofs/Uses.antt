@@ -1,0 +1,249 @@
+-- What the stage of expressions finds of each node, and of which nodes it finds nothing.
+use mathlib.Core.Path.{_≡_, refl, sym, ap, ap₂, _∙_}
+use mathlib.Core.Logic.{⊎-elim}
+use mathlib.Core.Bool.{Bool, true, false, cond, not, _&&_, _||_, false≢true}
+use mathlib.Core.List.{List, [], _∷_}
+use Prim.Native.Nat.{ℕ, _+_, _-_, _≤_, _<_}
+use native.Mathlib.Omega.{arith}
+use borrow.Author.Tests.{eqb-true, eq-eqb, lt-leb}
+use lib.Dec.{eqb, leb}
+use lib.ListN.{length, getD, set}
+use Rattle.ebnf.specs.Set.{mem, disjoint}
+use Rattle.relations.proofs.Select.{or-cases, or-left, or-right, and-fst, le-or, untrue}
+use Rattle.express.specs.syntax.NodeKind as node
+use Rattle.express.specs.syntax.Grammar.{file}
+use Rattle.express.specs.syntax.Syntax.{Read}
+use Rattle.express.specs.syntax.Tree.{Table, count, kind, role, symbol, is, is-declaration, is-attribute, is-scope-member, owner, schema-of, in-constant}
+use Rattle.express.specs.names.Scope.{Meaning, none, one, several, meaning, inherited, is-use, means, binding}
+use Rattle.express.specs.names.Fault as express
+use Rattle.express.specs.names.Fault.{Fault, expression}
+use Rattle.express.proofs.syntax.KindSets as set
+use Rattle.express.proofs.syntax.Within.{Over}
+use Rattle.express.proofs.names.Owned.{undeclared, in-owner, owner-schema}
+use Rattle.scopes.specs.Preparation.{Prepared}
+use Rattle.scopes.specs.Range.{node-of, DeclarationAt}
+use Rattle.scopes.specs.declared.Extent.{Extent}
+use Rattle.scopes.proofs.Ranges.{node-below, range-owner, range-end}
+use Rattle.faults.specs.Meaning.{fault-of}
+use Rattle.dependencies.specs.Target.{Targets, constant-target, behind-all}
+use Rattle.dependencies.proofs.Instances.{constant-targets}
+use Rattle.type_names.specs.TypeName.{is-type-name}
+use Rattle.type_names.specs.Pass.{Finds, Skipped, RangeOf, WithinDeclarations}
+use Rattle.type_names.specs.declared.Finding.{Finding}
+use Rattle.type_names.specs.declared.Progress.{Progress}
+use Rattle.type_names.proofs.Passes.{PassingFile, file-starts, file-goes-on, file-ends}
+use Rattle.inheritance.specs.Inheritance.{several-code, code, inherited-code}
+use Rattle.meanings.specs.Use.{StandsFor}
+use Rattle.meanings.specs.Node.{asks, inherits, ColumnsOf, FoundAt, Standing, NodeFindings}
+use Rattle.meanings.specs.declared.Use.{Use}
+use Rattle.meanings.specs.declared.Use.the-variants.{Nothing, Several, Node, Declaration}
+use Rattle.meanings.proofs.Nearest.{inherited-sort}
+use Rattle.meanings.proofs.NodeLaws.{asked, chosen, passed, both-false, unbound}
+use Rattle.uses.specs.Binding.{asks-by, Decodes, inherited-before, uses, FileOf, FindingAt, RangeAsked, FileAsked, BindsRange, BindsUses}
+
+pub or-none : (b : Bool) → b ≡ b || false || false || false
+or-none true = refl
+or-none false = refl
+
+-- ---- codes
+
+pub decodes-nothing : {c : ℕ} → c ≡ 0 → Decodes c Nothing
+decodes-nothing {c} e = record { stands = λ t nodes m few s q. by t nodes m (sym q ∙ e) }
+  where
+    by : (t : Table) (nodes : List ℕ) (m : Meaning) → code m ≡ 0 → StandsFor t nodes m Nothing
+    by t nodes none q = record { is = refl; sorted = omega arith }
+    by t nodes (one k) q = absurd (omega arith)
+    by t nodes several q = absurd (omega arith)
+
+pub decodes-several : {c : ℕ} → c ≡ several-code → Decodes c Several
+decodes-several {c} e = record { stands = λ t nodes m few s q. by t nodes m few s (sym q ∙ e) }
+  where
+    by : (t : Table) (nodes : List ℕ) (m : Meaning) → count t < several-code → ((k : ℕ) → m ≡ one k → (k < count t) × (is t node.constant k ≡ false)) → code m ≡ several-code
+        → StandsFor t nodes m Several
+    by t nodes none few s q = absurd (omega arith)
+    by t nodes (one k) few s q = let l = s k refl .0 in absurd (omega arith)
+    by t nodes several few s q = record { is = refl; sorted = omega arith }
+
+pub decodes-node : {c j k : ℕ} → (c ≡ 0 → ⊥) → (c ≡ several-code → ⊥) → j ≡ c - 1 → k ≡ j → Decodes c (Node k)
+decodes-node {c} {j} {k} z y x e = record { stands = λ t nodes m few s q. by t nodes m s q }
+  where
+    by : (t : Table) (nodes : List ℕ) (m : Meaning) → ((k : ℕ) → m ≡ one k → (k < count t) × (is t node.constant k ≡ false)) → c ≡ code m → StandsFor t nodes m (Node k)
+    by t nodes none s q = absurd (z q)
+    by t nodes (one i) s q = let i-is : k ≡ i = omega arith in rw i-is (record { is = refl; sorted = s i refl })
+    by t nodes several s q = absurd (y q)
+
+-- ---- what is found
+
+pub finding-found :
+    {kinds tokens sizes symbols starts keys nodes heads next : List ℕ} {k o h c n : ℕ} {u : Use} {f : Finding} → k ≡ getD kinds n 0 → Decodes c u →
+    NodeFindings kinds tokens sizes symbols starts keys nodes heads next k o h u n f → FindingAt kinds tokens sizes symbols starts keys nodes heads next o h c n f
+unfolding inherited-code
+finding-found {nodes = nodes} {o = o} {n = n} {u = u} e D F = record {
+  is = λ t A l a p q r.
+      let few = A .prepared .consistent .few in
+      let S : Standing t nodes _ o _ u n = record {
+        known = l;
+        asked = a;
+        kind-is = e ∙ ap (λ (l : List ℕ). getD l n 0) (A .columns .kinds-are);
+        owner-is = p;
+        schema-is = q;
+        inherited-is = λ i.
+            D .stands t nodes (meaning (inherited t o (symbol t n))) (omega arith) (inherited-sort t o (symbol t n))
+            (r i ∙ ap (λ (x : ℕ). code (meaning (inherited t x (symbol t n)))) (sym p));
+      } in
+      let G = F .found t (A .read) (A .columns) (A .prepared) S in
+      record { fault-is = G .fault-is; target-is = G .target-is; entry-is = G .binding-is };
+}
+
+-- ---- nodes of which nothing is found
+
+abbrev asking-kinds : List ℕ
+asking-kinds = node.name ∷ node.qualified-item ∷ node.self ∷ node.attribute-name ∷ node.derived-attribute ∷ node.rule ∷ []
+
+module _ (t : Table) (n : ℕ) where
+  pub skipped : asks t n ≡ false → Skipped (uses t) n
+  unfolding expression
+  skipped a = record {
+    fault-none =
+        passed (is-use t n) _ _ u ∙ passed (is t node.qualified-item n) _ _ q ∙ passed (is t node.self n && in-constant t n) _ _ (both-false (is t node.self n) _ s)
+        ∙ passed (express.clashes t n) _ _ (both-false (is-scope-member t n) _ m);
+    target-none = passed (is-use t n) _ _ u;
+    entry-kept = by (is-type-name t n) refl ∙ sym (passed (inherits t n) _ _ (neither (is-use t n) (is-scope-member t n) u m));
+  }
+    where
+      neither : (a b : Bool) → a ≡ false → b ≡ false → a || b ≡ false
+      neither false false x y = refl
+      neither true b x y = absurd (false≢true (sym x))
+      neither false true x y = absurd (false≢true (sym y))
+
+      first-of : (a b : Bool) → a || b ≡ false → a ≡ false
+      first-of false b e = refl
+      first-of true b e = absurd (false≢true (sym e))
+
+      second-of : (a b : Bool) → a || b ≡ false → b ≡ false
+      second-of false b e = e
+      second-of true b e = absurd (false≢true (sym e))
+
+      m : is-scope-member t n ≡ false
+      m = second-of (is-use t n || is t node.qualified-item n || is t node.self n) (is-scope-member t n) a
+
+      three : is-use t n || is t node.qualified-item n || is t node.self n ≡ false
+      three = first-of (is-use t n || is t node.qualified-item n || is t node.self n) (is-scope-member t n) a
+
+      s : is t node.self n ≡ false
+      s = second-of (is-use t n || is t node.qualified-item n) (is t node.self n) three
+
+      two : is-use t n || is t node.qualified-item n ≡ false
+      two = first-of (is-use t n || is t node.qualified-item n) (is t node.self n) three
+
+      q : is t node.qualified-item n ≡ false
+      q = second-of (is-use t n) (is t node.qualified-item n) two
+
+      u : is-use t n ≡ false
+      u = first-of (is-use t n) (is t node.qualified-item n) two
+
+      -- a name that is no use is one of a type
+      named : (a b : Bool) → b ≡ false → a && not b ≡ false → a ≡ false
+      named false b x y = refl
+      named true false x y = absurd (false≢true (sym y))
+      named true true x y = absurd (false≢true (sym x))
+
+      by : (b : Bool) → is-type-name t n ≡ b → binding t n ≡ cond b (binding t n) 0
+      by true e = refl
+      by false e =
+          let z : is t node.name n ≡ false = named (is t node.name n) (is-use t n) u e in
+          sym (unbound t n (λ k. false≢true (sym z ∙ eq-eqb (kind t n) node.name k)) (λ k. false≢true (sym q ∙ eq-eqb (kind t n) node.qualified-item k)))
+
+  -- the nodes that ask, by their kinds
+  asked-kind : asks t n ≡ true → mem (kind t n) asking-kinds ≡ true
+  unfolding mem
+  asked-kind a =
+      asked t n a (λ e. rw (eqb-true (kind t n) node.name (and-fst (is t node.name n) (eqb (role t n) node.in-expression) e))) (λ e. rw (eqb-true (kind t n) node.qualified-item e)) (λ e. rw (eqb-true (kind t n) node.self e))
+      (λ e.
+      ⊎-elim (λ x. ⊎-elim (λ y. rw (eqb-true (kind t n) node.attribute-name y)) (λ y. rw (eqb-true (kind t n) node.derived-attribute y)) (or-cases (is t node.attribute-name n) (is t node.derived-attribute n) x))
+      (λ x. rw (eqb-true (kind t n) node.rule (and-fst (is t node.rule n) (eqb (role t n) node.labelled) x))) (or-cases (is-attribute t n) (is t node.rule n && eqb (role t n) node.labelled) e))
+
+  -- stand below a schema
+  pub asked-below : asks t n ≡ true → mem (kind t n) set.below-schema ≡ true
+  unfolding mem
+  asked-below a =
+      asked t n a (λ e. rw (eqb-true (kind t n) node.name (and-fst (is t node.name n) (eqb (role t n) node.in-expression) e))) (λ e. rw (eqb-true (kind t n) node.qualified-item e)) (λ e. rw (eqb-true (kind t n) node.self e))
+      (λ e.
+      ⊎-elim (λ x. ⊎-elim (λ y. rw (eqb-true (kind t n) node.attribute-name y)) (λ y. rw (eqb-true (kind t n) node.derived-attribute y)) (or-cases (is t node.attribute-name n) (is t node.derived-attribute n) x))
+      (λ x. rw (eqb-true (kind t n) node.rule (and-fst (is t node.rule n) (eqb (role t n) node.labelled) x))) (or-cases (is-attribute t n) (is t node.rule n && eqb (role t n) node.labelled) e))
+
+  -- and are no declarations
+  declared-asks : is-declaration t n ≡ true → asks t n ≡ false
+  unfolding mem disjoint
+  declared-asks d = untrue (asks t n) (λ a. false≢true (sym (undeclared t n asking-kinds refl (asked-kind a)) ∙ d))
+
+  -- nor stand behind all of these
+  behind-asks : Read file t → behind-all t ≤ n → n < count t → asks t n ≡ false
+  behind-asks R b l = untrue (asks t n) (λ a. omega (arith, in-owner R n l (asked-below a) .0 .known, range-end t n (omega arith) b))
+
+pub within : (t : Table) → Read file t → WithinDeclarations t (uses t)
+within t R = record {
+  targets = constant-targets t;
+  declared = λ n d. skipped t n (declared-asks t n d);
+  behind = λ n b l. skipped t n (behind-asks t n R b l);
+}
+
+-- ---- in the range of a declaration
+
+asks-is :
+    (kinds roles : List ℕ) (n : ℕ) {k r : ℕ} {b : Bool} → k ≡ getD kinds n 0 → r ≡ getD roles n 0 → b ≡ asks-by k r → (t : Table) → kinds ≡ t .kinds → roles ≡ t .roles → asks t n ≡ b
+asks-is kinds roles n K L B t x y = sym (B ∙ ap₂ asks-by (K ∙ ap (λ (l : List ℕ). getD l n 0) x) (L ∙ ap (λ (l : List ℕ). getD l n 0) y))
+
+module _ {kinds tokens sizes roles symbols starts keys nodes heads next : List ℕ} {schema k r : ℕ} {b : Bool} (i : ℕ)
+    (K : k ≡ getD kinds (i - 1) 0) (L : r ≡ getD roles (i - 1) 0) (B : b ≡ asks-by k r) where
+  tested : {t : Table} {v : ℕ} → RangeAsked kinds tokens sizes roles symbols starts keys nodes heads next schema t v → asks t (i - 1) ≡ b
+  tested {t} A = asks-is kinds roles (i - 1) K L B t (A .of-file .columns .kinds-are) (A .roles-are)
+
+  pub range-other :
+      {lo hi : ℕ} → b ≡ false → (t : Table) (v : ℕ) → RangeOf t v lo hi → RangeAsked kinds tokens sizes roles symbols starts keys nodes heads next schema t v →
+      Skipped (uses t) (i - 1)
+  range-other e t v R A = skipped t (i - 1) (tested A ∙ e)
+
+  pub range-use :
+      {lo hi c : ℕ} {f : Finding} (bound : List ℕ) → lo < i → i ≤ hi → b ≡ true → c ≡ getD bound (i - 1) 0 →
+      FindingAt kinds tokens sizes symbols starts keys nodes heads next hi schema c (i - 1) f → (t : Table) (v : ℕ) → RangeOf t v lo hi →
+      RangeAsked kinds tokens sizes roles symbols starts keys nodes heads next schema t v → getD bound (i - 1) 0 ≡ inherited-before t (i - 1) → Finds (uses t) (i - 1) f
+  range-use bound low high e C F t v R A w =
+      let n = i - 1 in
+      let a : asks t n ≡ true = tested A ∙ e in
+      let o : owner t n ≡ node-of t v = range-owner t v n (R .number) (omega (arith, R .from-is)) (omega (arith, R .upto-is)) in
+      let l : n < count t = omega (arith, R .upto-is, node-below t v (R .number)) in
+      let s : _ ≡ schema-of t n = A .schema-is ∙ ap (schema-of t) (sym o) ∙ owner-schema (A .of-file .read) n l (asked-below t n a) in
+      F .is t (A .of-file) l a (R .upto-is ∙ sym o) s (λ h. C ∙ w ∙ chosen (inherits t n) _ _ h)
+
+-- ---- in the loop over the declarations
+
+module _ {kinds tokens sizes roles symbols starts keys nodes heads next : List ℕ} where
+  within-file : {b : List ℕ} {f a : ℕ} (t : Table) → FileAsked kinds tokens sizes roles symbols starts keys nodes heads next b f a t → WithinDeclarations t (uses t)
+  within-file t A = within t (A .of-file .read)
+
+  pub uses-start :
+      {first bound to : List ℕ} {v : ℕ} {so-far : Progress} → v ≡ length first - 1 → so-far .arcs ≡ length to → fault-of (so-far .least) ≡ express.fine →
+      PassingFile (FileAsked kinds tokens sizes roles symbols starts keys nodes heads next bound (length first) (length to)) uses bound first to v first so-far bound to
+  uses-start e a f = file-starts within-file e a f (λ t A. A .graph-room) (λ t A. A .bound-room) (λ t A n l. A .bound-is n l)
+
+  module _ {bound₀ first₀ was : List ℕ} {b : List ℕ} {f a : ℕ} {v : ℕ} {first : List ℕ} {so-far : Progress} {bound to : List ℕ}
+      (G : PassingFile (FileAsked kinds tokens sizes roles symbols starts keys nodes heads next b f a) uses bound₀ first₀ was v first so-far bound to)
+      {x : ℕ} {first′ : List ℕ} (n : so-far .arcs < 4294967296 → x ≡ so-far .arcs) where
+    pub uses-go-on :
+        {d : Extent} {after : Progress} {bound′ to′ : List ℕ} → first′ ≡ set first v x → 0 < v → DeclarationAt keys nodes (v - 1) d →
+        BindsRange kinds tokens sizes roles symbols starts keys nodes heads next (d .schema) (d .from) (d .node) so-far bound to (d .from) after bound′ to′ →
+        length bound′ ≡ length bound → length to′ ≡ length to →
+        PassingFile (FileAsked kinds tokens sizes roles symbols starts keys nodes heads next b f a) uses bound₀ first₀ was (v - 1) first′ after bound′ to′
+    uses-go-on s h D =
+        file-goes-on within-file G n s h
+        (λ t A l.
+        let P = A .of-file .prepared in (
+          record { number = l; from-is = D .from-is t heads next P l; upto-is = D .node-is t heads next P l },
+          record { of-file = A .of-file; roles-are = A .roles-are; schema-is = D .schema-is t heads next P l },
+        ))
+
+    pub uses-end :
+        {first-before to-before : List ℕ} → first′ ≡ set first 0 x → v ≤ 0 → f ≡ length first-before → a ≡ length to-before →
+        BindsUses kinds tokens sizes roles symbols starts keys nodes heads next b first-before to-before (so-far .least) bound first′ to
+    uses-end s h ef ea = record { is = λ t A. file-ends within-file G n s h t (rw (ef, ea) A) }

@@ -1,0 +1,19 @@
+use borrow.Author.Needs.{needs}
+use Rattle.uses.proofs.Uses.{finding-found}
+use Rattle.uses.proofs.finding_at.Statement.{statement}
+use Rattle.uses.proofs.finding_at.Tie as tie
+
+at8-requires : tie.Need-at8-requires
+at8-requires c κs = search needs
+
+decoded-requires : tie.Need-decoded-requires
+decoded-requires c κs = search needs
+
+node-finding-requires : tie.Need-node-finding-requires
+node-finding-requires c κs = search needs
+
+returns : tie.Need-returns
+returns c = finding-found (c .before .before .at8 .ensures) (c .before .decoded .ensures) (c .node-finding .ensures)
+
+pub finding-at-spec : {M : Type 1} → statement M
+finding-at-spec = tie.close (tie.spec at8-requires decoded-requires node-finding-requires returns)
