@@ -1,8 +1,5 @@
 -- What a fault in the code stands for: a reply from 9 to 13 and a place, or none (N19).
-use mathlib.Core.Bool.{Bool, true}
-use Prim.Native.Nat.{ℕ}
 use Rattle.express.specs.names.Fault as express
-use Rattle.scopes.specs.LookUp.{entry-meant}
 use Rattle.faults.specs.declared.Fault.{Fault}
 
 abbrev pub fault-of : Fault → express.Fault

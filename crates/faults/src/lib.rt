@@ -17,10 +17,10 @@ pub struct Fault {
 pub fn fine() -> Fault
     ensures { λ r. ⌜ fault-of r ≡ express.fine ⌝ }
 {
-    fault(codes::replies::ACCEPTED, 0)
+    fault_at(codes::replies::ACCEPTED, 0)
 }
 
-pub fn fault(number: u8, place: u32) -> Fault
+pub fn fault_at(number: u8, place: u32) -> Fault
     ensures { λ r. ⌜ fault-of r ≡ express.fault number place ⌝ }
 {
     Fault { number, place }
@@ -59,7 +59,7 @@ pub fn wrong_sort(right: bool, place: u32) -> Fault
     if right {
         return fine();
     }
-    fault(codes::replies::WRONG_SORT, place)
+    fault_at(codes::replies::WRONG_SORT, place)
 }
 
 // Of a name at a place by its meaning: not found, two meanings, or one that is right or of the wrong sort.
@@ -67,8 +67,8 @@ pub fn judged(meaning: Meaning, right: bool, place: u32) -> Fault
     ensures { λ r. ⌜ fault-of r ≡ express.judged (λ _. right) (entry-meant meaning) place ⌝ }
 {
     match meaning {
-        Meaning::Nothing => fault(codes::replies::NOT_FOUND, place),
+        Meaning::Nothing => fault_at(codes::replies::NOT_FOUND, place),
         Meaning::One(_) => wrong_sort(right, place),
-        Meaning::Several => fault(codes::replies::AMBIGUOUS, place),
+        Meaning::Several => fault_at(codes::replies::AMBIGUOUS, place),
     }
 }

@@ -39,7 +39,20 @@ pub fn resolve_declarations(
     scratch: &mut [u32],
 ) -> Fault {
     let repeated = duplicates::least_duplicate(tokens, starts, keys, nodes, next);
-    let unbound = type_names::bind_type_names(kinds, tokens, roles, symbols, starts, keys, nodes, heads, next, bound, first, to);
+    let unbound = type_names::bind_type_names(
+        kinds,
+        tokens,
+        roles,
+        symbols,
+        starts,
+        keys,
+        nodes,
+        heads,
+        next,
+        bound,
+        first,
+        to,
+    );
     let cyclic = dependencies::arrange(tokens, starts, nodes, first, to, order, scratch);
     faults::or_later(repeated, faults::or_later(unbound, cyclic))
 }
@@ -62,9 +75,36 @@ pub fn resolve_inheritance(
     queue: &mut [u32],
     bound: &mut [u32],
 ) {
-    let from = inheritance::collect_attributes(kinds, tokens, symbols, keys, nodes, columns::saturating_sub(first.len(), 1), attribute_keys, attribute_nodes, owners);
+    let from = inheritance::collect_attributes(
+        kinds,
+        tokens,
+        symbols,
+        keys,
+        nodes,
+        columns::saturating_sub(first.len(), 1),
+        attribute_keys,
+        attribute_nodes,
+        owners,
+    );
     index::dictionary::build(&attribute_keys[from..], heads, next);
-    inheritance::inherit_all(kinds, tokens, roles, symbols, keys, nodes, first, to, &attribute_keys[from..], &attribute_nodes[from..], &owners[from..], heads, next, mark, queue, bound);
+    inheritance::inherit_all(
+        kinds,
+        tokens,
+        roles,
+        symbols,
+        keys,
+        nodes,
+        first,
+        to,
+        &attribute_keys[from..],
+        &attribute_nodes[from..],
+        &owners[from..],
+        heads,
+        next,
+        mark,
+        queue,
+        bound,
+    );
 }
 
 pub fn resolve_expressions(
@@ -84,7 +124,21 @@ pub fn resolve_expressions(
     order: &mut [u32],
     scratch: &mut [u32],
 ) -> Fault {
-    let unbound = uses::bind_uses(kinds, tokens, sizes, roles, symbols, starts, keys, nodes, heads, next, bound, first, to);
+    let unbound = uses::bind_uses(
+        kinds,
+        tokens,
+        sizes,
+        roles,
+        symbols,
+        starts,
+        keys,
+        nodes,
+        heads,
+        next,
+        bound,
+        first,
+        to,
+    );
     let cyclic = dependencies::arrange(tokens, starts, nodes, first, to, order, scratch);
     faults::or_later(unbound, cyclic)
 }

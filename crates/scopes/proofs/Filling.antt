@@ -2,7 +2,7 @@
 use mathlib.Core.Path.{_≡_, refl, sym, ap, _∙_}
 use mathlib.Core.Bool.{Bool, true, false, cond, _||_}
 use mathlib.Core.List.{List, [], _∷_, _++_, map, map-append, flatMap}
-use Prim.Native.Nat.{ℕ, zero, suc, _+_, _*_, _-_, _≤_, _<_}
+use Prim.Native.Nat.{ℕ, zero, suc, _+_, _*_, _-_, _%_, _≤_, _<_}
 use native.Mathlib.Omega.{arith}
 use native.Mathlib.Numerals.{add-one}
 use borrow.Author.Tests.{eq-eqb, ne-eqb}
@@ -15,11 +15,12 @@ use Rattle.relations.proofs.Select.{span-step, span-end, or-right}
 use Rattle.express.specs.syntax.Tree.{Table, count, nodes, kind, role, symbol, is-declaration, owner, schema-of}
 use Rattle.express.specs.names.Fault.{sort, scope}
 use Rattle.scopes.specs.Entries.{none, schemas, declared, items-of-types, radix, key-of, Entry, own-entry, other-entries, entries, vertex, others-before}
-use Rattle.scopes.specs.Standing.{sort-by, Stands, Passed, Ended, Counted}
+use Rattle.scopes.specs.Standing.{sort-by, class-of, Stands, PassedBy, Ended, Counted}
 use Rattle.scopes.specs.Preparation.{Consistent, Enterable, Entered, Filled, scope-by, declared-by, own-by, schema-by}
 use Rattle.scopes.specs.declared.Here.{Here}
 use Rattle.scopes.specs.declared.Counts.{Counts}
 use Rattle.scopes.proofs.Sorting.{sort-is, declared-sort, sort-below, owner-below, schema-below}
+use Rattle.scopes.proofs.Classes.{class-sort}
 use Rattle.scopes.proofs.Passing.{stands-end, stands-step, vertex-step, vertex-le, vertex-small, vertex-none, others-step, others-none, others-small, entries-count}
 
 -- ---- stores, the later place first
@@ -238,8 +239,8 @@ module _ {t : Table} {keys₀ nodes₀ : List ℕ} where
   entering-starts ok C E =
       record { within = omega arith; consistent = ok; counted = C .declarations-is; stands = stands-end C E; keys-filling = filling-starts; nodes-filling = filling-starts }
 
-  module _ {keys nodes : List ℕ} {after h : Here} {d i s y : ℕ} (E : Entering t d keys₀ nodes₀ keys nodes after i) (l : 0 < i)
-      (P : Passed (kind t (i - 1)) (role t (i - 1)) (i - 1) after h) (ss : s ≡ sort-by (kind t (i - 1)) (role t (i - 1))) (ys : y ≡ symbol t (i - 1)) where
+  module _ {keys nodes : List ℕ} {after h : Here} {class d i s y : ℕ} (E : Entering t d keys₀ nodes₀ keys nodes after i) (l : 0 < i)
+      (C : class ≡ class-of (sort-by (kind t (i - 1)) (role t (i - 1)))) (P : PassedBy class (i - 1) after h) (ss : s ≡ class % 8) (ys : y ≡ symbol t (i - 1)) where
     back : i - 1 + 1 ≡ i
     back = omega arith
 
@@ -247,10 +248,10 @@ module _ {t : Table} {keys₀ nodes₀ : List ℕ} where
     low = omega (arith, E .within)
 
     now-stands : Stands t (i - 1) h
-    now-stands = stands-step low (rw (sym back) at (E .stands)) P
+    now-stands = stands-step low (rw (sym back) at (E .stands)) (P .is (kind t (i - 1)) (role t (i - 1)) C)
 
     sorted : s ≡ sort t (i - 1)
-    sorted = ss ∙ sym (sort-is t (i - 1))
+    sorted = ss ∙ class-sort class (kind t (i - 1)) (role t (i - 1)) C ∙ sym (sort-is t (i - 1))
 
     placed : {at : ℕ} → at ≡ d + h .other → at ≡ place t (i - 1)
     placed e = omega (arith, e, E .counted, now-stands .other-is)

@@ -1,4 +1,5 @@
 pub mod Sorting
+pub mod Classes
 pub mod WithKey
 pub mod Passing
 pub mod Filling

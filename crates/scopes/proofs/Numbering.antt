@@ -2,21 +2,23 @@
 use mathlib.Core.Path.{_≡_, refl, sym, ap, _∙_}
 use mathlib.Core.Logic.{_⊎_, inl, inr, ⊎-elim}
 use mathlib.Core.Bool.{Bool, true, false, cond, _&&_, _||_, not, false≢true}
-use mathlib.Core.List.{List, [], _∷_, _++_, map, map-append, flatMap, append-assoc, List·Memᴰ, List·Memᴰ·head, List·Memᴰ·tail, List·Memᴰ·cases-cons, List·Memᴰ·not-nil, List·Memᴰ·eq-of-singleton}
-use Prim.Native.Nat.{ℕ, zero, suc, _+_, _-_, _≤_, _<_}
+use mathlib.Core.List.{List, [], _∷_, _++_, map, map-append, flatMap, append-assoc}
+use mathlib.Core.List.{List·Memᴰ, List·Memᴰ·head, List·Memᴰ·tail, List·Memᴰ·cases-cons, List·Memᴰ·not-nil, List·Memᴰ·append-cases, List·Memᴰ·eq-of-singleton}
+use Prim.Native.Nat.{ℕ, zero, suc, _+_, _*_, _-_, _≤_, _<_}
 use native.Mathlib.Omega.{arith}
 use borrow.Author.Tests.{eqb-true, eqb-false, eq-eqb, ne-eqb}
 use lib.Dec.{eqb}
 use lib.ListN.{length, getD, length-append, length-map, List·getD-append}
 use lib.Seq.{getD-at, getD-append-add}
 use Rattle.relations.specs.Select.{span, keep, Ascending}
-use Rattle.relations.proofs.Select.{le-or, upto-mem, flat-mem}
+use Rattle.relations.proofs.Select.{le-or, upto-mem, keep-mem, flat-mem}
 use Rattle.express.specs.syntax.Tree.{Table, count, nodes, is-declaration}
 use Rattle.express.specs.names.Fault.{sort}
 use Rattle.express.specs.names.Scope as express
 use Rattle.express.proofs.names.Meaning.{Only, meaning-one, spelled-ascending, declarations-iff, Candidate}
 use Rattle.index.specs.Dictionary.{has, Indexed}
-use Rattle.scopes.specs.Entries.{none, declared, items-of-types, Entry, own-key, own-entry, schema-entry, entries-by, other-entries, entries, with-key, vertex, others-before, entry-number}
+use Rattle.scopes.specs.Entries.{none, declared, items-of-types, items-of-schemas, radix, key-of}
+use Rattle.scopes.specs.Entries.{Entry, own-key, own-entry, schema-entry, entries-by, other-entries, entries, with-key, vertex, others-before, entry-number}
 use Rattle.scopes.specs.Preparation.{Consistent, Prepared, keys-of, nodes-of}
 use Rattle.scopes.specs.LookUp.{numbers, entry-meant, node-meant}
 use Rattle.scopes.specs.declared.look_ups.Meaning.{Meaning}
@@ -110,10 +112,11 @@ all-nodes t = nodes t
 abbrev node-of : Entry → ℕ
 node-of e = e .node
 
-node-mem : (xs : List Entry) (i : ℕ) → i < length xs → (x : Entry) × List·Memᴰ x xs × (getD (map node-of xs) i 0 ≡ x .node)
-node-mem [] i l = absurd (omega arith)
-node-mem (x ∷ xs) zero l = (x, List·Memᴰ·head refl, refl)
-node-mem (x ∷ xs) (suc i) l = let r = node-mem xs i (omega arith) in (r .0, List·Memᴰ·tail (r .1), r .2)
+-- the entry of a number
+pub entry-mem : (xs : List Entry) (i : ℕ) → i < length xs → (x : Entry) × List·Memᴰ x xs × ((f : Entry → ℕ) → getD (map f xs) i 0 ≡ f x)
+entry-mem [] i l = absurd (omega arith)
+entry-mem (x ∷ xs) zero l = (x, List·Memᴰ·head refl, λ f. refl)
+entry-mem (x ∷ xs) (suc i) l = let r = entry-mem xs i (omega arith) in (r .0, List·Memᴰ·tail (r .1), r .2)
 
 module _ (t : Table) where
   abbrev pub declared-nodes : List ℕ
@@ -262,6 +265,68 @@ ranked p i (suc d) w l = by (p i) refl l (λ w′ l′. ranked p (suc i) d w′ 
           rank = before false (getD rest w 0) e (R .from) ∙ R .rank;
         }
 
+-- an entry behind the declarations: of a node that declares something else, in its scope or, of an item, in its schema
+pub record Other (t : Table) (es : List ℕ) (y : Entry) : Type 0 where
+  pub node : ℕ
+  pub among : List·Memᴰ node es
+  pub sorted : eqb (sort t node) none || eqb (sort t node) declared ≡ false
+  pub is : (y ≡ own-entry t node) ⊎ (y ≡ schema-entry t node)
+
+other-of : (t : Table) (es : List ℕ) (y : Entry) → List·Memᴰ y (flatMap (other-entries t) es) → Other t es y
+unfolding other-entries
+other-of t es y m =
+    let r = flat-mem (other-entries t) es m in
+    by (r .0) (r .1) (eqb (sort t (r .0)) none || eqb (sort t (r .0)) declared) (eqb (sort t (r .0)) items-of-types) refl (r .2)
+  where
+    by : (n : ℕ) → List·Memᴰ n es → (b d : Bool) → eqb (sort t n) none || eqb (sort t n) declared ≡ b →
+        List·Memᴰ y (cond b [] (own-entry t n ∷ cond d (schema-entry t n ∷ []) [])) → Other t es y
+    by n i true d e m = absurd (List·Memᴰ·not-nil m)
+    by n i false true e m =
+        record { node = n; among = i; sorted = e; is = ⊎-elim (λ q. inl q) (λ m′. inr (List·Memᴰ·eq-of-singleton m′)) (List·Memᴰ·cases-cons m) }
+    by n i false false e m = record { node = n; among = i; sorted = e; is = inl (List·Memᴰ·eq-of-singleton m) }
+
+or-false : (a b : Bool) → a || b ≡ false → (a ≡ false) × (b ≡ false)
+or-false true b e = absurd (false≢true (sym e))
+or-false false b e = (refl, e)
+
+-- AN ENTRY whose key is none of an item in its schema: of what its node declares
+pub record OwnEntry (t : Table) (x : Entry) : Type 0 where
+  pub node : x .node < count t
+  pub declares : sort t (x .node) ≡ 0 → ⊥
+  pub key-is : x .key ≡ own-key t (x .node)
+
+mem-map : {A B : Type 0} (f : A → B) (xs : List A) {y : B} → List·Memᴰ y (map f xs) → (x : A) × List·Memᴰ x xs × (y ≡ f x)
+mem-map f [] m = absurd (List·Memᴰ·not-nil m)
+mem-map f (x ∷ xs) m =
+    ⊎-elim (λ q. (x, List·Memᴰ·head refl, q)) (λ m′. let r = mem-map f xs m′ in (r .0, List·Memᴰ·tail (r .1), r .2)) (List·Memᴰ·cases-cons m)
+
+module _ (t : Table) where
+  own-of : (n : ℕ) (x : Entry) → n < count t → (sort t n ≡ 0 → ⊥) → x ≡ own-entry t n → OwnEntry t x
+  own-of n x l z q = rw q (record { node = l; declares = z; key-is = refl })
+
+  schema-high : (n : ℕ) → items-of-schemas * radix * radix ≤ schema-entry t n .key
+  unfolding key-of
+  schema-high n = omega arith
+
+  pub entry-own : (x : Entry) → List·Memᴰ x (entries t) → x .key < items-of-schemas * radix * radix → OwnEntry t x
+  entry-own x m l =
+      ⊎-elim declared-own other-own (List·Memᴰ·append-cases (map (own-entry t) (declared-nodes t)) (rw (entries-split t) at m))
+    where
+      declared-own : List·Memᴰ x (map (own-entry t) (declared-nodes t)) → OwnEntry t x
+      declared-own m =
+          let r = mem-map (own-entry t) (declared-nodes t) m in
+          let k = keep-mem (is-declaration t) (nodes t) (r .1) in
+          own-of (r .0) x (upto-mem (count t) (r .0) (k .0)) (declared-some t (r .0) (k .1)) (r .2)
+
+      other-own : List·Memᴰ x (others-all t) → OwnEntry t x
+      other-own m =
+          let O = other-of t (nodes t) x m in
+          ⊎-elim
+          (λ q.
+          own-of (O .node) x (upto-mem (count t) (O .node) (O .among))
+          (eqb-false (sort t (O .node)) 0 (or-false (eqb (sort t (O .node)) none) (eqb (sort t (O .node)) declared) (O .sorted) .0)) q)
+          (λ q. absurd (omega (arith, l, schema-high (O .node), ap (λ (e : Entry). e .key) q))) (O .is)
+
 pub record Vertex (t : Table) (w k : ℕ) : Type 0 where
   pub node : k < count t
   pub declares : is-declaration t k ≡ true
@@ -295,23 +360,10 @@ module _ {t : Table} {keys nodes heads next : List ℕ} (P : Prepared t keys nod
       })
 
   other-node : (es : List ℕ) (y : Entry) → List·Memᴰ y (flatMap (other-entries t) es) → is-declaration t (y .node) ≡ false
-  unfolding other-entries
-  other-node es y m = let r = flat-mem (other-entries t) es m in by (r .0) (r .2)
-    where
-      at : (n : ℕ) (b d : Bool) → eqb (sort t n) none || eqb (sort t n) declared ≡ b → List·Memᴰ y (cond b [] (own-entry t n ∷ cond d (schema-entry t n ∷ []) [])) → is-declaration t (y .node) ≡ false
-      at n true d e m = absurd (List·Memᴰ·not-nil m)
-      at n false d e m = rw (node-is d m, ← declared-sort t n) (or-false (eqb (sort t n) none) (eqb (sort t n) declared) e)
-        where
-          or-false : (a b : Bool) → a || b ≡ false → b ≡ false
-          or-false true b e = absurd (false≢true (sym e))
-          or-false false b e = e
-
-          node-is : (d : Bool) → List·Memᴰ y (own-entry t n ∷ cond d (schema-entry t n ∷ []) []) → y .node ≡ n
-          node-is true m = ⊎-elim (λ q. ap node-of q) (λ m′. ap node-of (List·Memᴰ·eq-of-singleton m′)) (List·Memᴰ·cases-cons m)
-          node-is false m = ap node-of (List·Memᴰ·eq-of-singleton m)
-
-      by : (n : ℕ) → List·Memᴰ y (other-entries t n) → is-declaration t (y .node) ≡ false
-      by n m = at n (eqb (sort t n) none || eqb (sort t n) declared) (eqb (sort t n) items-of-types) refl m
+  other-node es y m =
+      let O = other-of t es y m in
+      rw (⊎-elim (λ q. ap node-of q) (λ q. ap node-of q) (O .is), ← declared-sort t (O .node))
+      (or-false (eqb (sort t (O .node)) none) (eqb (sort t (O .node)) declared) (O .sorted) .1)
 
   -- an entry whose node is a declaration is that declaration's vertex
   pub entry-vertex : (e : ℕ) → e < length keys → is-declaration t (getD nodes e 0) ≡ true → Vertex t e (getD nodes e 0)
@@ -331,8 +383,8 @@ module _ {t : Table} {keys nodes heads next : List ℕ} (P : Prepared t keys nod
           let q : e ≡ length (map node-of (map (own-entry t) (declared-nodes t))) + (e - total) = omega (arith, long) in
           ap (λ (i : ℕ). getD nodes i 0) q ∙ rw nodes-split (getD-append-add (map node-of (map (own-entry t) (declared-nodes t))) (map node-of (others-all t)) (e - total) 0)
           in
-          let m = node-mem (others-all t) (e - total) (omega (arith, sum)) in
-          rw (at ∙ m .2) (other-node (all-nodes t) (m .0) (m .1))
+          let m = entry-mem (others-all t) (e - total) (omega (arith, sum)) in
+          rw (at ∙ m .2 node-of) (other-node (all-nodes t) (m .0) (m .1))
 
 declarations-ascending : (t : Table) (h s : ℕ) → Ascending 0 (express.declarations t h s)
 unfolding express.declarations

@@ -13,7 +13,7 @@ use Rattle.express.specs.syntax.Tree.{Table, count, kind, role, is, is-declarat
 use Rattle.express.specs.names.Fault.{sort}
 use Rattle.express.proofs.kinds.Backward.{owner-step, schema-step, owner-end, schema-end}
 use Rattle.scopes.specs.Entries.{none, declared, items-of-types, radix, Entry, own-entry, schema-entry, other-entries, vertex, others-before}
-use Rattle.scopes.specs.Standing.{declares, sort-by, entry-count, Stands, Passed, Ended, Counted, More}
+use Rattle.scopes.specs.Standing.{sort-by, class-of, entry-count, Stands, Passed, Ended, Counted, MoreBy}
 use Rattle.scopes.specs.declared.Here.{Here}
 use Rattle.scopes.specs.declared.Counts.{Counts}
 use Rattle.scopes.proofs.WithKey.{keep-append}
@@ -130,9 +130,11 @@ stands-step {t} {i} {after} {h} l S P =
       other-is = omega (arith, P .other-is, S .other-is, others-step t i);
     }
 
-pub counted-step : {t : Table} {i : ℕ} {c c′ : Counts} → Counted t i c → More (kind t i) (role t i) c c′ → Counted t (i + 1) c′
+pub counted-step :
+    {t : Table} {i class : ℕ} {c c′ : Counts} → Counted t i c → class ≡ class-of (sort-by (kind t i) (role t i)) → MoreBy class c c′ → Counted t (i + 1) c′
 unfolding sort
-counted-step {t} {i} C M =
+counted-step {t} {i} C e B =
+    let M = B .is (kind t i) (role t i) e in
     record {
       declarations-is = omega (arith, C .declarations-is, M .declarations-is, vertex-step t i);
       others-is = omega (arith, C .others-is, M .others-is, others-step t i);

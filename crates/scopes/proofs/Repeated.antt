@@ -24,7 +24,7 @@ use Rattle.scopes.proofs.Sorting.{key-some, sort-below, scope-below}
 use Rattle.scopes.proofs.WithKey.{keep-same, by-sort, matches}
 use Rattle.scopes.proofs.Numbering.{prepared-numbers, number-key, number-node, number-below}
 
-map-mem : (f : ℕ → ℕ) (xs : List ℕ) {x : ℕ} → List·Memᴰ x xs → List·Memᴰ (f x) (map f xs)
+pub map-mem : (f : ℕ → ℕ) (xs : List ℕ) {x : ℕ} → List·Memᴰ x xs → List·Memᴰ (f x) (map f xs)
 map-mem f [] m = absurd (List·Memᴰ·not-nil m)
 map-mem f (y ∷ ys) m = ⊎-elim (λ q. List·Memᴰ·head (ap f q)) (λ m′. List·Memᴰ·tail (map-mem f ys m′)) (List·Memᴰ·cases-cons m)
 
@@ -66,17 +66,17 @@ behind : {m n : ℕ} {ms : List ℕ} → Ascending 0 (m ∷ ms) → List·Memᴰ
 behind {m} {n} (cons a r) i = ascending-from r n i
 
 module _ {t : Table} {keys nodes heads′ next : List ℕ} (P : Prepared t keys nodes heads′ next) (n : ℕ) (l : n < count t) (z : sort t n ≡ 0 → ⊥) where
-  abbrev key : ℕ
+  abbrev pub key : ℕ
   key = own-key t n
 
-  some : 0 < key
+  pub some : 0 < key
   some = key-some (sort t n) (scope t n) (symbol t n) (by (sort t n) refl)
     where
       by : (s : ℕ) → sort t n ≡ s → 0 < s
       by zero e = absurd (z e)
       by (suc s) e = omega arith
 
-  alike-nodes : map (λ (e : ℕ). getD nodes e 0) (numbers keys key) ≡ keep (alike t n) (span 0 (count t))
+  pub alike-nodes : map (λ (e : ℕ). getD nodes e 0) (numbers keys key) ≡ keep (alike t n) (span 0 (count t))
   alike-nodes =
       prepared-numbers P key some
       ∙ by-sort t (P .consistent) (sort t n) (scope t n) (symbol t n) (omega (arith, scope-below t n (omega arith), P .consistent .few)) (P .consistent .small n l)
@@ -86,10 +86,10 @@ module _ {t : Table} {keys nodes heads′ next : List ℕ} (P : Prepared t keys 
   itself : alike t n n ≡ true
   itself = rw (eq-eqb (symbol t n) (symbol t n) refl, eq-eqb (sort t n) (sort t n) refl, eq-eqb (scope t n) (scope t n) refl)
 
-  abbrev number : ℕ
+  abbrev pub number : ℕ
   number = entry-number t n
 
-  has-key : has keys key number ≡ true
+  pub has-key : has keys key number ≡ true
   has-key = rw (ne-eqb key 0 (λ q. omega (arith, q, some)), eq-eqb (getD keys number 0) key (number-key t n l P z))
 
   -- the first entry with the key, and the first node that is alike

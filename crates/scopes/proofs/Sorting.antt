@@ -10,7 +10,7 @@ use Rattle.relations.proofs.Select.{and-fst, and-snd, and-both, or-cases, untru
 use Rattle.express.specs.syntax.NodeKind.{name, enumeration-item, constant, type, attribute-name, derived-attribute, rule, entity, schema, labelled, supertype-name}
 use Rattle.express.specs.syntax.Tree.{Table, count, kind, role, is, is-declaration, is-scope-member, owner, schema-of}
 use Rattle.express.specs.names.Fault.{sort, scope}
-use Rattle.scopes.specs.Entries.{declared, items-of-types, members, items-of-schemas, radix, key-of}
+use Rattle.scopes.specs.Entries.{schemas, declared, items-of-types, members, items-of-schemas, radix, key-of}
 use Rattle.scopes.specs.Standing.{declares, is-member, sort-by}
 
 pub same-test : (a b : Bool) → (a ≡ true → b ≡ true) → (b ≡ true → a ≡ true) → a ≡ b
@@ -48,6 +48,14 @@ key-some a h s l = omega arith
 
 abbrev choice : Bool → Bool → Bool → Bool → Bool → ℕ
 choice a b c d e = cond a 1 (cond b 2 (cond c 3 (cond d 4 (cond e 5 0))))
+
+choice-one : (a b c d e : Bool) → eqb (choice a b c d e) 1 ≡ a
+choice-one true b c d e = refl
+choice-one false true c d e = refl
+choice-one false false true d e = refl
+choice-one false false false true e = refl
+choice-one false false false false true = refl
+choice-one false false false false false = refl
 
 choice-two : (a b c d e : Bool) → (b ≡ true → a ≡ false) → eqb (choice a b c d e) 2 ≡ b
 choice-two true true c d e h = absurd (false≢true (sym (h refl)))
@@ -87,19 +95,6 @@ choice-small false false false true e = omega arith
 choice-small false false false false true = omega arith
 choice-small false false false false false = omega arith
 
--- as the tests of the code come, one after the other
-chosen-two : (a b c d e : Bool) → a ≡ false → b ≡ true → 2 ≡ choice a b c d e
-chosen-two a b c d e p q = rw (p, q)
-
-chosen-three : (a b c d e : Bool) → a ≡ false → b ≡ false → c ≡ true → 3 ≡ choice a b c d e
-chosen-three a b c d e p q r = rw (p, q, r)
-
-chosen-four : (a b c d e : Bool) → a ≡ false → b ≡ false → c ≡ false → d ≡ true → 4 ≡ choice a b c d e
-chosen-four a b c d e p q r s = rw (p, q, r, s)
-
-chosen-five : (a b c d e x : Bool) → a ≡ false → b ≡ false → c ≡ false → d ≡ false → e ≡ x → cond x 5 0 ≡ choice a b c d e
-chosen-five a b c d e x p q r s u = rw (p, q, r, s, u)
-
 module _ (k r : ℕ) where
   declares-kind : declares k ≡ true → (k ≡ constant) ⊎ (k ≡ type) ⊎ (k ≡ entity)
   declares-kind e =
@@ -115,6 +110,9 @@ module _ (k r : ℕ) where
 
   abbrev is-super : Bool
   is-super = eqb k name && eqb r supertype-name
+
+  pub sort-schema : eqb (sort-by k r) schemas ≡ eqb k schema
+  sort-schema = choice-one is-schema (declares k) is-item (is-member k r) is-super
 
   pub sort-declares : eqb (sort-by k r) declared ≡ declares k
   sort-declares =
@@ -136,20 +134,6 @@ module _ (k r : ℕ) where
       (λ e.
       ⊎-elim (λ (q : k ≡ attribute-name). (rw q, rw q, rw q))
       (λ s. ⊎-elim (λ (q : k ≡ derived-attribute). (rw q, rw q, rw q)) (λ (q : k ≡ rule). (rw q, rw q, rw q)) s) (member-kind e))
-
-  pub is-two : eqb k schema ≡ false → declares k ≡ true → 2 ≡ sort-by k r
-  is-two = chosen-two is-schema (declares k) is-item (is-member k r) is-super
-
-  pub is-three : eqb k schema ≡ false → declares k ≡ false → eqb k enumeration-item ≡ true → 3 ≡ sort-by k r
-  is-three = chosen-three is-schema (declares k) is-item (is-member k r) is-super
-
-  pub is-four : eqb k schema ≡ false → declares k ≡ false → eqb k enumeration-item ≡ false → is-member k r ≡ true → 4 ≡ sort-by k r
-  is-four = chosen-four is-schema (declares k) is-item (is-member k r) is-super
-
-  pub is-five :
-      (x : Bool) → eqb k schema ≡ false → declares k ≡ false → eqb k enumeration-item ≡ false → is-member k r ≡ false →
-      eqb k name && eqb r supertype-name ≡ x → cond x 5 0 ≡ sort-by k r
-  is-five x = chosen-five is-schema (declares k) is-item (is-member k r) is-super x
 
   pub sort-small : sort-by k r ≤ 5
   sort-small = choice-small is-schema (declares k) is-item (is-member k r) is-super

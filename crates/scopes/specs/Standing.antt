@@ -2,9 +2,10 @@
 use mathlib.Core.Path.{_≡_}
 use mathlib.Core.Bool.{Bool, cond, _&&_, _||_}
 use mathlib.Core.List.{List, []}
-use Prim.Native.Nat.{ℕ, _+_, _-_, _<_}
+use Prim.Native.Nat.{ℕ, _+_, _*_, _-_, _/_, _%_, _<_}
 use lib.Dec.{eqb}
 use lib.ListN.{length}
+use Rattle.columns.specs.Column.{tabulated}
 use Rattle.express.specs.syntax.NodeKind.{name, enumeration-item, constant, type, attribute-name, derived-attribute, rule, entity, schema, labelled, supertype-name}
 use Rattle.express.specs.syntax.Tree.{Table, count, owner, schema-of}
 use Rattle.scopes.specs.Entries.{none, schemas, declared, items-of-types, members, supertypes, radix, vertex, others-before}
@@ -35,6 +36,19 @@ sort-by kind role =
 abbrev pub entry-count : ℕ → ℕ
 entry-count s = cond (eqb s none || eqb s declared) 0 (cond (eqb s items-of-types) 2 1)
 
+-- ---- classes: a sort and the number of its entries behind the declarations, as one number
+
+abbrev pub class-of : ℕ → ℕ
+class-of s = s + 8 * entry-count s
+
+-- the letter that stands for class 0
+abbrev pub first-letter : ℕ
+first-letter = 64
+
+-- by kind and role, as letters: 32 rows of 8; a row's last entry is that of all roles from 7 on
+unfoldable pub class-table : List ℕ
+class-table = tabulated (λ i. first-letter + class-of (sort-by (i / 8) (i % 8))) 0 256
+
 -- ---- at a node
 
 -- its owner, its schema, and how many entries of each part come before its own
@@ -50,6 +64,10 @@ pub record Passed (kind role n : ℕ) (after h : Here) : Type 0 where
   pub schema-is : h .schema ≡ cond (eqb kind schema) n (after .schema)
   pub vertex-is : h .vertex ≡ after .vertex - cond (declares kind) 1 0
   pub other-is : h .other ≡ after .other - entry-count (sort-by kind role)
+
+-- at a node of a class, whatever kind and role it has
+pub record PassedBy (class n : ℕ) (after h : Here) : Type 0 where
+  pub is : (kind role : ℕ) → class ≡ class-of (sort-by kind role) → Passed kind role n after h
 
 -- past the last of n nodes
 pub record Ended (n : ℕ) (c : Counts) (h : Here) : Type 0 where
@@ -67,6 +85,9 @@ pub record Counted (t : Table) (n : ℕ) (c : Counts) : Type 0 where
 pub record More (kind role : ℕ) (before c : Counts) : Type 0 where
   pub declarations-is : c .declarations ≡ before .declarations + cond (declares kind) 1 0
   pub others-is : c .others ≡ before .others + entry-count (sort-by kind role)
+
+pub record MoreBy (class : ℕ) (before c : Counts) : Type 0 where
+  pub is : (kind role : ℕ) → class ≡ class-of (sort-by kind role) → More kind role before c
 
 -- of all nodes, whatever the tokens are; a file has fewer nodes than the radix
 pub record Counting (kinds roles : List ℕ) (c : Counts) : Type 0 where

@@ -138,21 +138,21 @@ fn fill(
     ensures { λ _. ⌜ Filled (λ (e : Entry). e .key) (table-of (now (kinds .entry)) (now (tokens .entry)) (now (roles .entry)) (now (symbols .entry))) (now (keys .entry)) (now (keys .exit)) ⌝ }
     ensures { λ _. ⌜ Filled (λ (e : Entry). e .node) (table-of (now (kinds .entry)) (now (tokens .entry)) (now (roles .entry)) (now (symbols .entry))) (now (nodes .entry)) (now (nodes .exit)) ⌝ }
 {
+    let classes = crate::CLASSES;
     let declarations = counts.declarations;
     let mut here = crate::ended(kinds.len(), counts);
     let mut i = kinds.len();
     while 0 < i {
         i -= 1;
-        let kind = kinds[i];
-        let role = roles[i];
+        let class = crate::class(&classes, kinds[i], roles[i]);
         let k = index(tokens[i]);
-        here = crate::passed(kind, role, i, here);
+        here = crate::passed(class, i, here);
         enter_node(
             keys,
             nodes,
             declarations + here.other,
             here,
-            crate::sort(kind, role),
+            crate::sort_in(class),
             symbols[k],
             i,
         );

@@ -3,12 +3,10 @@ pub mod dictionary;
 pub mod look_ups;
 
 ghost use mathlib.Core.Path.{_≡_};
-ghost use mathlib.Core.Bool.{cond, _&&_, _||_};
-ghost use Prim.Native.Nat.{_-_, _*_, _<_};
-ghost use lib.Dec.{eqb};
+ghost use mathlib.Core.Bool.{cond};
+ghost use Prim.Native.Nat.{_*_, _/_, _%_, _<_};
 ghost use lib.ListN.{getD};
-ghost use Rattle.express.specs.syntax.NodeKind.{name, supertype-name};
-ghost use Rattle.scopes.specs.Standing.{declares, is-member, sort-by, entry-count, Passed, Ended, More, Counting};
+ghost use Rattle.scopes.specs.Standing.{declares, is-member, sort-by, class-of, class-table, PassedBy, Ended, MoreBy, Counting};
 ghost use Rattle.scopes.specs.Entries.{radix};
 ghost use Rattle.scopes.specs.Range.{DeclarationAt};
 
@@ -74,52 +72,74 @@ pub fn is_scope_member(kind: u8, role: u32) -> bool
     false
 }
 
-// Is it a name in a list of supertypes?
-fn is_supertype(kind: u8, role: u32) -> bool
-    ensures { λ r. ⌜ r ≡ (eqb kind name && eqb role supertype-name) ⌝ }
-{
-    if kind == codes::nodes::NAME {
-        return role == codes::roles::SUPERTYPE_NAME;
-    }
-    false
-}
+// What a node declares: a row for each kind of node, a column for each role, the last one for all roles from 7 on. A class is a sort,
+// and 8 for each entry behind the declarations; it stands here as a letter, that of class 0 being @. So @ is nothing, B a constant, type or
+// entity, I a schema, L an attribute or a rule with a label, M a supertype in a list, and S an item: one entry in its type, one in its schema.
+pub(crate) const CLASSES: [u8; 256] = *b"\
+    @@@@@@@@\
+    @@@@@@@@\
+    @@@@@@@@\
+    @@@@@@@@\
+    @@@@@@@@\
+    @@@@@@@@\
+    @@@@@M@@\
+    @@@@@@@@\
+    @@@@@@@@\
+    @@@@@@@@\
+    @@@@@@@@\
+    @@@@@@@@\
+    @@@@@@@@\
+    @@@@@@@@\
+    SSSSSSSS\
+    @@@@@@@@\
+    @@@@@@@@\
+    BBBBBBBB\
+    BBBBBBBB\
+    LLLLLLLL\
+    @@@@@@@@\
+    @@@@@@@@\
+    LLLLLLLL\
+    @L@@@@@@\
+    BBBBBBBB\
+    IIIIIIII\
+    @@@@@@@@\
+    @@@@@@@@\
+    @@@@@@@@\
+    @@@@@@@@\
+    @@@@@@@@\
+    @@@@@@@@";
 
-// What a node declares.
-pub fn sort(kind: u8, role: u32) -> u64
-    ensures { λ r. ⌜ r ≡ sort-by kind role ⌝ }
-{
-    if kind == codes::nodes::SCHEMA {
-        return SCHEMAS;
-    }
-    if is_declaration(kind) {
-        return DECLARATIONS;
-    }
-    if kind == codes::nodes::ITEM {
-        return ITEMS_OF_TYPES;
-    }
-    if is_scope_member(kind, role) {
-        return MEMBERS;
-    }
-    if is_supertype(kind, role) {
-        return SUPERTYPES;
-    }
-    NO_SORT
-}
+// The kinds that have a row, and the columns of a row.
+const ROWS: u8 = 32;
 
-// How many entries it has behind the declarations: an item has one in its type and one in its schema.
-fn other_entries(sort: u64) -> usize
-    ensures { λ r. ⌜ r ≡ entry-count sort ⌝ }
+const COLUMNS: usize = 8;
+
+// In a class, the sort is what is below this number.
+const SORTS: u8 = 8;
+
+// The sort of a node and how many entries it has behind the declarations, as one number.
+pub(crate) fn class(classes: &[u8; 256], kind: u8, role: u32) -> u8
+    requires { ⌜ now classes ≡ class-table ⌝ }
+    ensures { λ r. ⌜ r ≡ class-of (sort-by kind role) ⌝ }
 {
-    if sort == NO_SORT {
+    if ROWS <= kind {
         return 0;
     }
-    if sort == DECLARATIONS {
-        return 0;
-    }
-    if sort == ITEMS_OF_TYPES {
-        return 2;
-    }
-    1
+    let column = columns::shorter(columns::index(role), COLUMNS - 1);
+    classes[columns::byte_index(kind) * COLUMNS + column] - b'@'
+}
+
+// The sort in a class.
+pub(crate) fn sort_in(class: u8) -> u64
+    ensures { λ r. ⌜ r ≡ class % 8 ⌝ }
+{
+    (class % SORTS) as u64
+}
+
+fn entries_in(class: u8) -> usize
+    ensures { λ r. ⌜ r ≡ class / 8 ⌝ }
+{
+    (class / SORTS) as usize
 }
 
 fn choose(test: bool, yes: usize, no: usize) -> usize
@@ -132,7 +152,7 @@ fn choose(test: bool, yes: usize, no: usize) -> usize
 }
 
 // What is known past the last node.
-pub fn ended(nodes: usize, counts: Counts) -> Here
+pub(crate) fn ended(nodes: usize, counts: Counts) -> Here
     ensures { λ r. ⌜ Ended nodes counts r ⌝ }
 {
     Here {
@@ -143,15 +163,15 @@ pub fn ended(nodes: usize, counts: Counts) -> Here
     }
 }
 
-// What is known at node i, from its kind and its role and from what is known at the next node.
-pub fn passed(kind: u8, role: u32, i: usize, after: Here) -> Here
-    ensures { λ r. ⌜ Passed kind role i after r ⌝ }
+// What is known at node i, from its class and from what is known at the next node.
+pub(crate) fn passed(class: u8, i: usize, after: Here) -> Here
+    ensures { λ r. ⌜ PassedBy class i after r ⌝ }
 {
-    let declared = is_declaration(kind);
-    let owner = choose(declared, i, after.owner);
-    let schema = choose(kind == codes::nodes::SCHEMA, i, after.schema);
-    let vertex = columns::saturating_sub(after.vertex, choose(declared, 1, 0));
-    let other = columns::saturating_sub(after.other, other_entries(sort(kind, role)));
+    let sort = sort_in(class);
+    let owner = choose(sort == DECLARATIONS, i, after.owner);
+    let schema = choose(sort == SCHEMAS, i, after.schema);
+    let vertex = columns::saturating_sub(after.vertex, choose(sort == DECLARATIONS, 1, 0));
+    let other = columns::saturating_sub(after.other, entries_in(class));
     Here {
         owner,
         schema,
@@ -203,19 +223,23 @@ pub fn declaration(keys: &[u64], nodes: &[u32], vertex: usize) -> Extent
     let schema = (at64(keys, vertex) / RADIX % RADIX) as usize;
     let node = columns::index(at(nodes, vertex));
     if vertex == 0 {
-        return Extent { schema, from: 0, node };
+        return Extent {
+            schema,
+            from: 0,
+            node,
+        };
     }
     let from = columns::index(at(nodes, vertex - 1)) + 1;
     Extent { schema, from, node }
 }
 
 // One more node, before which there are so many entries.
-fn more(kind: u8, role: u32, before: Counts) -> Counts
+fn more(class: u8, before: Counts) -> Counts
     requires { ⌜ (before .declarations < 8 * radix) × (before .others < 8 * radix) ⌝ }
-    ensures { λ r. ⌜ More kind role before r ⌝ }
+    ensures { λ r. ⌜ MoreBy class before r ⌝ }
 {
-    let declarations = before.declarations + choose(is_declaration(kind), 1, 0);
-    let others = before.others + other_entries(sort(kind, role));
+    let declarations = before.declarations + choose(sort_in(class) == DECLARATIONS, 1, 0);
+    let others = before.others + entries_in(class);
     Counts {
         declarations,
         others,
@@ -233,9 +257,10 @@ pub fn count_entries(kinds: &[u8], roles: &[u32]) -> Counts
     if RADIX <= kinds.len() as u64 {
         return so_far;
     }
+    let classes = CLASSES;
     let mut i = 0;
     while i < kinds.len() {
-        so_far = more(kinds[i], at(roles, i), so_far);
+        so_far = more(class(&classes, kinds[i], at(roles, i)), so_far);
         i += 1;
     }
     so_far

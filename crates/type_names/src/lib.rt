@@ -1,32 +1,47 @@
 // Replies 10 and 11 of the names of types and supertypes; what each of them is bound to, and the graph of the declarations
 // by what they rename, select or are subtypes of.
+ghost use mathlib.Core.Path.{_≡_};
+ghost use Prim.Native.Nat.{_<_};
+ghost use Rattle.type_names.specs.Pass.{Stored};
+ghost use Rattle.type_names.specs.TypeName.{is-type-name-by, suits-by, makes-arc, target-by, Unbound, BoundTo, TypeNameMeant, FoundTypeName};
+ghost use Rattle.type_names.specs.Binding.{BindsRange, BindsTypeNames};
 use columns::index;
 use columns::number;
 use columns::put32;
 use faults::Fault;
-use scopes::Here;
 use scopes::at;
 use scopes::at8;
 use scopes::look_ups::Meaning;
 use scopes::look_ups::declaration_meant;
 
-// What is found of a name: its fault, its binding (one more than a node, or 0), and one more than the vertex that is meant.
+// What is found of a node: its fault, its binding (one more than a node, or 0), and the target of its arc (one more than a
+// vertex, or 0).
 pub struct Finding {
     pub fault: Fault,
     pub binding: u32,
-    pub vertex: u32,
+    pub target: u32,
 }
 
-fn nothing_found(fault: Fault) -> Finding {
-    Finding {
-        fault,
-        binding: 0,
-        vertex: 0,
-    }
+// So many places are left before the arcs, and this is the fault with the smallest place.
+pub struct Progress {
+    pub arcs: usize,
+    pub least: Fault,
+}
+
+// Stores what is found of a node, before what is found of the nodes behind it.
+pub fn store(bound: &mut [u32], to: &mut [u32], node: usize, found: Finding, before: Progress) -> Progress
+    ensures { λ r. ⌜ Stored node found before (now (bound .entry)) (now (to .entry)) r (now (bound .exit)) (now (to .exit)) ⌝ }
+{
+    put32(bound, node, found.binding);
+    let arcs = dependencies::add_arc(to, before.arcs, found.target);
+    let least = faults::sooner(found.fault, before.least);
+    Progress { arcs, least }
 }
 
 // May a name in a role mean a declaration of a kind?
-fn suits(role: u32, kind: u8) -> bool {
+fn suits(role: u32, kind: u8) -> bool
+    ensures { λ r. ⌜ r ≡ suits-by role kind ⌝ }
+{
     if role == codes::roles::RENAMED_TYPE {
         return kind == codes::nodes::TYPE;
     }
@@ -40,7 +55,9 @@ fn suits(role: u32, kind: u8) -> bool {
 }
 
 // Does a name in this role make an arc?
-fn makes_arc(role: u32) -> bool {
+fn makes_arc(role: u32) -> bool
+    ensures { λ r. ⌜ r ≡ makes-arc role ⌝ }
+{
     if role == codes::roles::RENAMED_TYPE {
         return true;
     }
@@ -50,12 +67,52 @@ fn makes_arc(role: u32) -> bool {
     role == codes::roles::SUPERTYPE_NAME
 }
 
+// The target of the arc that a name makes: one more than a vertex, or 0.
+fn target(role: u32, vertex: u32) -> u32
+    ensures { λ r. ⌜ r ≡ target-by role vertex ⌝ }
+{
+    if makes_arc(role) {
+        return vertex;
+    }
+    0
+}
+
 // Is it the name of a type or of a supertype?
-pub fn is_type_name(kind: u8, role: u32) -> bool {
+pub fn is_type_name(kind: u8, role: u32) -> bool
+    ensures { λ r. ⌜ r ≡ is-type-name-by kind role ⌝ }
+{
     if kind == codes::nodes::NAME {
         return role != codes::roles::IN_EXPRESSION;
     }
     false
+}
+
+// A name that means no declaration, or several.
+fn unbound(number: u8, place: u32) -> Finding
+    ensures { λ r. ⌜ Unbound number place r ⌝ }
+{
+    let fault = faults::fault_at(number, place);
+    Finding {
+        fault,
+        binding: 0,
+        target: 0,
+    }
+}
+
+// A name in a role that means one declaration, by its vertex.
+fn bound_to(kinds: &[u8], nodes: &[u32], role: u32, vertex: usize, place: u32) -> Finding
+    requires { ⌜ vertex < 18446744073709551615 ⌝ }
+    ensures { λ r. ⌜ BoundTo (now (kinds .entry)) (now (nodes .entry)) role vertex place r ⌝ }
+{
+    let node = index(at(nodes, vertex));
+    let fault = faults::wrong_sort(suits(role, at8(kinds, node)), place);
+    let binding = number(node + 1);
+    let target = target(role, number(vertex + 1));
+    Finding {
+        fault,
+        binding,
+        target,
+    }
 }
 
 // A name of a type, looked up in its schema.
@@ -69,50 +126,65 @@ fn type_name(
     schema: usize,
     symbol: u32,
     place: u32,
-) -> Finding {
+) -> Finding
+    ensures { λ r. ⌜ TypeNameMeant (now (kinds .entry)) (now (keys .entry)) (now (nodes .entry)) (now (heads .entry)) (now (next .entry)) role schema symbol place r ⌝ }
+{
     let meaning = declaration_meant(keys, heads, next, schema, symbol);
-    let Meaning::One(e) = meaning else {
-        return nothing_found(faults::judged(meaning, false, place));
-    };
-    let node = index(at(nodes, e));
-    let right = suits(role, at8(kinds, node));
-    Finding {
-        fault: faults::judged(meaning, right, place),
-        binding: number(node + 1),
-        vertex: number(e + 1),
+    match meaning {
+        Meaning::Nothing => unbound(codes::replies::NOT_FOUND, place),
+        Meaning::One(vertex) => bound_to(kinds, nodes, role, vertex, place),
+        Meaning::Several => unbound(codes::replies::AMBIGUOUS, place),
     }
-}
-
-// The target of the arc that a name makes: one more than a vertex, or 0.
-fn target(role: u32, vertex: u32) -> u32 {
-    if makes_arc(role) {
-        return vertex;
-    }
-    0
 }
 
 // A node of a declaration that stands in a schema.
 fn node_finding(
     kinds: &[u8],
     tokens: &[u32],
+    roles: &[u32],
     symbols: &[u32],
     starts: &[u32],
     keys: &[u64],
     nodes: &[u32],
     heads: &[u32],
     next: &[u32],
-    role: u32,
     schema: usize,
+<<<<<<< HEAD
     i: usize,
 ) -> Finding {
     let token = index(at(tokens, i));
-    type_name(kinds, keys, nodes, heads, next, role, schema, at(symbols, token), at(starts, token))
+=======
+    node: usize,
+) -> Finding
+    ensures { λ r. ⌜ FoundTypeName (now (kinds .entry)) (now (tokens .entry)) (now (roles .entry)) (now (symbols .entry)) (now (starts .entry))
+        (now (keys .entry)) (now (nodes .entry)) (now (heads .entry)) (now (next .entry)) schema node r ⌝ }
+{
+    let token = index(at(tokens, node));
+>>>>>>> w-types
+    type_name(
+        kinds,
+        keys,
+        nodes,
+        heads,
+        next,
+<<<<<<< HEAD
+        role,
+=======
+        at(roles, node),
+>>>>>>> w-types
+        schema,
+        at(symbols, token),
+        at(starts, token),
+    )
+<<<<<<< HEAD
 }
 
 // So many arcs are stored, and this is the fault with the smallest place.
 pub struct Progress {
     pub arcs: usize,
     pub least: Fault,
+=======
+>>>>>>> w-types
 }
 
 // Binds the names of types among the nodes of one declaration, from the last to the first.
@@ -129,24 +201,53 @@ fn bind_range(
     schema: usize,
     lo: usize,
     hi: usize,
-    so_far: Progress,
+    before: Progress,
     bound: &mut [u32],
     to: &mut [u32],
-) -> Progress {
-    let mut arcs = so_far.arcs;
-    let mut least = so_far.least;
+) -> Progress
+    ensures { λ r. ⌜ BindsRange (now (kinds .entry)) (now (tokens .entry)) (now (roles .entry)) (now (symbols .entry)) (now (starts .entry))
+        (now (keys .entry)) (now (nodes .entry)) (now (heads .entry)) (now (next .entry)) schema lo hi
+        before (now (bound .entry)) (now (to .entry)) lo r (now (bound .exit)) (now (to .exit)) ⌝ }
+{
+    let mut so_far = before;
     let mut i = hi;
     while lo < i {
         i -= 1;
         if is_type_name(at8(kinds, i), at(roles, i)) {
+<<<<<<< HEAD
             let role = at(roles, i);
-            let found = node_finding(kinds, tokens, symbols, starts, keys, nodes, heads, next, role, schema, i);
+            let found = node_finding(
+                kinds,
+                tokens,
+=======
+            let found = node_finding(
+                kinds,
+                tokens,
+                roles,
+>>>>>>> w-types
+                symbols,
+                starts,
+                keys,
+                nodes,
+                heads,
+                next,
+<<<<<<< HEAD
+                role,
+                schema,
+                i,
+            );
             put32(bound, i, found.binding);
             arcs = dependencies::add_arc(to, arcs, target(role, found.vertex));
             least = faults::sooner(found.fault, least);
+=======
+                schema,
+                i,
+            );
+            so_far = store(bound, to, i, found, so_far);
+>>>>>>> w-types
         }
     }
-    Progress { arcs, least }
+    so_far
 }
 
 // Binds the names of types and stores the arcs; the fault with the smallest place.
@@ -163,15 +264,38 @@ pub fn bind_type_names(
     bound: &mut [u32],
     first: &mut [u32],
     to: &mut [u32],
-) -> Fault {
+) -> Fault
+    ensures { λ r. ⌜ BindsTypeNames (now (kinds .entry)) (now (tokens .entry)) (now (roles .entry)) (now (symbols .entry)) (now (starts .entry))
+        (now (keys .entry)) (now (nodes .entry)) (now (heads .entry)) (now (next .entry))
+        (now (bound .entry)) (now (first .entry)) (now (to .entry)) r (now (bound .exit)) (now (first .exit)) (now (to .exit)) ⌝ }
+{
     columns::clear32(bound, 0);
-    let mut so_far = Progress { arcs: to.len(), least: faults::fine() };
+    let mut so_far = Progress {
+        arcs: to.len(),
+        least: faults::fine(),
+    };
     let mut v = columns::saturating_sub(first.len(), 1);
     while 0 < v {
         put32(first, v, number(so_far.arcs));
         v -= 1;
         let d = scopes::declaration(keys, nodes, v);
-        so_far = bind_range(kinds, tokens, roles, symbols, starts, keys, nodes, heads, next, d.schema, d.from, d.node, so_far, bound, to);
+        so_far = bind_range(
+            kinds,
+            tokens,
+            roles,
+            symbols,
+            starts,
+            keys,
+            nodes,
+            heads,
+            next,
+            d.schema,
+            d.from,
+            d.node,
+            so_far,
+            bound,
+            to,
+        );
     }
     put32(first, 0, number(so_far.arcs));
     so_far.least

@@ -33,7 +33,8 @@ add-from c = search needs
 
 returns-2 : tie.Need-returns-2
 returns-2 c =
-    declaration-at (cc (c .before .before .before .index .ensures, c .before .before .before .before .at .ensures)) (rw (ne-eqb _ _ (c .before .before .if1 .left)) (cc (c .index2 .ensures, c .before .at2 .ensures)))
+    declaration-at (cc (c .before .before .before .index .ensures, c .before .before .before .before .at .ensures)) (rw (ne-eqb _ _ (c .before .before .if1 .left))
+    (cc (c .index2 .ensures, c .before .at2 .ensures)))
     (cc (c .before .before .before .before .before .at64 .ensures))
 
 pub declaration-spec : {M : Type 1} → statement M

@@ -2,42 +2,36 @@
 use borrow.Author.Needs.{needs}
 use Rattle.scopes.proofs.more.Statement.{statement}
 use Rattle.scopes.proofs.more.Tie as tie
-use Rattle.scopes.proofs.Passing.{one-or-none, entry-count-small}
+use Rattle.scopes.proofs.Classes.{more-by}
+use Rattle.scopes.proofs.Passing.{one-or-none}
 use native.Mathlib.Omega.{arith}
+use lib.Dec.{eqb}
 
-is-declaration-requires : tie.Need-is-declaration-requires
-is-declaration-requires c κs = search needs
+sort-in-requires : tie.Need-sort-in-requires
+sort-in-requires c κs = search needs
 
 choose-requires : tie.Need-choose-requires
 choose-requires c κs = search needs
 
 add-declarations : tie.Need-add-declarations
-add-declarations c = omega (arith, c .before .before .before .pre .0, c .before .choose .ensures, one-or-none (c .before .before .is-declaration .result))
+add-declarations c = omega (arith, c .before .before .before .pre .0, c .before .choose .ensures, one-or-none (eqb (c .before .before .sort-in .result) 2))
 
-sort-requires : tie.Need-sort-requires
-sort-requires c κs = search needs
-
-other-entries-requires : tie.Need-other-entries-requires
-other-entries-requires c κs = search needs
+entries-in-requires : tie.Need-entries-in-requires
+entries-in-requires c κs = search needs
 
 add-others : tie.Need-add-others
-add-others c = omega (arith, c .before .before .before .before .before .before .pre .1, c .before .other-entries .ensures, entry-count-small (c .before .before .sort .result))
+add-others c = omega (arith, c .before .before .before .before .before .pre .1, c .before .entries-in .ensures, c .before .before .before .before .before .fits .class)
 
 returns : tie.Need-returns
-returns c =
-    record {
-      declarations-is = cc (c .before .before .before .before .choose .ensures, c .before .before .before .before .before .is-declaration .ensures);
-      others-is = cc (c .before .other-entries .ensures, c .before .before .sort .ensures);
-    }
+returns c = more-by (cc (c .before .before .before .choose .ensures, c .before .before .before .before .sort-in .ensures)) (cc (c .before .entries-in .ensures))
 
 pub more-spec : {M : Type 1} → statement M
 more-spec =
     tie.close
     (tie.spec
-    is-declaration-requires
+    sort-in-requires
     choose-requires
     add-declarations
-    sort-requires
-    other-entries-requires
+    entries-in-requires
     add-others
     returns)

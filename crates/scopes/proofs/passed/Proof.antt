@@ -2,9 +2,10 @@
 use borrow.Author.Needs.{needs}
 use Rattle.scopes.proofs.passed.Statement.{statement}
 use Rattle.scopes.proofs.passed.Tie as tie
+use Rattle.scopes.proofs.Classes.{passed-by}
 
-is-declaration-requires : tie.Need-is-declaration-requires
-is-declaration-requires c κs = search needs
+sort-in-requires : tie.Need-sort-in-requires
+sort-in-requires c κs = search needs
 
 choose-requires : tie.Need-choose-requires
 choose-requires c κs = search needs
@@ -18,47 +19,35 @@ choose-requires-3 c κs = search needs
 saturating-sub-requires : tie.Need-saturating-sub-requires
 saturating-sub-requires c κs = search needs
 
-sort-requires : tie.Need-sort-requires
-sort-requires c κs = search needs
-
-other-entries-requires : tie.Need-other-entries-requires
-other-entries-requires c κs = search needs
+entries-in-requires : tie.Need-entries-in-requires
+entries-in-requires c κs = search needs
 
 saturating-sub-requires-2 : tie.Need-saturating-sub-requires-2
 saturating-sub-requires-2 c κs = search needs
 
 returns : tie.Need-returns
 returns c =
-    record {
-      owner-is = cc (
-        c .before .before .before .before .before .before .choose .ensures,
-        c .before .before .before .before .before .before .before
-            .is-declaration .ensures,
-      );
-      schema-is = c .before .before .before .before .before .choose2 .ensures;
-      vertex-is = cc (
-        c .before .before .before .saturating-sub .ensures,
-        c .before .before .before .before .choose3 .ensures,
-        c .before .before .before .before .before .before .before .is-declaration .ensures,
-      );
-      other-is = cc (
-        c
-            .saturating-sub2 .ensures,
-        c .before .other-entries .ensures,
-        c .before .before .sort .ensures,
-      );
-    }
+    passed-by (cc (c .before .before .before .before .before .choose .ensures, c .before .before .before .before .before .before .sort-in .ensures)) (cc (
+      c .before
+          .before .before .before .choose2 .ensures,
+      c .before .before .before .before .before .before .sort-in .ensures,
+    ))
+    (cc (
+      c .before .before .saturating-sub .ensures,
+      c .before .before .before .choose3 .ensures,
+      c .before .before .before .before .before .before .sort-in
+          .ensures,
+    )) (cc (c .saturating-sub2 .ensures, c .before .entries-in .ensures))
 
 pub passed-spec : {M : Type 1} → statement M
 passed-spec =
     tie.close
     (tie.spec
-    is-declaration-requires
+    sort-in-requires
     choose-requires
     choose-requires-2
     choose-requires-3
     saturating-sub-requires
-    sort-requires
-    other-entries-requires
+    entries-in-requires
     saturating-sub-requires-2
     returns)

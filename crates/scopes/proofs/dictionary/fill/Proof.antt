@@ -1,20 +1,21 @@
 -- `scopes::dictionary::fill` meets its contract: the entries of the nodes from i on stand in the columns. Assumes nothing.
 use Rattle.scopes.proofs.dictionary.fill.Statement.{statement}
 use Rattle.scopes.proofs.dictionary.fill.Tie as tie
-use mathlib.Core.Path.{refl, ap}
-use Rattle.scopes.specs.Standing.{table-of}
-use Rattle.scopes.proofs.Filling.{Entering, entering-starts, entering-small, entering-fits, entering-goes-on, filling-ends, filling-long}
 use borrow.Author.Needs.{needs}
+use mathlib.Core.Path.{refl, ap}
+use Rattle.columns.specs.Column.{tabulated}
+use Rattle.scopes.specs.Standing.{table-of, class-table}
+use Rattle.scopes.proofs.Filling.{Entering, entering-starts, entering-small, entering-fits, entering-goes-on, filling-ends, filling-long}
 use native.Mathlib.Omega.{arith}
 use Prim.Native.Nat.{ℕ, _-_}
 use lib.ListN.{getD}
 
 abbrev Inv-loop : tie.InvT-loop
-Inv-loop kinds tokens roles symbols keys₀ nodes₀ declarations here₀ i₀ keys nodes here i =
+Inv-loop kinds tokens roles symbols keys₀ nodes₀ classes declarations here₀ i₀ keys nodes here i =
     Entering (table-of kinds tokens roles symbols) declarations keys₀ nodes₀ keys nodes here i
 
 abbrev μ-loop : tie.MeasureT-loop
-μ-loop kinds tokens roles symbols keys₀ nodes₀ declarations here₀ i₀ keys nodes here i = i
+μ-loop kinds tokens roles symbols keys₀ nodes₀ classes declarations here₀ i₀ keys nodes here i = i
 
 ended-requires : tie.Need-ended-requires Inv-loop μ-loop
 ended-requires c κs = search needs
@@ -27,14 +28,25 @@ loop-holds c =
 sub-i : tie.Need-sub-i Inv-loop μ-loop
 sub-i c = search needs
 
-shared-slice-read-kind : tie.Need-shared-slice-read-kind Inv-loop μ-loop
-shared-slice-read-kind c = omega (arith, c .before .before .loop .inv .within, c .before .loop-test .taken)
+shared-slice-read-class : tie.Need-shared-slice-read-class Inv-loop μ-loop
+shared-slice-read-class c = omega (arith, c .before .before .before .loop .inv .within, c .before .before .loop-test .taken)
 
-mul-role : tie.Need-mul-role Inv-loop μ-loop
-mul-role c = search needs
+mul-class : tie.Need-mul-class Inv-loop μ-loop
+mul-class c = search needs
 
-shared-slice-read-role : tie.Need-shared-slice-read-role Inv-loop μ-loop
-shared-slice-read-role c = omega (arith, c .before .before .before .loop .inv .within, c .before .before .loop-test .taken, c .before .before .before .loop .inv .consistent .roles)
+shared-slice-read-class-2 : tie.Need-shared-slice-read-class-2 Inv-loop μ-loop
+shared-slice-read-class-2 c =
+    omega (
+      arith,
+      c .before .before .before .before .loop .inv .within,
+      c .before .before .before .loop-test .taken,
+      c .before .before .before .before .loop .inv
+          .consistent .roles,
+    )
+
+class-requires : tie.Need-class-requires Inv-loop μ-loop
+unfolding class-table tabulated
+class-requires c κs = refl
 
 mul-index : tie.Need-mul-index Inv-loop μ-loop
 mul-index c = search needs
@@ -43,10 +55,10 @@ shared-slice-read-index : tie.Need-shared-slice-read-index Inv-loop μ-loop
 shared-slice-read-index c =
     omega (
       arith,
-      c .before .before .before .before .loop .inv .within,
-      c .before .before .before .loop-test .taken,
-      c .before .before .before .before .loop .inv
-          .consistent .tokens,
+      c .before .before .before .before .before .before .loop .inv .within,
+      c .before .before .before .before .before .loop-test .taken,
+      c .before
+          .before .before .before .before .before .loop .inv .consistent .tokens,
     )
 
 index-requires : tie.Need-index-requires Inv-loop μ-loop
@@ -59,12 +71,13 @@ add-enter-node : tie.Need-add-enter-node Inv-loop μ-loop
 add-enter-node c =
     omega (
       arith,
-      entering-small (c .before .before .before .before .before .before .before .before .before .loop .inv) (c .before .before .before .before .before
-          .before .before .before .loop-test .taken) (c .before .before .before .passed .ensures) refl refl,
+      entering-small (c .before .before .before .before .before .before .before .before .before .before .before .loop .inv) (c .before .before .before
+          .before .before .before .before .before .before .before .loop-test .taken) (c .before .before .before .before .before .before .class .ensures) (c .before
+          .before .before .passed .ensures) refl refl,
     )
 
-sort-requires : tie.Need-sort-requires Inv-loop μ-loop
-sort-requires c κs = search needs
+sort-in-requires : tie.Need-sort-in-requires Inv-loop μ-loop
+sort-in-requires c κs = search needs
 
 mul-enter-node : tie.Need-mul-enter-node Inv-loop μ-loop
 mul-enter-node c =
@@ -72,7 +85,7 @@ mul-enter-node c =
       arith,
       c .before .before .before .before .before .index .ensures,
       c .before .before .before .before .before .before .shared-slice-known7 .given (c
-          .before .before .before .before .before .before .before .before .before .before .loop .i - 1),
+          .before .before .before .before .before .before .before .before .before .before .before .before .loop .i - 1),
     )
 
 shared-slice-read-enter-node : tie.Need-shared-slice-read-enter-node Inv-loop μ-loop
@@ -81,33 +94,41 @@ shared-slice-read-enter-node c =
       arith,
       c .before .before .before .before .before .before .index .ensures,
       c .before .before .before .before .before .before .before .before .before
-          .before .before .loop .inv .consistent .inside (c .before .before .before .before .before .before .before .before .before .before .before .loop .i - 1) (omega (
+          .before .before .before .before .loop .inv .consistent .inside (c .before .before .before .before .before .before .before .before .before .before .before
+          .before .before .loop .i - 1) (omega (
             arith,
-            c .before .before .before .before .before .before .before .before .before .before .before .loop .inv .within,
-            c .before .before .before .before
-                .before .before .before .before .before .before .loop-test .taken,
+            c .before .before .before .before .before .before .before .before .before .before .before .before .before .loop
+                .inv .within,
+            c .before .before .before .before .before .before .before .before .before .before .before .before .loop-test .taken,
           )),
     )
 
 enter-node-requires : tie.Need-enter-node-requires Inv-loop μ-loop
 enter-node-requires c κs =
-    entering-fits (c .before .before .before .before .before .before .before .before .before .before .before .loop .inv) (c .before .before .before .before .before
-    .before .before .before .before .before .loop-test .taken) (c .before .before .before .before .before .passed .ensures) (c .before .sort .ensures) (ap (λ (x :
-    ℕ). getD (c .before .before .before .before .before .before .before .before .before .before .before .before .before .before .before .before .before .before
-    .before .args .symbols .now) x 0) (c .before .before .before .before .before .before .index .ensures)) refl
+    entering-fits (c .before .before .before .before .before .before .before .before .before .before .before .before .before .loop .inv) (c .before .before .before
+    .before .before .before .before .before .before .before .before .before .loop-test .taken) (c .before .before .before .before .before .before .before .before
+    .class .ensures) (c .before .before .before .before .before .passed .ensures) (c .before .sort-in .ensures)
+    (ap (λ (x : ℕ). getD (c .before .before .before .before .before .before .before .before .before .before .before .before .before .before .before .before .before
+    .before .before .before .before .args .symbols .now) x 0) (c .before .before .before .before .before .before .index .ensures)) refl
 
 loop-less : tie.Need-loop-less Inv-loop μ-loop
-loop-less c = omega (arith, c .before .before .before .before .before .before .before .before .before .before .before .before .before .before .before .loop-test .taken)
+loop-less c =
+    omega (
+      arith,
+      c .before .before .before .before .before .before .before .before .before .before .before .before .before .before .before .before .before
+          .loop-test .taken,
+    )
 
 loop-again : tie.Need-loop-again Inv-loop μ-loop
 loop-again c =
-    entering-goes-on (c .before .before .before .before .before .before .before .before .before .before .before .before .before .before .before .before .loop .inv)
-    (c .before .before .before .before .before .before .before .before .before .before .before .before .before .before .before .loop-test .taken) (c .before
-    .before .before .before .before .before .before .before .before .before .passed .ensures) (c .before .before .before .before .before .before .sort .ensures)
-    (ap (λ (x : ℕ). getD (c .before .before .before .before .before .before .before .before .before .before .before .before .before .before .before .before
-    .before .before .before .before .before .before .before .before .args .symbols .now) x 0) (c .before .before .before .before .before .before .before .before
-    .before .before .before .index .ensures)) refl (c .before .before .before .before .enter-node .ensures .0) (c .before .before .before .before .enter-node
-    .ensures .1)
+    entering-goes-on (c .before .before .before .before .before .before .before .before .before .before .before .before .before .before .before .before .before
+    .before .loop .inv) (c .before .before .before .before .before .before .before .before .before .before .before .before .before .before .before .before .before
+    .loop-test .taken) (c .before .before .before .before .before .before .before .before .before .before .before .before .before .class .ensures) (c .before
+    .before .before .before .before .before .before .before .before .before .passed .ensures) (c .before .before .before .before .before .before .sort-in .ensures)
+    (ap (λ (x : ℕ). getD (c .before .before .before .before .before .before .before .before .before .before .before .before .before .before .before .before .before
+    .before .before .before .before .before .before .before .before .before .args .symbols .now) x 0) (c .before .before .before .before .before .before .before
+    .before .before .before .before .index .ensures)) refl (c .before .before .before .before .enter-node .ensures .0) (c .before .before .before .before
+    .enter-node .ensures .1)
 
 same-length : tie.Need-same-length Inv-loop μ-loop
 same-length c = filling-long (c .before .loop .inv .keys-filling)
@@ -127,15 +148,16 @@ fill-spec =
     ended-requires
     loop-holds
     sub-i
-    shared-slice-read-kind
-    mul-role
-    shared-slice-read-role
+    shared-slice-read-class
+    mul-class
+    shared-slice-read-class-2
+    class-requires
     mul-index
     shared-slice-read-index
     index-requires
     passed-requires
     add-enter-node
-    sort-requires
+    sort-in-requires
     mul-enter-node
     shared-slice-read-enter-node
     enter-node-requires
