@@ -186,16 +186,22 @@ module _ {Asked : Table → ℕ → Type 0} {pass : Table → Pass} {lo hi : ℕ
 
 -- ---- the loop over the declarations
 
-pub record PassingFile (Asked : Table → Type 0) (pass : Table → Pass) (was : List ℕ) (v : ℕ) (first : List ℕ) (so-far : Progress) (bound to : List ℕ) : Type 0 where
+pub record PassingFile (Asked : Table → Type 0) (pass : Table → Pass) (bound₀ first₀ was : List ℕ) (v : ℕ) (first : List ℕ) (so-far : Progress) (bound to : List ℕ) : Type 0 where
+  pub bound-long : length bound ≡ length bound₀
+  pub first-long : length first ≡ length first₀
+  pub to-long : length to ≡ length was
   pub is : (t : Table) → Asked t → PassingFrom t (pass t) was v first so-far bound to
 
 module _ {Asked : Table → Type 0} {pass : Table → Pass} (within : (t : Table) → Asked t → WithinDeclarations t (pass t)) where
   pub file-starts :
       {first bound to : List ℕ} {v : ℕ} {so-far : Progress} → v ≡ length first - 1 → so-far .arcs ≡ length to → fault-of (so-far .least) ≡ fine →
       ((t : Table) → Asked t → Room t (pass t .target) (length first) (length to)) → ((t : Table) → Asked t → count t ≤ length bound) →
-      ((t : Table) → Asked t → (n : ℕ) → n < count t → getD bound n 0 ≡ pass t .entry-before n) → PassingFile Asked pass to v first so-far bound to
+      ((t : Table) → Asked t → (n : ℕ) → n < count t → getD bound n 0 ≡ pass t .entry-before n) → PassingFile Asked pass bound first to v first so-far bound to
   file-starts {first} {bound} {to} {v} {so-far} e a f R b z =
       record {
+        bound-long = refl;
+        first-long = refl;
+        to-long = refl;
         is = λ t A.
             let p = pass t in
             let B = building-starts first to v (so-far .arcs) e a (R t A) in
@@ -216,15 +222,19 @@ module _ {Asked : Table → Type 0} {pass : Table → Pass} (within : (t : Table
       by p true n h = sym (h refl .entry-kept)
       by p false n h = refl
 
-  module _ {was : List ℕ} {v : ℕ} {first : List ℕ} {so-far : Progress} {bound to : List ℕ} (G : PassingFile Asked pass was v first so-far bound to)
-      {x : ℕ} {first′ : List ℕ} (n : so-far .arcs < 4294967296 → x ≡ so-far .arcs) (s : first′ ≡ set first v x) where
+  module _ {bound₀ first₀ was : List ℕ} {v : ℕ} {first : List ℕ} {so-far : Progress} {bound to : List ℕ} (G : PassingFile Asked pass bound₀ first₀ was v first so-far bound to)
+      {x : ℕ} {first′ : List ℕ} (n : so-far .arcs < 4294967296 → x ≡ so-far .arcs) where
     -- from one declaration to the one before it
     pub file-goes-on :
-        {RangeAsked : Table → ℕ → Type 0} {lo hi : ℕ} {after : Progress} {bound′ to′ : List ℕ} → 0 < v →
+        {RangeAsked : Table → ℕ → Type 0} {lo hi : ℕ} {after : Progress} {bound′ to′ : List ℕ} → first′ ≡ set first v x → 0 < v →
         ((t : Table) → Asked t → v - 1 < vertex-count t → RangeOf t (v - 1) lo hi × RangeAsked t (v - 1)) →
-        PassesRange RangeAsked pass lo hi so-far bound to lo after bound′ to′ → PassingFile Asked pass was (v - 1) first′ after bound′ to′
-    file-goes-on {lo = lo} {hi = hi} {after = after} {bound′ = bound′} {to′ = to′} h ranges R =
+        PassesRange RangeAsked pass lo hi so-far bound to lo after bound′ to′ → length bound′ ≡ length bound → length to′ ≡ length to →
+        PassingFile Asked pass bound₀ first₀ was (v - 1) first′ after bound′ to′
+    file-goes-on {lo = lo} {hi = hi} {after = after} {bound′ = bound′} {to′ = to′} s h ranges R bl tl =
         record {
+          bound-long = bl ∙ G .bound-long;
+          first-long = ap length s ∙ length-set first v x ∙ G .first-long;
+          to-long = tl ∙ G .to-long;
           is = λ t A.
               let F = G .is t A in
               let B = F .building in
@@ -245,8 +255,8 @@ module _ {Asked : Table → Type 0} {pass : Table → Pass} (within : (t : Table
         }
 
     -- THE END: all nodes are passed
-    pub file-ends : v ≤ 0 → (t : Table) → Asked t → PassedAll t (pass t) (so-far .least) bound first′ to
-    file-ends d t A = at (G .is t A) (omega (arith, d))
+    pub file-ends : first′ ≡ set first 0 x → v ≤ 0 → (t : Table) → Asked t → PassedAll t (pass t) (so-far .least) bound first′ to
+    file-ends s d t A = at (G .is t A) (omega arith)
       where
         at : PassingFrom t (pass t) was v first so-far bound to → v ≡ 0 → PassedAll t (pass t) (so-far .least) bound first′ to
         at F e =
@@ -257,5 +267,5 @@ module _ {Asked : Table → Type 0} {pass : Table → Pass} (within : (t : Table
             record {
               reply = P .least-is ∙ rw z (sym c);
               entries = λ n l. P .entries n l ∙ rw (le-leb 0 n (omega arith));
-              graph = building-ends (W .targets) (rw e at (F .building)) n (rw e at s);
+              graph = building-ends (W .targets) (rw e at (F .building)) n s;
             }

@@ -7,7 +7,7 @@ use Prim.Native.Nat.{ℕ, _+_, _-_, _≤_, _<_}
 use native.Mathlib.Omega.{arith}
 use borrow.Author.Tests.{eqb-true, not-true}
 use lib.Dec.{eqb}
-use lib.ListN.{length, getD, getD-replicate}
+use lib.ListN.{length, getD, set, getD-replicate}
 use Rattle.columns.specs.Column.{cleared}
 use Rattle.columns.proofs.Laws.{clear-all, length-cleared}
 use Rattle.ebnf.specs.Set.{mem}
@@ -18,7 +18,7 @@ use Rattle.express.specs.syntax.Grammar.{file}
 use Rattle.express.specs.syntax.Syntax.{Read}
 use Rattle.express.specs.names.Scope as express
 use Rattle.express.specs.names.Scope.{declarations, declarations-of, meaning, means, binding, is-use}
-use Rattle.express.specs.names.Fault.{Fault, judged, suits, right, type-name-fault}
+use Rattle.express.specs.names.Fault.{Fault, fine, judged, suits, right, type-name-fault}
 use Rattle.express.proofs.names.Owned.{Declaring, declaring, declaring-kind, in-owner, owner-schema}
 use Rattle.scopes.specs.Preparation.{Prepared}
 use Rattle.scopes.specs.Range.{vertex-count, node-of, range-start, DeclarationAt}
@@ -33,8 +33,10 @@ use Rattle.dependencies.specs.Target.{target-of, type-target, behind-all}
 use Rattle.dependencies.proofs.Instances.{type-target-is, type-target-other, target-number, type-targets}
 use Rattle.type_names.specs.Pass.{Finds, Skipped, RangeOf, WithinDeclarations}
 use Rattle.type_names.specs.TypeName.{is-type-name, type-names, is-type-name-by, suits-by, makes-arc, target-by, Unbound, BoundTo, TypeNameMeant, FileColumns, FoundTypeName}
-use Rattle.type_names.specs.Binding.{RangeAsked, FileAsked}
+use Rattle.type_names.specs.Binding.{RangeAsked, BindsRange, FileAsked, BindsTypeNames}
 use Rattle.type_names.specs.declared.Finding.{Finding}
+use Rattle.type_names.specs.declared.Progress.{Progress}
+use Rattle.type_names.proofs.Passes.{PassingFile, file-starts, file-goes-on, file-ends}
 
 -- ---- by what the look-up gives
 
@@ -210,3 +212,44 @@ module _ {kinds tokens roles symbols starts keys nodes heads next : List ℕ} {s
   range-name l u e F t v R A =
       let h = tested A ∙ e in
       F .is t (A .columns) (A .schema-is ∙ range-schema (A .columns .read) R (omega arith) (omega arith) h) h
+
+-- ---- in the loop over the declarations
+
+module _ {kinds tokens roles symbols starts keys nodes heads next : List ℕ} where
+  within : {b f a : ℕ} (t : Table) → FileAsked kinds tokens roles symbols starts keys nodes heads next b f a t → WithinDeclarations t (type-names t)
+  within t A = type-names-within (A .columns .read)
+
+  -- the column holds zeros
+  pub types-start :
+      (bound : List ℕ) {first bound′ to : List ℕ} {v : ℕ} {so-far : Progress} → v ≡ length first - 1 → so-far .arcs ≡ length to → fault-of (so-far .least) ≡ fine →
+      bound′ ≡ cleared 0 0 bound →
+      PassingFile (FileAsked kinds tokens roles symbols starts keys nodes heads next (length bound′) (length first) (length to)) type-names bound′ first to v first so-far bound′ to
+  types-start bound e a f c =
+      file-starts within e a f (λ t A. A .graph-room) (λ t A. A .bound-room)
+      (λ t A n l.
+      let z = ap length c ∙ length-cleared 0 0 bound in
+      ap (λ (x : List ℕ). getD x n 0) (c ∙ clear-all 0 bound) ∙ getD-replicate (length bound) n 0 0 (omega (arith, A .bound-room, z)))
+
+  module _ {bound₀ first₀ was : List ℕ} {b f a : ℕ} {v : ℕ} {first : List ℕ} {so-far : Progress} {bound to : List ℕ}
+      (G : PassingFile (FileAsked kinds tokens roles symbols starts keys nodes heads next b f a) type-names bound₀ first₀ was v first so-far bound to)
+      {x : ℕ} {first′ : List ℕ} (n : so-far .arcs < 4294967296 → x ≡ so-far .arcs) where
+    -- the names in one declaration more are bound
+    pub types-go-on :
+        {d : Extent} {after : Progress} {bound′ to′ : List ℕ} → first′ ≡ set first v x → 0 < v → DeclarationAt keys nodes (v - 1) d →
+        BindsRange kinds tokens roles symbols starts keys nodes heads next (d .schema) (d .from) (d .node) so-far bound to (d .from) after bound′ to′ →
+        length bound′ ≡ length bound → length to′ ≡ length to →
+        PassingFile (FileAsked kinds tokens roles symbols starts keys nodes heads next b f a) type-names bound₀ first₀ was (v - 1) first′ after bound′ to′
+    types-go-on s h D =
+        file-goes-on within G n s h
+        (λ t A l.
+        let P = A .columns .prepared in
+        (
+          record { number = l; from-is = D .from-is t heads next P l; upto-is = D .node-is t heads next P l },
+          record { columns = A .columns; schema-is = D .schema-is t heads next P l },
+        ))
+
+    -- all are bound
+    pub types-end :
+        {bound-before first-before to-before : List ℕ} → first′ ≡ set first 0 x → v ≤ 0 → b ≡ length bound-before → f ≡ length first-before → a ≡ length to-before →
+        BindsTypeNames kinds tokens roles symbols starts keys nodes heads next bound-before first-before to-before (so-far .least) bound first′ to
+    types-end s h eb ef ea = record { is = λ t A. file-ends within G n s h t (rw (eb, ef, ea) A) }

@@ -22,12 +22,12 @@ module _ (kinds tokens roles symbols starts keys nodes heads next : List ℕ) wh
   abbrev pub BindsRange : ℕ → ℕ → ℕ → Progress → List ℕ → List ℕ → ℕ → Progress → List ℕ → List ℕ → Type 0
   BindsRange schema lo hi = PassesRange (RangeAsked schema) type-names lo hi
 
-  -- the columns are those of a file, and there is room
-  pub record FileAsked (bound first to : List ℕ) (t : Table) : Type 0 where
+  -- the columns are those of a file, and those to be written are as long as they must be
+  pub record FileAsked (bound first to : ℕ) (t : Table) : Type 0 where
     pub columns : FileColumns t kinds tokens roles symbols starts keys nodes heads next
-    pub bound-room : count t ≤ length bound
-    pub graph-room : Room t (type-target t) (length first) (length to)
+    pub bound-room : count t ≤ bound
+    pub graph-room : Room t (type-target t) first to
 
   -- `bind_type_names`: the fault of stage 2, the bindings of the names of types and zeros for all other nodes, and the graph of N7
   pub record BindsTypeNames (bound first to : List ℕ) (r : Fault) (bound′ first′ to′ : List ℕ) : Type 0 where
-    pub is : (t : Table) → FileAsked bound first to t → PassedAll t (type-names t) r bound′ first′ to′
+    pub is : (t : Table) → FileAsked (length bound) (length first) (length to) t → PassedAll t (type-names t) r bound′ first′ to′
