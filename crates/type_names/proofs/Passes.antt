@@ -12,18 +12,15 @@ use lib.ListN.{length, getD, set, length-set}
 use lib.Seq.{getD-set-same, getD-set-other}
 use Rattle.relations.specs.Select.{span}
 use Rattle.relations.proofs.Select.{le-or, span-append, span-mem}
-use Rattle.express.specs.syntax.Tree.{Table, count, nodes, is-declaration}
+use Rattle.express.specs.syntax.Tree.{Table, count, nodes}
 use Rattle.express.specs.names.Fault.{Fault, fine}
 use Rattle.express.specs.names.Names.{Stage, sooner, least}
 use Rattle.express.proofs.kinds.Backward.{least-step, least-end}
-use Rattle.scopes.specs.Range.{vertex-count, node-of, range-start, DeclarationAt}
-use Rattle.scopes.specs.Preparation.{Prepared}
-use Rattle.scopes.specs.declared.Extent.{Extent}
-use Rattle.scopes.proofs.Ranges.{node-below, node-declares, range-next, range-rises, range-below}
+use Rattle.scopes.specs.Range.{vertex-count, node-of, range-start}
+use Rattle.scopes.proofs.Ranges.{node-declares, range-next, range-rises, range-below}
 use Rattle.faults.specs.Meaning.{fault-of}
-use Rattle.faults.specs.declared.Fault as code
-use Rattle.dependencies.specs.Target.{Targets, behind-all}
-use Rattle.dependencies.specs.Graph.{Added, Room, Storing, Building, GraphOf}
+use Rattle.dependencies.specs.Target.{behind-all}
+use Rattle.dependencies.specs.Graph.{Room, Storing}
 use Rattle.dependencies.proofs.Storing.{before-all, storing-passes, storing-adds, building-starts, building-range, building-goes-on}
 use Rattle.dependencies.proofs.Built.{building-ends}
 use Rattle.type_names.specs.Pass.{Pass, Finds, Skipped, Stored, Passing, RangeOf, PassesRange, WithinDeclarations, PassingFrom, PassedAll}
@@ -43,7 +40,7 @@ module _ (s : Stage) where
   least-front [] ns e = e
   least-front (m ∷ ms) ns e = rw (least-front ms ns e)
 
--- nodes that are fine, behind all others
+  -- nodes that are fine, behind all others
   pub least-before : (n k : ℕ) → k ≤ n → ((i : ℕ) → k ≤ i → i < n → s i ≡ fine) → least s (span 0 n) ≡ least s (span 0 k)
   least-before n k l h =
       let a : n ≡ k + (n - k) = omega arith in

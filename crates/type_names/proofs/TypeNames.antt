@@ -1,7 +1,6 @@
 -- What is found of a name of a type is what express says of it.
 use mathlib.Core.Path.{_≡_, refl, sym, ap, _∙_}
-use mathlib.Core.Bool.{Bool, true, false, cond, not, _&&_, false≢true}
-use mathlib.Core.Logic.{⊎-elim}
+use mathlib.Core.Bool.{Bool, true, false, cond, not, _&&_}
 use mathlib.Core.List.{List}
 use Prim.Native.Nat.{ℕ, _+_, _-_, _≤_, _<_}
 use native.Mathlib.Omega.{arith}
@@ -13,26 +12,26 @@ use Rattle.columns.proofs.Laws.{clear-all, length-cleared}
 use Rattle.ebnf.specs.Set.{mem}
 use Rattle.relations.proofs.Select.{and-fst, and-snd, untrue}
 use Rattle.express.specs.syntax.NodeKind.{name, in-expression}
-use Rattle.express.specs.syntax.Tree.{Table, count, kind, role, symbol, place, is, is-declaration, owner, schema-of}
+use Rattle.express.specs.syntax.Tree.{Table, count, kind, role, symbol, place, is, owner, schema-of}
 use Rattle.express.specs.syntax.Grammar.{file}
 use Rattle.express.specs.syntax.Syntax.{Read}
 use Rattle.express.specs.names.Scope as express
-use Rattle.express.specs.names.Scope.{declarations, declarations-of, meaning, means, binding, is-use}
-use Rattle.express.specs.names.Fault.{Fault, fine, judged, suits, right, type-name-fault}
-use Rattle.express.proofs.names.Owned.{Declaring, declaring, declaring-kind, in-owner, owner-schema}
+use Rattle.express.specs.names.Scope.{declarations, declarations-of, meaning, means, binding-of, binding, is-use}
+use Rattle.express.specs.names.Fault.{Fault, fault, fine, judged, suits, right, type-name-fault}
+use Rattle.express.proofs.names.Owned.{Declaring, declaring, in-owner, owner-schema}
 use Rattle.scopes.specs.Preparation.{Prepared}
-use Rattle.scopes.specs.Range.{vertex-count, node-of, range-start, DeclarationAt}
-use Rattle.scopes.specs.LookUp.{Means}
+use Rattle.scopes.specs.Range.{node-of, DeclarationAt}
+use Rattle.scopes.specs.LookUp.{Means, node-meant}
 use Rattle.scopes.specs.declared.Extent.{Extent}
 use Rattle.scopes.specs.declared.look_ups.Meaning.{Meaning}
 use Rattle.scopes.specs.declared.look_ups.Meaning.the-variants.{Nothing, One, Several}
 use Rattle.scopes.proofs.Passing.{vertex-small}
 use Rattle.scopes.proofs.Ranges.{Numbered, declared-meant, node-below, range-owner, range-end}
 use Rattle.faults.specs.Meaning.{fault-of}
-use Rattle.dependencies.specs.Target.{target-of, type-target, behind-all}
+use Rattle.dependencies.specs.Target.{target-of}
 use Rattle.dependencies.proofs.Instances.{type-target-is, type-target-other, target-number, type-targets}
 use Rattle.type_names.specs.Pass.{Finds, Skipped, RangeOf, WithinDeclarations}
-use Rattle.type_names.specs.TypeName.{is-type-name, type-names, is-type-name-by, suits-by, makes-arc, target-by, Unbound, BoundTo, TypeNameMeant, FileColumns, FoundTypeName}
+use Rattle.type_names.specs.TypeName.{is-type-name, type-names, is-type-name-by, suits-by, makes-arc, target-by, Unbound, BoundTo, TypeNameMeant, FoundTypeName}
 use Rattle.type_names.specs.Binding.{RangeAsked, BindsRange, FileAsked, BindsTypeNames}
 use Rattle.type_names.specs.declared.Finding.{Finding}
 use Rattle.type_names.specs.declared.Progress.{Progress}
@@ -61,25 +60,23 @@ bound-to {kinds} {nodes} {r} {v} {p} {a} {node} {k} {x} {fits} {f} ea en ek es e
     }
 
 module _ {keys heads next : List ℕ} {h s : ℕ} {m : Meaning} (M : Means keys heads next (λ t. declarations t h s) m) where
-  -- no declaration
-  pub nothing-meant : {kinds nodes : List ℕ} {r p : ℕ} {f : Finding} → m ≡ Nothing → Unbound 10 p f → TypeNameMeant kinds keys nodes heads next r h s p f
-  nothing-meant {nodes = nodes} {r = r} e U =
-      let is : (t : Table) → Prepared t keys nodes heads next → meaning (declarations t h s) ≡ express.none = λ t P. sym (rw e at (M .is t nodes P)) in
+  -- nothing, or several declarations
+  unbound-meant :
+      {kinds nodes : List ℕ} {r p k : ℕ} {f : Finding} (x : express.Meaning) → node-meant nodes m ≡ x → ((right : ℕ → Bool) → judged right x p ≡ fault k p) →
+      binding-of x ≡ 0 → ((t : Table) → target-of t x ≡ 0) → Unbound k p f → TypeNameMeant kinds keys nodes heads next r h s p f
+  unbound-meant {nodes = nodes} {r = r} x e j b g U =
+      let is : (t : Table) → Prepared t keys nodes heads next → meaning (declarations t h s) ≡ x = λ t P. sym (M .is t nodes P) ∙ e in
       record {
-        fault-is = λ t k P. rw (is t P) (U .fault-is);
-        binding-is = λ t P. rw (is t P) (U .binding-none);
-        target-is = λ t P. rw (is t P) (target-none r _ (U .target-none));
+        fault-is = λ t k P. rw (is t P) (U .fault-is ∙ sym (j (suits t r)));
+        binding-is = λ t P. rw (is t P) (U .binding-none ∙ sym b);
+        target-is = λ t P. rw (is t P, g t) (target-none r _ (U .target-none));
       }
 
-  -- several
+  pub nothing-meant : {kinds nodes : List ℕ} {r p : ℕ} {f : Finding} → m ≡ Nothing → Unbound 10 p f → TypeNameMeant kinds keys nodes heads next r h s p f
+  nothing-meant {nodes = nodes} e = unbound-meant express.none (ap (node-meant nodes) e) (λ right. refl) refl (λ t. refl)
+
   pub several-meant : {kinds nodes : List ℕ} {r p : ℕ} {f : Finding} → m ≡ Several → Unbound 12 p f → TypeNameMeant kinds keys nodes heads next r h s p f
-  several-meant {nodes = nodes} {r = r} e U =
-      let is : (t : Table) → Prepared t keys nodes heads next → meaning (declarations t h s) ≡ express.several = λ t P. sym (rw e at (M .is t nodes P)) in
-      record {
-        fault-is = λ t k P. rw (is t P) (U .fault-is);
-        binding-is = λ t P. rw (is t P) (U .binding-none);
-        target-is = λ t P. rw (is t P) (target-none r _ (U .target-none));
-      }
+  several-meant {nodes = nodes} e = unbound-meant express.several (ap (node-meant nodes) e) (λ right. refl) refl (λ t. refl)
 
   -- one, by its number
   pub one-meant : {kinds nodes : List ℕ} {r p v : ℕ} {f : Finding} → m ≡ One v → BoundTo kinds nodes r v p f → TypeNameMeant kinds keys nodes heads next r h s p f
@@ -203,7 +200,8 @@ module _ {kinds tokens roles symbols starts keys nodes heads next : List ℕ} {s
       let y : role t (i - 1) ≡ r = sym (rw (C .roles-are) at er) in
       type-name-by t (i - 1) ∙ rw (x, y) (sym eb)
 
-  pub range-other : {lo hi : ℕ} → b ≡ false → (t : Table) (v : ℕ) → RangeOf t v lo hi → RangeAsked kinds tokens roles symbols starts keys nodes heads next schema t v → Skipped (type-names t) (i - 1)
+  pub range-other : {lo hi : ℕ} → b ≡ false → (t : Table) (v : ℕ) → RangeOf t v lo hi → RangeAsked kinds tokens roles symbols starts keys nodes heads next schema t v →
+      Skipped (type-names t) (i - 1)
   range-other e t v R A = other-skipped t (i - 1) (tested A ∙ e)
 
   pub range-name :
@@ -242,8 +240,7 @@ module _ {kinds tokens roles symbols starts keys nodes heads next : List ℕ} wh
     types-go-on s h D =
         file-goes-on within G n s h
         (λ t A l.
-        let P = A .columns .prepared in
-        (
+        let P = A .columns .prepared in (
           record { number = l; from-is = D .from-is t heads next P l; upto-is = D .node-is t heads next P l },
           record { columns = A .columns; schema-is = D .schema-is t heads next P l },
         ))

@@ -1,7 +1,7 @@
 -- A pass over the nodes of a file, from the last to the first, declaration by declaration: of each node there is a fault or none, an arc or none, and
 -- an entry of a column.
 use mathlib.Core.Path.{_≡_}
-use mathlib.Core.Bool.{Bool, true, cond}
+use mathlib.Core.Bool.{true, cond}
 use mathlib.Core.List.{List}
 use Prim.Native.Nat.{ℕ, _-_, _≤_, _<_}
 use lib.Dec.{leb}
@@ -14,7 +14,7 @@ use Rattle.scopes.specs.Range.{vertex-count, node-of, range-start}
 use Rattle.faults.specs.Meaning.{fault-of}
 use Rattle.faults.specs.declared.Fault as code
 use Rattle.dependencies.specs.Target.{Targets, behind-all}
-use Rattle.dependencies.specs.Graph.{Added, Room, Storing, Building, GraphOf}
+use Rattle.dependencies.specs.Graph.{Added, Storing, Building, GraphOf}
 use Rattle.type_names.specs.declared.Finding.{Finding}
 use Rattle.type_names.specs.declared.Progress.{Progress}
 

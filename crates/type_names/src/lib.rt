@@ -29,7 +29,13 @@ pub struct Progress {
 }
 
 // Stores what is found of a node, before what is found of the nodes behind it.
-pub fn store(bound: &mut [u32], to: &mut [u32], node: usize, found: Finding, before: Progress) -> Progress
+pub fn store(
+    bound: &mut [u32],
+    to: &mut [u32],
+    node: usize,
+    found: Finding,
+    before: Progress,
+) -> Progress
     ensures { λ r. ⌜ Stored node found before (now (bound .entry)) (now (to .entry)) r (now (bound .exit)) (now (to .exit)) ⌝ }
 {
     put32(bound, node, found.binding);
@@ -68,7 +74,7 @@ fn makes_arc(role: u32) -> bool
 }
 
 // The target of the arc that a name makes: one more than a vertex, or 0.
-fn target(role: u32, vertex: u32) -> u32
+fn arc_target(role: u32, vertex: u32) -> u32
     ensures { λ r. ⌜ r ≡ target-by role vertex ⌝ }
 {
     if makes_arc(role) {
@@ -107,7 +113,7 @@ fn bound_to(kinds: &[u8], nodes: &[u32], role: u32, vertex: usize, place: u32) -
     let node = index(at(nodes, vertex));
     let fault = faults::wrong_sort(suits(role, at8(kinds, node)), place);
     let binding = number(node + 1);
-    let target = target(role, number(vertex + 1));
+    let target = arc_target(role, number(vertex + 1));
     Finding {
         fault,
         binding,

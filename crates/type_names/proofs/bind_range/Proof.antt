@@ -1,81 +1,71 @@
+-- `type_names::bind_range` meets its contract: each node is stored or skipped. Assumes nothing.
 use Rattle.type_names.proofs.bind_range.Statement.{statement}
 use Rattle.type_names.proofs.bind_range.Tie as tie
-use Rattle.type_names.proofs.bind_range.Reads as reads
-use Rattle.type_names.proofs.bind_range.Lts as lts
-use Rattle.scopes.proofs.at.Reads as at-reads
-use Rattle.scopes.proofs.at8.Reads as at8-reads
-use Rattle.type_names.proofs.is_type_name.Reads as is-type-name-reads
-use Rattle.type_names.proofs.node_finding.Reads as node-finding-reads
-use Rattle.type_names.proofs.store.Reads as store-reads
 use borrow.Author.Needs.{needs}
 use Rattle.type_names.proofs.Passes.{PassingRange, range-starts, range-ends, range-skips, range-stores}
 use Rattle.type_names.specs.Binding.{RangeAsked}
 use Rattle.type_names.specs.TypeName.{type-names}
-use mathlib.Core.Path.{sym}
 use Rattle.type_names.proofs.TypeNames.{range-other, range-name}
 
 abbrev Inv-loop : tie.InvT-loop
-Inv-loop kinds tokens roles symbols starts keys nodes heads next schema lo hi bound₀ to₀ so-far₀ i₀ bound to so-far i = PassingRange (RangeAsked kinds tokens roles symbols starts keys nodes heads next schema) type-names lo hi so-far₀ bound₀ to₀ i so-far bound to
+Inv-loop kinds tokens roles symbols starts keys nodes heads next schema lo hi bound₀ to₀ so-far₀ i₀ bound to so-far i =
+    PassingRange (RangeAsked kinds tokens roles symbols starts keys nodes heads next schema) type-names lo hi so-far₀ bound₀ to₀ i so-far bound to
 
 abbrev μ-loop : tie.MeasureT-loop
 μ-loop kinds tokens roles symbols starts keys nodes heads next schema lo hi bound₀ to₀ so-far₀ i₀ bound to so-far i = i
 
--- src/lib.rt:179:5
 loop-holds : tie.Need-loop-holds Inv-loop μ-loop
 loop-holds c = range-starts
 
--- src/lib.rt:180:9
 sub-i : tie.Need-sub-i Inv-loop μ-loop
 sub-i c = search needs
 
--- src/lib.rt:181:25
 at8-requires : tie.Need-at8-requires Inv-loop μ-loop
 at8-requires c κs = search needs
 
--- src/lib.rt:181:40
 at-requires : tie.Need-at-requires Inv-loop μ-loop
 at-requires c κs = search needs
 
--- src/lib.rt:181:12
 is-type-name-requires : tie.Need-is-type-name-requires Inv-loop μ-loop
 is-type-name-requires c κs = search needs
 
--- src/lib.rt:182:17
 node-finding-requires : tie.Need-node-finding-requires Inv-loop μ-loop
 node-finding-requires c κs = search needs
 
--- src/lib.rt:195:13
 store-requires : tie.Need-store-requires Inv-loop μ-loop
 store-requires c κs = search needs
 
--- src/lib.rt:179:5
 loop-less : tie.Need-loop-less Inv-loop μ-loop
 loop-less c = search needs
 
--- src/lib.rt:179:5
 loop-again : tie.Need-loop-again Inv-loop μ-loop
 loop-again c =
-    range-stores (c .before .before .before .before .before .before .before .before .before .before .before .before .before .loop .inv) (c .before .before .before .before .before .before .before .before .before .before .before .before .loop-test .taken)
-    (range-name (c .before .before .before .before .before .before .before .before .before .before .before .before .before .loop .i) (c .before .before .before .before .before .before .before .before .before .before .before .at8 .ensures) (c .before .before .before .before .before .before .before .before .before .before .at .ensures) (c .before .before .before .before .before .before .before .before .before .is-type-name .ensures) (c .before .before .before .before .before .before .before .before .before .before .before .before .loop-test .taken) (c .before .before .before .before .before .before .before .before .before .before .before .before .before .loop .inv .upto) (c .before .before .before .before .before .before .before .before .if1 .taken) (c .before .before .before .before .before .before .before .node-finding .ensures))
+    range-stores (c .before .before .before .before .before .before .before .before .before .before .before .before .before .loop .inv)
+    (c .before .before .before .before .before .before .before .before .before .before .before .before .loop-test .taken)
+    (range-name (c .before .before .before .before .before .before .before .before .before .before .before .before .before .loop .i)
+    (c .before .before .before .before .before .before .before .before .before .before .before .at8 .ensures)
+    (c .before .before .before .before .before .before .before .before .before .before .at .ensures)
+    (c .before .before .before .before .before .before .before .before .before .is-type-name .ensures)
+    (c .before .before .before .before .before .before .before .before .before .before .before .before .loop-test .taken)
+    (c .before .before .before .before .before .before .before .before .before .before .before .before .before .loop .inv .upto)
+    (c .before .before .before .before .before .before .before .before .if1 .taken) (c .before .before .before .before .before .before .before .node-finding .ensures))
     (c .before .before .before .before .store .ensures)
 
--- src/lib.rt:179:5
 loop-less-2 : tie.Need-loop-less-2 Inv-loop μ-loop
 loop-less-2 c = search needs
 
--- src/lib.rt:179:5
 loop-again-2 : tie.Need-loop-again-2 Inv-loop μ-loop
-loop-again-2 c = range-skips (c .before .before .before .before .before .loop .inv) (c .before .before .before .before .loop-test .taken) (range-other (c .before .before .before .before .before .loop .i) (c .before .before .before .at8 .ensures) (c .before .before .at .ensures) (c .before .is-type-name .ensures) (c .if1 .left))
+loop-again-2 c =
+    range-skips (c .before .before .before .before .before .loop .inv) (c .before .before .before .before .loop-test .taken) (range-other
+    (c .before .before .before .before .before .loop .i) (c .before .before .before .at8 .ensures) (c .before .before .at .ensures) (c .before .is-type-name .ensures)
+    (c .if1 .left))
 
--- src/lib.rt:156:1
 same-length : tie.Need-same-length Inv-loop μ-loop
 same-length c = c .before .loop .inv .bound-long
 
--- src/lib.rt:156:1
 same-length-2 : tie.Need-same-length-2 Inv-loop μ-loop
 same-length-2 c = c .before .loop .inv .to-long
 
--- src/lib.rt:156:1
 returns : tie.Need-returns Inv-loop μ-loop
 returns c = range-ends (c .before .loop .inv) (c .loop-test .left)
 

@@ -1,16 +1,8 @@
+-- `type_names::bind_type_names` meets its contract: one declaration after another is passed. Assumes nothing.
 use Rattle.type_names.proofs.bind_type_names.Statement.{statement}
 use Rattle.type_names.proofs.bind_type_names.Tie as tie
-use Rattle.type_names.proofs.bind_type_names.Reads as reads
-use Rattle.type_names.proofs.bind_type_names.Lts as lts
-use Rattle.columns.proofs.clear32.Reads as clear32-reads
-use Rattle.columns.proofs.number.Reads as number-reads
-use Rattle.columns.proofs.put32.Reads as put32-reads
-use Rattle.columns.proofs.saturating_sub.Reads as saturating-sub-reads
-use Rattle.faults.proofs.fine.Reads as fine-reads
-use Rattle.scopes.proofs.declaration.Reads as declaration-reads
-use Rattle.type_names.proofs.bind_range.Reads as bind-range-reads
 use borrow.Author.Needs.{needs}
-use mathlib.Core.Path.{refl, sym, ap, _∙_}
+use mathlib.Core.Path.{refl, ap, _∙_}
 use lib.ListN.{length, length-set}
 use Rattle.columns.proofs.Laws.{length-cleared}
 use Rattle.type_names.proofs.Passes.{PassingFile}
@@ -19,78 +11,83 @@ use Rattle.type_names.specs.Binding.{FileAsked}
 use Rattle.type_names.specs.TypeName.{type-names}
 
 abbrev Inv-loop : tie.InvT-loop
-Inv-loop kinds tokens roles symbols starts keys nodes heads next bound₀ first₀ to₀ so-far₀ v₀ bound first to so-far v = PassingFile (FileAsked kinds tokens roles symbols starts keys nodes heads next (length bound₀) (length first₀) (length to₀)) type-names bound₀ first₀ to₀ v first so-far bound to
+Inv-loop kinds tokens roles symbols starts keys nodes heads next bound₀ first₀ to₀ so-far₀ v₀ bound first to so-far v =
+    PassingFile (FileAsked kinds tokens roles symbols starts keys nodes heads next (length bound₀) (length first₀)
+    (length to₀)) type-names bound₀ first₀ to₀ v first so-far bound to
 
 abbrev μ-loop : tie.MeasureT-loop
 μ-loop kinds tokens roles symbols starts keys nodes heads next bound₀ first₀ to₀ so-far₀ v₀ bound first to so-far v = v
 
--- src/lib.rt:236:5
 clear32-requires : tie.Need-clear32-requires Inv-loop μ-loop
 clear32-requires c κs = search needs
 
--- src/lib.rt:239:16
 fine-requires : tie.Need-fine-requires Inv-loop μ-loop
 fine-requires c κs = search needs
 
--- src/lib.rt:241:9
 saturating-sub-requires : tie.Need-saturating-sub-requires Inv-loop μ-loop
 saturating-sub-requires c κs = search needs
 
--- src/lib.rt:242:5
 loop-holds : tie.Need-loop-holds Inv-loop μ-loop
-loop-holds c = types-start (c .before .before .before .before .before .before .before .before .before .before .before .before .before .before .before .before .before .before .args .bound .now) (c .saturating-sub .ensures) refl (c .before .fine .ensures) (c .before .before .before .before .clear32 .ensures)
+loop-holds c =
+    types-start (c .before .before .before .before .before .before .before .before .before .before .before .before .before .before .before .before .before .before .args
+    .bound .now) (c .saturating-sub .ensures) refl (c .before .fine .ensures) (c .before .before .before .before .clear32 .ensures)
 
--- src/lib.rt:243:25
 number-requires : tie.Need-number-requires Inv-loop μ-loop
 number-requires c κs = search needs
 
--- src/lib.rt:243:9
 put32-requires : tie.Need-put32-requires Inv-loop μ-loop
 put32-requires c κs = search needs
 
--- src/lib.rt:244:9
 sub-v : tie.Need-sub-v Inv-loop μ-loop
 sub-v c = search needs
 
--- src/lib.rt:245:13
 declaration-requires : tie.Need-declaration-requires Inv-loop μ-loop
 declaration-requires c κs = search needs
 
--- src/lib.rt:246:9
 bind-range-requires : tie.Need-bind-range-requires Inv-loop μ-loop
 bind-range-requires c κs = search needs
 
--- src/lib.rt:242:5
 loop-less : tie.Need-loop-less Inv-loop μ-loop
 loop-less c = search needs
 
--- src/lib.rt:242:5
 loop-again : tie.Need-loop-again Inv-loop μ-loop
-loop-again c = types-go-on (c .before .before .before .before .before .before .before .before .before .before .before .before .before .before .loop .inv) (c .before .before .before .before .before .before .before .before .before .before .before .number .ensures) (c .before .before .before .before .before .before .before .before .before .before .put32 .ensures) (c .before .before .before .before .before .before .before .before .before .before .before .before .before .loop-test .taken) (c .before .before .before .before .before .before .before .declaration .ensures) (c .before .before .before .before .bind-range .ensures) (c .before .before .before .before .bind-range .kept .1 .1 .1 .1 .1 .1 .1 .1 .1 .1 .1 .1 .1 .0) (c .before .before .before .before .bind-range .kept .1 .1 .1 .1 .1 .1 .1 .1 .1 .1 .1 .1 .1 .1 .0)
+loop-again c =
+    types-go-on (c .before .before .before .before .before .before .before .before .before .before .before .before .before .before .loop .inv)
+    (c .before .before .before .before .before .before .before .before .before .before .before .number .ensures)
+    (c .before .before .before .before .before .before .before .before .before .before .put32 .ensures)
+    (c .before .before .before .before .before .before .before .before .before .before .before .before .before .loop-test .taken)
+    (c .before .before .before .before .before .before .before .declaration .ensures) (c .before .before .before .before .bind-range .ensures)
+    (c .before .before .before .before .bind-range .kept .1 .1 .1 .1 .1 .1 .1 .1 .1 .1 .1 .1 .1 .0)
+    (c .before .before .before .before .bind-range .kept .1 .1 .1 .1 .1 .1 .1 .1 .1 .1 .1 .1 .1 .1 .0)
 
--- src/lib.rt:264:21
 number-requires-2 : tie.Need-number-requires-2 Inv-loop μ-loop
 number-requires-2 c κs = search needs
 
--- src/lib.rt:264:5
 put32-requires-2 : tie.Need-put32-requires-2 Inv-loop μ-loop
 put32-requires-2 c κs = search needs
 
--- src/lib.rt:218:1
 same-length : tie.Need-same-length Inv-loop μ-loop
-same-length c = c .before .before .before .before .before .before .before .loop .inv .bound-long ∙ ap length (c .before .before .before .before .before .before .before .before .before .before .before .before .clear32 .ensures) ∙ length-cleared 0 0 (c .before .before .before .before .before .before .before .before .before .before .before .before .before .before .before .before .before .before .before .before .before .before .before .before .before .before .args .bound .now)
+same-length c =
+    c .before .before .before .before .before .before .before .loop .inv .bound-long ∙ ap length
+    (c .before .before .before .before .before .before .before .before .before .before .before .before .clear32 .ensures) ∙ length-cleared 0 0
+    (c .before .before .before .before .before .before .before .before .before .before .before .before .before .before .before .before .before .before .before .before
+    .before .before .before .before .before .before .args .bound .now)
 
--- src/lib.rt:218:1
 same-length-2 : tie.Need-same-length-2 Inv-loop μ-loop
-same-length-2 c = ap length (c .before .before .before .put322 .ensures) ∙ length-set (c .before .before .before .before .before .before .before .loop .first) 0 (c .before .before .before .before .number2 .result) ∙ c .before .before .before .before .before .before .before .loop .inv .first-long
+same-length-2 c =
+    ap length (c .before .before .before .put322 .ensures) ∙ length-set (c .before .before .before .before .before .before .before .loop .first) 0
+    (c .before .before .before .before .number2 .result) ∙ c .before .before .before .before .before .before .before .loop .inv .first-long
 
--- src/lib.rt:218:1
 same-length-3 : tie.Need-same-length-3 Inv-loop μ-loop
 same-length-3 c = c .before .before .before .before .before .before .before .loop .inv .to-long
 
--- src/lib.rt:218:1
 returns : tie.Need-returns Inv-loop μ-loop
-returns c = types-end (c .before .before .before .before .before .before .before .loop .inv) (c .before .before .before .before .number2 .ensures) (c .before .before .before .put322 .ensures) (c .before .before .before .before .before .before .loop-test .left) (ap length (c .before .before .before .before .before .before .before .before .before .before .before .before .clear32 .ensures) ∙ length-cleared 0 0 (c .before .before .before .before .before .before .before .before .before .before .before .before .before .before .before .before .before .before .before .before .before .before .before .before .before .before .args .bound .now)) refl refl
+returns c =
+    types-end (c .before .before .before .before .before .before .before .loop .inv) (c .before .before .before .before .number2 .ensures)
+    (c .before .before .before .put322 .ensures) (c .before .before .before .before .before .before .loop-test .left) (ap length
+    (c .before .before .before .before .before .before .before .before .before .before .before .before .clear32 .ensures) ∙ length-cleared 0 0
+    (c .before .before .before .before .before .before .before .before .before .before .before .before .before .before .before .before .before .before .before .before
+    .before .before .before .before .before .before .args .bound .now)) refl refl
 
 pub bind-type-names-spec : {M : Type 1} → statement M
 bind-type-names-spec =

@@ -1,40 +1,31 @@
+-- `type_names::node_finding` meets its contract: the columns hold the node's row. Assumes nothing.
 use borrow.Author.Needs.{needs}
 use Rattle.type_names.proofs.node_finding.Statement.{statement}
 use Rattle.type_names.proofs.node_finding.Tie as tie
-use Rattle.type_names.proofs.node_finding.Reads as reads
-use Rattle.type_names.proofs.node_finding.Lts as lts
-use Rattle.columns.proofs.index.Reads as index-reads
-use Rattle.scopes.proofs.at.Reads as at-reads
-use Rattle.type_names.proofs.type_name.Reads as type-name-reads
 use Rattle.type_names.proofs.TypeNames.{type-name-found}
 
--- src/lib.rt:157:23
 at-requires : tie.Need-at-requires
 at-requires c κs = search needs
 
--- src/lib.rt:157:9
 index-requires : tie.Need-index-requires
 index-requires c κs = search needs
 
--- src/lib.rt:164:9
 at-requires-2 : tie.Need-at-requires-2
 at-requires-2 c κs = search needs
 
--- src/lib.rt:166:9
 at-requires-3 : tie.Need-at-requires-3
 at-requires-3 c κs = search needs
 
--- src/lib.rt:167:9
 at-requires-4 : tie.Need-at-requires-4
 at-requires-4 c κs = search needs
 
--- src/lib.rt:158:5
 type-name-requires : tie.Need-type-name-requires
 type-name-requires c κs = search needs
 
--- src/lib.rt:141:1
 returns : tie.Need-returns
-returns c = type-name-found (c .before .before .before .before .before .at .ensures) (c .before .before .before .before .index .ensures) (c .before .before .before .at2 .ensures) (c .before .before .at3 .ensures) (c .before .at4 .ensures) (c .type-name .ensures)
+returns c =
+    type-name-found (c .before .before .before .before .before .at .ensures) (c .before .before .before .before .index .ensures)
+    (c .before .before .before .at2 .ensures) (c .before .before .at3 .ensures) (c .before .at4 .ensures) (c .type-name .ensures)
 
 pub node-finding-spec : {M : Type 1} → statement M
 node-finding-spec =
