@@ -17,7 +17,7 @@ use Rattle.express.specs.names.Fault.{Fault, fine}
 use Rattle.express.specs.names.Names.{Stage, sooner, least}
 use Rattle.express.proofs.kinds.Backward.{least-step, least-end}
 use Rattle.scopes.specs.Range.{vertex-count, node-of, range-start}
-use Rattle.scopes.proofs.Ranges.{node-declares, range-next, range-rises, range-below}
+use Rattle.scopes.proofs.Ranges.{node-below, node-declares, range-next, range-rises, range-below}
 use Rattle.faults.specs.Meaning.{fault-of}
 use Rattle.dependencies.specs.Target.{behind-all}
 use Rattle.dependencies.specs.Graph.{Room, Storing}
@@ -129,6 +129,12 @@ module _ {t : Table} {p : Pass} {was : List ℕ} {j : ℕ} {so-far : Progress} {
               (λ q. entry-other before-end n h q _ (e ∙ getD-set-other bound (j - 1) n (f .binding) 0 q));
         }
 
+-- a node that is not passed yet
+pub entry-ahead :
+    {t : Table} {p : Pass} {was : List ℕ} {i : ℕ} {so-far : Progress} {bound to : List ℕ} → Passing t p was i so-far bound to → (n : ℕ) → n < i → n < count t →
+    getD bound n 0 ≡ p .entry-before n
+entry-ahead {i = i} P n h l = P .entries n l ∙ rw (lt-leb i n h)
+
 -- ---- the loop over the nodes of one declaration
 
 pub record PassingRange (Asked : Table → ℕ → Type 0) (pass : Table → Pass) (lo hi : ℕ) (before : Progress) (bound to : List ℕ) (i : ℕ) (after : Progress) (bound′ to′ : List ℕ) : Type 0 where
@@ -159,9 +165,10 @@ module _ {Asked : Table → ℕ → Type 0} {pass : Table → Pass} {lo hi : ℕ
             passes = record { is = λ t was v R A P. passing-skips (G .passes .is t was v R A P) (omega arith) v (R .number) (upto-node R) (K t v R A) };
           }
 
-      -- a node of which what is found is stored
+      -- a node of which what is found is stored; its entry was as before the pass
       pub range-stores :
-          {f : Finding} {after : Progress} {bound″ to″ : List ℕ} → ((t : Table) (v : ℕ) → RangeOf t v lo hi → Asked t v → Finds (pass t) (i - 1) f) →
+          {f : Finding} {after : Progress} {bound″ to″ : List ℕ} →
+          ((t : Table) (v : ℕ) → RangeOf t v lo hi → Asked t v → getD bound′ (i - 1) 0 ≡ pass t .entry-before (i - 1) → Finds (pass t) (i - 1) f) →
           Stored (i - 1) f so-far bound′ to′ after bound″ to″ → PassingRange Asked pass lo hi before bound to (i - 1) after bound″ to″
       range-stores F S =
           record {
@@ -169,7 +176,12 @@ module _ {Asked : Table → ℕ → Type 0} {pass : Table → Pass} {lo hi : ℕ
             from = λ h. omega arith;
             bound-long = stored-bound S ∙ G .bound-long;
             to-long = stored-to S ∙ G .to-long;
-            passes = record { is = λ t was v R A P. passing-stores (G .passes .is t was v R A P) (omega arith) v (R .number) (upto-node R) (F t v R A) S };
+            passes = record {
+              is = λ t was v R A P.
+                  let Q = G .passes .is t was v R A P in
+                  let u = upto-node R in
+                  passing-stores Q (omega arith) v (R .number) u (F t v R A (entry-ahead Q (i - 1) (omega arith) (omega (arith, node-below t v (R .number))))) S;
+            };
           }
 
     pub range-ends : i ≤ lo → PassesRange Asked pass lo hi before bound to lo so-far bound′ to′

@@ -18,7 +18,7 @@ use Rattle.dependencies.specs.Graph.{Added, Storing, Building, GraphOf}
 use Rattle.type_names.specs.declared.Finding.{Finding}
 use Rattle.type_names.specs.declared.Progress.{Progress}
 
--- what a pass is to find of each node: its fault, its target, its entry, and what the entry was before
+-- what a pass is to find of each node: its fault in a stage of N19, the target of its arc or 0, its entry, and what the entry was before
 pub record Pass : Type 0 where
   pub stage : ℕ → Fault
   pub target : ℕ → ℕ
@@ -77,7 +77,7 @@ pub record PassingFrom (t : Table) (p : Pass) (was : List ℕ) (v : ℕ) (first 
   pub passing : Passing t p was (range-start t v) so-far bound to
   pub building : Building t (p .target) was v first (so-far .arcs) to
 
--- ALL NODES are passed
+-- ALL NODES are passed: the fault of the stage with the smallest place (N19), an entry for each node, and the graph
 pub record PassedAll (t : Table) (p : Pass) (r : code.Fault) (bound first to : List ℕ) : Type 0 where
   pub reply : fault-of r ≡ least (p .stage) (nodes t)
   pub entries : (n : ℕ) → n < count t → getD bound n 0 ≡ p .entry n

@@ -42,13 +42,13 @@ loop-again : tie.Need-loop-again Inv-loop μ-loop
 loop-again c =
     range-stores (c .before .before .before .before .before .before .before .before .before .before .before .before .before .loop .inv)
     (c .before .before .before .before .before .before .before .before .before .before .before .before .loop-test .taken)
-    (range-name (c .before .before .before .before .before .before .before .before .before .before .before .before .before .loop .i)
+    (λ t v R A e. range-name (c .before .before .before .before .before .before .before .before .before .before .before .before .before .loop .i)
     (c .before .before .before .before .before .before .before .before .before .before .before .at8 .ensures)
     (c .before .before .before .before .before .before .before .before .before .before .at .ensures)
     (c .before .before .before .before .before .before .before .before .before .is-type-name .ensures)
     (c .before .before .before .before .before .before .before .before .before .before .before .before .loop-test .taken)
     (c .before .before .before .before .before .before .before .before .before .before .before .before .before .loop .inv .upto)
-    (c .before .before .before .before .before .before .before .before .if1 .taken) (c .before .before .before .before .before .before .before .node-finding .ensures))
+    (c .before .before .before .before .before .before .before .before .if1 .taken) (c .before .before .before .before .before .before .before .node-finding .ensures) t v R A)
     (c .before .before .before .before .store .ensures)
 
 loop-less-2 : tie.Need-loop-less-2 Inv-loop μ-loop
