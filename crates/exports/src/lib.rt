@@ -4,6 +4,7 @@
 pub mod arithmetic;
 pub mod binaries;
 pub mod graphs;
+pub mod kinds;
 pub mod logicals;
 pub mod names;
 
