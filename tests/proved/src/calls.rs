@@ -49,6 +49,39 @@ extern "C" {
         roles_length: usize,
         number: &mut usize,
     ) -> u8;
+    fn woffulent_declared_types(
+        terminals: *const u8,
+        terminals_length: usize,
+        kinds: *const u8,
+        kinds_length: usize,
+        tokens: *const u32,
+        tokens_length: usize,
+        sizes: *const u32,
+        sizes_length: usize,
+        bindings: *const u32,
+        bindings_length: usize,
+        order: *const u32,
+        order_length: usize,
+        column: *mut u32,
+        column_length: usize,
+    );
+    fn woffulent_type_constants(
+        terminals: *const u8,
+        terminals_length: usize,
+        kinds: *const u8,
+        kinds_length: usize,
+        tokens: *const u32,
+        tokens_length: usize,
+        sizes: *const u32,
+        sizes_length: usize,
+        bindings: *const u32,
+        bindings_length: usize,
+        declared: *const u32,
+        declared_length: usize,
+        scratch: *mut u32,
+        scratch_length: usize,
+        node: &mut usize,
+    ) -> u8;
     fn woffulent_integer(s: *const u8, s_length: usize, start: usize, length: usize) -> u64;
     fn woffulent_binary(s: *const u8, s_length: usize, start: usize, length: usize) -> u64;
     fn woffulent_add(a: i64, b: i64, number: &mut i64, length: &mut u8) -> u8;
@@ -242,6 +275,66 @@ pub fn parse(
         )
     };
     outcome(reply, number)
+}
+
+/// The columns of a file's nodes, with the terminals of its tokens and what its names are bound to.
+#[derive(Clone, Copy, Debug)]
+pub struct Nodes<'a> {
+    pub terminals: &'a [u8],
+    pub kinds: &'a [u8],
+    pub tokens: &'a [u32],
+    pub sizes: &'a [u32],
+    pub bindings: &'a [u32],
+}
+
+/// Stores what items, types and constants are declared with, by number. `order` has the nodes of the declarations, each type
+/// after those that it renames.
+pub fn declared_types(nodes: Nodes, order: &[u32], column: &mut [u32]) {
+    // SAFETY: see the head of this file.
+    unsafe {
+        woffulent_declared_types(
+            nodes.terminals.as_ptr(),
+            nodes.terminals.len(),
+            nodes.kinds.as_ptr(),
+            nodes.kinds.len(),
+            nodes.tokens.as_ptr(),
+            nodes.tokens.len(),
+            nodes.sizes.as_ptr(),
+            nodes.sizes.len(),
+            nodes.bindings.as_ptr(),
+            nodes.bindings.len(),
+            order.as_ptr(),
+            order.len(),
+            column.as_mut_ptr(),
+            column.len(),
+        )
+    }
+}
+
+/// Types all constants against what is declared; the number beside a refusal is the node of the first fault.
+pub fn type_constants(nodes: Nodes, declared: &[u32], scratch: &mut [u32]) -> Result<(), Refusal> {
+    let mut node = usize::MAX;
+    // SAFETY: see the head of this file.
+    let reply = unsafe {
+        woffulent_type_constants(
+            nodes.terminals.as_ptr(),
+            nodes.terminals.len(),
+            nodes.kinds.as_ptr(),
+            nodes.kinds.len(),
+            nodes.tokens.as_ptr(),
+            nodes.tokens.len(),
+            nodes.sizes.as_ptr(),
+            nodes.sizes.len(),
+            nodes.bindings.as_ptr(),
+            nodes.bindings.len(),
+            declared.as_ptr(),
+            declared.len(),
+            scratch.as_mut_ptr(),
+            scratch.len(),
+            &mut node,
+        )
+    };
+    outcome(reply, node).map(|_| ())
 }
 
 /// The value of the integer literal of `length` bytes at `start`, as far as 2 to the 63.
