@@ -226,7 +226,8 @@ fn operators_with_operands_of_all_kinds() {
 #[test]
 fn intervals_with_operands_of_all_kinds() {
     for (first, second) in [("<", "<"), ("<", "<="), ("<=", "<"), ("<=", "<=")] {
-        let all = OPERANDS.iter().flat_map(|a| OPERANDS.iter().flat_map(move |b| OPERANDS.iter().map(move |c| [a, b, c])));
+        let all =
+            OPERANDS.iter().flat_map(|a| OPERANDS.iter().flat_map(move |b| OPERANDS.iter().map(move |c| [a, b, c])));
         let taken = all.filter(|[a, b, c]| has_kind(&format!("{{{a} {first} {b} {second} {c}}}"))).count();
         assert_eq!(taken, 56, "{first} {second}");
     }
