@@ -7,6 +7,7 @@ pub mod graphs;
 pub mod kinds;
 pub mod logicals;
 pub mod names;
+pub mod operators;
 
 ghost use mathlib.Core.Path.{_≡_};
 ghost use lib.ListN.{length, take, drop};

@@ -94,6 +94,35 @@ extern "C" {
     fn woffulent_compare(a: i64, b: i64) -> u8;
     fn woffulent_join(a: u64, m: u8, b: u64, n: u8, number: &mut i64, length: &mut u8) -> u8;
     fn woffulent_compare_binaries(a: u64, m: u8, b: u64, n: u8) -> u8;
+    fn woffulent_combined(
+        class: u8,
+        place: u8,
+        kind_a: u8,
+        number_a: i64,
+        length_a: u8,
+        kind_b: u8,
+        number_b: i64,
+        length_b: u8,
+        number: &mut i64,
+        length: &mut u8,
+    ) -> u8;
+    fn woffulent_applied(place: u8, kind: u8, z: i64, bits: u8, number: &mut i64, length: &mut u8) -> u8;
+    fn woffulent_between(
+        first: u8,
+        second: u8,
+        kind_a: u8,
+        number_a: i64,
+        length_a: u8,
+        kind_b: u8,
+        number_b: i64,
+        length_b: u8,
+        kind_c: u8,
+        number_c: i64,
+        length_c: u8,
+        number: &mut i64,
+        length: &mut u8,
+    ) -> u8;
+    fn woffulent_held(boolean: bool, kind: u8, z: i64, bits: u8, number: &mut i64, length: &mut u8) -> u8;
     fn woffulent_and(a: u8, b: u8) -> u8;
     fn woffulent_or(a: u8, b: u8) -> u8;
     fn woffulent_xor(a: u8, b: u8) -> u8;
@@ -611,4 +640,55 @@ pub fn not(a: u8) -> u8 {
 pub fn relate(a: u8, by: u8, b: u8) -> u8 {
     // SAFETY: numbers alone.
     unsafe { woffulent_relate(a, by, b) }
+}
+
+/// An operator of two operands; arithmetic, relations and connectives by their place among `-`, `*`, DIV, MOD, `**`; among `<`,
+/// `>`, `<=`, `>=`, `<>`, `=`, `:<>:`, `:=:`; and among AND, OR, XOR.
+#[derive(Clone, Copy, Debug, PartialEq, Eq)]
+pub enum Operator {
+    Plus,
+    Arithmetic(u8),
+    Relation(u8),
+    Connective(u8),
+}
+
+/// The three numbers of a row; a length above 255 is one of 255.
+fn parts(row: AnswerRow) -> (u8, i64, u8) {
+    (row.kind, row.number, u8::try_from(row.length).unwrap_or(u8::MAX))
+}
+
+/// The answer row of an operator between two operands.
+pub fn combined(operator: Operator, a: AnswerRow, b: AnswerRow) -> AnswerRow {
+    let (class, place) = match operator {
+        Operator::Plus => (0, 0),
+        Operator::Arithmetic(place) => (1, place),
+        Operator::Relation(place) => (2, place),
+        Operator::Connective(place) => (3, place),
+    };
+    let ((kind_a, a, length_a), (kind_b, b, length_b)) = (parts(a), parts(b));
+    // SAFETY: numbers, and places that are lent to the call alone.
+    row(|number, length| unsafe {
+        woffulent_combined(class, place, kind_a, a, length_a, kind_b, b, length_b, number, length)
+    })
+}
+
+/// The answer row of a sign and its operand: 0 `+`, 1 `-`, 2 NOT.
+pub fn applied(sign: u8, a: AnswerRow) -> AnswerRow {
+    let (kind, z, bits) = parts(a);
+    // SAFETY: numbers, and places that are lent to the call alone.
+    row(|number, length| unsafe { woffulent_applied(sign, kind, z, bits, number, length) })
+}
+
+/// The answer row of an interval, by the places of its two relations.
+pub fn between(first: u8, second: u8, low: AnswerRow, item: AnswerRow, high: AnswerRow) -> AnswerRow {
+    let ((k, a, l), (m, b, n), (p, c, q)) = (parts(low), parts(item), parts(high));
+    // SAFETY: numbers, and places that are lent to the call alone.
+    row(|number, length| unsafe { woffulent_between(first, second, k, a, l, m, b, n, p, c, q, number, length) })
+}
+
+/// The answer row of a constant, from that of its expression and whether its type is BOOLEAN.
+pub fn held(boolean: bool, a: AnswerRow) -> AnswerRow {
+    let (kind, z, bits) = parts(a);
+    // SAFETY: numbers, and places that are lent to the call alone.
+    row(|number, length| unsafe { woffulent_held(boolean, kind, z, bits, number, length) })
 }
