@@ -1,3 +1,4 @@
 pub mod Places
 pub mod Reply
 pub mod Encoded
+pub mod Operands

@@ -4,8 +4,10 @@
 pub mod arithmetic;
 pub mod binaries;
 pub mod graphs;
+pub mod kinds;
 pub mod logicals;
 pub mod names;
+pub mod operators;
 
 ghost use mathlib.Core.Path.{_≡_};
 ghost use lib.ListN.{length, take, drop};

@@ -29,7 +29,7 @@ pub fn order_place(order: Order) -> u8
     }
 }
 
-fn relation(n: u8) -> Relation
+pub fn relation(n: u8) -> Relation
     ensures { λ r. ⌜ relation-of r ≡ relation-at n ⌝ }
 {
     match n {

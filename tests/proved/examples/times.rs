@@ -4,10 +4,11 @@
 //! The reference allocates its rows anew in each run, which is part of its time.
 
 use compare::random::{well_typed, Rng, LARGEST};
-use proved::{intern, parse, scan, terminals};
-use reference::parser;
+use proved::{declared_types, intern, parse, scan, terminals, type_constants, Nodes};
+use reference::outline::Outline;
 use reference::terminals::classify;
-use reference::{symbols, tokens, AnswerRow, TokenRow, MAX_BYTES};
+use reference::{kinds, names, parser};
+use reference::{symbols, tokens, AnswerRow, File, TokenRow, MAX_BYTES};
 use std::hint::black_box;
 use std::time::Instant;
 
@@ -84,6 +85,59 @@ fn steps(file: &[u8], rows: &[TokenRow]) -> [Timed; 4] {
         .map(|(step, [proved, reference])| Timed { step, proved, reference })
 }
 
+/// The codes of a file's terminals.
+fn codes(file: &[u8], rows: &[TokenRow]) -> Vec<u8> {
+    let (mut kinds, mut starts, mut lengths) = (vec![0; rows.len()], vec![0; rows.len()], vec![0; rows.len()]);
+    scan(file, &mut kinds, &mut starts, &mut lengths).expect("a file of tokens");
+    let mut codes = vec![0; rows.len()];
+    terminals(file, &kinds, &starts, &lengths, &mut codes);
+    codes
+}
+
+/// Of a file whose nodes and bindings are there: the proved declared types, the proved typing, the reference's typing, which
+/// has the declared types in it, and its outline, by which that finds types and constants.
+fn typing(bytes: &[u8]) -> [f64; 4] {
+    let tokens = tokens::read(bytes).expect("tokens");
+    let terminals = classify(bytes, &tokens);
+    let nodes = parser::read(&terminals).expect("nodes");
+    let (outline, symbols) = (Outline::new(&nodes), symbols::intern(bytes, &tokens, &terminals));
+    let file =
+        File { bytes, tokens: &tokens, terminals: &terminals, nodes: &nodes, symbols: &symbols, outline: &outline };
+    let names = names::bind(&file).expect("names");
+    let node_kinds: Vec<u8> = nodes.iter().map(|node| node.kind).collect();
+    let node_tokens: Vec<u32> = nodes.iter().map(|node| node.token).collect();
+    let sizes: Vec<u32> = nodes.iter().map(|node| node.size).collect();
+    let order: Vec<u32> = names.type_order.iter().map(|&number| outline.declarations[number as usize].node).collect();
+    let codes = codes(bytes, &tokens);
+    let columns =
+        Nodes { terminals: &codes, kinds: &node_kinds, tokens: &node_tokens, sizes: &sizes, bindings: &names.bindings };
+    let (mut column, mut scratch) = (vec![0; nodes.len()], vec![0; nodes.len()]);
+    let [declared, outlined] =
+        best(|| declared_types(black_box(columns), &order, &mut column), || Outline::new(black_box(&nodes)));
+    assert_eq!(type_constants(columns, &column, &mut scratch), Ok(()));
+    let [typed, checked] = best(
+        || type_constants(black_box(columns), &column, &mut scratch),
+        || kinds::check(black_box(&file), &names).is_ok(),
+    );
+    [declared, typed, checked, outlined]
+}
+
+/// Nanoseconds for each byte of well-typed files of three sizes, and the proved time as a part of the reference's without its
+/// outline and with it.
+fn print_typing() {
+    println!("\nnanoseconds for each byte");
+    println!("   bytes  declared    typing     check   outline   ratio    with outline");
+    for size in [1_024, 16_384, LARGEST] {
+        let sized = |file: &Vec<u8>| (size / 4 * 3..=size / 4 * 5).contains(&file.len());
+        for file in (0..).map(|seed| well_typed(seed, size)).filter(sized).take(6) {
+            let [declared, typed, checked, outlined] = typing(&file).map(|time| time / file.len() as f64);
+            print!("{:8}{declared:10.3}{typed:10.3}{checked:10.3}{outlined:10.3}", file.len());
+            let proved = declared + typed;
+            println!("{:8.2}{:16.2}", proved / checked, proved / (checked + outlined));
+        }
+    }
+}
+
 type Operation = fn(i64, i64) -> AnswerRow;
 
 /// A value, or what has none: a zero divisor, a negative power, or a result outside 64 bits.
@@ -136,6 +190,9 @@ fn main() {
             let [a, b] = [proved, reference].map(|time| time / file.len() as f64);
             println!("{name:24}{:8}{:8}  {step:12}{a:8.3}{b:10.3}{:8.2}", file.len(), rows.len(), a / b);
         }
+    }
+    if "kinds".contains(&only) {
+        print_typing();
     }
     if "arithmetic".contains(&only) {
         print_arithmetic();

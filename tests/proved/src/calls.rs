@@ -49,6 +49,39 @@ extern "C" {
         roles_length: usize,
         number: &mut usize,
     ) -> u8;
+    fn woffulent_declared_types(
+        terminals: *const u8,
+        terminals_length: usize,
+        kinds: *const u8,
+        kinds_length: usize,
+        tokens: *const u32,
+        tokens_length: usize,
+        sizes: *const u32,
+        sizes_length: usize,
+        bindings: *const u32,
+        bindings_length: usize,
+        order: *const u32,
+        order_length: usize,
+        column: *mut u32,
+        column_length: usize,
+    );
+    fn woffulent_type_constants(
+        terminals: *const u8,
+        terminals_length: usize,
+        kinds: *const u8,
+        kinds_length: usize,
+        tokens: *const u32,
+        tokens_length: usize,
+        sizes: *const u32,
+        sizes_length: usize,
+        bindings: *const u32,
+        bindings_length: usize,
+        declared: *const u32,
+        declared_length: usize,
+        scratch: *mut u32,
+        scratch_length: usize,
+        node: &mut usize,
+    ) -> u8;
     fn woffulent_integer(s: *const u8, s_length: usize, start: usize, length: usize) -> u64;
     fn woffulent_binary(s: *const u8, s_length: usize, start: usize, length: usize) -> u64;
     fn woffulent_add(a: i64, b: i64, number: &mut i64, length: &mut u8) -> u8;
@@ -61,6 +94,35 @@ extern "C" {
     fn woffulent_compare(a: i64, b: i64) -> u8;
     fn woffulent_join(a: u64, m: u8, b: u64, n: u8, number: &mut i64, length: &mut u8) -> u8;
     fn woffulent_compare_binaries(a: u64, m: u8, b: u64, n: u8) -> u8;
+    fn woffulent_combined(
+        class: u8,
+        place: u8,
+        kind_a: u8,
+        number_a: i64,
+        length_a: u8,
+        kind_b: u8,
+        number_b: i64,
+        length_b: u8,
+        number: &mut i64,
+        length: &mut u8,
+    ) -> u8;
+    fn woffulent_applied(place: u8, kind: u8, z: i64, bits: u8, number: &mut i64, length: &mut u8) -> u8;
+    fn woffulent_between(
+        first: u8,
+        second: u8,
+        kind_a: u8,
+        number_a: i64,
+        length_a: u8,
+        kind_b: u8,
+        number_b: i64,
+        length_b: u8,
+        kind_c: u8,
+        number_c: i64,
+        length_c: u8,
+        number: &mut i64,
+        length: &mut u8,
+    ) -> u8;
+    fn woffulent_held(boolean: bool, kind: u8, z: i64, bits: u8, number: &mut i64, length: &mut u8) -> u8;
     fn woffulent_and(a: u8, b: u8) -> u8;
     fn woffulent_or(a: u8, b: u8) -> u8;
     fn woffulent_xor(a: u8, b: u8) -> u8;
@@ -242,6 +304,66 @@ pub fn parse(
         )
     };
     outcome(reply, number)
+}
+
+/// The columns of a file's nodes, with the terminals of its tokens and what its names are bound to.
+#[derive(Clone, Copy, Debug)]
+pub struct Nodes<'a> {
+    pub terminals: &'a [u8],
+    pub kinds: &'a [u8],
+    pub tokens: &'a [u32],
+    pub sizes: &'a [u32],
+    pub bindings: &'a [u32],
+}
+
+/// Stores what items, types and constants are declared with, by number. `order` has the nodes of the declarations, each type
+/// after those that it renames.
+pub fn declared_types(nodes: Nodes, order: &[u32], column: &mut [u32]) {
+    // SAFETY: see the head of this file.
+    unsafe {
+        woffulent_declared_types(
+            nodes.terminals.as_ptr(),
+            nodes.terminals.len(),
+            nodes.kinds.as_ptr(),
+            nodes.kinds.len(),
+            nodes.tokens.as_ptr(),
+            nodes.tokens.len(),
+            nodes.sizes.as_ptr(),
+            nodes.sizes.len(),
+            nodes.bindings.as_ptr(),
+            nodes.bindings.len(),
+            order.as_ptr(),
+            order.len(),
+            column.as_mut_ptr(),
+            column.len(),
+        )
+    }
+}
+
+/// Types all constants against what is declared; the number beside a refusal is the node of the first fault.
+pub fn type_constants(nodes: Nodes, declared: &[u32], scratch: &mut [u32]) -> Result<(), Refusal> {
+    let mut node = usize::MAX;
+    // SAFETY: see the head of this file.
+    let reply = unsafe {
+        woffulent_type_constants(
+            nodes.terminals.as_ptr(),
+            nodes.terminals.len(),
+            nodes.kinds.as_ptr(),
+            nodes.kinds.len(),
+            nodes.tokens.as_ptr(),
+            nodes.tokens.len(),
+            nodes.sizes.as_ptr(),
+            nodes.sizes.len(),
+            nodes.bindings.as_ptr(),
+            nodes.bindings.len(),
+            declared.as_ptr(),
+            declared.len(),
+            scratch.as_mut_ptr(),
+            scratch.len(),
+            &mut node,
+        )
+    };
+    outcome(reply, node).map(|_| ())
 }
 
 /// The value of the integer literal of `length` bytes at `start`, as far as 2 to the 63.
@@ -518,4 +640,55 @@ pub fn not(a: u8) -> u8 {
 pub fn relate(a: u8, by: u8, b: u8) -> u8 {
     // SAFETY: numbers alone.
     unsafe { woffulent_relate(a, by, b) }
+}
+
+/// An operator of two operands; arithmetic, relations and connectives by their place among `-`, `*`, DIV, MOD, `**`; among `<`,
+/// `>`, `<=`, `>=`, `<>`, `=`, `:<>:`, `:=:`; and among AND, OR, XOR.
+#[derive(Clone, Copy, Debug, PartialEq, Eq)]
+pub enum Operator {
+    Plus,
+    Arithmetic(u8),
+    Relation(u8),
+    Connective(u8),
+}
+
+/// The three numbers of a row; a length above 255 is one of 255.
+fn parts(row: AnswerRow) -> (u8, i64, u8) {
+    (row.kind, row.number, u8::try_from(row.length).unwrap_or(u8::MAX))
+}
+
+/// The answer row of an operator between two operands.
+pub fn combined(operator: Operator, a: AnswerRow, b: AnswerRow) -> AnswerRow {
+    let (class, place) = match operator {
+        Operator::Plus => (0, 0),
+        Operator::Arithmetic(place) => (1, place),
+        Operator::Relation(place) => (2, place),
+        Operator::Connective(place) => (3, place),
+    };
+    let ((kind_a, a, length_a), (kind_b, b, length_b)) = (parts(a), parts(b));
+    // SAFETY: numbers, and places that are lent to the call alone.
+    row(|number, length| unsafe {
+        woffulent_combined(class, place, kind_a, a, length_a, kind_b, b, length_b, number, length)
+    })
+}
+
+/// The answer row of a sign and its operand: 0 `+`, 1 `-`, 2 NOT.
+pub fn applied(sign: u8, a: AnswerRow) -> AnswerRow {
+    let (kind, z, bits) = parts(a);
+    // SAFETY: numbers, and places that are lent to the call alone.
+    row(|number, length| unsafe { woffulent_applied(sign, kind, z, bits, number, length) })
+}
+
+/// The answer row of an interval, by the places of its two relations.
+pub fn between(first: u8, second: u8, low: AnswerRow, item: AnswerRow, high: AnswerRow) -> AnswerRow {
+    let ((k, a, l), (m, b, n), (p, c, q)) = (parts(low), parts(item), parts(high));
+    // SAFETY: numbers, and places that are lent to the call alone.
+    row(|number, length| unsafe { woffulent_between(first, second, k, a, l, m, b, n, p, c, q, number, length) })
+}
+
+/// The answer row of a constant, from that of its expression and whether its type is BOOLEAN.
+pub fn held(boolean: bool, a: AnswerRow) -> AnswerRow {
+    let (kind, z, bits) = parts(a);
+    // SAFETY: numbers, and places that are lent to the call alone.
+    row(|number, length| unsafe { woffulent_held(boolean, kind, z, bits, number, length) })
 }

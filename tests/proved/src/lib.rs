@@ -5,5 +5,7 @@ mod calls;
 
 pub use calls::{add, compare, div, modulo, multiply, negate, power, subtract};
 pub use calls::{and, not, or, relate, xor};
+pub use calls::{applied, between, combined, held, Operator};
 pub use calls::{binary, build, components, find, integer, intern, next_of, order, parse, reachable, scan, scan_to, symbol_of, terminals, Sorted};
 pub use calls::{compare_binaries, join, Binary};
+pub use calls::{declared_types, type_constants, Nodes};

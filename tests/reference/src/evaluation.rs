@@ -94,14 +94,14 @@ pub fn answers(file: &File, names: &Names, underlying: &[Underlying]) -> Vec<Ans
 }
 
 /// UNKNOWN is no member of BOOLEAN.
-fn declared(answer: Answer, underlying: Underlying) -> Answer {
+pub fn declared(answer: Answer, underlying: Underlying) -> Answer {
     if underlying == Underlying::Boolean && answer == Ok(Value::Logical(Logical::Unknown)) {
         return Err(End::UnknownBoolean);
     }
     answer
 }
 
-fn row(answer: Answer) -> AnswerRow {
+pub fn row(answer: Answer) -> AnswerRow {
     match answer {
         Ok(Value::Indeterminate) => AnswerRow::default(),
         Ok(Value::Integer(number)) => AnswerRow { kind: 1, number, length: 0 },
@@ -146,13 +146,12 @@ impl Evaluator<'_> {
             kind::NAME | kind::QUALIFIED_ITEM => self.name(number),
             kind::UNARY => {
                 let operand = self.pop();
-                operand.and_then(|value| unary(self.file.terminal(number), value))
+                applied(self.file.terminal(number), operand)
             }
             kind::BINARY_OPERATOR => {
                 let right = self.pop();
                 let left = self.pop();
-                // The left operand's end comes first, then the right one's.
-                left.and_then(|left| right.and_then(|right| operate(self.file.terminal(number), left, right)))
+                combined(self.file.terminal(number), left, right)
             }
             kind::INTERVAL => self.interval(number),
             kind::INTERVAL_OPERATOR => return None,
@@ -172,20 +171,31 @@ impl Evaluator<'_> {
         }
     }
 
-    /// The AND of the two relations; the ends of low, item and high come in this order.
     fn interval(&mut self, number: u32) -> Answer {
         let high = self.pop();
         let item = self.pop();
         let low = self.pop();
-        let (low, item, high) = (low?, item?, high?);
         let size = |node: u32| self.file.nodes[node as usize].size;
         // The children from the right: high, operator, item, operator, low.
         let second = number - 1 - size(number - 1);
         let first = second - 1 - size(second - 1);
-        let left = relation(self.file.terminal(first), low, item);
-        let right = relation(self.file.terminal(second), item, high);
-        Ok(Value::Logical(left.min(right)))
+        between(self.file.terminal(first), self.file.terminal(second), low, item, high)
     }
+}
+
+/// The left operand's end comes first, then the right one's.
+pub fn combined(operator: Terminal, left: Answer, right: Answer) -> Answer {
+    left.and_then(|left| right.and_then(|right| operate(operator, left, right)))
+}
+
+pub fn applied(operator: Terminal, operand: Answer) -> Answer {
+    operand.and_then(|value| unary(operator, value))
+}
+
+/// The AND of the two relations; the ends of low, item and high come in this order.
+pub fn between(first: Terminal, second: Terminal, low: Answer, item: Answer, high: Answer) -> Answer {
+    let (low, item, high) = (low?, item?, high?);
+    Ok(Value::Logical(relation(first, low, item).min(relation(second, item, high))))
 }
 
 /// The token reader has seen to it that the value fits.

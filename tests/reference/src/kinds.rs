@@ -60,7 +60,7 @@ pub fn check(file: &File, names: &Names) -> Result<Vec<Underlying>, Fault> {
 }
 
 /// Of each type what it comes down to, of each constant what its declared type does.
-fn underlying_types(file: &File, names: &Names) -> Vec<Underlying> {
+pub fn underlying_types(file: &File, names: &Names) -> Vec<Underlying> {
     let outline = file.outline;
     let mut underlying = vec![Underlying::NotEvaluated; outline.declarations.len()];
     for &number in &names.type_order {
