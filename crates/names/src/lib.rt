@@ -1,28 +1,12 @@
-// Names: replies 9 to 13, what each name is bound to, and orders of the declarations for the stages that follow.
-use columns::put32;
+// The stages of names, one after the other: what is declared twice, the names of types with their graph and its order, what is
+// inherited, and the names in expressions with the graph of the constants and its order. A stage computes on where an earlier
+// one has found a fault; the faults are put together at the end.
+ghost use Rattle.names.specs.Stages.{BindsDeclarations, BindsExpressions};
 use faults::Fault;
-use index::Outcome;
-use scopes::at;
-use scopes::dictionary::Preparation;
 
-pub fn prepare(
-    src: &[u8],
-    starts: &[u32],
-    lengths: &[u32],
-    kinds: &[u8],
-    tokens: &[u32],
-    roles: &[u32],
-    symbols: &mut [u32],
-    keys: &mut [u64],
-    nodes: &mut [u32],
-    heads: &mut [u32],
-    next: &mut [u32],
-) -> Preparation {
-    index::symbols::intern(src, starts, lengths, symbols, heads, next);
-    scopes::dictionary::prepare(kinds, tokens, roles, symbols, keys, nodes, heads, next)
-}
-
-pub fn resolve_declarations(
+// Stages 9, 10 and 11 of types, and 13 of types: the bindings of the names of types, the graph of the declarations and an order of
+// them.
+pub fn bind_declarations(
     kinds: &[u8],
     tokens: &[u32],
     roles: &[u32],
@@ -37,7 +21,12 @@ pub fn resolve_declarations(
     to: &mut [u32],
     order: &mut [u32],
     scratch: &mut [u32],
-) -> Fault {
+) -> Fault
+    ensures { λ r. ⌜ BindsDeclarations (now (kinds .entry)) (now (tokens .entry)) (now (roles .entry)) (now (symbols .entry)) (now (starts .entry))
+        (now (keys .entry)) (now (nodes .entry)) (now (heads .entry)) (now (next .entry))
+        (now (bound .entry)) (now (first .entry)) (now (to .entry)) (now (order .entry)) (now (scratch .entry)) r
+        (now (bound .exit)) (now (first .exit)) (now (to .exit)) (now (order .exit)) ⌝ }
+{
     let repeated = duplicates::least_duplicate(tokens, starts, keys, nodes, next);
     let unbound = type_names::bind_type_names(
         kinds,
@@ -57,57 +46,9 @@ pub fn resolve_declarations(
     faults::or_later(repeated, faults::or_later(unbound, cyclic))
 }
 
-pub fn resolve_inheritance(
-    kinds: &[u8],
-    tokens: &[u32],
-    roles: &[u32],
-    symbols: &[u32],
-    keys: &[u64],
-    nodes: &[u32],
-    first: &[u32],
-    to: &[u32],
-    attribute_keys: &mut [u64],
-    attribute_nodes: &mut [u32],
-    owners: &mut [u32],
-    heads: &mut [u32],
-    next: &mut [u32],
-    mark: &mut [u32],
-    queue: &mut [u32],
-    bound: &mut [u32],
-) {
-    let from = inheritance::collect_attributes(
-        kinds,
-        tokens,
-        symbols,
-        keys,
-        nodes,
-        columns::saturating_sub(first.len(), 1),
-        attribute_keys,
-        attribute_nodes,
-        owners,
-    );
-    index::dictionary::build(&attribute_keys[from..], heads, next);
-    inheritance::inherit_all(
-        kinds,
-        tokens,
-        roles,
-        symbols,
-        keys,
-        nodes,
-        first,
-        to,
-        &attribute_keys[from..],
-        &attribute_nodes[from..],
-        &owners[from..],
-        heads,
-        next,
-        mark,
-        queue,
-        bound,
-    );
-}
-
-pub fn resolve_expressions(
+// Stages 10 to 12 of expressions, and 13 of constants: the bindings of all names, the graph of the constants and an order of the
+// declarations.
+pub fn bind_expressions(
     kinds: &[u8],
     tokens: &[u32],
     sizes: &[u32],
@@ -123,7 +64,12 @@ pub fn resolve_expressions(
     to: &mut [u32],
     order: &mut [u32],
     scratch: &mut [u32],
-) -> Fault {
+) -> Fault
+    ensures { λ r. ⌜ BindsExpressions (now (kinds .entry)) (now (tokens .entry)) (now (sizes .entry)) (now (roles .entry)) (now (symbols .entry)) (now (starts .entry))
+        (now (keys .entry)) (now (nodes .entry)) (now (heads .entry)) (now (next .entry))
+        (now (bound .entry)) (now (first .entry)) (now (to .entry)) (now (order .entry)) (now (scratch .entry)) r
+        (now (bound .exit)) (now (first .exit)) (now (to .exit)) (now (order .exit)) ⌝ }
+{
     let unbound = uses::bind_uses(
         kinds,
         tokens,
