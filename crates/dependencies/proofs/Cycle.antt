@@ -73,7 +73,7 @@ module _ {t : Table} {target : ℕ → ℕ} {p : ℕ → Bool} {es : List Edge} 
   pub many : vertices first ≡ vertex-count t
   many = omega (arith, G .long)
 
-  arc-leads : (v w : ℕ) → Arc first to v w → Leads t target (node-of t v) (node-of t w)
+  pub arc-leads : (v w : ℕ) → Arc first to v w → Leads t target (node-of t v) (node-of t w)
   arc-leads v w A =
       let N = G .arc-iff v w .0 A in
       let l = N .source in
@@ -88,7 +88,7 @@ module _ {t : Table} {target : ℕ → ℕ} {p : ℕ → Bool} {es : List Edge} 
         target-is = N .target-is ∙ ap (λ (k : ℕ). k + 1) (sym (node-number t w h));
       }
 
-  leads-arc : (x y : ℕ) → Leads t target x y → Arc first to (vertex t x) (vertex t y)
+  pub leads-arc : (x y : ℕ) → Leads t target x y → Arc first to (vertex t x) (vertex t y)
   leads-arc x y L = rw (L .owned) at (G .arc-iff (vertex t (owner t (L .node))) (vertex t y) .1 names)
     where
       range : InRange t (L .node) (vertex t (owner t (L .node)))

@@ -126,7 +126,7 @@ module _ (t : Table) where
       low n true (one y) e f = vertex-low t y (type-declared n y e f)
 
 module _ {t : Table} (d : Read file t) (types : Passes (nodes t) (type-name-fault t)) where
-  type-edge-iff : (x y : ℕ) → Joins (type-edges t) x y ↔ Bound t (is-type-arc t) x y
+  pub type-edge-iff : (x y : ℕ) → Joins (type-edges t) x y ↔ Bound t (is-type-arc t) x y
   unfolding type-edges
   type-edge-iff x y = (
     λ e.
@@ -165,7 +165,7 @@ module _ {t : Table} (d : Read file t) (types : Passes (nodes t) (type-name-faul
         target-is = rw (B .passes, e);
       }
 
-  type-bound : (x y : ℕ) → Leads t (type-target t) x y → Bound t (is-type-arc t) x y
+  pub type-bound : (x y : ℕ) → Leads t (type-target t) x y → Bound t (is-type-arc t) x y
   type-bound x y L = by (is-type-arc t n) (means t n) refl refl (L .target-is)
     where
       n : ℕ

@@ -12,13 +12,14 @@ use Rattle.relations.specs.Select.{span, keep}
 use Rattle.relations.proofs.Select.{span-append, keep-append, keep-nothing, span-mem}
 use Rattle.express.specs.syntax.Tree.{Table, count, is-attribute, owner}
 use Rattle.express.proofs.kinds.Backward.{keep-step}
+use Rattle.index.specs.Dictionary.{Indexed}
 use Rattle.scopes.specs.Entries.{vertex}
 use Rattle.scopes.specs.Preparation.{Prepared}
 use Rattle.scopes.specs.Range.{vertex-count, node-of, range-start, DeclarationAt}
 use Rattle.scopes.specs.declared.Extent.{Extent}
 use Rattle.scopes.proofs.Passing.{vertex-small}
 use Rattle.scopes.proofs.Ranges.{node-below, node-declares, node-number, range-next, range-rises, range-owner, range-end, range-below}
-use Rattle.inheritance.specs.Attributes.{owned-attribute, attributes-from, attributes, symbol-key, owner-vertex, Collected, AttributeRoom, Collects}
+use Rattle.inheritance.specs.Attributes.{owned-attribute, attributes-from, attributes, symbol-key, owner-vertex, AttributeDictionary, Collected, AttributeRoom, Collects}
 use Rattle.inheritance.specs.Steps.{attribute-kind, Entered, Ranged, CollectsRange}
 use Rattle.inheritance.proofs.Asking.{declaration-other}
 
@@ -269,3 +270,11 @@ collected-end {t} {keys} {nodes} {owners} {from = from} m c =
       ap (drop from) (c .nodes-are) ∙ at nodes (attributes t) (m .nodes-long),
       ap (drop from) (c .owners-are) ∙ at owners (map (owner-vertex t) (attributes t)) (m .owners-long),
     )
+
+-- so with the chains of the keys they are the dictionary
+pub attribute-dictionary : {t : Table} {keys nodes owners keys′ nodes′ owners′ heads next : List ℕ} {from : ℕ} → AttributeRoom t keys nodes owners
+    → Collected t 0 keys nodes owners from keys′ nodes′ owners′ → Indexed (drop from keys′) heads next
+    → AttributeDictionary t (drop from keys′) (drop from nodes′) (drop from owners′) heads next
+attribute-dictionary m c i =
+    let e = collected-end m c in
+    record { keys-are = e .0; nodes-are = e .1; owners-are = e .2; indexed = i }

@@ -4,3 +4,4 @@ pub mod Gathering
 pub mod Storing
 pub mod Reaching
 pub mod Doing
+pub mod TypeGraphs

@@ -27,7 +27,7 @@ code none = 0
 code (one k) = k + 1
 code several = several-code
 
--- the nodes that ask for it: a use (N10), and what is declared in an entity or a type (N12)
+-- the nodes that ask for it: a use (N10), and an attribute or a label, which may not be named like what is inherited (N16)
 abbrev pub asks : Table → ℕ → Bool
 asks t n = is-use t n || is-scope-member t n
 

@@ -254,8 +254,8 @@ fn inherit_in(
         (now (heads .entry)) (now (next .entry)) v (now (mark .entry)) (now (queue .entry)) (now (bound .entry)) (now (mark .exit))
         (now (bound .exit)) ⌝ }
 {
-    let d = scopes::declaration(entry_keys, entry_nodes, v);
-    if inherits(kinds, first, d.node, v) {
+    let extent = scopes::declaration(entry_keys, entry_nodes, v);
+    if inherits(kinds, first, extent.node, v) {
         let stamp = number(v + 1);
         graph::search(first, to, v, stamp, mark, queue);
         store_inherited(
@@ -270,8 +270,8 @@ fn inherit_in(
             next,
             mark,
             stamp,
-            d.from,
-            d.node,
+            extent.from,
+            extent.node,
             bound,
         );
     }
