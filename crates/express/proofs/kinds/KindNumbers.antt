@@ -1,18 +1,12 @@
 -- Kinds by their numbers: each number is one kind's, and what is asked of kinds is asked of the numbers.
 use mathlib.Core.Path.{_≡_, refl, sym, ap, _∙_}
 use mathlib.Core.Bool.{Bool, true, false, cond, not, _||_}
-use Prim.Native.Nat.{ℕ, _+_, _-_}
+use Prim.Native.Nat.{ℕ, zero, suc, _+_, _<_}
 use native.Mathlib.Omega.{arith}
 use borrow.Author.Tests.{eqb-true, ne-eqb}
 use lib.Dec.{eqb}
 use Rattle.express.specs.kinds.Operate.{Kind, integers, logicals, binaries, items, undetermined, untyped, integral, truthful, summable, comparable}
-use Rattle.express.specs.kinds.Kind.{kind-number, same, common}
-
--- from the number of a kind to the kind
-abbrev pub of-number : ℕ → Kind
-of-number n =
-    cond (eqb n 0) untyped
-    (cond (eqb n 1) undetermined (cond (eqb n 2) integers (cond (eqb n 3) logicals (cond (eqb n 4) binaries (items (n - 5))))))
+use Rattle.express.specs.kinds.Kind.{kind-number, of-number, same, common}
 
 pub number-back : (k : Kind) → of-number (kind-number k) ≡ k
 number-back integers = refl
@@ -23,6 +17,20 @@ number-back (items y) =
     (ap items (omega arith))
 number-back undetermined = refl
 number-back untyped = refl
+
+-- every number is a kind's
+more-than-four : (n : ℕ) → 4 < n → kind-number (of-number n) ≡ n
+more-than-four n l =
+    rw (ne-eqb n 0 (λ e. omega arith), ne-eqb n 1 (λ e. omega arith), ne-eqb n 2 (λ e. omega arith), ne-eqb n 3 (λ e. omega arith), ne-eqb n 4 (λ e. omega arith))
+    (omega arith)
+
+pub number-there : (n : ℕ) → kind-number (of-number n) ≡ n
+number-there zero = refl
+number-there (suc zero) = refl
+number-there (suc (suc zero)) = refl
+number-there (suc (suc (suc zero))) = refl
+number-there (suc (suc (suc (suc zero)))) = refl
+number-there (suc (suc (suc (suc (suc n))))) = more-than-four (suc (suc (suc (suc (suc n))))) (omega arith)
 
 pub same-kinds : (j k : Kind) → same j k ≡ true → j ≡ k
 same-kinds j k e = sym (number-back j) ∙ ap of-number (eqb-true (kind-number j) (kind-number k) e) ∙ number-back k

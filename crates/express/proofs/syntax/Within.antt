@@ -19,11 +19,11 @@ use Rattle.ebnf.proofs.Children.{last-one, no-more}
 use Rattle.ebnf.proofs.Below.{every-part, below, child-of}
 use Rattle.express.specs.tokens.Terminal.{identifier, integer, binary, dot, power, the}
 use Rattle.express.specs.syntax.Tree.{Table, count, kind, token, size, role, terminal, first, is-declaration, owner, schema-of}
-use Rattle.express.specs.syntax.Grammar.{Nonterminal, file, simple-types, relations, additions, multiplications, signs, comparisons, logicals}
+use Rattle.express.specs.syntax.Grammar.{Nonterminal, file, expression, simple-types, relations, additions, multiplications, signs, comparisons, logicals}
 use Rattle.express.specs.syntax.Syntax.{Read}
 use Rattle.relations.specs.Select.{first-from}
 use Rattle.express.proofs.syntax.Syntax.{express}
-use Rattle.express.proofs.syntax.Nodes.{kinds, all-rows, all-below, children-have, children-pass, named-by-some}
+use Rattle.express.proofs.syntax.Nodes.{expressions, kinds, all-rows, all-below, children-have, children-pass, named-by-some}
 use Rattle.express.proofs.syntax.FormedRows.{kind-is, role-is, size-is, token-is, count-is, node-at}
 use Rattle.relations.proofs.Select.{first-of}
 use Rattle.express.specs.syntax.NodeKind as node
@@ -127,6 +127,30 @@ module _ {x : Nonterminal} {t : Table} (d : Read x t) where
       not-true _ ((and-split (not (q (kind t j))) _
       (passes-below d (inner q) (s .1) m w (children-pass q (inner q) (s .0) (kind t m) o) j (omega (arith, f, g)) h)) .0)) in
       subst (λ (k : ℕ). Over t n k × (q (kind t k) ≡ true) × (k < r)) (sym z) (record { known = w; from = f; to = c .to }, o, a)
+
+-- ---- an expression that is read by itself
+
+module _ {t : Table} (d : Read expression t) where
+  -- THE EXPRESSION is the last node, over all others
+  pub expression-last : (1 ≤ count t) × (mem (kind t (count t - 1)) set.expression-kinds ≡ true) × (size t (count t - 1) ≡ count t)
+  unfolding every mem
+  expression-last =
+      let l = last-one (d .rows) 0 (length (d .rows)) [] expressions (all-rows expression (t .terminals) (d .rows) (d .parses)) in
+      let e = count-is d in
+      let u = l .1 in
+      let v = l .2 in
+      let z = no-more (d .rows) _ _ (l .3) in
+      let k : mem ((row-at (d .rows) (length (d .rows) - 1)) .kind) set.expression-kinds ≡ true =
+      every-of (λ k o. mem k set.expression-kinds) expressions _ ((row-at (d .rows) (length (d .rows) - 1)) .role) refl (l .0) in
+      let s = size-is d (length (d .rows) - 1) in
+      rw e (omega (arith, u, v), rw (kind-is d (length (d .rows) - 1)) k, s ∙ omega (arith, u, v, z))
+
+  -- so it declares nothing: all nodes are those of an expression
+  pub expression-nodes : (n : ℕ) → n < count t → mem (kind t n) set.in-expression ≡ true
+  expression-nodes n l =
+      let f = expression-last in
+      let s = f .2 in
+      expression-below d (count t - 1) (omega arith) (f .1) n (omega (arith, s)) (omega arith)
 
 -- ---- a whole file
 

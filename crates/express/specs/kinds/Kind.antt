@@ -2,7 +2,7 @@
 use mathlib.Core.Path.{_≡_}
 use mathlib.Core.Bool.{Bool, true, cond, _&&_}
 use mathlib.Core.List.{List, [], _∷_}
-use Prim.Native.Nat.{ℕ, _+_, _<_}
+use Prim.Native.Nat.{ℕ, _+_, _-_, _<_}
 use lib.Dec.{eqb}
 use lib.ListN.{getD, set, replicate}
 use Rattle.express.specs.syntax.NodeKind as node
@@ -21,6 +21,12 @@ kind-number integers = 2
 kind-number logicals = 3
 kind-number binaries = 4
 kind-number (items y) = y + 5
+
+-- and from the number to the kind
+abbrev pub of-number : ℕ → Kind
+of-number n =
+    cond (eqb n 0) untyped
+    (cond (eqb n 1) undetermined (cond (eqb n 2) integers (cond (eqb n 3) logicals (cond (eqb n 4) binaries (items (n - 5))))))
 
 abbrev pub same : Kind → Kind → Bool
 same j k = eqb (kind-number j) (kind-number k)

@@ -1,0 +1,6 @@
+pub mod Numbered
+pub mod Nodes
+pub mod Assembled
+pub mod Walking
+pub mod Constants
+pub mod Loose
