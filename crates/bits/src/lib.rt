@@ -38,7 +38,7 @@ fn high(n: u64, k: u8) -> u64
 }
 
 // The last k bits of n.
-fn low(n: u64, k: u8) -> u64
+pub fn low(n: u64, k: u8) -> u64
     ensures { λ r. ⌜ r ≡ n % 2 ^ k ⌝ }
 {
     if WORD <= k {

@@ -1,0 +1,4 @@
+pub mod Cases
+pub mod Operands
+pub mod Reading
+pub mod Stored
