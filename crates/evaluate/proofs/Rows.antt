@@ -119,9 +119,9 @@ module _ (ks : List ℕ) (zs : List ℤ) (ls : List ℕ) (i : ℕ) where
 
 -- ---- storing
 pub stores :
-    {a : operations.Answer} {w : Row} {i : ℕ} {ks : List ℕ} {zs : List ℤ} {ls ks′ : List ℕ} {zs′ : List ℤ} {ls′ : List ℕ} {z : ℤ} →
-    row-in w ≡ row-of (stored (answer-of a)) → ks′ ≡ set ks i (w .kind) → z ≡ w .number → zs′ ≡ set zs i z → ls′ ≡ set ls i (w .length) →
-    Stores a i ks zs ls ks′ zs′ ls′
+    {x : Answer} {w : Row} {i : ℕ} {ks : List ℕ} {zs : List ℤ} {ls ks′ : List ℕ} {zs′ : List ℤ} {ls′ : List ℕ} {z : ℤ} →
+    row-in w ≡ row-of x → ks′ ≡ set ks i (w .kind) → z ≡ w .number → zs′ ≡ set zs i z → ls′ ≡ set ls i (w .length) →
+    Stores x i ks zs ls ks′ zs′ ls′
 stores {i} {ks} {zs} {ls} e p q s u =
     record {
       kinds-are = p ∙ ap (λ v. set ks i (v .kind)) e;
@@ -138,7 +138,8 @@ module _ {a : operations.Answer} {x : Answer} (g : Gives a x) where
 
   -- the row of an answer leads back to it
   pub stored-rows :
-      {i : ℕ} {ks : List ℕ} {zs : List ℤ} {ls ks′ : List ℕ} {zs′ : List ℤ} {ls′ : List ℕ} → Stores a i ks zs ls ks′ zs′ ls′ →
+      {i : ℕ} {ks : List ℕ} {zs : List ℤ} {ls ks′ : List ℕ} {zs′ : List ℤ} {ls′ : List ℕ} →
+      Stores (stored (answer-of a)) i ks zs ls ks′ zs′ ls′ →
       answers-in ks′ zs′ ls′ ≡ set (answers-in ks zs ls) i x
   stored-rows {i} {ks} {zs} {ls} S =
       let y = stored (answer-of a) in

@@ -10,6 +10,8 @@ use Rattle.express.specs.syntax.Tree.{Table}
 use Rattle.express.specs.kinds.Answer.{Answer}
 use Rattle.express.specs.kinds.Shape.{shape-in}
 use Rattle.express.specs.kinds.Evaluate.{answer-in, answer-at, run-in}
+use Rattle.operations.specs.Meaning.{answer-of}
+use Rattle.operations.specs.Stored.{stored}
 use Rattle.operations.specs.declared.Answer as code
 use Rattle.evaluate.specs.Answers.{answers-in, Gives, Stores}
 use Rattle.evaluate.specs.Evaluation.{known-in, Against, Answered, EvaluatesNodes}
@@ -43,7 +45,7 @@ module _ {bytes starts lengths terminals kinds tokens sizes bindings : List ℕ}
   module _ {ks₀ : List ℕ} {zs₀ : List ℤ} {ls₀ ks : List ℕ} {zs : List ℤ} {ls : List ℕ} {n : ℕ} (G : Going bytes starts lengths terminals kinds tokens sizes bindings lo hi file-kinds declared row-of at aks azs als ks₀ zs₀ ls₀ ks zs ls n) where
     pub going-on :
         n < hi → {r : code.Answer} → Answered bytes starts lengths terminals kinds tokens sizes bindings file-kinds declared row-of at aks azs als ks zs ls n r →
-        {ks′ : List ℕ} {zs′ : List ℤ} {ls′ : List ℕ} → Stores r n ks zs ls ks′ zs′ ls′ → Going bytes starts lengths terminals kinds tokens sizes bindings lo hi file-kinds declared row-of at aks azs als ks₀ zs₀ ls₀ ks′ zs′ ls′ (n + 1)
+        {ks′ : List ℕ} {zs′ : List ℤ} {ls′ : List ℕ} → Stores (stored (answer-of r)) n ks zs ls ks′ zs′ ls′ → Going bytes starts lengths terminals kinds tokens sizes bindings lo hi file-kinds declared row-of at aks azs als ks₀ zs₀ ls₀ ks′ zs′ ls′ (n + 1)
     going-on l N S =
         record {
           kinds-kept = ap length (S .kinds-are) ∙ length-set ks n _ ∙ G .kinds-kept;

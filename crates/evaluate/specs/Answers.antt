@@ -24,7 +24,7 @@ pub record Gives (r : operations.Answer) (a : Answer) : Type 0 where
   pub whole : storable a ≡ true
 
 -- the row of an answer is stored at i, as far as the columns reach
-pub record Stores (a : operations.Answer) (i : ℕ) (kinds : List ℕ) (numbers : List ℤ) (lengths kinds′ : List ℕ) (numbers′ : List ℤ) (lengths′ : List ℕ) : Type 0 where
-  pub kinds-are : kinds′ ≡ set kinds i (row-of (stored (answer-of a)) .kind)
-  pub numbers-are : numbers′ ≡ set numbers i (row-of (stored (answer-of a)) .number)
-  pub lengths-are : lengths′ ≡ set lengths i (row-of (stored (answer-of a)) .length)
+pub record Stores (a : Answer) (i : ℕ) (kinds : List ℕ) (numbers : List ℤ) (lengths kinds′ : List ℕ) (numbers′ : List ℤ) (lengths′ : List ℕ) : Type 0 where
+  pub kinds-are : kinds′ ≡ set kinds i (row-of a .kind)
+  pub numbers-are : numbers′ ≡ set numbers i (row-of a .number)
+  pub lengths-are : lengths′ ≡ set lengths i (row-of a .length)

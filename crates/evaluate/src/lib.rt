@@ -10,6 +10,8 @@ ghost use lib.ListN.{getD};
 ghost use Rattle.express.specs.syntax.NodeKind as node;
 ghost use Rattle.express.specs.kinds.Evaluate.{answer-at};
 ghost use Rattle.express.specs.syntax.Tree as Tree;
+ghost use Rattle.operations.specs.Meaning.{answer-of};
+ghost use Rattle.operations.specs.Stored.{stored};
 ghost use Rattle.evaluate.specs.Answers.{Gives, Stores, answers-in};
 ghost use Rattle.evaluate.specs.Evaluation.{Child, part, IntegerRead, BinaryRead, Leaf, Named, Combines, Intervals, Operates, Others, Answered, EvaluatesNodes};
 use crate::operators::Reading;
@@ -30,7 +32,7 @@ use operations::rows::row_of;
 const BOOLEAN: u32 = 1;
 
 // The number at an index; past the end of the column 0.
-fn at8(column: &[u8], i: usize) -> u8
+pub fn at8(column: &[u8], i: usize) -> u8
     ensures { λ r. ⌜ r ≡ getD (now (column .entry)) i 0 ⌝ }
 {
     if i < column.len() {
@@ -72,7 +74,7 @@ pub fn answer_at(kinds: &[u8], numbers: &[i64], lengths: &[u8], i: usize) -> Ans
 
 // Keeps an answer in a row.
 pub fn put_answer(kinds: &mut [u8], numbers: &mut [i64], lengths: &mut [u8], i: usize, a: Answer)
-    ensures { λ _. ⌜ Stores a i (now (kinds .entry)) (now (numbers .entry)) (now (lengths .entry)) (now (kinds .exit)) (now (numbers .exit)) (now (lengths .exit)) ⌝ }
+    ensures { λ _. ⌜ Stores (stored (answer-of a)) i (now (kinds .entry)) (now (numbers .entry)) (now (lengths .entry)) (now (kinds .exit)) (now (numbers .exit)) (now (lengths .exit)) ⌝ }
 {
     let row = row_of(a);
     columns::put8(kinds, i, row.kind);
