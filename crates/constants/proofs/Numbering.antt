@@ -35,10 +35,10 @@ module _ (p : ℕ → Bool) where
   unfolding keep span
   no-more n h = let z : 0 + n ≡ n = omega arith in let q : p (0 + n) ≡ false = ap p z ∙ h in rw q
 
-  next-one : (n : ℕ) → p n ≡ true → so-far (n + 1) ≡ so-far n + 1
+  pub next-one : (n : ℕ) → p n ≡ true → so-far (n + 1) ≡ so-far n + 1
   next-one n h = omega (arith, split n 1, one-more n h)
 
-  next-none : (n : ℕ) → p n ≡ false → so-far (n + 1) ≡ so-far n
+  pub next-none : (n : ℕ) → p n ≡ false → so-far (n + 1) ≡ so-far n
   next-none n h = omega (arith, split n 1, no-more n h)
 
 module _ (kinds : List ℕ) where
@@ -55,9 +55,12 @@ module _ (kinds : List ℕ) where
   pub row-other : (n : ℕ) → (getD kinds n 0 ≡ node.constant → ⊥) → row-in kinds (n + 1) ≡ row-in kinds n
   row-other n k = next-none (λ m. eqb (getD kinds m 0) node.constant) n (ne-eqb _ _ k)
 
-row-none : (kinds : List ℕ) → row-in kinds 0 ≡ 0
+pub none-yet : (p : ℕ → Bool) → length (keep p (span 0 0)) ≡ 0
 unfolding keep span
-row-none kinds = refl
+none-yet p = refl
+
+pub row-none : (kinds : List ℕ) → row-in kinds 0 ≡ 0
+row-none kinds = none-yet (λ m. eqb (getD kinds m 0) node.constant)
 
 -- THE LOOP'S INVARIANT
 pub record Numbering (kinds was column : List ℕ) (n rows : ℕ) : Type 0 where

@@ -109,6 +109,12 @@ pub record FilledRows (t : Table) (lo hi at : ℕ) (aks : List ℕ) (azs : List 
   pub numbers-are : Filled (pos 0) (λ a. row-of a .number) t lo hi at azs azs′
   pub lengths-are : Filled 0 (λ a. row-of a .length) t lo hi at als als′
 
+-- the rows of some answers, from the first row on
+pub record WrittenRows (aks : List ℕ) (azs : List ℤ) (als : List ℕ) (xs : List Answer) (aks′ : List ℕ) (azs′ : List ℤ) (als′ : List ℕ) : Type 0 where
+  pub kinds-are : aks′ ≡ sets aks 0 (map (λ a. row-of a .kind) xs)
+  pub numbers-are : azs′ ≡ sets azs 0 (map (λ a. row-of a .number) xs)
+  pub lengths-are : als′ ≡ sets als 0 (map (λ a. row-of a .length) xs)
+
 module _ (bytes starts lengths terminals kinds tokens sizes bindings declared order : List ℕ) where
   -- A SCHEMA: the rows of its constants are filled
   pub record FillsSchema (row-of : List ℕ) (lo hi at : ℕ) (aks : List ℕ) (azs : List ℤ) (als vks : List ℕ) (vzs : List ℤ) (vls aks′ : List ℕ) (azs′ : List ℤ) (als′ : List ℕ)
@@ -116,3 +122,16 @@ module _ (bytes starts lengths terminals kinds tokens sizes bindings declared or
     pub is :
         (t : Table) → OfFile t bytes starts lengths terminals kinds tokens sizes bindings declared order → Rows t row-of → Schema t lo hi at → Room t vks vzs vls →
         Holds (row t hi - at) aks azs als → FilledRows t lo hi at aks azs als aks′ azs′ als′
+
+  -- THE SCHEMAS one after the other: the rows of all constants are filled
+  pub record FillsSchemas (row-of aks : List ℕ) (azs : List ℤ) (als vks : List ℕ) (vzs : List ℤ) (vls aks′ : List ℕ) (azs′ : List ℤ) (als′ : List ℕ) : Type 0 where
+    pub is :
+        (t : Table) → OfFile t bytes starts lengths terminals kinds tokens sizes bindings declared order → Rows t row-of → Room t vks vzs vls →
+        Holds (length (constants t)) aks azs als → FilledRows t 0 (count t) 0 aks azs als aks′ azs′ als′
+
+  -- THE ANSWERS OF A FILE, in the order of the text; all other entries of the answer columns are as they were
+  pub record EvaluatesConstants (was aks : List ℕ) (azs : List ℤ) (als vks : List ℕ) (vzs : List ℤ) (vls row-of′ aks′ : List ℕ) (azs′ : List ℤ) (als′ : List ℕ) : Type 0 where
+    pub rows : (t : Table) → OfFile t bytes starts lengths terminals kinds tokens sizes bindings declared order → count t ≤ length was → Rows t row-of′
+    pub is :
+        (t : Table) → OfFile t bytes starts lengths terminals kinds tokens sizes bindings declared order → count t ≤ length was → Room t vks vzs vls →
+        Holds (length (constants t)) aks azs als → WrittenRows aks azs als (file-answers t) aks′ azs′ als′

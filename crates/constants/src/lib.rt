@@ -1,7 +1,7 @@
 // The evaluation of the constants of a file into its answer columns, one schema after the other.
 ghost use mathlib.Core.Path.{_≡_};
 ghost use Prim.Native.Nat.{_<_};
-ghost use Rattle.constants.specs.Constants.{due, NumbersRows, EvaluatesConstant, FillsSchema};
+ghost use Rattle.constants.specs.Constants.{due, NumbersRows, EvaluatesConstant, FillsSchema, FillsSchemas, EvaluatesConstants};
 use evaluate::answer_at;
 use evaluate::at8;
 use evaluate::evaluate_expression;
@@ -153,4 +153,117 @@ fn evaluate_schema(
             i += 1;
         }
     }
+}
+
+// Each schema in the order of the text, into the part of the answer columns after those of the schemas before it.
+fn evaluate_schemas(
+    src: &[u8],
+    starts: &[u32],
+    lengths: &[u32],
+    terminals: &[u8],
+    kinds: &[u8],
+    tokens: &[u32],
+    sizes: &[u32],
+    bindings: &[u32],
+    declared: &[u32],
+    order: &[u32],
+    row_of: &[u32],
+    answer_kinds: &mut [u8],
+    answer_numbers: &mut [i64],
+    answer_lengths: &mut [u8],
+    value_kinds: &mut [u8],
+    value_numbers: &mut [i64],
+    value_lengths: &mut [u8],
+)
+    ensures { λ _. ⌜ FillsSchemas (now (src .entry)) (now (starts .entry)) (now (lengths .entry)) (now (terminals .entry)) (now (kinds .entry))
+        (now (tokens .entry)) (now (sizes .entry)) (now (bindings .entry)) (now (declared .entry)) (now (order .entry)) (now («row_of» .entry))
+        (now («answer_kinds» .entry)) (now («answer_numbers» .entry)) (now («answer_lengths» .entry))
+        (now («value_kinds» .entry)) (now («value_numbers» .entry)) (now («value_lengths» .entry))
+        (now («answer_kinds» .exit)) (now («answer_numbers» .exit)) (now («answer_lengths» .exit)) ⌝ }
+{
+    let mut n: usize = 0;
+    let mut lo: usize = 0;
+    let mut at: usize = 0;
+    while n < kinds.len() {
+        if kinds[n] == codes::nodes::SCHEMA {
+            let a = columns::shorter(at, answer_kinds.len());
+            let b = columns::shorter(at, answer_numbers.len());
+            let c = columns::shorter(at, answer_lengths.len());
+            evaluate_schema(
+                src,
+                starts,
+                lengths,
+                terminals,
+                kinds,
+                tokens,
+                sizes,
+                bindings,
+                declared,
+                order,
+                row_of,
+                lo,
+                n,
+                at,
+                &mut answer_kinds[a..],
+                &mut answer_numbers[b..],
+                &mut answer_lengths[c..],
+                value_kinds,
+                value_numbers,
+                value_lengths,
+            );
+            at = index_at(row_of, n);
+            n += 1;
+            lo = n;
+        } else {
+            n += 1;
+        }
+    }
+}
+
+// THE ANSWERS OF A FILE: its rows are numbered by node, and its constants evaluated, each schema by itself.
+pub fn evaluate_constants(
+    src: &[u8],
+    starts: &[u32],
+    lengths: &[u32],
+    terminals: &[u8],
+    kinds: &[u8],
+    tokens: &[u32],
+    sizes: &[u32],
+    bindings: &[u32],
+    declared: &[u32],
+    order: &[u32],
+    row_of: &mut [u32],
+    answer_kinds: &mut [u8],
+    answer_numbers: &mut [i64],
+    answer_lengths: &mut [u8],
+    value_kinds: &mut [u8],
+    value_numbers: &mut [i64],
+    value_lengths: &mut [u8],
+)
+    ensures { λ _. ⌜ EvaluatesConstants (now (src .entry)) (now (starts .entry)) (now (lengths .entry)) (now (terminals .entry)) (now (kinds .entry))
+        (now (tokens .entry)) (now (sizes .entry)) (now (bindings .entry)) (now (declared .entry)) (now (order .entry)) (now («row_of» .entry))
+        (now («answer_kinds» .entry)) (now («answer_numbers» .entry)) (now («answer_lengths» .entry))
+        (now («value_kinds» .entry)) (now («value_numbers» .entry)) (now («value_lengths» .entry))
+        (now («row_of» .exit)) (now («answer_kinds» .exit)) (now («answer_numbers» .exit)) (now («answer_lengths» .exit)) ⌝ }
+{
+    number_rows(kinds, row_of);
+    evaluate_schemas(
+        src,
+        starts,
+        lengths,
+        terminals,
+        kinds,
+        tokens,
+        sizes,
+        bindings,
+        declared,
+        order,
+        row_of,
+        answer_kinds,
+        answer_numbers,
+        answer_lengths,
+        value_kinds,
+        value_numbers,
+        value_lengths,
+    );
 }
