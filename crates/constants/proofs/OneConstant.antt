@@ -1,18 +1,18 @@
 -- One constant: the answer of its last node is its value, whatever the columns of values held.
-use mathlib.Core.Path.{_≡_, refl, sym, ap, ap₂, subst, _∙_}
+use mathlib.Core.Path.{_≡_, sym, ap, ap₂, subst, _∙_}
 use mathlib.Core.Logic.{inl}
 use mathlib.Core.List.{List}
-use Prim.Native.Nat.{ℕ, _+_, _-_, _≤_, _<_}
+use Prim.Native.Nat.{ℕ, _+_, _-_, _<_}
 use native.Mathlib.Omega.{arith}
 use lib.IntN.{ℤ}
-use lib.ListN.{length, getD}
+use lib.ListN.{getD}
 use Rattle.relations.specs.Select.{span}
 use Rattle.express.specs.syntax.NodeKind as node
 use Rattle.express.specs.syntax.Tree.{Table, count, kind, size, first, within}
 use Rattle.express.specs.kinds.Answer.{Answer}
 use Rattle.express.specs.kinds.Evaluate.{answer-at, run-in, value}
 use Rattle.express.proofs.syntax.FormedRows.{formed-rows}
-use Rattle.express.proofs.kinds.Scratch.{Root, value-run}
+use Rattle.express.proofs.kinds.Scratch.{value-run}
 use Rattle.operations.specs.Meaning.{answer-of}
 use Rattle.operations.specs.Stored.{stored}
 use Rattle.operations.specs.declared.Answer as code

@@ -1,36 +1,33 @@
 -- The constants of a schema in an order: each finds the answers of those that it names in their rows.
 use mathlib.Core.Path.{_≡_, refl, sym, ap, subst, _∙_}
 use mathlib.Core.Logic.{_⊎_, inl, inr, ⊎-elim}
-use mathlib.Core.Bool.{Bool, true, false, false≢true, _&&_}
+use mathlib.Core.Bool.{Bool, true, false, false≢true}
 use mathlib.Core.List.{List, [], _∷_, List·Memᴰ, List·Memᴰ·head, List·Memᴰ·tail, List·Memᴰ·not-nil}
 use Prim.Native.Nat.{ℕ, zero, suc, _+_, _-_, _≤_, _<_}
 use native.Mathlib.Decide.{ℕ-discrete}
 use native.Mathlib.Omega.{arith}
 use borrow.Author.Tests.{eqb-true, eq-eqb, leb-true, le-leb, ltb-true, ltb-false, lt-ltb}
-use lib.Dec.{eqb, leb, ltb}
+use lib.Dec.{leb, ltb}
 use lib.IntN.{ℤ, pos}
-use lib.ListN.{length, getD, set, take, length-set}
+use lib.ListN.{length, getD, set, take}
 use lib.Seq.{take-all, getD-set-same, getD-set-other}
 use Rattle.relations.specs.Reach.{Joins}
-use Rattle.relations.specs.Select.{keep}
 use Rattle.relations.specs.Sorted.{Sorted, done, next}
-use Rattle.relations.proofs.Select.{and-fst, and-snd, keep-mem, upto-mem, mem-keep, mem-upto, or-left}
+use Rattle.relations.proofs.Select.{and-fst, and-snd, mem-keep, mem-upto}
 use Rattle.express.specs.syntax.NodeKind as node
-use Rattle.express.specs.syntax.Tree.{Table, count, kind, is, nodes, is-declaration, within, schema-of}
+use Rattle.express.specs.syntax.Tree.{Table, count, kind, is, nodes, is-declaration}
 use Rattle.express.specs.names.Scope as scope
 use Rattle.express.specs.names.Fault.{constant-edges}
 use Rattle.express.specs.kinds.Answer.{Answer}
-use Rattle.express.specs.kinds.AnswerRow.{AnswerRow, row-answer}
+use Rattle.express.specs.kinds.AnswerRow.{AnswerRow}
 use Rattle.express.specs.kinds.AnswerRow as answer-row
-use Rattle.express.specs.kinds.Shape.{name, shape}
 use Rattle.express.specs.kinds.Evaluate.{answer-at, value}
 use Rattle.express.proofs.names.Edges.{constant-edge-schema, constant-edge-iff}
-use Rattle.operations.specs.Stored.{stored}
-use Rattle.operations.proofs.Stored.{Storable, row-back}
-use Rattle.evaluate.specs.Answers.{answers-in, Stores}
+use Rattle.operations.proofs.Stored.{row-back}
+use Rattle.evaluate.specs.Answers.{answers-in}
 use Rattle.evaluate.specs.Evaluation.{known-in}
 use Rattle.evaluate.proofs.Rows.{row-there}
-use Rattle.constants.specs.Constants.{row, due, answer-of-constant, OfFile, Rows, Room, Holds, EvaluatesConstant, Schema, Filled, FilledRows, FillsSchema}
+use Rattle.constants.specs.Constants.{row, due, answer-of-constant, OfFile, Rows, Room, Holds, EvaluatesConstant, Schema, Filled, FillsSchema}
 use Rattle.constants.proofs.Settled.{value-alike, uses-edge, settled, answer-storable}
 use Rattle.constants.proofs.Numbering.{row-rises, row-before}
 

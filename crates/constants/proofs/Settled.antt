@@ -1,23 +1,22 @@
 -- The answers of the constants of a file: each is the value of its constant, with those answers for the constants that it names; so whoever evaluates
 -- the constants in any order in which each stands after those that it names comes to the same.
 use mathlib.Core.Path.{_≡_, refl, sym, ap, subst, _∙_}
-use mathlib.Core.Logic.{_⊎_, inl, inr, ⊎-elim}
+use mathlib.Core.Logic.{_⊎_, inl, inr}
 use mathlib.Core.Bool.{true}
 use mathlib.Core.List.{List, [], _∷_, List·Memᴰ, List·Memᴰ·head, List·Memᴰ·tail, List·Memᴰ·not-nil}
-use Prim.Native.Nat.{ℕ, zero, suc, _+_, _≤_, _<_}
+use Prim.Native.Nat.{ℕ, zero, suc, _≤_, _<_}
 use native.Mathlib.Decide.{ℕ-discrete}
 use native.Mathlib.Omega.{arith}
-use borrow.Author.Tests.{eqb-true, eq-eqb, le-leb}
-use lib.ListN.{length, getD, set, replicate, length-set, length-replicate}
+use borrow.Author.Tests.{eqb-true, le-leb}
+use lib.ListN.{length, set, replicate, length-set, length-replicate}
 use lib.Seq.{getD-set-same, getD-set-other}
-use Rattle.relations.specs.Select.{span}
 use Rattle.relations.specs.Reach.{Joins}
 use Rattle.relations.specs.Sorted.{Sorted, done, next}
 use Rattle.relations.proofs.Select.{span-mem, and-both, mem-keep, mem-upto, keep-mem, upto-mem}
 use Rattle.express.specs.syntax.NodeKind as node
 use Rattle.express.specs.syntax.Grammar.{file}
 use Rattle.express.specs.syntax.Syntax.{Read}
-use Rattle.express.specs.syntax.Tree.{Table, count, kind, size, first, owner, is, in-constant, within, nodes}
+use Rattle.express.specs.syntax.Tree.{Table, count, kind, size, first, is, in-constant, within, nodes}
 use Rattle.express.specs.tokens.Scanned.{Scanned}
 use Rattle.express.specs.names.Scope.{bindings}
 use Rattle.express.specs.names.Fault.{constant-edges}
@@ -30,7 +29,7 @@ use Rattle.express.specs.kinds.Evaluate.{answer-in, answer-at, run-in, value, e
 use Rattle.express.proofs.syntax.FormedRows.{formed-rows}
 use Rattle.express.proofs.kinds.Spans.{constant-owner}
 use Rattle.express.proofs.kinds.ConstantOrder.{named-edge, arranged}
-use Rattle.express.proofs.kinds.Bounds.{Fitting, fit-?, evaluate-fits}
+use Rattle.express.proofs.kinds.Bounds.{fit-?, evaluate-fits}
 use Rattle.express.proofs.tokens.Literals.{literals}
 use Rattle.operations.proofs.Stored.{Storable, fitting-storable}
 use Rattle.constants.specs.Constants.{answer-of-constant}

@@ -5,13 +5,13 @@ use mathlib.Core.Bool.{Bool, true, false, false≢true, _||_}
 use mathlib.Core.List.{List}
 use Prim.Native.Nat.{ℕ, suc, _+_, _-_, _≤_, _<_}
 use native.Mathlib.Omega.{arith}
-use borrow.Author.Tests.{eqb-true, eqb-false, ne-eqb, eq-eqb, lt-ltb}
+use borrow.Author.Tests.{eqb-true, eqb-false, ne-eqb, lt-ltb}
 use lib.Dec.{eqb}
 use lib.IntN.{ℤ}
 use lib.ListN.{getD, List·getD-eq-default}
 use Rattle.express.specs.syntax.NodeKind as node
 use Rattle.express.specs.syntax.Tree.{Table, count, kind, terminal, last, before, left, upper, lower, middle, low}
-use Rattle.express.specs.kinds.Answer.{Answer, indeterminate, item}
+use Rattle.express.specs.kinds.Answer.{Answer}
 use Rattle.express.specs.kinds.Declared.{Declared, INTEGER, BOOLEAN, LOGICAL, BINARY, enumeration, other, declared-type}
 use Rattle.express.specs.kinds.DeclaredColumn.{declared-number}
 use Rattle.express.specs.kinds.Relation.{Relation}
@@ -29,7 +29,7 @@ use Rattle.evaluate.specs.declared.operators.Reading.{Reading}
 use Rattle.evaluate.specs.declared.operators.Reading.the-variants.{Evaluated, Unevaluated}
 use Rattle.evaluate.specs.Operators.{reading-of, combined-by}
 use Rattle.evaluate.specs.Answers.{answers-in, Gives}
-use Rattle.evaluate.specs.Evaluation.{Child, part, LiteralBytes, leaf-answer, Leaf, Named, Combines, Intervals, Operation, Operates, Plain, Others, Against, Answered}
+use Rattle.evaluate.specs.Evaluation.{Child, part, LiteralBytes, Leaf, Named, Combines, Intervals, Operation, Operates, Plain, Others, Answered}
 use Rattle.evaluate.proofs.Rows.{held-whole, same, nothing, whole-of}
 use Rattle.evaluate.proofs.Nodes.{at-sign, at-operator, at-interval, at-constant, at-name, at-item, at-leaf, unbound, bound-item, bound-constant, bound-other}
 
@@ -110,14 +110,16 @@ module _ {terminals tokens sizes ks : List ℕ} {zs : List ℤ} {ls : List ℕ} 
       {m₁ w₁ m₂ w₂ m₃ m₄ m₅ : ℕ} {o p : Relation} {x y z r : code.Answer} →
       Child lower sizes n m₁ → w₁ ≡ getD terminals (getD tokens m₁ 0) 0 → o ≡ bound-of w₁ →
       Child left sizes n m₂ → w₂ ≡ getD terminals (getD tokens m₂ 0) 0 → p ≡ bound-of w₂ →
-      Child low sizes n m₃ → Gives x (answer-at (answers-in ks zs ls) m₃) → Child middle sizes n m₄ → Gives y (answer-at (answers-in ks zs ls) m₄) → m₅ ≡ n - 1 → Gives z (answer-at (answers-in ks zs ls) m₅) →
+      Child low sizes n m₃ → Gives x (answer-at (answers-in ks zs ls) m₃) → Child middle sizes n m₄ → Gives y (answer-at (answers-in ks zs ls) m₄) →
+      m₅ ≡ n - 1 → Gives z (answer-at (answers-in ks zs ls) m₅) →
       answer-of r ≡ between o p (answer-of x) (answer-of y) (answer-of z) → Intervals terminals tokens sizes ks zs ls n r
   intervals L₁ W₁ O L₂ W₂ P L₃ X L₄ Y L₅ Z B =
       record {
         is = λ e T K S.
             record {
               is = B ∙
-                  between-same (O ∙ ap bound-of (term terminals tokens e T K W₁ (L₁ .is e S))) (P ∙ ap bound-of (term terminals tokens e T K W₂ (L₂ .is e S))) (X .is ∙ ap (answer-at (answers-in ks zs ls)) (L₃ .is e S))
+                  between-same (O ∙ ap bound-of (term terminals tokens e T K W₁ (L₁ .is e S))) (P ∙ ap bound-of (term terminals tokens e T K W₂ (L₂
+                  .is e S))) (X .is ∙ ap (answer-at (answers-in ks zs ls)) (L₃ .is e S))
                   (Y .is ∙ ap (answer-at (answers-in ks zs ls)) (L₄ .is e S)) (Z .is ∙ ap (answer-at (answers-in ks zs ls)) L₅);
               whole =
                   between-storable (bound-of (terminal e (lower e n))) (bound-of (terminal e (upper e n))) (row-storable ks zs ls (low e n))
@@ -149,7 +151,8 @@ module _ {terminals tokens sizes ks : List ℕ} {zs : List ℤ} {ls : List ℕ} 
       operates-two h {a} {x} L X C =
           record {
             is = λ t e c g T K S i O.
-                same (ap (λ (u : ℕ). combined-by (operator-of u) (answer-at (answers-in ks zs ls) (left e n)) (answer-at (answers-in ks zs ls) (last n))) (term terminals tokens e T K W refl) ∙ at-operator t e c (answer-at (answers-in ks zs ls)) g n (i ∙ h))
+                same (ap (λ (u : ℕ). combined-by (operator-of u) (answer-at (answers-in ks zs ls) (left e n)) (answer-at (answers-in ks zs ls) (last
+                n))) (term terminals tokens e T K W refl) ∙ at-operator t e c (answer-at (answers-in ks zs ls)) g n (i ∙ h))
                 (C .is (answer-at (answers-in ks zs ls) (left e n)) (answer-at (answers-in ks zs ls) (last n)) (same (ap (answer-at (answers-in ks zs ls)) (L .is e S)) X) (moved ks zs ls M G));
           }
 

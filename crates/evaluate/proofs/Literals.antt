@@ -1,13 +1,12 @@
 -- The values of literals.
-use mathlib.Core.Path.{_≡_, refl, sym, ap, ap₂, _∙_}
-use mathlib.Core.Bool.{Bool}
+use mathlib.Core.Path.{_≡_, refl, ap, ap₂, _∙_}
 use mathlib.Core.List.{List}
 use Prim.Native.Nat.{ℕ, min, _-_, _^_, _≤_, _<_}
 use native.Mathlib.Nat.{lt-of-lt-of-le}
 use native.Mathlib.Omega.{arith}
 use borrow.Author.Tests.{le-leb, ne-eqb}
-use lib.IntN.{ℤ, pos}
-use lib.ListN.{length, take, drop, length-take, length-drop, length-map}
+use lib.IntN.{pos}
+use lib.ListN.{length, drop, length-take, length-drop, length-map}
 use lib.Pow.{pow-mono}
 use mir.Syntax.{w64}
 use mir.Val.{SFits, toZ}
@@ -28,8 +27,7 @@ use Rattle.literals.specs.Literal.{capped}
 use Rattle.bits.specs.declared.Binary as bits-crate
 use Rattle.operations.specs.declared.Answer as operations
 use Rattle.operations.specs.declared.Answer.the-variants.{Indeterminate, Integer, Logical, Binary}
-use Rattle.evaluate.specs.Answers.{Gives}
-use Rattle.evaluate.specs.Evaluation.{part, IntegerRead, BinaryRead, LiteralBytes, leaf-answer, Leaf, Spelled}
+use Rattle.evaluate.specs.Evaluation.{part, IntegerRead, BinaryRead, Leaf, Spelled}
 use Rattle.evaluate.proofs.Rows.{same, nothing}
 
 -- ---- integers

@@ -13,7 +13,7 @@ use Rattle.express.specs.kinds.Evaluate.{answer-in, answer-at, run-in}
 use Rattle.operations.specs.Meaning.{answer-of}
 use Rattle.operations.specs.Stored.{stored}
 use Rattle.operations.specs.declared.Answer as code
-use Rattle.evaluate.specs.Answers.{answers-in, Gives, Stores}
+use Rattle.evaluate.specs.Answers.{answers-in, Stores}
 use Rattle.evaluate.specs.Evaluation.{known-in, Against, Answered, EvaluatesNodes}
 use Rattle.evaluate.proofs.Rows.{stored-rows}
 
@@ -42,10 +42,12 @@ module _ {bytes starts lengths terminals kinds tokens sizes bindings : List ℕ}
   pub going-starts : {ks : List ℕ} {zs : List ℤ} {ls : List ℕ} → Going bytes starts lengths terminals kinds tokens sizes bindings lo hi file-kinds declared row-of at aks azs als ks zs ls ks zs ls lo
   going-starts = record { kinds-kept = refl; numbers-kept = refl; lengths-kept = refl; is = λ t e A. refl }
 
-  module _ {ks₀ : List ℕ} {zs₀ : List ℤ} {ls₀ ks : List ℕ} {zs : List ℤ} {ls : List ℕ} {n : ℕ} (G : Going bytes starts lengths terminals kinds tokens sizes bindings lo hi file-kinds declared row-of at aks azs als ks₀ zs₀ ls₀ ks zs ls n) where
+  module _ {ks₀ : List ℕ} {zs₀ : List ℤ} {ls₀ ks : List ℕ} {zs : List ℤ} {ls : List ℕ} {n : ℕ} (G : Going bytes starts lengths terminals kinds tokens
+      sizes bindings lo hi file-kinds declared row-of at aks azs als ks₀ zs₀ ls₀ ks zs ls n) where
     pub going-on :
         n < hi → {r : code.Answer} → Answered bytes starts lengths terminals kinds tokens sizes bindings file-kinds declared row-of at aks azs als ks zs ls n r →
-        {ks′ : List ℕ} {zs′ : List ℤ} {ls′ : List ℕ} → Stores (stored (answer-of r)) n ks zs ls ks′ zs′ ls′ → Going bytes starts lengths terminals kinds tokens sizes bindings lo hi file-kinds declared row-of at aks azs als ks₀ zs₀ ls₀ ks′ zs′ ls′ (n + 1)
+        {ks′ : List ℕ} {zs′ : List ℤ} {ls′ : List ℕ} → Stores (stored (answer-of r)) n ks zs ls ks′ zs′ ls′ → Going bytes starts lengths terminals
+        kinds tokens sizes bindings lo hi file-kinds declared row-of at aks azs als ks₀ zs₀ ls₀ ks′ zs′ ls′ (n + 1)
     going-on l N S =
         record {
           kinds-kept = ap length (S .kinds-are) ∙ length-set ks n _ ∙ G .kinds-kept;

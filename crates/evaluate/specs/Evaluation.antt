@@ -15,7 +15,7 @@ use Rattle.express.specs.kinds.Answer.{Answer, indeterminate, integer, logical,
 use Rattle.express.specs.kinds.Bits.{number}
 use Rattle.express.specs.kinds.DeclaredColumn.{DeclaredColumn, declared-number}
 use Rattle.express.specs.kinds.Declared.{declared-type}
-use Rattle.express.specs.kinds.Shape.{Literals, text, logical-of, operator-of, bound-of, name-shape-in, shape-in}
+use Rattle.express.specs.kinds.Shape.{text, logical-of, operator-of, bound-of, name-shape-in, shape-in}
 use Rattle.express.specs.kinds.Operate.{between}
 use Rattle.express.specs.kinds.Evaluate.{answer-in, answer-at, run-in}
 use Rattle.operations.specs.declared.Answer as operations

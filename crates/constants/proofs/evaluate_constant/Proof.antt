@@ -1,3 +1,4 @@
+-- `constants::evaluate_constant` meets its contract: the answer of its last node is stored in its row. Assumes nothing.
 use borrow.Author.Needs.{needs}
 use Rattle.constants.proofs.evaluate_constant.Statement.{statement}
 use Rattle.constants.proofs.evaluate_constant.Tie as tie
@@ -13,7 +14,8 @@ use native.Mathlib.Omega.{arith}
 
 -- src/lib.rt:69:41
 add-saturating-sub : tie.Need-add-saturating-sub
-add-saturating-sub c = omega (arith, c .before .before .before .before .before .before .before .before .before .before .before .before .before .before .pre)
+add-saturating-sub c =
+    omega (arith, c .before .before .before .before .before .before .before .before .before .before .before .before .before .before .pre)
 
 -- src/lib.rt:69:48
 index-at-requires : tie.Need-index-at-requires
@@ -25,7 +27,12 @@ saturating-sub-requires c κs = search needs
 
 -- src/lib.rt:80:9
 add-evaluate-expression : tie.Need-add-evaluate-expression
-add-evaluate-expression c = omega (arith, c .before .before .before .before .before .before .before .before .before .before .before .before .before .before .before .before .pre)
+add-evaluate-expression c =
+    omega (
+      arith,
+      c .before .before .before .before .before .before .before .before .before .before .before .before .before .before .before .before
+          .pre,
+    )
 
 -- src/lib.rt:70:5
 evaluate-expression-requires : tie.Need-evaluate-expression-requires
@@ -73,7 +80,15 @@ same-length-6 c = search needs
 
 -- src/lib.rt:42:1
 returns : tie.Need-returns
-returns c = one-constant (c .before .before .before .before .before .before .before .before .before .before .before .before .before .before .before .before .before .before .before .before .before .before .before .before .before .before .before .before .index-at .ensures) (c .before .before .before .before .before .before .before .before .before .before .before .before .before .before .before .before .before .before .before .before .before .before .before .before .before .before .before .saturating-sub .ensures) (c .before .before .before .before .before .before .before .before .before .before .before .before .before .before .before .before .before .before .before .before .evaluate-expression .ensures) (c .before .before .before .before .before .before .before .before .before .before .before .before .before .before .index-at2 .ensures) (c .before .before .before .before .before .before .before .before .before .before .before .before .before .saturating-sub2 .ensures) (c .before .before .before .before .before .before .before .before .before .answer-at .ensures) (c .before .before .before .before .before .put-answer .ensures)
+returns c =
+    one-constant (c .before .before .before .before .before .before .before .before .before .before .before .before .before .before .before .before
+    .before .before .before .before .before .before .before .before .before .before .before .before .index-at .ensures) (c .before .before .before
+    .before .before .before .before .before .before .before .before .before .before .before .before .before .before .before .before .before .before
+    .before .before .before .before .before .before .saturating-sub .ensures) (c .before .before .before .before .before .before .before .before
+    .before .before .before .before .before .before .before .before .before .before .before .before .evaluate-expression .ensures) (c .before .before
+    .before .before .before .before .before .before .before .before .before .before .before .before .index-at2 .ensures) (c .before .before .before
+    .before .before .before .before .before .before .before .before .before .before .saturating-sub2 .ensures) (c .before .before .before .before
+    .before .before .before .before .before .answer-at .ensures) (c .before .before .before .before .before .put-answer .ensures)
 
 pub evaluate-constant-spec : {M : Type 1} → statement M
 evaluate-constant-spec =

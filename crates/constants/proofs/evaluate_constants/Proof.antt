@@ -1,3 +1,4 @@
+-- `constants::evaluate_constants` meets its contract: the rows in the order of the text. Assumes nothing.
 use borrow.Author.Needs.{needs}
 use Rattle.constants.proofs.evaluate_constants.Statement.{statement}
 use Rattle.constants.proofs.evaluate_constants.Tie as tie
@@ -45,7 +46,10 @@ same-length-7 c = search needs
 
 -- src/lib.rt:224:1
 returns : tie.Need-returns
-returns c = file-evaluated (c .before .before .before .before .before .before .before .before .before .before .before .before .before .before .before .before .before .before .before .before .number-rows .ensures) (c .before .before .before .before .before .before .before .before .before .before .evaluate-schemas .ensures) (search needs) (search needs) (search needs)
+returns c =
+    file-evaluated (c .before .before .before .before .before .before .before .before .before .before .before .before .before .before .before .before
+    .before .before .before .before .number-rows .ensures) (c .before .before .before .before .before .before .before .before .before .before
+    .evaluate-schemas .ensures) (search needs) (search needs) (search needs)
 
 pub evaluate-constants-spec : {M : Type 1} → statement M
 evaluate-constants-spec =

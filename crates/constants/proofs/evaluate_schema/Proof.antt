@@ -1,3 +1,4 @@
+-- `constants::evaluate_schema` meets its contract: what each constant names has passed before it. Assumes nothing.
 use Rattle.constants.proofs.evaluate_schema.Statement.{statement}
 use Rattle.constants.proofs.evaluate_schema.Tie as tie
 use Rattle.constants.proofs.evaluate_schema.Reads as reads
@@ -12,10 +13,15 @@ use lib.ListN.{length}
 use native.Mathlib.Omega.{arith}
 
 abbrev Inv-loop : tie.InvT-loop
-Inv-loop src starts lengths terminals kinds tokens sizes bindings declared order row-of lo hi at answer-kinds₀ answer-numbers₀ answer-lengths₀ value-kinds₀ value-numbers₀ value-lengths₀ i₀ answer-kinds answer-numbers answer-lengths value-kinds value-numbers value-lengths i = Passing src starts lengths terminals kinds tokens sizes bindings declared order row-of lo hi at answer-kinds₀ answer-numbers₀ answer-lengths₀ value-kinds₀ value-numbers₀ value-lengths₀ answer-kinds answer-numbers answer-lengths value-kinds value-numbers value-lengths i
+Inv-loop src starts lengths terminals kinds tokens sizes bindings declared order row-of lo hi at answer-kinds₀ answer-numbers₀ answer-lengths₀
+    value-kinds₀ value-numbers₀ value-lengths₀ i₀ answer-kinds answer-numbers answer-lengths value-kinds value-numbers value-lengths i = Passing src
+    starts lengths terminals kinds tokens sizes bindings declared order row-of lo hi at answer-kinds₀ answer-numbers₀ answer-lengths₀ value-kinds₀
+    value-numbers₀ value-lengths₀ answer-kinds answer-numbers answer-lengths value-kinds value-numbers value-lengths i
 
 abbrev μ-loop : tie.MeasureT-loop
-μ-loop src starts lengths terminals kinds tokens sizes bindings declared order row-of lo hi at answer-kinds₀ answer-numbers₀ answer-lengths₀ value-kinds₀ value-numbers₀ value-lengths₀ i₀ answer-kinds answer-numbers answer-lengths value-kinds value-numbers value-lengths i = length order - i
+μ-loop src starts lengths terminals kinds tokens sizes bindings declared order row-of lo hi at answer-kinds₀ answer-numbers₀ answer-lengths₀
+    value-kinds₀ value-numbers₀ value-lengths₀ i₀ answer-kinds answer-numbers answer-lengths value-kinds value-numbers value-lengths i = length order
+    - i
 
 -- src/lib.rt:128:5
 loop-holds : tie.Need-loop-holds Inv-loop μ-loop
@@ -39,23 +45,56 @@ is-due-requires c κs = search needs
 
 -- src/lib.rt:131:13
 evaluate-constant-requires : tie.Need-evaluate-constant-requires Inv-loop μ-loop
-evaluate-constant-requires c κs = due-below (c .before .before .before .before .before .before .before .before .before .before .before .before .before .before .before .before .before .before .before .before .before .before .before .before .before .before .before .args .kinds .now) (c .before .before .before .before .before .before .before .before .before .before .before .before .before .before .before .before .before .before .before .before .before .before .before .before .before .before .before .args .lo) (c .before .before .before .before .before .before .before .is-due .ensures) (c .before .before .before .before .before .before .if1 .taken) (c .before .before .before .before .before .before .before .before .before .before .before .before .before .before .before .before .before .before .before .before .before .before .before .before .before .before .before .fits .hi .fits)
+evaluate-constant-requires c κs =
+    due-below (c .before .before .before .before .before .before .before .before .before .before .before .before .before .before .before .before
+    .before .before .before .before .before .before .before .before .before .before .before .args .kinds .now) (c .before .before .before .before
+    .before .before .before .before .before .before .before .before .before .before .before .before .before .before .before .before .before .before
+    .before .before .before .before .before .args .lo) (c .before .before .before .before .before .before .before .is-due .ensures) (c .before .before
+    .before .before .before .before .if1 .taken) (c .before .before .before .before .before .before .before .before .before .before .before .before
+    .before .before .before .before .before .before .before .before .before .before .before .before .before .before .before .fits .hi .fits)
 
 -- src/lib.rt:151:13
 add-i : tie.Need-add-i Inv-loop μ-loop
-add-i c = omega (arith, c .before .before .before .before .before .before .before .before .before .before .before .before .before .before .before .before .before .before .before .before .before .loop-test .taken, c .before .before .before .before .before .before .before .before .before .before .before .before .before .before .before .before .before .before .before .before .before .before .before .before .before .before .before .before .before .before .before .before .before .before .before .before .before .before .good)
+add-i c =
+    omega (
+      arith,
+      c .before .before .before .before .before .before .before .before .before .before .before .before .before .before .before .before
+          .before .before .before .before .before .loop-test .taken,
+      c .before .before .before .before .before .before .before .before .before .before
+          .before .before .before .before .before .before .before .before .before .before .before .before .before .before .before .before .before .before
+          .before .before .before .before .before .before .before .before .before .before .good,
+    )
 
 -- src/lib.rt:128:5
 loop-less : tie.Need-loop-less Inv-loop μ-loop
-loop-less c = omega (arith, c .before .before .before .before .before .before .before .before .before .before .before .before .before .before .before .before .before .before .before .before .before .loop-test .taken)
+loop-less c =
+    omega (
+      arith,
+      c .before .before .before .before .before .before .before .before .before .before .before .before .before .before .before .before
+          .before .before .before .before .before .loop-test .taken,
+    )
 
 -- src/lib.rt:128:5
 loop-again : tie.Need-loop-again Inv-loop μ-loop
-loop-again c = passing-due (c .before .before .before .before .before .before .before .before .before .before .before .before .before .before .before .before .before .before .before .before .before .before .loop .inv) (c .before .before .before .before .before .before .before .before .before .before .before .before .before .before .before .before .before .before .before .before .before .loop-test .taken) (c .before .before .before .before .before .before .before .before .before .before .before .before .before .before .before .before .before .before .before .index .ensures) (c .before .before .before .before .before .before .before .before .before .before .before .before .before .before .before .before .before .before .is-due .ensures) (c .before .before .before .before .before .before .before .before .before .before .before .before .before .before .before .before .before .if1 .taken) (c .before .before .before .before .before .before .before .before .before .before .evaluate-constant .ensures) (search needs) (search needs) (search needs) (search needs) (search needs) (search needs)
+loop-again c =
+    passing-due (c .before .before .before .before .before .before .before .before .before .before .before .before .before .before .before .before
+    .before .before .before .before .before .before .loop .inv) (c .before .before .before .before .before .before .before .before .before .before
+    .before .before .before .before .before .before .before .before .before .before .before .loop-test .taken) (c .before .before .before .before
+    .before .before .before .before .before .before .before .before .before .before .before .before .before .before .before .index .ensures) (c
+    .before .before .before .before .before .before .before .before .before .before .before .before .before .before .before .before .before .before
+    .is-due .ensures) (c .before .before .before .before .before .before .before .before .before .before .before .before .before .before .before
+    .before .before .if1 .taken) (c .before .before .before .before .before .before .before .before .before .before .evaluate-constant .ensures)
+    (search needs) (search needs) (search needs) (search needs) (search needs) (search needs)
 
 -- src/lib.rt:153:13
 add-i-2 : tie.Need-add-i-2 Inv-loop μ-loop
-add-i-2 c = omega (arith, c .before .before .before .before .loop-test .taken, c .before .before .before .before .before .before .before .before .before .before .before .before .before .before .before .before .before .before .before .before .before .good)
+add-i-2 c =
+    omega (
+      arith,
+      c .before .before .before .before .loop-test .taken,
+      c .before .before .before .before .before .before .before .before .before
+          .before .before .before .before .before .before .before .before .before .before .before .before .good,
+    )
 
 -- src/lib.rt:128:5
 loop-less-2 : tie.Need-loop-less-2 Inv-loop μ-loop
@@ -63,7 +102,9 @@ loop-less-2 c = omega (arith, c .before .before .before .before .loop-test .take
 
 -- src/lib.rt:128:5
 loop-again-2 : tie.Need-loop-again-2 Inv-loop μ-loop
-loop-again-2 c = passing-other (c .before .before .before .before .before .loop .inv) (c .before .before .before .before .loop-test .taken) (c .before .before .index .ensures) (c .before .is-due .ensures) (c .if1 .left)
+loop-again-2 c =
+    passing-other (c .before .before .before .before .before .loop .inv) (c .before .before .before .before .loop-test .taken) (c .before .before
+    .index .ensures) (c .before .is-due .ensures) (c .if1 .left)
 
 -- src/lib.rt:99:1
 same-length : tie.Need-same-length Inv-loop μ-loop

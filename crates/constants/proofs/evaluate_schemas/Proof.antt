@@ -1,3 +1,4 @@
+-- `constants::evaluate_schemas` meets its contract: the schemas that have ended are filled. Assumes nothing.
 use Rattle.constants.proofs.evaluate_schemas.Statement.{statement}
 use Rattle.constants.proofs.evaluate_schemas.Tie as tie
 use Rattle.constants.proofs.evaluate_schemas.Reads as reads
@@ -12,10 +13,15 @@ use lib.ListN.{length}
 use native.Mathlib.Omega.{arith}
 
 abbrev Inv-loop : tie.InvT-loop
-Inv-loop src starts lengths terminals kinds tokens sizes bindings declared order row-of answer-kinds₀ answer-numbers₀ answer-lengths₀ value-kinds₀ value-numbers₀ value-lengths₀ n₀ lo₀ at₀ answer-kinds answer-numbers answer-lengths value-kinds value-numbers value-lengths n lo at = Filling src starts lengths terminals kinds tokens sizes bindings declared order row-of answer-kinds₀ answer-numbers₀ answer-lengths₀ value-kinds₀ value-numbers₀ value-lengths₀ answer-kinds answer-numbers answer-lengths value-kinds value-numbers value-lengths n lo at
+Inv-loop src starts lengths terminals kinds tokens sizes bindings declared order row-of answer-kinds₀ answer-numbers₀ answer-lengths₀ value-kinds₀
+    value-numbers₀ value-lengths₀ n₀ lo₀ at₀ answer-kinds answer-numbers answer-lengths value-kinds value-numbers value-lengths n lo at = Filling src
+    starts lengths terminals kinds tokens sizes bindings declared order row-of answer-kinds₀ answer-numbers₀ answer-lengths₀ value-kinds₀
+    value-numbers₀ value-lengths₀ answer-kinds answer-numbers answer-lengths value-kinds value-numbers value-lengths n lo at
 
 abbrev μ-loop : tie.MeasureT-loop
-μ-loop src starts lengths terminals kinds tokens sizes bindings declared order row-of answer-kinds₀ answer-numbers₀ answer-lengths₀ value-kinds₀ value-numbers₀ value-lengths₀ n₀ lo₀ at₀ answer-kinds answer-numbers answer-lengths value-kinds value-numbers value-lengths n lo at = length kinds - n
+μ-loop src starts lengths terminals kinds tokens sizes bindings declared order row-of answer-kinds₀ answer-numbers₀ answer-lengths₀ value-kinds₀
+    value-numbers₀ value-lengths₀ n₀ lo₀ at₀ answer-kinds answer-numbers answer-lengths value-kinds value-numbers value-lengths n lo at = length kinds
+    - n
 
 -- src/lib.rt:187:5
 loop-holds : tie.Need-loop-holds Inv-loop μ-loop
@@ -51,7 +57,15 @@ part-evaluate-schema-end c = search needs
 
 -- src/lib.rt:208:17
 mul-evaluate-schema : tie.Need-mul-evaluate-schema Inv-loop μ-loop
-mul-evaluate-schema c = omega (arith, c .before .before .shorter2 .ensures, c .before .before .before .before .before .before .before .loop .inv .numbers-kept, c .before .before .before .before .before .before .before .before .before .before .before .before .before .before .before .before .before .before .before .before .before .before .before .good)
+mul-evaluate-schema c =
+    omega (
+      arith,
+      c .before .before .shorter2 .ensures,
+      c .before .before .before .before .before .before .before .loop .inv .numbers-kept,
+      c .before
+          .before .before .before .before .before .before .before .before .before .before .before .before .before .before .before .before .before .before
+          .before .before .before .before .good,
+    )
 
 -- src/lib.rt:208:17
 sub-evaluate-schema-2 : tie.Need-sub-evaluate-schema-2 Inv-loop μ-loop
@@ -87,19 +101,48 @@ index-at-requires c κs = search needs
 
 -- src/lib.rt:215:13
 add-n : tie.Need-add-n Inv-loop μ-loop
-add-n c = omega (arith, c .before .before .before .before .before .before .before .before .before .before .before .before .before .before .before .before .before .before .before .before .before .before .before .loop-test .taken, c .before .before .before .before .before .before .before .before .before .before .before .before .before .before .before .before .before .before .before .before .before .before .before .before .before .before .before .before .before .before .before .before .before .before .before .before .before .before .before .before .good)
+add-n c =
+    omega (
+      arith,
+      c .before .before .before .before .before .before .before .before .before .before .before .before .before .before .before .before
+          .before .before .before .before .before .before .before .loop-test .taken,
+      c .before .before .before .before .before .before .before .before
+          .before .before .before .before .before .before .before .before .before .before .before .before .before .before .before .before .before .before
+          .before .before .before .before .before .before .before .before .before .before .before .before .before .before .good,
+    )
 
 -- src/lib.rt:187:5
 loop-less : tie.Need-loop-less Inv-loop μ-loop
-loop-less c = omega (arith, c .before .before .before .before .before .before .before .before .before .before .before .before .before .before .before .before .before .before .before .before .before .before .before .loop-test .taken)
+loop-less c =
+    omega (
+      arith,
+      c .before .before .before .before .before .before .before .before .before .before .before .before .before .before .before .before
+          .before .before .before .before .before .before .before .loop-test .taken,
+    )
 
 -- src/lib.rt:187:5
 loop-again : tie.Need-loop-again Inv-loop μ-loop
-loop-again c = filling-schema (c .before .before .before .before .before .before .before .before .before .before .before .before .before .before .before .before .before .before .before .before .before .before .before .before .loop .inv) (c .before .before .before .before .before .before .before .before .before .before .before .before .before .before .before .before .before .before .before .before .before .before .before .loop-test .taken) (c .before .before .before .before .before .before .before .before .before .before .before .before .before .before .before .before .before .before .before .before .before .if1 .taken) (c .before .before .before .before .before .before .before .before .before .before .before .before .before .before .before .before .before .before .before .before .shorter .ensures) (c .before .before .before .before .before .before .before .before .before .before .before .before .before .before .before .before .before .before .before .shorter2 .ensures) (c .before .before .before .before .before .before .before .before .before .before .before .before .before .before .before .before .before .before .shorter3 .ensures) (c .index-at .ensures) _ _ _ (c .before .before .before .before .before .before .before .before .before .before .before .evaluate-schema .ensures) (search needs) (search needs) (search needs) (search needs) (search needs) (search needs) (search needs) (search needs) (search needs)
+loop-again c =
+    filling-schema (c .before .before .before .before .before .before .before .before .before .before .before .before .before .before .before .before
+    .before .before .before .before .before .before .before .before .loop .inv) (c .before .before .before .before .before .before .before .before
+    .before .before .before .before .before .before .before .before .before .before .before .before .before .before .before .loop-test .taken) (c
+    .before .before .before .before .before .before .before .before .before .before .before .before .before .before .before .before .before .before
+    .before .before .before .if1 .taken) (c .before .before .before .before .before .before .before .before .before .before .before .before .before
+    .before .before .before .before .before .before .before .shorter .ensures) (c .before .before .before .before .before .before .before .before
+    .before .before .before .before .before .before .before .before .before .before .before .shorter2 .ensures) (c .before .before .before .before
+    .before .before .before .before .before .before .before .before .before .before .before .before .before .before .shorter3 .ensures) (c .index-at
+    .ensures) _ _ _ (c .before .before .before .before .before .before .before .before .before .before .before .evaluate-schema .ensures) (search
+    needs) (search needs) (search needs) (search needs) (search needs) (search needs) (search needs) (search needs) (search needs)
 
 -- src/lib.rt:218:13
 add-n-2 : tie.Need-add-n-2 Inv-loop μ-loop
-add-n-2 c = omega (arith, c .before .before .loop-test .taken, c .before .before .before .before .before .before .before .before .before .before .before .before .before .before .before .before .before .before .before .good)
+add-n-2 c =
+    omega (
+      arith,
+      c .before .before .loop-test .taken,
+      c .before .before .before .before .before .before .before .before .before .before .before
+          .before .before .before .before .before .before .before .before .good,
+    )
 
 -- src/lib.rt:187:5
 loop-less-2 : tie.Need-loop-less-2 Inv-loop μ-loop

@@ -1,3 +1,4 @@
+-- `constants::is_due` meets its contract: test by test. Assumes nothing.
 use borrow.Author.Needs.{needs}
 use Rattle.constants.proofs.is_due.Statement.{statement}
 use Rattle.constants.proofs.is_due.Tie as tie
@@ -15,7 +16,12 @@ returns c = rw (lt-leb (c .before .before .args .lo) (c .before .before .args .d
 
 -- src/lib.rt:36:9
 returns-2 : tie.Need-returns-2
-returns-2 c = rw (le-leb (c .before .before .before .args .lo) (c .before .before .before .args .d) (c .before .if1 .left), le-ltb (c .before .before .before .args .d) (c .before .before .before .args .hi) (c .if2 .taken))
+returns-2 c =
+    rw (
+      le-leb (c .before .before .before .args .lo) (c .before .before .before .args .d) (c .before .if1 .left),
+      le-ltb (c .before .before .before
+          .args .d) (c .before .before .before .args .hi) (c .if2 .taken),
+    )
 
 -- src/lib.rt:38:5
 at8-requires : tie.Need-at8-requires
@@ -23,7 +29,13 @@ at8-requires c κs = search needs
 
 -- src/lib.rt:29:1
 returns-3 : tie.Need-returns-3
-returns-3 c = rw (le-leb (c .before .before .before .before .args .lo) (c .before .before .before .before .args .d) (c .before .before .if1 .left), lt-ltb (c .before .before .before .before .args .d) (c .before .before .before .before .args .hi) (c .before .if2 .left)) (ap (λ (x : ℕ). eqb x 17) (c .at8 .ensures))
+returns-3 c =
+    rw (
+      le-leb (c .before .before .before .before .args .lo) (c .before .before .before .before .args .d) (c .before .before .if1 .left),
+      lt-ltb (c
+          .before .before .before .before .args .d) (c .before .before .before .before .args .hi) (c .before .if2 .left),
+    ) (ap (λ (x : ℕ). eqb x 17) (c .at8
+    .ensures))
 
 pub is-due-spec : {M : Type 1} → statement M
 is-due-spec = tie.close (tie.spec returns returns-2 at8-requires returns-3)

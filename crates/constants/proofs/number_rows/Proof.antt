@@ -1,3 +1,4 @@
+-- `constants::number_rows` meets its contract: a count that goes with the nodes. Assumes nothing.
 use Rattle.constants.proofs.number_rows.Statement.{statement}
 use Rattle.constants.proofs.number_rows.Tie as tie
 use Rattle.constants.proofs.number_rows.Reads as reads
@@ -34,7 +35,13 @@ shared-slice-read-if1 c = c .before .before .before .before .before .before .loo
 
 -- src/lib.rt:20:13
 add-rows : tie.Need-add-rows Inv-loop μ-loop
-add-rows c = omega (arith, c .before .before .before .before .before .before .before .loop-test .taken, c .before .before .before .before .before .before .before .before .loop .inv .few)
+add-rows c =
+    omega (
+      arith,
+      c .before .before .before .before .before .before .before .loop-test .taken,
+      c .before .before .before .before .before .before
+          .before .before .loop .inv .few,
+    )
 
 -- src/lib.rt:21:13
 add-n : tie.Need-add-n Inv-loop μ-loop
@@ -46,7 +53,10 @@ loop-less c = omega (arith, c .before .before .before .before .before .before .b
 
 -- src/lib.rt:17:5
 loop-again : tie.Need-loop-again Inv-loop μ-loop
-loop-again c = numbering-constant (c .before .before .before .before .before .before .before .before .loop .inv) (c .before .before .before .before .before .before .before .loop-test .taken) (c .before .before .before .before .before .number .ensures) (c .before .before .before .before .put32 .ensures) (c .if1 .taken)
+loop-again c =
+    numbering-constant (c .before .before .before .before .before .before .before .before .loop .inv) (c .before .before .before .before .before
+    .before .before .loop-test .taken) (c .before .before .before .before .before .number .ensures) (c .before .before .before .before .put32
+    .ensures) (c .if1 .taken)
 
 -- src/lib.rt:23:13
 add-n-2 : tie.Need-add-n-2 Inv-loop μ-loop
@@ -58,7 +68,10 @@ loop-less-2 c = omega (arith, c .before .before .before .before .before .before 
 
 -- src/lib.rt:17:5
 loop-again-2 : tie.Need-loop-again-2 Inv-loop μ-loop
-loop-again-2 c = numbering-other (c .before .before .before .before .before .before .before .before .loop .inv) (c .before .before .before .before .before .before .before .loop-test .taken) (c .before .before .before .before .before .number .ensures) (c .before .before .before .before .put32 .ensures) (c .if1 .left)
+loop-again-2 c =
+    numbering-other (c .before .before .before .before .before .before .before .before .loop .inv) (c .before .before .before .before .before .before
+    .before .loop-test .taken) (c .before .before .before .before .before .number .ensures) (c .before .before .before .before .put32 .ensures) (c
+    .if1 .left)
 
 -- src/lib.rt:12:1
 same-length : tie.Need-same-length Inv-loop μ-loop

@@ -1,3 +1,4 @@
+-- `evaluate::answer_at` meets its contract: a row of all three columns, or none. Assumes nothing.
 use borrow.Author.Needs.{needs}
 use Rattle.evaluate.proofs.answer_at.Statement.{statement}
 use Rattle.evaluate.proofs.answer_at.Tie as tie
@@ -10,15 +11,21 @@ use mir.ValLaws.{toZ-ofZ}
 
 -- src/lib.rt:62:9
 returns : tie.Need-returns
-returns c = no-kind (c .before .before .before .args .kinds .now) (c .before .before .before .args .numbers .now) (c .before .before .before .args .lengths .now) (c .before .before .before .args .i) (c .if1 .taken)
+returns c =
+    no-kind (c .before .before .before .args .kinds .now) (c .before .before .before .args .numbers .now) (c .before .before .before .args .lengths
+    .now) (c .before .before .before .args .i) (c .if1 .taken)
 
 -- src/lib.rt:65:9
 returns-2 : tie.Need-returns-2
-returns-2 c = no-number (c .before .before .before .before .args .kinds .now) (c .before .before .before .before .args .numbers .now) (c .before .before .before .before .args .lengths .now) (c .before .before .before .before .args .i) (c .if2 .taken)
+returns-2 c =
+    no-number (c .before .before .before .before .args .kinds .now) (c .before .before .before .before .args .numbers .now) (c .before .before .before
+    .before .args .lengths .now) (c .before .before .before .before .args .i) (c .if2 .taken)
 
 -- src/lib.rt:68:9
 returns-3 : tie.Need-returns-3
-returns-3 c = no-length (c .before .before .before .before .before .args .kinds .now) (c .before .before .before .before .before .args .numbers .now) (c .before .before .before .before .before .args .lengths .now) (c .before .before .before .before .before .args .i) (c .if3 .taken)
+returns-3 c =
+    no-length (c .before .before .before .before .before .args .kinds .now) (c .before .before .before .before .before .args .numbers .now) (c .before
+    .before .before .before .before .args .lengths .now) (c .before .before .before .before .before .args .i) (c .if3 .taken)
 
 -- src/lib.rt:70:19
 shared-slice-read-answer-of-row : tie.Need-shared-slice-read-answer-of-row
@@ -42,7 +49,14 @@ answer-of-row-requires c κs = search needs
 
 -- src/lib.rt:58:1
 returns-4 : tie.Need-returns-4
-returns-4 c = read-row (c .before .before .before .before .before .before .before .before .before .args .kinds .now) (c .before .before .before .before .before .before .before .before .before .args .numbers .now) (c .before .before .before .before .before .before .before .before .before .args .lengths .now) (c .before .before .before .before .before .before .before .before .before .args .i) (c .before .before .before .before .before .before .if1 .left) (c .before .before .before .before .before .if2 .left) (c .before .before .before .before .if3 .left) (toZ-ofZ w64 _ (record { sfits = c .before .before .answer-of-row-arg .given })) (c .answer-of-row .ensures)
+returns-4 c =
+    read-row (c .before .before .before .before .before .before .before .before .before .args .kinds .now) (c .before .before .before .before .before
+    .before .before .before .before .args .numbers .now) (c .before .before .before .before .before .before .before .before .before .args .lengths
+    .now) (c .before .before .before .before .before .before .before .before .before .args .i) (c .before .before .before .before .before .before .if1
+    .left) (c .before .before .before .before .before .if2 .left) (c .before .before .before .before .if3 .left) (toZ-ofZ w64 _ (record {
+      sfits = c
+          .before .before .answer-of-row-arg .given;
+    })) (c .answer-of-row .ensures)
 
 pub answer-at-spec : {M : Type 1} → statement M
 answer-at-spec =

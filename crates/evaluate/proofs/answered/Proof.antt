@@ -1,3 +1,4 @@
+-- `evaluate::answered` meets its contract: a name, an operation, or another node. Assumes nothing.
 use borrow.Author.Needs.{needs}
 use Rattle.evaluate.proofs.answered.Statement.{statement}
 use Rattle.evaluate.proofs.answered.Tie as tie
@@ -31,7 +32,9 @@ named-requires c κs = search needs
 
 -- src/lib.rt:330:9
 returns : tie.Need-returns
-returns c = answered-name (c .before .before .before .before .at8 .ensures) (c .before .before .before .is-name .ensures) (c .before .before .if1 .taken) (c .before .at32 .ensures) (c .named .ensures)
+returns c =
+    answered-name (c .before .before .before .before .at8 .ensures) (c .before .before .before .is-name .ensures) (c .before .before .if1 .taken) (c
+    .before .at32 .ensures) (c .named .ensures)
 
 -- src/lib.rt:340:8
 is-operation-requires : tie.Need-is-operation-requires
@@ -43,7 +46,9 @@ operation-requires c κs = search needs
 
 -- src/lib.rt:341:9
 returns-2 : tie.Need-returns-2
-returns-2 c = answered-operation (c .before .before .before .before .before .at8 .ensures) (c .before .before .is-operation .ensures) (c .before .if2 .taken) (c .operation .ensures)
+returns-2 c =
+    answered-operation (c .before .before .before .before .before .at8 .ensures) (c .before .before .is-operation .ensures) (c .before .if2 .taken) (c
+    .operation .ensures)
 
 -- src/lib.rt:349:9
 index-at-requires : tie.Need-index-at-requires
@@ -59,7 +64,10 @@ other-requires c κs = search needs
 
 -- src/lib.rt:302:1
 returns-3 : tie.Need-returns-3
-returns-3 c = answered-other (c .before .before .before .before .before .before .before .at8 .ensures) (c .before .before .before .before .before .before .is-name .ensures) (c .before .before .before .before .before .if1 .left) (c .before .before .before .before .is-operation .ensures) (c .before .before .before .if2 .left) (c .before .before .index-at .ensures) (c .before .at322 .ensures) (c .other .ensures)
+returns-3 c =
+    answered-other (c .before .before .before .before .before .before .before .at8 .ensures) (c .before .before .before .before .before .before
+    .is-name .ensures) (c .before .before .before .before .before .if1 .left) (c .before .before .before .before .is-operation .ensures) (c .before
+    .before .before .if2 .left) (c .before .before .index-at .ensures) (c .before .at322 .ensures) (c .other .ensures)
 
 pub answered-spec : {M : Type 1} → statement M
 answered-spec =

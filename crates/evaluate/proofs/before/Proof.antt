@@ -1,3 +1,4 @@
+-- `evaluate::before` meets its contract: the size stands in the column. Assumes nothing.
 use borrow.Author.Needs.{needs}
 use Rattle.evaluate.proofs.before.Statement.{statement}
 use Rattle.evaluate.proofs.before.Tie as tie

@@ -1,3 +1,4 @@
+-- `evaluate::binary` meets its contract: as many bits as there are bytes after the first. Assumes nothing.
 use borrow.Author.Needs.{needs}
 use Rattle.evaluate.proofs.binary.Statement.{statement}
 use Rattle.evaluate.proofs.binary.Tie as tie
@@ -24,7 +25,10 @@ saturating-sub-requires-2 c κs = search needs
 
 -- src/lib.rt:145:9
 returns : tie.Need-returns
-returns c = binary-long (c .before .before .before .before .before .args .src .now) (c .before .before .before .before .before .args .start) (c .before .before .before .before .before .args .length) (c .before .before .before .saturating-sub .ensures) (c .before .before .shorter .ensures) (c .before .saturating-sub2 .ensures) (c .if1 .taken)
+returns c =
+    binary-long (c .before .before .before .before .before .args .src .now) (c .before .before .before .before .before .args .start) (c .before
+    .before .before .before .before .args .length) (c .before .before .before .saturating-sub .ensures) (c .before .before .shorter .ensures) (c
+    .before .saturating-sub2 .ensures) (c .if1 .taken)
 
 -- src/lib.rt:148:17
 binary-requires : tie.Need-binary-requires
@@ -36,7 +40,10 @@ cast-t10 c = omega (arith, c .before .if1 .left)
 
 -- src/lib.rt:139:1
 returns-2 : tie.Need-returns-2
-returns-2 c = binary-short (c .before .before .before .before .before .before .args .src .now) (c .before .before .before .before .before .before .args .start) (c .before .before .before .before .before .before .args .length) (c .before .before .before .before .saturating-sub .ensures) (c .before .before .before .shorter .ensures) (c .before .before .saturating-sub2 .ensures) (c .binary .ensures) refl refl
+returns-2 c =
+    binary-short (c .before .before .before .before .before .before .args .src .now) (c .before .before .before .before .before .before .args .start)
+    (c .before .before .before .before .before .before .args .length) (c .before .before .before .before .saturating-sub .ensures) (c .before .before
+    .before .shorter .ensures) (c .before .before .saturating-sub2 .ensures) (c .binary .ensures) refl refl
 
 pub binary-spec : {M : Type 1} → statement M
 binary-spec =

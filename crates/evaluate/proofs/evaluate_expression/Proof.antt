@@ -1,3 +1,4 @@
+-- `evaluate::evaluate_expression` meets its contract: what is left to evaluate comes to the same at every turn. Assumes nothing.
 use Rattle.evaluate.proofs.evaluate_expression.Statement.{statement}
 use Rattle.evaluate.proofs.evaluate_expression.Tie as tie
 use Rattle.evaluate.proofs.evaluate_expression.Reads as reads
@@ -10,10 +11,14 @@ use Prim.Native.Nat.{_-_}
 use native.Mathlib.Omega.{arith}
 
 abbrev Inv-loop : tie.InvT-loop
-Inv-loop src starts lengths terminals kinds tokens sizes bindings lo hi file-kinds declared row-of at answer-kinds answer-numbers answer-lengths value-kinds₀ value-numbers₀ value-lengths₀ n₀ value-kinds value-numbers value-lengths n = Going src starts lengths terminals kinds tokens sizes bindings lo hi file-kinds declared row-of at answer-kinds answer-numbers answer-lengths value-kinds₀ value-numbers₀ value-lengths₀ value-kinds value-numbers value-lengths n
+Inv-loop src starts lengths terminals kinds tokens sizes bindings lo hi file-kinds declared row-of at answer-kinds answer-numbers answer-lengths
+    value-kinds₀ value-numbers₀ value-lengths₀ n₀ value-kinds value-numbers value-lengths n = Going src starts lengths terminals kinds tokens sizes
+    bindings lo hi file-kinds declared row-of at answer-kinds answer-numbers answer-lengths value-kinds₀ value-numbers₀ value-lengths₀ value-kinds
+    value-numbers value-lengths n
 
 abbrev μ-loop : tie.MeasureT-loop
-μ-loop src starts lengths terminals kinds tokens sizes bindings lo hi file-kinds declared row-of at answer-kinds answer-numbers answer-lengths value-kinds₀ value-numbers₀ value-lengths₀ n₀ value-kinds value-numbers value-lengths n = hi - n
+μ-loop src starts lengths terminals kinds tokens sizes bindings lo hi file-kinds declared row-of at answer-kinds answer-numbers answer-lengths
+    value-kinds₀ value-numbers₀ value-lengths₀ n₀ value-kinds value-numbers value-lengths n = hi - n
 
 -- src/lib.rt:388:5
 loop-holds : tie.Need-loop-holds Inv-loop μ-loop
@@ -29,15 +34,26 @@ put-answer-requires c κs = search needs
 
 -- src/lib.rt:411:9
 add-n : tie.Need-add-n Inv-loop μ-loop
-add-n c = omega (arith, c .before .before .before .before .before .before .before .before .before .before .before .before .before .loop-test .taken, c .before .before .before .before .before .before .before .before .before .before .before .before .before .before .before .before .before .before .before .before .before .before .before .before .before .before .before .before .before .before .fits .hi)
+add-n c =
+    omega (
+      arith,
+      c .before .before .before .before .before .before .before .before .before .before .before .before .before .loop-test .taken,
+      c
+          .before .before .before .before .before .before .before .before .before .before .before .before .before .before .before .before .before .before
+          .before .before .before .before .before .before .before .before .before .before .before .before .fits .hi,
+    )
 
 -- src/lib.rt:388:5
 loop-less : tie.Need-loop-less Inv-loop μ-loop
-loop-less c = omega (arith, c .before .before .before .before .before .before .before .before .before .before .before .before .before .loop-test .taken)
+loop-less c =
+    omega (arith, c .before .before .before .before .before .before .before .before .before .before .before .before .before .loop-test .taken)
 
 -- src/lib.rt:388:5
 loop-again : tie.Need-loop-again Inv-loop μ-loop
-loop-again c = going-on (c .before .before .before .before .before .before .before .before .before .before .before .before .before .before .loop .inv) (c .before .before .before .before .before .before .before .before .before .before .before .before .before .loop-test .taken) (c .before .before .before .before .before .before .before .before .before .answered .ensures) (c .before .before .before .before .before .put-answer .ensures)
+loop-again c =
+    going-on (c .before .before .before .before .before .before .before .before .before .before .before .before .before .before .loop .inv) (c .before
+    .before .before .before .before .before .before .before .before .before .before .before .before .loop-test .taken) (c .before .before .before
+    .before .before .before .before .before .before .answered .ensures) (c .before .before .before .before .before .put-answer .ensures)
 
 -- src/lib.rt:359:1
 same-length : tie.Need-same-length Inv-loop μ-loop

@@ -1,3 +1,4 @@
+-- `evaluate::integer` meets its contract: the value as far as it fits. Assumes nothing.
 use borrow.Author.Needs.{needs}
 use Rattle.evaluate.proofs.integer.Statement.{statement}
 use Rattle.evaluate.proofs.integer.Tie as tie
@@ -13,7 +14,9 @@ integer-requires c κs = search needs
 
 -- src/lib.rt:133:9
 returns : tie.Need-returns
-returns c = integer-large (part (c .before .before .before .args .src .now) (c .before .before .before .args .start) (c .before .before .before .args .length)) (c .before .integer .ensures) (c .if1 .taken)
+returns c =
+    integer-large (part (c .before .before .before .args .src .now) (c .before .before .before .args .start) (c .before .before .before .args
+    .length)) (c .before .integer .ensures) (c .if1 .taken)
 
 -- src/lib.rt:135:21
 cast-t6 : tie.Need-cast-t6
@@ -21,7 +24,9 @@ cast-t6 c = integer-fits (c .if1 .left)
 
 -- src/lib.rt:128:1
 returns-2 : tie.Need-returns-2
-returns-2 c = integer-small (part (c .before .before .before .args .src .now) (c .before .before .before .args .start) (c .before .before .before .args .length)) (c .before .integer .ensures) (c .if1 .left)
+returns-2 c =
+    integer-small (part (c .before .before .before .args .src .now) (c .before .before .before .args .start) (c .before .before .before .args
+    .length)) (c .before .integer .ensures) (c .if1 .left)
 
 pub integer-spec : {M : Type 1} → statement M
 integer-spec = tie.close (tie.spec integer-requires returns cast-t6 returns-2)

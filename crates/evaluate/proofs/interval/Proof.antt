@@ -1,3 +1,4 @@
+-- `evaluate::interval` meets its contract: the answers of its children. Assumes nothing.
 use borrow.Author.Needs.{needs}
 use Rattle.evaluate.proofs.interval.Statement.{statement}
 use Rattle.evaluate.proofs.interval.Tie as tie
@@ -68,7 +69,14 @@ between-requires c κs = search needs
 
 -- src/lib.rt:208:1
 returns : tie.Need-returns
-returns c = intervals (c .before .before .before .before .before .before .before .before .before .before .before .before .lower .ensures) (c .before .before .before .before .before .before .before .before .before .before .before .terminal-at .ensures) (c .before .before .before .before .before .before .before .before .before .before .bound .ensures) (c .before .before .before .before .before .before .before .before .before .left .ensures) (c .before .before .before .before .before .before .before .before .terminal-at2 .ensures) (c .before .before .before .before .before .before .before .bound2 .ensures) (c .before .before .before .before .before .before .low .ensures) (c .before .before .before .before .before .answer-at .ensures) (c .before .before .before .before .middle .ensures) (c .before .before .before .answer-at2 .ensures) (c .before .before .last .ensures) (c .before .answer-at3 .ensures) (c .between .ensures)
+returns c =
+    intervals (c .before .before .before .before .before .before .before .before .before .before .before .before .lower .ensures) (c .before .before
+    .before .before .before .before .before .before .before .before .before .terminal-at .ensures) (c .before .before .before .before .before .before
+    .before .before .before .before .bound .ensures) (c .before .before .before .before .before .before .before .before .before .left .ensures) (c
+    .before .before .before .before .before .before .before .before .terminal-at2 .ensures) (c .before .before .before .before .before .before .before
+    .bound2 .ensures) (c .before .before .before .before .before .before .low .ensures) (c .before .before .before .before .before .answer-at
+    .ensures) (c .before .before .before .before .middle .ensures) (c .before .before .before .answer-at2 .ensures) (c .before .before .last .ensures)
+    (c .before .answer-at3 .ensures) (c .between .ensures)
 
 pub interval-spec : {M : Type 1} → statement M
 interval-spec =

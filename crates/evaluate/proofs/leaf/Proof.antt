@@ -1,3 +1,4 @@
+-- `evaluate::leaf` meets its contract: a literal, or none. Assumes nothing.
 use borrow.Author.Needs.{needs}
 use Rattle.evaluate.proofs.leaf.Statement.{statement}
 use Rattle.evaluate.proofs.leaf.Tie as tie

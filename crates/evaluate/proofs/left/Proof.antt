@@ -1,3 +1,4 @@
+-- `evaluate::left` meets its contract: the child before the last. Assumes nothing.
 use borrow.Author.Needs.{needs}
 use Rattle.evaluate.proofs.left.Statement.{statement}
 use Rattle.evaluate.proofs.left.Tie as tie

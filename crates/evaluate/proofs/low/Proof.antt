@@ -1,3 +1,4 @@
+-- `evaluate::low` meets its contract: the child before the lower operator. Assumes nothing.
 use borrow.Author.Needs.{needs}
 use Rattle.evaluate.proofs.low.Statement.{statement}
 use Rattle.evaluate.proofs.low.Tie as tie

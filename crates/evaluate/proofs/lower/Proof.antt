@@ -1,3 +1,4 @@
+-- `evaluate::lower` meets its contract: the child before the item. Assumes nothing.
 use borrow.Author.Needs.{needs}
 use Rattle.evaluate.proofs.lower.Statement.{statement}
 use Rattle.evaluate.proofs.lower.Tie as tie

@@ -1,3 +1,4 @@
+-- `evaluate::middle` meets its contract: the child before the upper operator. Assumes nothing.
 use borrow.Author.Needs.{needs}
 use Rattle.evaluate.proofs.middle.Statement.{statement}
 use Rattle.evaluate.proofs.middle.Tie as tie

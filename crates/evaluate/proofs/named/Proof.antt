@@ -1,3 +1,4 @@
+-- `evaluate::named` meets its contract: each test is what a name is bound to. Assumes nothing.
 use borrow.Author.Needs.{needs}
 use Rattle.evaluate.proofs.named.Statement.{statement}
 use Rattle.evaluate.proofs.named.Tie as tie
@@ -29,7 +30,12 @@ at8-requires c κs = search needs
 
 -- src/lib.rt:188:9
 returns-2 : tie.Need-returns-2
-returns-2 c = named-item (c .before .before .before .if1 .left) (c .before .before .index .ensures) (c .before .at8 .ensures) (c .if2 .taken) (omega (arith, c .before .before .before .before .before .before .before .before .fits .binding))
+returns-2 c =
+    named-item (c .before .before .before .if1 .left) (c .before .before .index .ensures) (c .before .at8 .ensures) (c .if2 .taken) (omega (
+      arith,
+      c
+          .before .before .before .before .before .before .before .before .fits .binding,
+    ))
 
 -- src/lib.rt:191:60
 index-requires-2 : tie.Need-index-requires-2
@@ -49,11 +55,16 @@ answer-at-requires c κs = search needs
 
 -- src/lib.rt:192:9
 returns-3 : tie.Need-returns-3
-returns-3 c = named-constant (c .before .before .before .before .before .before .before .before .if1 .left) (c .before .before .before .before .before .before .before .index .ensures) (c .before .before .before .before .before .before .at8 .ensures) (c .before .before .before .before .if3 .taken) (c .before .before .before .index2 .ensures) (c .before .before .index-at .ensures) (c .before .saturating-sub .ensures) (c .answer-at .ensures)
+returns-3 c =
+    named-constant (c .before .before .before .before .before .before .before .before .if1 .left) (c .before .before .before .before .before .before
+    .before .index .ensures) (c .before .before .before .before .before .before .at8 .ensures) (c .before .before .before .before .if3 .taken) (c
+    .before .before .before .index2 .ensures) (c .before .before .index-at .ensures) (c .before .saturating-sub .ensures) (c .answer-at .ensures)
 
 -- src/lib.rt:170:1
 returns-4 : tie.Need-returns-4
-returns-4 c = named-other (c .before .before .before .before .if1 .left) (c .before .before .before .index .ensures) (c .before .before .at8 .ensures) (c .before .if2 .left) (c .if3 .left)
+returns-4 c =
+    named-other (c .before .before .before .before .if1 .left) (c .before .before .before .index .ensures) (c .before .before .at8 .ensures) (c
+    .before .if2 .left) (c .if3 .left)
 
 pub named-spec : {M : Type 1} → statement M
 named-spec =

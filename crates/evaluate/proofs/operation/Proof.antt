@@ -1,3 +1,4 @@
+-- `evaluate::operation` meets its contract: each test is the shape of a node. Assumes nothing.
 use borrow.Author.Needs.{needs}
 use Rattle.evaluate.proofs.operation.Statement.{statement}
 use Rattle.evaluate.proofs.operation.Tie as tie
@@ -43,7 +44,9 @@ applied-requires c κs = search needs
 
 -- src/lib.rt:248:9
 returns-2 : tie.Need-returns-2
-returns-2 c = operates-sign (c .before .before .before .before .before .last .ensures) (c .before .before .before .before .answer-at .ensures) (c .before .before .before .terminal-at .ensures) (c .before .before .if2 .taken) (c .before .sign .ensures) (c .applied .ensures)
+returns-2 c =
+    operates-sign (c .before .before .before .before .before .last .ensures) (c .before .before .before .before .answer-at .ensures) (c .before
+    .before .before .terminal-at .ensures) (c .before .before .if2 .taken) (c .before .sign .ensures) (c .applied .ensures)
 
 -- src/lib.rt:251:74
 left-requires : tie.Need-left-requires
@@ -59,7 +62,10 @@ two-operands-requires c κs = search needs
 
 -- src/lib.rt:252:9
 returns-3 : tie.Need-returns-3
-returns-3 c = operates-two (c .before .before .before .before .before .before .before .last .ensures) (c .before .before .before .before .before .before .answer-at .ensures) (c .before .before .before .before .before .terminal-at .ensures) (c .before .before .before .if3 .taken) (c .before .before .left .ensures) (c .before .answer-at2 .ensures) (c .two-operands .ensures)
+returns-3 c =
+    operates-two (c .before .before .before .before .before .before .before .last .ensures) (c .before .before .before .before .before .before
+    .answer-at .ensures) (c .before .before .before .before .before .terminal-at .ensures) (c .before .before .before .if3 .taken) (c .before .before
+    .left .ensures) (c .before .answer-at2 .ensures) (c .two-operands .ensures)
 
 -- src/lib.rt:229:1
 returns-4 : tie.Need-returns-4

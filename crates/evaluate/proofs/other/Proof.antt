@@ -1,3 +1,4 @@
+-- `evaluate::other` meets its contract: a constant, or a leaf. Assumes nothing.
 use borrow.Author.Needs.{needs}
 use Rattle.evaluate.proofs.other.Statement.{statement}
 use Rattle.evaluate.proofs.other.Tie as tie
@@ -25,7 +26,8 @@ held-requires c κs = search needs
 
 -- src/lib.rt:275:9
 returns : tie.Need-returns
-returns c = others-constant (c .before .before .before .if1 .taken) (c .before .before .last .ensures) (c .before .answer-at .ensures) (c .held .ensures)
+returns c =
+    others-constant (c .before .before .before .if1 .taken) (c .before .before .last .ensures) (c .before .answer-at .ensures) (c .held .ensures)
 
 -- src/lib.rt:277:16
 at8-requires : tie.Need-at8-requires
@@ -45,7 +47,9 @@ leaf-requires c κs = search needs
 
 -- src/lib.rt:258:1
 returns-2 : tie.Need-returns-2
-returns-2 c = others-leaf (c .before .before .before .before .if1 .left) (c .before .before .before .at8 .ensures) (c .before .before .index-at .ensures) (c .before .index-at2 .ensures) (c .leaf .ensures)
+returns-2 c =
+    others-leaf (c .before .before .before .before .if1 .left) (c .before .before .before .at8 .ensures) (c .before .before .index-at .ensures) (c
+    .before .index-at2 .ensures) (c .leaf .ensures)
 
 pub other-spec : {M : Type 1} → statement M
 other-spec =

@@ -1,3 +1,4 @@
+-- `evaluate::put_answer` meets its contract: a store in each column. Assumes nothing.
 use borrow.Author.Needs.{needs}
 use Rattle.evaluate.proofs.put_answer.Statement.{statement}
 use Rattle.evaluate.proofs.put_answer.Tie as tie
@@ -7,7 +8,6 @@ use Rattle.columns.proofs.put64.Reads as put64-reads
 use Rattle.columns.proofs.put8.Reads as put8-reads
 use Rattle.operations.proofs.rows.row_of.Reads as row-of-reads
 use Rattle.evaluate.proofs.Rows.{stores}
-use mathlib.Core.Path.{refl}
 use mir.Syntax.{w64}
 use mir.ValLaws.{toZ-ofZ}
 
@@ -41,7 +41,12 @@ same-length-3 c = search needs
 
 -- src/lib.rt:74:1
 returns : tie.Need-returns
-returns c = stores (c .before .before .before .before .before .before .before .before .before .before .before .before .row-of .ensures) (c .before .before .before .before .before .before .before .before .before .before .put8 .ensures) (toZ-ofZ w64 _ (record { sfits = c .before .before .before .before .before .before .struct-told .given .1 .0 .1 })) (c .before .before .before .before .before .put64 .ensures) (c .before .before .put82 .ensures)
+returns c =
+    stores (c .before .before .before .before .before .before .before .before .before .before .before .before .row-of .ensures) (c .before .before
+    .before .before .before .before .before .before .before .before .put8 .ensures) (toZ-ofZ w64 _ (record {
+      sfits = c .before .before .before .before
+          .before .before .struct-told .given .1 .0 .1;
+    })) (c .before .before .before .before .before .put64 .ensures) (c .before .before .put82 .ensures)
 
 pub put-answer-spec : {M : Type 1} → statement M
 put-answer-spec =

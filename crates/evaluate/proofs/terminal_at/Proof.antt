@@ -1,3 +1,4 @@
+-- `evaluate::terminal_at` meets its contract: what its calls say. Assumes nothing.
 use borrow.Author.Needs.{needs}
 use Rattle.evaluate.proofs.terminal_at.Statement.{statement}
 use Rattle.evaluate.proofs.terminal_at.Tie as tie
@@ -5,8 +6,6 @@ use Rattle.evaluate.proofs.terminal_at.Reads as reads
 use Rattle.evaluate.proofs.terminal_at.Lts as lts
 use Rattle.evaluate.proofs.at8.Reads as at8-reads
 use Rattle.evaluate.proofs.index_at.Reads as index-at-reads
-use mathlib.Core.Path.{ap, _∙_}
-use lib.ListN.{getD}
 
 -- src/lib.rt:124:20
 index-at-requires : tie.Need-index-at-requires

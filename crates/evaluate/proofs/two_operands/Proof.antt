@@ -1,3 +1,4 @@
+-- `evaluate::two_operands` meets its contract: an operator, or none. Assumes nothing.
 use borrow.Author.Needs.{needs}
 use Rattle.evaluate.proofs.two_operands.Statement.{statement}
 use Rattle.evaluate.proofs.two_operands.Tie as tie

@@ -1,8 +1,8 @@
+-- `evaluate::operators::operator` meets its contract: arm by arm, and none of them. Assumes nothing.
 use Rattle.evaluate.proofs.operators.operator.Statement.{statement}
 use Rattle.evaluate.proofs.operators.operator.Tie as tie
 use Rattle.evaluate.proofs.operators.operator.Reads as reads
 use Rattle.evaluate.proofs.operators.operator.Lts as lts
-use borrow.Author.Needs.{needs}
 use borrow.Author.Tests.{ne-eqb}
 use Rattle.express.specs.kinds.Shape.{operator-of}
 
@@ -94,7 +94,31 @@ returns-17 c = rw (c .match .keys17)
 -- src/operators.rt:54:1
 returns-18 : tie.Need-returns-18
 unfolding operator-of
-returns-18 c = rw (ne-eqb _ 12 (c .match .rest .0 .0 .0 .0 .0 .0 .0 .0 .0 .0 .0 .0 .0 .0 .0 .0 .1), ne-eqb _ 13 (c .match .rest .0 .0 .0 .0 .0 .0 .0 .0 .0 .0 .0 .0 .0 .0 .0 .1), ne-eqb _ 11 (c .match .rest .0 .0 .0 .0 .0 .0 .0 .0 .0 .0 .0 .0 .0 .0 .1), ne-eqb _ 58 (c .match .rest .0 .0 .0 .0 .0 .0 .0 .0 .0 .0 .0 .0 .0 .1), ne-eqb _ 104 (c .match .rest .0 .0 .0 .0 .0 .0 .0 .0 .0 .0 .0 .0 .1), ne-eqb _ 32 (c .match .rest .0 .0 .0 .0 .0 .0 .0 .0 .0 .0 .0 .1), ne-eqb _ 17 (c .match .rest .0 .0 .0 .0 .0 .0 .0 .0 .0 .0 .1), ne-eqb _ 18 (c .match .rest .0 .0 .0 .0 .0 .0 .0 .0 .0 .1), ne-eqb _ 26 (c .match .rest .0 .0 .0 .0 .0 .0 .0 .0 .1), ne-eqb _ 28 (c .match .rest .0 .0 .0 .0 .0 .0 .0 .1), ne-eqb _ 27 (c .match .rest .0 .0 .0 .0 .0 .0 .1), ne-eqb _ 14 (c .match .rest .0 .0 .0 .0 .0 .1), ne-eqb _ 34 (c .match .rest .0 .0 .0 .0 .1), ne-eqb _ 33 (c .match .rest .0 .0 .0 .1), ne-eqb _ 40 (c .match .rest .0 .0 .1), ne-eqb _ 113 (c .match .rest .0 .1), ne-eqb _ 153 (c .match .rest .1))
+returns-18 c =
+    rw (
+      ne-eqb _ 12 (c .match .rest .0 .0 .0 .0 .0 .0 .0 .0 .0 .0 .0 .0 .0 .0 .0 .0 .1),
+      ne-eqb _ 13 (c .match .rest .0 .0 .0 .0 .0 .0 .0 .0 .0 .0 .0
+          .0 .0 .0 .0 .1),
+      ne-eqb _ 11 (c .match .rest .0 .0 .0 .0 .0 .0 .0 .0 .0 .0 .0 .0 .0 .0 .1),
+      ne-eqb _ 58 (c .match .rest .0 .0 .0 .0 .0 .0 .0 .0 .0
+          .0 .0 .0 .0 .1),
+      ne-eqb _ 104 (c .match .rest .0 .0 .0 .0 .0 .0 .0 .0 .0 .0 .0 .0 .1),
+      ne-eqb _ 32 (c .match .rest .0 .0 .0 .0 .0 .0 .0 .0 .0 .0
+          .0 .1),
+      ne-eqb _ 17 (c .match .rest .0 .0 .0 .0 .0 .0 .0 .0 .0 .0 .1),
+      ne-eqb _ 18 (c .match .rest .0 .0 .0 .0 .0 .0 .0 .0 .0 .1),
+      ne-eqb _ 26 (c
+          .match .rest .0 .0 .0 .0 .0 .0 .0 .0 .1),
+      ne-eqb _ 28 (c .match .rest .0 .0 .0 .0 .0 .0 .0 .1),
+      ne-eqb _ 27 (c .match .rest .0 .0 .0 .0 .0 .0 .1),
+      ne-eqb _ 14 (c .match .rest .0 .0 .0 .0 .0 .1),
+      ne-eqb _ 34 (c .match .rest .0 .0 .0 .0 .1),
+      ne-eqb _ 33 (c .match .rest .0 .0 .0 .1),
+      ne-eqb _ 40
+          (c .match .rest .0 .0 .1),
+      ne-eqb _ 113 (c .match .rest .0 .1),
+      ne-eqb _ 153 (c .match .rest .1),
+    )
 
 pub operator-spec : {M : Type 1} → statement M
 operator-spec =
