@@ -10,7 +10,7 @@ use borrow.Author.Tests.{eqb-false}
 use lib.Dec.{eqb}
 use lib.ListN.{length, getD, List·getD-map, List·getD-eq-default}
 use Rattle.express.specs.tokens.Bytes.{within, upper, same}
-use Rattle.express.specs.tokens.Lexis.{TokenRow, lexed, starts, integer-value, binary-bits}
+use Rattle.express.specs.tokens.Lexis.{TokenRow, lexed, starts, integer-value, binary-bits, binary-value}
 use Rattle.express.specs.tokens.Terminal.{Fixed, identifier, the, symbols, reserved, among, terminal-of}
 use Rattle.express.specs.syntax.NodeKind as node
 use Rattle.relations.specs.Select.{any}
@@ -18,8 +18,9 @@ use Rattle.express.specs.syntax.Tree.{Table, count, kind, token, termina
 use Rattle.express.specs.syntax.Grammar.{Nonterminal}
 use Rattle.express.specs.syntax.Syntax.{Read}
 use Rattle.express.specs.tokens.Scanned.{row-bytes, Scanned}
+use Rattle.express.specs.kinds.Bits.{number}
 use Rattle.express.specs.kinds.Shape.{text, Literals}
-use Rattle.express.proofs.tokens.TokenRows.{no-row, row-at, tokens-of, integer-small, binary-some, binary-few}
+use Rattle.express.proofs.tokens.TokenRows.{no-row, row-at, tokens-of, integer-small, binary-some, binary-few, binary-number}
 use Rattle.express.proofs.syntax.Within.{integer-named, binary-named}
 
 -- ---- tokens
@@ -28,6 +29,7 @@ pub record Sized (s : List ℕ) (r : TokenRow) : Type 0 where
   pub small : r .kind ≡ 2 → integer-value (row-bytes s r) < 2 ^ 63
   pub some-bits : r .kind ≡ 5 → 1 ≤ length (binary-bits (row-bytes s r))
   pub few-bits : r .kind ≡ 5 → length (binary-bits (row-bytes s r)) ≤ 63
+  pub read : r .kind ≡ 5 → binary-value (row-bytes s r) ≡ number (binary-bits (row-bytes s r))
 
 nothing-sized : (s : List ℕ) → Sized s no-row
 nothing-sized s =
@@ -35,6 +37,7 @@ nothing-sized s =
       small = λ (i : _≡_ {A = ℕ} 0 2). absurd (omega arith);
       some-bits = λ (i : _≡_ {A = ℕ} 0 5). absurd (omega arith);
       few-bits = λ (i : _≡_ {A = ℕ} 0 5). absurd (omega arith);
+      read = λ (i : _≡_ {A = ℕ} 0 5). absurd (omega arith);
     }
 
 pub lexed-sized : (s : List ℕ) (i : ℕ) → Sized s (getD (lexed s .rows) i no-row)
@@ -43,7 +46,8 @@ lexed-sized s i = by (decLt i (length (lexed s .rows)))
     by : Dec (i < length (lexed s .rows)) → Sized s (getD (lexed s .rows) i no-row)
     by (yes l) =
         let t = tokens-of s .token i l in
-        record { small = integer-small s (row-at (lexed s .rows) i) t; some-bits = binary-some s (row-at (lexed s .rows) i) t; few-bits = binary-few s (row-at (lexed s .rows) i) t }
+        let r = row-at (lexed s .rows) i in
+        record { small = integer-small s r t; some-bits = binary-some s r t; few-bits = binary-few s r t; read = binary-number s r t }
     by (no n) = rw (List·getD-eq-default (lexed s .rows) no-row {n = i} (omega (arith, n))) (nothing-sized s)
 
 -- ---- terminals: the code of a literal is that of no word and no symbol
@@ -122,3 +126,7 @@ module _ {x : Nonterminal} {t : Table} (R : Read x t) (S : Scanned t) where
         some-bits = λ n e. rw (text-is n) (lexed-sized (t .bytes) (token t n) .some-bits (binary-row n e));
         few-bits = λ n e. rw (text-is n) (lexed-sized (t .bytes) (token t n) .few-bits (binary-row n e));
       }
+
+  -- and what is read of a binary is the number of its bits
+  pub binary-read : (n : ℕ) → kind t n ≡ node.binary-literal → binary-value (text t n) ≡ number (binary-bits (text t n))
+  binary-read n e = rw (text-is n) (lexed-sized (t .bytes) (token t n) .read (binary-row n e))

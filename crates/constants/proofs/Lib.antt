@@ -1,0 +1,6 @@
+pub mod Settled
+pub mod Numbering
+pub mod OneConstant
+pub mod Passing
+pub mod Schemas
+pub mod Written

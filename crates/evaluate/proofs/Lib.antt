@@ -1,0 +1,5 @@
+pub mod Rows
+pub mod Nodes
+pub mod Literals
+pub mod Assembled
+pub mod Walking

@@ -1,0 +1,24 @@
+-- `evaluate::before` meets its contract: the size stands in the column. Assumes nothing.
+use borrow.Author.Needs.{needs}
+use Rattle.evaluate.proofs.before.Statement.{statement}
+use Rattle.evaluate.proofs.before.Tie as tie
+use Rattle.evaluate.proofs.before.Reads as reads
+use Rattle.evaluate.proofs.before.Lts as lts
+use Rattle.columns.proofs.saturating_sub.Reads as saturating-sub-reads
+use Rattle.evaluate.proofs.index_at.Reads as index-at-reads
+use Rattle.evaluate.proofs.Assembled.{child-before}
+
+-- src/lib.rt:93:32
+index-at-requires : tie.Need-index-at-requires
+index-at-requires c κs = search needs
+
+-- src/lib.rt:93:5
+saturating-sub-requires : tie.Need-saturating-sub-requires
+saturating-sub-requires c κs = search needs
+
+-- src/lib.rt:90:1
+returns : tie.Need-returns
+returns c = child-before (c .before .index-at .ensures) (c .saturating-sub .ensures)
+
+pub before-spec : {M : Type 1} → statement M
+before-spec = tie.close (tie.spec index-at-requires saturating-sub-requires returns)

@@ -1,0 +1,17 @@
+-- `evaluate::is_name` meets its contract: test by test. Assumes nothing.
+use Rattle.evaluate.proofs.is_name.Statement.{statement}
+use Rattle.evaluate.proofs.is_name.Tie as tie
+use Rattle.evaluate.proofs.is_name.Reads as reads
+use Rattle.evaluate.proofs.is_name.Lts as lts
+use borrow.Author.Tests.{ne-eqb}
+
+-- src/lib.rt:296:9
+returns : tie.Need-returns
+returns c = rw (c .if1 .taken)
+
+-- src/lib.rt:292:1
+returns-2 : tie.Need-returns-2
+returns-2 c = rw (ne-eqb _ 6 (c .if1 .left))
+
+pub is-name-spec : {M : Type 1} → statement M
+is-name-spec = tie.close (tie.spec returns returns-2)

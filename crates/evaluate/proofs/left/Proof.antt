@@ -1,0 +1,24 @@
+-- `evaluate::left` meets its contract: the child before the last. Assumes nothing.
+use borrow.Author.Needs.{needs}
+use Rattle.evaluate.proofs.left.Statement.{statement}
+use Rattle.evaluate.proofs.left.Tie as tie
+use Rattle.evaluate.proofs.left.Reads as reads
+use Rattle.evaluate.proofs.left.Lts as lts
+use Rattle.evaluate.proofs.before.Reads as before-reads
+use Rattle.evaluate.proofs.last.Reads as last-reads
+use Rattle.evaluate.proofs.Assembled.{child-left}
+
+-- src/lib.rt:99:19
+last-requires : tie.Need-last-requires
+last-requires c κs = search needs
+
+-- src/lib.rt:99:5
+before-requires : tie.Need-before-requires
+before-requires c κs = search needs
+
+-- src/lib.rt:96:1
+returns : tie.Need-returns
+returns c = child-left (c .before .last .ensures) (c .before2 .ensures)
+
+pub left-spec : {M : Type 1} → statement M
+left-spec = tie.close (tie.spec last-requires before-requires returns)

@@ -1,0 +1,24 @@
+-- `evaluate::low` meets its contract: the child before the lower operator. Assumes nothing.
+use borrow.Author.Needs.{needs}
+use Rattle.evaluate.proofs.low.Statement.{statement}
+use Rattle.evaluate.proofs.low.Tie as tie
+use Rattle.evaluate.proofs.low.Reads as reads
+use Rattle.evaluate.proofs.low.Lts as lts
+use Rattle.evaluate.proofs.before.Reads as before-reads
+use Rattle.evaluate.proofs.lower.Reads as lower-reads
+use Rattle.evaluate.proofs.Assembled.{child-low}
+
+-- src/lib.rt:117:19
+lower-requires : tie.Need-lower-requires
+lower-requires c κs = search needs
+
+-- src/lib.rt:117:5
+before-requires : tie.Need-before-requires
+before-requires c κs = search needs
+
+-- src/lib.rt:114:1
+returns : tie.Need-returns
+returns c = child-low (c .before .lower .ensures) (c .before2 .ensures)
+
+pub low-spec : {M : Type 1} → statement M
+low-spec = tie.close (tie.spec lower-requires before-requires returns)

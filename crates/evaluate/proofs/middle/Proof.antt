@@ -1,0 +1,24 @@
+-- `evaluate::middle` meets its contract: the child before the upper operator. Assumes nothing.
+use borrow.Author.Needs.{needs}
+use Rattle.evaluate.proofs.middle.Statement.{statement}
+use Rattle.evaluate.proofs.middle.Tie as tie
+use Rattle.evaluate.proofs.middle.Reads as reads
+use Rattle.evaluate.proofs.middle.Lts as lts
+use Rattle.evaluate.proofs.before.Reads as before-reads
+use Rattle.evaluate.proofs.left.Reads as left-reads
+use Rattle.evaluate.proofs.Assembled.{child-middle}
+
+-- src/lib.rt:105:19
+left-requires : tie.Need-left-requires
+left-requires c κs = search needs
+
+-- src/lib.rt:105:5
+before-requires : tie.Need-before-requires
+before-requires c κs = search needs
+
+-- src/lib.rt:102:1
+returns : tie.Need-returns
+returns c = child-middle (c .before .left .ensures) (c .before2 .ensures)
+
+pub middle-spec : {M : Type 1} → statement M
+middle-spec = tie.close (tie.spec left-requires before-requires returns)

@@ -1,0 +1,66 @@
+-- `evaluate::other` meets its contract: a constant, or a leaf. Assumes nothing.
+use borrow.Author.Needs.{needs}
+use Rattle.evaluate.proofs.other.Statement.{statement}
+use Rattle.evaluate.proofs.other.Tie as tie
+use Rattle.evaluate.proofs.other.Reads as reads
+use Rattle.evaluate.proofs.other.Lts as lts
+use Rattle.evaluate.proofs.answer_at.Reads as answer-at-reads
+use Rattle.evaluate.proofs.at8.Reads as at8-reads
+use Rattle.evaluate.proofs.index_at.Reads as index-at-reads
+use Rattle.evaluate.proofs.last.Reads as last-reads
+use Rattle.evaluate.proofs.leaf.Reads as leaf-reads
+use Rattle.operations.proofs.held.Reads as held-reads
+use Rattle.evaluate.proofs.Assembled.{others-constant, others-leaf}
+
+-- src/lib.rt:275:95
+last-requires : tie.Need-last-requires
+last-requires c κs = search needs
+
+-- src/lib.rt:275:42
+answer-at-requires : tie.Need-answer-at-requires
+answer-at-requires c κs = search needs
+
+-- src/lib.rt:275:9
+held-requires : tie.Need-held-requires
+held-requires c κs = search needs
+
+-- src/lib.rt:275:9
+returns : tie.Need-returns
+returns c =
+    others-constant (c .before .before .before .if1 .taken) (c .before .before .last .ensures) (c .before .answer-at .ensures) (c .held .ensures)
+
+-- src/lib.rt:277:16
+at8-requires : tie.Need-at8-requires
+at8-requires c κs = search needs
+
+-- src/lib.rt:277:44
+index-at-requires : tie.Need-index-at-requires
+index-at-requires c κs = search needs
+
+-- src/lib.rt:277:69
+index-at-requires-2 : tie.Need-index-at-requires-2
+index-at-requires-2 c κs = search needs
+
+-- src/lib.rt:277:5
+leaf-requires : tie.Need-leaf-requires
+leaf-requires c κs = search needs
+
+-- src/lib.rt:258:1
+returns-2 : tie.Need-returns-2
+returns-2 c =
+    others-leaf (c .before .before .before .before .if1 .left) (c .before .before .before .at8 .ensures) (c .before .before .index-at .ensures) (c
+    .before .index-at2 .ensures) (c .leaf .ensures)
+
+pub other-spec : {M : Type 1} → statement M
+other-spec =
+    tie.close
+    (tie.spec
+    last-requires
+    answer-at-requires
+    held-requires
+    returns
+    at8-requires
+    index-at-requires
+    index-at-requires-2
+    leaf-requires
+    returns-2)

@@ -1,0 +1,23 @@
+-- `evaluate::terminal_at` meets its contract: what its calls say. Assumes nothing.
+use borrow.Author.Needs.{needs}
+use Rattle.evaluate.proofs.terminal_at.Statement.{statement}
+use Rattle.evaluate.proofs.terminal_at.Tie as tie
+use Rattle.evaluate.proofs.terminal_at.Reads as reads
+use Rattle.evaluate.proofs.terminal_at.Lts as lts
+use Rattle.evaluate.proofs.at8.Reads as at8-reads
+use Rattle.evaluate.proofs.index_at.Reads as index-at-reads
+
+-- src/lib.rt:124:20
+index-at-requires : tie.Need-index-at-requires
+index-at-requires c κs = search needs
+
+-- src/lib.rt:124:5
+at8-requires : tie.Need-at8-requires
+at8-requires c κs = search needs
+
+-- src/lib.rt:121:1
+returns : tie.Need-returns
+returns c = cc
+
+pub terminal-at-spec : {M : Type 1} → statement M
+terminal-at-spec = tie.close (tie.spec index-at-requires at8-requires returns)

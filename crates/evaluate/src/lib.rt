@@ -1,0 +1,441 @@
+// The evaluation of one expression against a file: its own columns and the file's are apart, and the answers of the file's constants are known.
+// The answer of each node is kept in a row of three lent columns, for its parent.
+pub mod operators;
+
+ghost use mathlib.Core.Path.{_≡_};
+ghost use mathlib.Core.Bool.{_||_};
+ghost use Prim.Native.Nat.{_-_};
+ghost use lib.Dec.{eqb};
+ghost use lib.ListN.{getD};
+ghost use Rattle.express.specs.syntax.NodeKind as node;
+ghost use Rattle.express.specs.kinds.Evaluate.{answer-at};
+ghost use Rattle.express.specs.syntax.Tree as Tree;
+ghost use Rattle.operations.specs.Meaning.{answer-of};
+ghost use Rattle.operations.specs.Stored.{stored};
+ghost use Rattle.evaluate.specs.Answers.{Gives, Stores, answers-in};
+ghost use Rattle.evaluate.specs.Evaluation.{Child, part, IntegerRead, BinaryRead, Leaf, Named, Combines, Intervals, Operates, Others, Answered, EvaluatesNodes};
+use crate::operators::Reading;
+use crate::operators::bound;
+use crate::operators::logical;
+use crate::operators::operator;
+use crate::operators::sign;
+use bits::Binary;
+use operations::Answer;
+use operations::applied;
+use operations::between;
+use operations::combined;
+use operations::held;
+use operations::rows::answer_of_row;
+use operations::rows::row_of;
+
+// The number of the declared type BOOLEAN.
+const BOOLEAN: u32 = 1;
+
+// The number at an index; past the end of the column 0.
+pub fn at8(column: &[u8], i: usize) -> u8
+    ensures { λ r. ⌜ r ≡ getD (now (column .entry)) i 0 ⌝ }
+{
+    if i < column.len() {
+        return column[i];
+    }
+    0
+}
+
+fn at32(column: &[u32], i: usize) -> u32
+    ensures { λ r. ⌜ r ≡ getD (now (column .entry)) i 0 ⌝ }
+{
+    if i < column.len() {
+        return column[i];
+    }
+    0
+}
+
+pub fn index_at(column: &[u32], i: usize) -> usize
+    ensures { λ r. ⌜ r ≡ getD (now (column .entry)) i 0 ⌝ }
+{
+    columns::index(at32(column, i))
+}
+
+// The answer that is kept in a row, and `?` past the end of the columns.
+pub fn answer_at(kinds: &[u8], numbers: &[i64], lengths: &[u8], i: usize) -> Answer
+    ensures { λ r. ⌜ Gives r (answer-at (answers-in (now (kinds .entry)) (now (numbers .entry)) (now (lengths .entry))) i) ⌝ }
+{
+    if i >= kinds.len() {
+        return Answer::Indeterminate;
+    }
+    if i >= numbers.len() {
+        return Answer::Indeterminate;
+    }
+    if i >= lengths.len() {
+        return Answer::Indeterminate;
+    }
+    answer_of_row(kinds[i], numbers[i], lengths[i])
+}
+
+// Keeps an answer in a row.
+pub fn put_answer(kinds: &mut [u8], numbers: &mut [i64], lengths: &mut [u8], i: usize, a: Answer)
+    ensures { λ _. ⌜ Stores (stored (answer-of a)) i (now (kinds .entry)) (now (numbers .entry)) (now (lengths .entry)) (now (kinds .exit)) (now (numbers .exit)) (now (lengths .exit)) ⌝ }
+{
+    let row = row_of(a);
+    columns::put8(kinds, i, row.kind);
+    columns::put64(numbers, i, row.number);
+    columns::put8(lengths, i, row.length);
+}
+
+// The last child of a node stands just before it, each other child just before the tree of the next.
+fn last(n: usize) -> usize
+    ensures { λ r. ⌜ r ≡ n - 1 ⌝ }
+{
+    columns::saturating_sub(n, 1)
+}
+
+fn before(sizes: &[u32], n: usize) -> usize
+    ensures { λ r. ⌜ Child Tree.before (now (sizes .entry)) n r ⌝ }
+{
+    columns::saturating_sub(n, index_at(sizes, n))
+}
+
+fn left(sizes: &[u32], n: usize) -> usize
+    ensures { λ r. ⌜ Child Tree.left (now (sizes .entry)) n r ⌝ }
+{
+    before(sizes, last(n))
+}
+
+fn middle(sizes: &[u32], n: usize) -> usize
+    ensures { λ r. ⌜ Child Tree.middle (now (sizes .entry)) n r ⌝ }
+{
+    before(sizes, left(sizes, n))
+}
+
+fn lower(sizes: &[u32], n: usize) -> usize
+    ensures { λ r. ⌜ Child Tree.lower (now (sizes .entry)) n r ⌝ }
+{
+    before(sizes, middle(sizes, n))
+}
+
+fn low(sizes: &[u32], n: usize) -> usize
+    ensures { λ r. ⌜ Child Tree.low (now (sizes .entry)) n r ⌝ }
+{
+    before(sizes, lower(sizes, n))
+}
+
+// The terminal of a node's naming token.
+fn terminal_at(terminals: &[u8], tokens: &[u32], n: usize) -> u8
+    ensures { λ r. ⌜ r ≡ getD (now (terminals .entry)) (getD (now (tokens .entry)) n 0) 0 ⌝ }
+{
+    at8(terminals, index_at(tokens, n))
+}
+
+// An integer literal; what no integer of the language reaches is `?`.
+fn integer(src: &[u8], start: usize, length: usize) -> Answer
+    ensures { λ r. ⌜ IntegerRead (part (now (src .entry)) start length) r ⌝ }
+{
+    let v = literals::integer(src, start, length);
+    if v > codes::limits::INTEGER {
+        return Answer::Indeterminate;
+    }
+    Answer::Integer(v as i64)
+}
+
+// A binary literal, its `%` passed over; one of more bits than the language allows is `?`.
+fn binary(src: &[u8], start: usize, length: usize) -> Answer
+    ensures { λ r. ⌜ BinaryRead (part (now (src .entry)) start length) r ⌝ }
+{
+    let bytes = columns::shorter(length, columns::saturating_sub(src.len(), start));
+    let bits = columns::saturating_sub(bytes, 1);
+    if bits > codes::limits::BITS {
+        return Answer::Indeterminate;
+    }
+    Answer::Binary(Binary {
+        number: literals::binary(src, start, length),
+        length: bits as u8,
+    })
+}
+
+// A literal; every other leaf is `?`.
+fn leaf(kind: u8, terminal: u8, src: &[u8], start: usize, length: usize) -> Answer
+    ensures { λ r. ⌜ Leaf kind terminal (part (now (src .entry)) start length) r ⌝ }
+{
+    if kind == codes::nodes::INTEGER {
+        return integer(src, start, length);
+    }
+    if kind == codes::nodes::BINARY {
+        return binary(src, start, length);
+    }
+    if kind == codes::nodes::LOGICAL {
+        return Answer::Logical(logical(terminal));
+    }
+    Answer::Indeterminate
+}
+
+// A name by what it is bound to: an item, or a constant, whose answer is read by its row.
+fn named(
+    binding: u32,
+    file_kinds: &[u8],
+    row_of: &[u32],
+    at: usize,
+    answer_kinds: &[u8],
+    answer_numbers: &[i64],
+    answer_lengths: &[u8],
+) -> Answer
+    ensures { λ r. ⌜ Named binding (now («file_kinds» .entry)) (now («row_of» .entry)) at
+        (now («answer_kinds» .entry)) (now («answer_numbers» .entry)) (now («answer_lengths» .entry)) r ⌝ }
+{
+    if binding == 0 {
+        return Answer::Indeterminate;
+    }
+    let d = binding - 1;
+    let kind = at8(file_kinds, columns::index(d));
+    if kind == codes::nodes::ITEM {
+        return Answer::Item(d);
+    }
+    if kind == codes::nodes::CONSTANT {
+        let row = columns::saturating_sub(index_at(row_of, columns::index(d)), at);
+        return answer_at(answer_kinds, answer_numbers, answer_lengths, row);
+    }
+    Answer::Indeterminate
+}
+
+// Two operands; `/` is not evaluated.
+fn two_operands(terminal: u8, x: Answer, y: Answer) -> Answer
+    ensures { λ r. ⌜ Combines terminal x y r ⌝ }
+{
+    match operator(terminal) {
+        Reading::Evaluated(o) => combined(o, x, y),
+        Reading::Unevaluated => Answer::Indeterminate,
+    }
+}
+
+// An interval.
+fn interval(
+    terminals: &[u8],
+    tokens: &[u32],
+    sizes: &[u32],
+    value_kinds: &[u8],
+    value_numbers: &[i64],
+    value_lengths: &[u8],
+    n: usize,
+) -> Answer
+    ensures { λ r. ⌜ Intervals (now (terminals .entry)) (now (tokens .entry)) (now (sizes .entry)) (now («value_kinds» .entry)) (now («value_numbers» .entry)) (now («value_lengths» .entry)) n r ⌝ }
+{
+    between(
+        bound(terminal_at(terminals, tokens, lower(sizes, n))),
+        bound(terminal_at(terminals, tokens, left(sizes, n))),
+        answer_at(value_kinds, value_numbers, value_lengths, low(sizes, n)),
+        answer_at(value_kinds, value_numbers, value_lengths, middle(sizes, n)),
+        answer_at(value_kinds, value_numbers, value_lengths, last(n)),
+    )
+}
+
+// An operation, from the answers of its operands.
+fn operation(
+    kind: u8,
+    terminals: &[u8],
+    tokens: &[u32],
+    sizes: &[u32],
+    value_kinds: &[u8],
+    value_numbers: &[i64],
+    value_lengths: &[u8],
+    n: usize,
+) -> Answer
+    ensures { λ r. ⌜ Operates kind (now (terminals .entry)) (now (tokens .entry)) (now (sizes .entry))
+        (now («value_kinds» .entry)) (now («value_numbers» .entry)) (now («value_lengths» .entry)) n r ⌝ }
+{
+    if kind == codes::nodes::INTERVAL {
+        return interval(
+            terminals,
+            tokens,
+            sizes,
+            value_kinds,
+            value_numbers,
+            value_lengths,
+            n,
+        );
+    }
+    let value = answer_at(value_kinds, value_numbers, value_lengths, last(n));
+    let terminal = terminal_at(terminals, tokens, n);
+    if kind == codes::nodes::UNARY {
+        return applied(sign(terminal), value);
+    }
+    if kind == codes::nodes::TWO_OPERAND {
+        let first = answer_at(value_kinds, value_numbers, value_lengths, left(sizes, n));
+        return two_operands(terminal, first, value);
+    }
+    Answer::Indeterminate
+}
+
+// What is not an operation: literals, and a constant from the answer of its expression.
+fn other(
+    kind: u8,
+    src: &[u8],
+    starts: &[u32],
+    lengths: &[u32],
+    terminals: &[u8],
+    token: usize,
+    declared: u32,
+    value_kinds: &[u8],
+    value_numbers: &[i64],
+    value_lengths: &[u8],
+    n: usize,
+) -> Answer
+    ensures { λ r. ⌜ Others kind (now (src .entry)) (now (starts .entry)) (now (lengths .entry)) (now (terminals .entry)) token declared
+        (now («value_kinds» .entry)) (now («value_numbers» .entry)) (now («value_lengths» .entry)) n r ⌝ }
+{
+    if kind == codes::nodes::CONSTANT {
+        return held(
+            declared == BOOLEAN,
+            answer_at(value_kinds, value_numbers, value_lengths, last(n)),
+        );
+    }
+    leaf(
+        kind,
+        at8(terminals, token),
+        src,
+        index_at(starts, token),
+        index_at(lengths, token),
+    )
+}
+
+fn is_operation(kind: u8) -> bool
+    ensures { λ r. ⌜ r ≡ (eqb kind node.unary || (eqb kind node.two-operand || eqb kind node.interval)) ⌝ }
+{
+    if kind == codes::nodes::UNARY {
+        return true;
+    }
+    if kind == codes::nodes::TWO_OPERAND {
+        return true;
+    }
+    kind == codes::nodes::INTERVAL
+}
+
+fn is_name(kind: u8) -> bool
+    ensures { λ r. ⌜ r ≡ (eqb kind node.name || eqb kind node.qualified-item) ⌝ }
+{
+    if kind == codes::nodes::NAME {
+        return true;
+    }
+    kind == codes::nodes::QUALIFIED_ITEM
+}
+
+// The answer of a node.
+fn answered(
+    src: &[u8],
+    starts: &[u32],
+    lengths: &[u32],
+    terminals: &[u8],
+    kinds: &[u8],
+    tokens: &[u32],
+    sizes: &[u32],
+    bindings: &[u32],
+    file_kinds: &[u8],
+    declared: &[u32],
+    row_of: &[u32],
+    at: usize,
+    answer_kinds: &[u8],
+    answer_numbers: &[i64],
+    answer_lengths: &[u8],
+    value_kinds: &[u8],
+    value_numbers: &[i64],
+    value_lengths: &[u8],
+    n: usize,
+) -> Answer
+    ensures { λ r. ⌜ Answered (now (src .entry)) (now (starts .entry)) (now (lengths .entry)) (now (terminals .entry)) (now (kinds .entry))
+        (now (tokens .entry)) (now (sizes .entry)) (now (bindings .entry))
+        (now («file_kinds» .entry)) (now (declared .entry)) (now («row_of» .entry)) at (now («answer_kinds» .entry)) (now («answer_numbers» .entry)) (now («answer_lengths» .entry))
+        (now («value_kinds» .entry)) (now («value_numbers» .entry)) (now («value_lengths» .entry)) n r ⌝ }
+{
+    let kind = at8(kinds, n);
+    if is_name(kind) {
+        return named(
+            at32(bindings, n),
+            file_kinds,
+            row_of,
+            at,
+            answer_kinds,
+            answer_numbers,
+            answer_lengths,
+        );
+    }
+    if is_operation(kind) {
+        return operation(
+            kind,
+            terminals,
+            tokens,
+            sizes,
+            value_kinds,
+            value_numbers,
+            value_lengths,
+            n,
+        );
+    }
+    other(
+        kind,
+        src,
+        starts,
+        lengths,
+        terminals,
+        index_at(tokens, n),
+        at32(declared, n),
+        value_kinds,
+        value_numbers,
+        value_lengths,
+        n,
+    )
+}
+
+// Evaluates the nodes from lo up to hi, hi itself not, of an expression against a file; the answer of each is kept for its parent.
+pub fn evaluate_expression(
+    src: &[u8],
+    starts: &[u32],
+    lengths: &[u32],
+    terminals: &[u8],
+    kinds: &[u8],
+    tokens: &[u32],
+    sizes: &[u32],
+    bindings: &[u32],
+    lo: usize,
+    hi: usize,
+    file_kinds: &[u8],
+    declared: &[u32],
+    row_of: &[u32],
+    at: usize,
+    answer_kinds: &[u8],
+    answer_numbers: &[i64],
+    answer_lengths: &[u8],
+    value_kinds: &mut [u8],
+    value_numbers: &mut [i64],
+    value_lengths: &mut [u8],
+)
+    ensures { λ _. ⌜ EvaluatesNodes (now (src .entry)) (now (starts .entry)) (now (lengths .entry)) (now (terminals .entry)) (now (kinds .entry))
+        (now (tokens .entry)) (now (sizes .entry)) (now (bindings .entry)) lo hi
+        (now («file_kinds» .entry)) (now (declared .entry)) (now («row_of» .entry)) at (now («answer_kinds» .entry)) (now («answer_numbers» .entry)) (now («answer_lengths» .entry))
+        (now («value_kinds» .entry)) (now («value_numbers» .entry)) (now («value_lengths» .entry))
+        (now («value_kinds» .exit)) (now («value_numbers» .exit)) (now («value_lengths» .exit)) ⌝ }
+{
+    let mut n = lo;
+    while n < hi {
+        let answer = answered(
+            src,
+            starts,
+            lengths,
+            terminals,
+            kinds,
+            tokens,
+            sizes,
+            bindings,
+            file_kinds,
+            declared,
+            row_of,
+            at,
+            answer_kinds,
+            answer_numbers,
+            answer_lengths,
+            value_kinds,
+            value_numbers,
+            value_lengths,
+            n,
+        );
+        put_answer(value_kinds, value_numbers, value_lengths, n, answer);
+        n += 1;
+    }
+}
