@@ -24,7 +24,8 @@ use Rattle.scopes.proofs.Ranges.{declared-meant, column-node, node-below, node-
 use Rattle.faults.specs.Meaning.{fault-of}
 use Rattle.faults.specs.declared.Fault as code
 use Rattle.meanings.specs.Use.{use-meaning, Sorted, StandsFor}
-use Rattle.meanings.specs.Finding.{value-kind, limit, Made, OneMore, TargetOf, FoundName, NodeFinding, DeclarationFinding, UseFinding, TellsEnumeration, ItemFinding, TypeFinding, QualifiedFinding}
+use Rattle.meanings.specs.Finding.{value-kind, limit, Made, OneMore, TargetOf, FoundName, NodeFinding, DeclarationFinding, UseFinding}
+use Rattle.meanings.specs.Finding.{TellsEnumeration, ItemFinding, TypeFinding, QualifiedFinding}
 use Rattle.meanings.specs.declared.Use.{Use}
 use Rattle.meanings.specs.declared.Use.the-variants.{Nothing, Several, Node, Declaration}
 use Rattle.type_names.specs.declared.Finding.{Finding}
@@ -99,7 +100,9 @@ module _ {kinds nodes : List ℕ} {p : ℕ} {f : Finding} where
         rw (sym q) (record {
           fault-is = D .fault-is ∙ same-judged (λ _. value-kind (getD kinds (getD nodes v 0) 0)) (is-value t) v (getD nodes v 0) p (ap (λ (l : List ℕ). value-kind (getD l (getD nodes v 0) 0)) K);
           binding-is = D .binding-is (omega arith);
-          target-is = D .target-is small ∙ ap (λ (l : List ℕ). cond (eqb (getD l (getD nodes v 0) 0) node.constant) (v + 1) 0) K ∙ ap (λ (x : ℕ). cond (is t node.constant (getD nodes v 0)) (x + 1) 0) (sym z);
+          target-is =
+              D .target-is small ∙ ap (λ (l : List ℕ). cond (eqb (getD l (getD nodes v 0) 0) node.constant) (v + 1) 0) K
+              ∙ ap (λ (x : ℕ). cond (is t node.constant (getD nodes v 0)) (x + 1) 0) (sym z);
         });
   }
 
@@ -203,4 +206,5 @@ module _ {kinds sizes keys nodes heads next : List ℕ} {h y yp s p : ℕ} {f : 
     target-is = T .target-is;
   }
 
-pub ruleset names-found = (node-made, declaration-made, no-type, of-type, nothing-found, several-found, node-found, declaration-found, no-item, two-items, one-item, type-found, unknown-type, two-types, known-type)
+pub ruleset names-found =
+    (node-made, declaration-made, no-type, of-type, nothing-found, several-found, node-found, declaration-found, no-item, two-items, one-item, type-found, unknown-type, two-types, known-type)

@@ -13,7 +13,7 @@ use Rattle.relations.proofs.Select.{or-cases, or-left, or-right, and-fst, le-or
 use Rattle.express.specs.syntax.NodeKind as node
 use Rattle.express.specs.syntax.Grammar.{file}
 use Rattle.express.specs.syntax.Syntax.{Read}
-use Rattle.express.specs.syntax.Tree.{Table, count, kind, role, symbol, is, is-declaration, is-attribute, is-scope-member, owner, schema-of, in-constant}
+use Rattle.express.specs.syntax.Tree.{Table, count, kind, role, symbol, is, is-declaration, is-scope-member, owner, schema-of, in-constant}
 use Rattle.express.specs.names.Scope.{Meaning, none, one, several, meaning, inherited, is-use, means, binding}
 use Rattle.express.specs.names.Fault as express
 use Rattle.express.specs.names.Fault.{Fault, expression}
@@ -154,28 +154,27 @@ module _ (t : Table) (n : ℕ) where
           let z : is t node.name n ≡ false = named (is t node.name n) (is-use t n) u e in
           sym (unbound t n (λ k. false≢true (sym z ∙ eq-eqb (kind t n) node.name k)) (λ k. false≢true (sym q ∙ eq-eqb (kind t n) node.qualified-item k)))
 
-  -- the nodes that ask, by their kinds
-  asked-kind : asks t n ≡ true → mem (kind t n) asking-kinds ≡ true
-  unfolding mem
-  asked-kind a =
-      asked t n a (λ e. rw (eqb-true (kind t n) node.name (and-fst (is t node.name n) (eqb (role t n) node.in-expression) e))) (λ e. rw (eqb-true (kind t n) node.qualified-item e)) (λ e. rw (eqb-true (kind t n) node.self e))
-      (λ e.
-      ⊎-elim (λ x. ⊎-elim (λ y. rw (eqb-true (kind t n) node.attribute-name y)) (λ y. rw (eqb-true (kind t n) node.derived-attribute y)) (or-cases (is t node.attribute-name n) (is t node.derived-attribute n) x))
-      (λ x. rw (eqb-true (kind t n) node.rule (and-fst (is t node.rule n) (eqb (role t n) node.labelled) x))) (or-cases (is-attribute t n) (is t node.rule n && eqb (role t n) node.labelled) e))
+  -- the nodes that ask are of six kinds
+  asked-kind :
+      (p : ℕ → Bool) → p node.name ≡ true → p node.qualified-item ≡ true → p node.self ≡ true → p node.attribute-name ≡ true → p node.derived-attribute ≡ true → p node.rule ≡ true →
+      asks t n ≡ true → p (kind t n) ≡ true
+  asked-kind p a b c d e f h =
+      asked t n h (λ x. ap p (eqb-true (kind t n) node.name (and-fst _ _ x)) ∙ a) (λ x. ap p (eqb-true (kind t n) node.qualified-item x) ∙ b)
+      (λ x. ap p (eqb-true (kind t n) node.self x) ∙ c)
+      (λ x.
+      ⊎-elim
+      (λ y. ⊎-elim (λ z. ap p (eqb-true (kind t n) node.attribute-name z) ∙ d) (λ z. ap p (eqb-true (kind t n) node.derived-attribute z) ∙ e) (or-cases _ _ y))
+      (λ y. ap p (eqb-true (kind t n) node.rule (and-fst _ _ y)) ∙ f) (or-cases _ _ x))
 
-  -- stand below a schema
+  -- which stand below a schema
   pub asked-below : asks t n ≡ true → mem (kind t n) set.below-schema ≡ true
   unfolding mem
-  asked-below a =
-      asked t n a (λ e. rw (eqb-true (kind t n) node.name (and-fst (is t node.name n) (eqb (role t n) node.in-expression) e))) (λ e. rw (eqb-true (kind t n) node.qualified-item e)) (λ e. rw (eqb-true (kind t n) node.self e))
-      (λ e.
-      ⊎-elim (λ x. ⊎-elim (λ y. rw (eqb-true (kind t n) node.attribute-name y)) (λ y. rw (eqb-true (kind t n) node.derived-attribute y)) (or-cases (is t node.attribute-name n) (is t node.derived-attribute n) x))
-      (λ x. rw (eqb-true (kind t n) node.rule (and-fst (is t node.rule n) (eqb (role t n) node.labelled) x))) (or-cases (is-attribute t n) (is t node.rule n && eqb (role t n) node.labelled) e))
+  asked-below h = asked-kind (λ k. mem k set.below-schema) refl refl refl refl refl refl h
 
   -- and are no declarations
   declared-asks : is-declaration t n ≡ true → asks t n ≡ false
   unfolding mem disjoint
-  declared-asks d = untrue (asks t n) (λ a. false≢true (sym (undeclared t n asking-kinds refl (asked-kind a)) ∙ d))
+  declared-asks d = untrue (asks t n) (λ a. false≢true (sym (undeclared t n asking-kinds refl (asked-kind (λ k. mem k asking-kinds) refl refl refl refl refl refl a)) ∙ d))
 
   -- nor stand behind all of these
   behind-asks : Read file t → behind-all t ≤ n → n < count t → asks t n ≡ false

@@ -1,3 +1,4 @@
+-- `meanings::by_node` meets its contract: an entry is given by its node. Assumes nothing.
 use borrow.Author.Needs.{needs}
 use Rattle.meanings.proofs.by_node.Statement.{statement}
 use Rattle.meanings.proofs.by_node.Tie as tie

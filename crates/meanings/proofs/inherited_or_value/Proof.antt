@@ -1,3 +1,4 @@
+-- `meanings::inherited_or_value` meets its contract: what is inherited goes before what the schema has. Assumes nothing.
 use borrow.Author.Needs.{needs}
 use Rattle.meanings.proofs.inherited_or_value.Statement.{statement}
 use Rattle.meanings.proofs.inherited_or_value.Tie as tie

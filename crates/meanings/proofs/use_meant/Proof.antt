@@ -1,3 +1,4 @@
+-- `meanings::use_meant` meets its contract: what is own goes before all else. Assumes nothing.
 use borrow.Author.Needs.{needs}
 use Rattle.meanings.proofs.use_meant.Statement.{statement}
 use Rattle.meanings.proofs.use_meant.Tie as tie

@@ -1,3 +1,4 @@
+-- `meanings::value_meant` meets its contract: a declaration of the schema goes before its items. Assumes nothing.
 use borrow.Author.Needs.{needs}
 use Rattle.meanings.proofs.value_meant.Statement.{statement}
 use Rattle.meanings.proofs.value_meant.Tie as tie

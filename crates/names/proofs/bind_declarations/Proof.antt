@@ -35,7 +35,10 @@ same-length-5 : tie.Need-same-length-5
 same-length-5 c = search needs
 
 returns : tie.Need-returns
-returns c = declarations-bound (c .before .before .before .before .before .before .before .before .before .before .before .before .before .before .before .before .before .before .before .before .before .least-duplicate .ensures) (c .before .before .before .before .before .before .before .before .before .before .before .before .before .before .before .before .before .bind-type-names .ensures)
+returns c = declarations-bound
+    (c .before .before .before .before .before .before .before .before .before .before .before .before .before .before .before .before .before .before .before .before .before
+    .least-duplicate .ensures)
+    (c .before .before .before .before .before .before .before .before .before .before .before .before .before .before .before .before .before .bind-type-names .ensures)
     (c .before .before .before .before .before .before .arrange .ensures) (c .before .or-later .ensures) (c .or-later2 .ensures)
 
 pub bind-declarations-spec : {M : Type 1} → statement M

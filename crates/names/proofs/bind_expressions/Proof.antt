@@ -29,7 +29,8 @@ same-length-5 : tie.Need-same-length-5
 same-length-5 c = search needs
 
 returns : tie.Need-returns
-returns c = expressions-bound (c .before .before .before .before .before .before .before .before .before .before .before .before .before .before .before .before .bind-uses .ensures) (c .before .before .before .before .before .arrange .ensures) (c .or-later .ensures)
+returns c = expressions-bound (c .before .before .before .before .before .before .before .before .before .before .before .before .before .before .before .before .bind-uses .ensures)
+    (c .before .before .before .before .before .arrange .ensures) (c .or-later .ensures)
 
 pub bind-expressions-spec : {M : Type 1} → statement M
 bind-expressions-spec =

@@ -43,18 +43,27 @@ loop-less c = search needs
 
 loop-again : tie.Need-loop-again Inv-loop μ-loop
 loop-again c =
-    range-stores (c .before .before .before .before .before .before .before .before .before .before .before .before .before .before .before .loop .inv) (c .before .before .before .before .before .before .before .before .before .before .before .before .before .before .loop-test .taken)
+    range-stores (c .before .before .before .before .before .before .before .before .before .before .before .before .before .before .before .loop .inv)
+    (c .before .before .before .before .before .before .before .before .before .before .before .before .before .before .loop-test .taken)
     (λ t v R A e.
-    range-use (c .before .before .before .before .before .before .before .before .before .before .before .before .before .before .before .loop .i) (c .before .before .before .before .before .before .before .before .before .before .before .before .before .at8 .ensures) (c .before .before .before .before .before .before .before .before .before .before .before .before .at .ensures) (c .before .before .before .before .before .before .before .before .before .before .before .asks .ensures)
-    (c .before .before .before .before .before .before .before .before .before .before .before .before .before .before .before .loop .bound) (c .before .before .before .before .before .before .before .before .before .before .before .before .before .before .loop-test .taken) (c .before .before .before .before .before .before .before .before .before .before .before .before .before .before .before .loop .inv .upto) (c .before .before .before .before .before .before .before .before .before .before .if1 .taken)
-    (c .before .before .before .before .before .before .before .before .at2 .ensures) (c .before .before .before .before .before .before .before .finding-at .ensures) t v R A e) (c .before .before .before .before .store .ensures)
+    range-use (c .before .before .before .before .before .before .before .before .before .before .before .before .before .before .before .loop .i)
+    (c .before .before .before .before .before .before .before .before .before .before .before .before .before .at8 .ensures)
+    (c .before .before .before .before .before .before .before .before .before .before .before .before .at .ensures)
+    (c .before .before .before .before .before .before .before .before .before .before .before .asks .ensures)
+    (c .before .before .before .before .before .before .before .before .before .before .before .before .before .before .before .loop .bound)
+    (c .before .before .before .before .before .before .before .before .before .before .before .before .before .before .loop-test .taken)
+    (c .before .before .before .before .before .before .before .before .before .before .before .before .before .before .before .loop .inv .upto)
+    (c .before .before .before .before .before .before .before .before .before .before .if1 .taken)
+    (c .before .before .before .before .before .before .before .before .at2 .ensures) (c .before .before .before .before .before .before .before .finding-at .ensures) t v R A e)
+    (c .before .before .before .before .store .ensures)
 
 loop-less-2 : tie.Need-loop-less-2 Inv-loop μ-loop
 loop-less-2 c = search needs
 
 loop-again-2 : tie.Need-loop-again-2 Inv-loop μ-loop
 loop-again-2 c =
-    range-skips (c .before .before .before .before .before .loop .inv) (c .before .before .before .before .loop-test .taken) (range-other (c .before .before .before .before .before .loop .i) (c .before .before .before .at8 .ensures) (c .before .before .at .ensures) (c .before .asks .ensures) (c .if1 .left))
+    range-skips (c .before .before .before .before .before .loop .inv) (c .before .before .before .before .loop-test .taken) (range-other
+    (c .before .before .before .before .before .loop .i) (c .before .before .before .at8 .ensures) (c .before .before .at .ensures) (c .before .asks .ensures) (c .if1 .left))
 
 same-length : tie.Need-same-length Inv-loop μ-loop
 same-length c = c .before .loop .inv .bound-long

@@ -45,8 +45,13 @@ loop-less c = search needs
 
 loop-again : tie.Need-loop-again Inv-loop μ-loop
 loop-again c =
-    uses-go-on (c .before .before .before .before .before .before .before .before .before .before .before .before .before .before .loop .inv) (c .before .before .before .before .before .before .before .before .before .before .before .number .ensures) (c .before .before .before .before .before .before .before .before .before .before .put32 .ensures) (c .before .before .before .before .before .before .before .before .before .before .before .before .before .loop-test .taken) (c .before .before .before .before .before .before .before .declaration .ensures) (c .before .before .before .before .bind-range .ensures)
-    (c .before .before .before .before .bind-range .kept .1 .1 .1 .1 .1 .1 .1 .1 .1 .1 .1 .1 .1 .1 .0) (c .before .before .before .before .bind-range .kept .1 .1 .1 .1 .1 .1 .1 .1 .1 .1 .1 .1 .1 .1 .1 .0)
+    uses-go-on (c .before .before .before .before .before .before .before .before .before .before .before .before .before .before .loop .inv)
+    (c .before .before .before .before .before .before .before .before .before .before .before .number .ensures)
+    (c .before .before .before .before .before .before .before .before .before .before .put32 .ensures)
+    (c .before .before .before .before .before .before .before .before .before .before .before .before .before .loop-test .taken)
+    (c .before .before .before .before .before .before .before .declaration .ensures) (c .before .before .before .before .bind-range .ensures)
+    (c .before .before .before .before .bind-range .kept .1 .1 .1 .1 .1 .1 .1 .1 .1 .1 .1 .1 .1 .1 .0)
+    (c .before .before .before .before .bind-range .kept .1 .1 .1 .1 .1 .1 .1 .1 .1 .1 .1 .1 .1 .1 .1 .0)
 
 number-requires-2 : tie.Need-number-requires-2 Inv-loop μ-loop
 number-requires-2 c κs = search needs
@@ -59,13 +64,15 @@ same-length c = c .before .before .before .before .before .before .before .loop 
 
 same-length-2 : tie.Need-same-length-2 Inv-loop μ-loop
 same-length-2 c =
-    ap length (c .before .before .before .put322 .ensures) ∙ length-set (c .before .before .before .before .before .before .before .loop .first) 0 (c .before .before .before .before .number2 .result) ∙ c .before .before .before .before .before .before .before .loop .inv .first-long
+    ap length (c .before .before .before .put322 .ensures) ∙ length-set (c .before .before .before .before .before .before .before .loop .first) 0
+    (c .before .before .before .before .number2 .result) ∙ c .before .before .before .before .before .before .before .loop .inv .first-long
 
 same-length-3 : tie.Need-same-length-3 Inv-loop μ-loop
 same-length-3 c = c .before .before .before .before .before .before .before .loop .inv .to-long
 
 returns : tie.Need-returns Inv-loop μ-loop
-returns c = uses-end (c .before .before .before .before .before .before .before .loop .inv) (c .before .before .before .before .number2 .ensures) (c .before .before .before .put322 .ensures) (c .before .before .before .before .before .before .loop-test .left) refl refl
+returns c = uses-end (c .before .before .before .before .before .before .before .loop .inv) (c .before .before .before .before .number2 .ensures)
+    (c .before .before .before .put322 .ensures) (c .before .before .before .before .before .before .loop-test .left) refl refl
 
 pub bind-uses-spec : {M : Type 1} → statement M
 bind-uses-spec =

@@ -1,3 +1,4 @@
+-- `uses::decoded` meets its contract: one law for each code. Assumes nothing.
 use borrow.Author.Needs.{needs}
 use mathlib.Core.Path.{refl}
 use Rattle.uses.proofs.Uses.{decodes-nothing, decodes-several, decodes-node}

@@ -1,3 +1,4 @@
+-- `uses::finding_at` meets its contract: the code stands for what is inherited. Assumes nothing.
 use borrow.Author.Needs.{needs}
 use Rattle.uses.proofs.Uses.{finding-found}
 use Rattle.uses.proofs.finding_at.Statement.{statement}

@@ -1,3 +1,4 @@
+-- `meanings::findings::constant_target` meets its contract: constants alone have a target. Assumes nothing.
 use borrow.Author.Needs.{needs}
 use borrow.Author.Tests.{eq-eqb, ne-eqb}
 use Rattle.meanings.proofs.findings.constant_target.Statement.{statement}

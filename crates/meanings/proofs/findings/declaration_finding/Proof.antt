@@ -1,3 +1,4 @@
+-- `meanings::findings::declaration_finding` meets its contract: the number of a constant is its target. Assumes nothing.
 use borrow.Author.Needs.{needs}
 use Rattle.meanings.proofs.FoundNames.{names-found}
 use Rattle.meanings.proofs.findings.declaration_finding.Statement.{statement}

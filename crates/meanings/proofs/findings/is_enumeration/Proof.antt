@@ -1,3 +1,4 @@
+-- `meanings::findings::is_enumeration` meets its contract: the first node of the type is an item. Assumes nothing.
 use borrow.Author.Needs.{needs}
 use Rattle.meanings.proofs.FoundNames.{names-found}
 use Rattle.meanings.proofs.findings.is_enumeration.Statement.{statement}

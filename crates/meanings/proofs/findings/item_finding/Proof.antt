@@ -1,3 +1,4 @@
+-- `meanings::findings::item_finding` meets its contract: the item is looked up in its type. Assumes nothing.
 use borrow.Author.Needs.{needs}
 use Rattle.meanings.proofs.FoundNames.{names-found}
 use Rattle.meanings.proofs.findings.item_finding.Statement.{statement}

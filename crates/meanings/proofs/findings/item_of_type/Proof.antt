@@ -1,3 +1,4 @@
+-- `meanings::findings::item_of_type` meets its contract: the fault of the type goes before that of the item. Assumes nothing.
 use borrow.Author.Needs.{needs}
 use Rattle.meanings.proofs.FoundNames.{names-found}
 use Rattle.meanings.proofs.findings.item_of_type.Statement.{statement}

@@ -1,3 +1,4 @@
+-- `meanings::findings::node_finding` meets its contract: a node that is no declaration has no target. Assumes nothing.
 use borrow.Author.Needs.{needs}
 use Rattle.meanings.proofs.FoundNames.{names-found}
 use Rattle.meanings.proofs.findings.node_finding.Statement.{statement}

@@ -1,3 +1,4 @@
+-- `meanings::findings::qualified_finding` meets its contract: the type is looked up in the schema. Assumes nothing.
 use borrow.Author.Needs.{needs}
 use Rattle.meanings.proofs.FoundNames.{names-found}
 use Rattle.meanings.proofs.findings.qualified_finding.Statement.{statement}

@@ -1,3 +1,4 @@
+-- `meanings::findings::use_finding` meets its contract: one law for each meaning. Assumes nothing.
 use borrow.Author.Needs.{needs}
 use Rattle.meanings.proofs.FoundNames.{names-found}
 use Rattle.meanings.proofs.findings.use_finding.Statement.{statement}

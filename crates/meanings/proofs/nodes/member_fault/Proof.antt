@@ -1,3 +1,4 @@
+-- `meanings::nodes::member_fault` meets its contract: at fault exactly where something is inherited. Assumes nothing.
 use borrow.Author.Needs.{needs}
 use Rattle.meanings.proofs.NodeLaws.{members-found}
 use Rattle.meanings.proofs.nodes.member_fault.Statement.{statement}

@@ -1,3 +1,4 @@
+-- `meanings::nodes::node_finding` meets its contract: one law for each kind of node. Assumes nothing.
 use mathlib.Core.Path.{_∙_}
 use borrow.Author.Needs.{needs}
 use Rattle.meanings.proofs.NodeLaws.{Seen, name-node, item-node, self-node, member-node}
@@ -24,7 +25,13 @@ use-finding-requires c κs = search needs
 
 returns : tie.Need-returns
 returns c =
-    name-node (record { token-at = c .before .before .before .before .before .index .ensures ∙ c .before .before .before .before .before .before .at .ensures; symbol-at = c .before .before .before .before .at2 .ensures; place-at = c .before .before .before .at3 .ensures }) (c .before .before .if1 .taken) (c .before .use-meant .ensures) (c .use-finding .ensures)
+    name-node
+    (record {
+      token-at = c .before .before .before .before .before .index .ensures ∙ c .before .before .before .before .before .before .at .ensures;
+      symbol-at = c .before .before .before
+          .before .at2 .ensures;
+      place-at = c .before .before .before .at3 .ensures;
+    }) (c .before .before .if1 .taken) (c .before .use-meant .ensures) (c .use-finding .ensures)
 
 saturating-sub-requires : tie.Need-saturating-sub-requires
 saturating-sub-requires c κs = search needs
@@ -40,7 +47,13 @@ qualified-finding-requires c κs = search needs
 
 returns-2 : tie.Need-returns-2
 returns-2 c =
-    item-node (record { token-at = c .before .before .before .before .before .before .before .before .index .ensures ∙ c .before .before .before .before .before .before .before .before .before .at .ensures; symbol-at = c .before .before .before .before .before .before .before .at2 .ensures; place-at = c .before .before .before .before .before .before .at3 .ensures })
+    item-node
+    (record {
+      token-at = c .before .before .before .before .before .before .before .before .index .ensures ∙ c .before .before .before .before .before .before .before .before .before .at
+          .ensures;
+      symbol-at = c .before .before .before .before .before .before .before .at2 .ensures;
+      place-at = c .before .before .before .before .before .before .at3 .ensures;
+    })
     (c .before .before .before .before .if2 .taken) (c .before .before .before .saturating-sub .ensures)
     (c .before .before .at4 .ensures) (c .before .at5 .ensures) (c .qualified-finding .ensures)
 
@@ -55,7 +68,13 @@ found-requires c κs = search needs
 
 returns-3 : tie.Need-returns-3
 returns-3 c =
-    self-node (record { token-at = c .before .before .before .before .before .before .before .before .index .ensures ∙ c .before .before .before .before .before .before .before .before .before .at .ensures; symbol-at = c .before .before .before .before .before .before .before .at2 .ensures; place-at = c .before .before .before .before .before .before .at3 .ensures })
+    self-node
+    (record {
+      token-at = c .before .before .before .before .before .before .before .before .index .ensures ∙ c .before .before .before .before .before .before .before .before .before .at
+          .ensures;
+      symbol-at = c .before .before .before .before .before .before .before .at2 .ensures;
+      place-at = c .before .before .before .before .before .before .at3 .ensures;
+    })
     (c .before .before .before .if3 .taken) (c .before .before .at8 .ensures) (c .before .wrong-sort .ensures)
     (c .found .ensures)
 
@@ -67,7 +86,12 @@ found-requires-2 c κs = search needs
 
 returns-4 : tie.Need-returns-4
 returns-4 c =
-    member-node (record { token-at = c .before .before .before .before .before .before .before .index .ensures ∙ c .before .before .before .before .before .before .before .before .at .ensures; symbol-at = c .before .before .before .before .before .before .at2 .ensures; place-at = c .before .before .before .before .before .at3 .ensures })
+    member-node
+    (record {
+      token-at = c .before .before .before .before .before .before .before .index .ensures ∙ c .before .before .before .before .before .before .before .before .at .ensures;
+      symbol-at = c .before .before .before .before .before .before .at2 .ensures;
+      place-at = c .before .before .before .before .before .at3 .ensures;
+    })
     (c .before .before .before .before .if1 .left) (c .before .before .before .if2 .left) (c .before .before .if3 .left)
     (c .before .member-fault .ensures) (c .found2 .ensures)
 
