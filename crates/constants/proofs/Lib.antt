@@ -4,3 +4,4 @@ pub mod OneConstant
 pub mod Passing
 pub mod Schemas
 pub mod Written
+pub mod Known

@@ -1,25 +1,24 @@
 -- One constant: the answer of its last node is its value, whatever the columns of values held.
-use mathlib.Core.Path.{_≡_, sym, ap, ap₂, subst, _∙_}
+use mathlib.Core.Path.{_≡_, sym, ap, subst, _∙_}
 use mathlib.Core.Logic.{inl}
 use mathlib.Core.List.{List}
 use Prim.Native.Nat.{ℕ, _+_, _-_, _<_}
 use native.Mathlib.Omega.{arith}
 use lib.IntN.{ℤ}
 use lib.ListN.{getD}
-use Rattle.relations.specs.Select.{span}
 use Rattle.express.specs.syntax.NodeKind as node
-use Rattle.express.specs.syntax.Tree.{Table, count, kind, size, first, within}
+use Rattle.express.specs.syntax.Tree.{Table, count, kind, size, first}
 use Rattle.express.specs.kinds.Answer.{Answer}
-use Rattle.express.specs.kinds.Evaluate.{answer-at, run-in, value}
+use Rattle.express.specs.kinds.Evaluate.{answer-at, value}
 use Rattle.express.proofs.syntax.FormedRows.{formed-rows}
-use Rattle.express.proofs.kinds.Scratch.{value-run}
 use Rattle.operations.specs.Meaning.{answer-of}
 use Rattle.operations.specs.Stored.{stored}
 use Rattle.operations.specs.declared.Answer as code
 use Rattle.evaluate.specs.Answers.{answers-in, Gives, Stores}
 use Rattle.evaluate.specs.Evaluation.{known-in, Against, EvaluatesNodes}
 use Rattle.evaluate.proofs.Literals.{spelled}
-use Rattle.evaluate.proofs.Rows.{same, made, rows-within}
+use Rattle.evaluate.proofs.Rows.{same, made}
+use Rattle.evaluate.proofs.Value.{expression-value}
 use Rattle.constants.specs.Constants.{OfFile, Room, EvaluatesConstant}
 
 pub against :
@@ -59,18 +58,9 @@ module _ {bytes starts lengths terminals kinds tokens sizes bindings declared ro
           (t : Table) (order : List ℕ) → OfFile t bytes starts lengths terminals kinds tokens sizes bindings declared order → Room t vks vzs vls → d < count t →
           kind t d ≡ node.constant → Stores (value t bindings (known-in row-of at aks azs als) d) (getD row-of d 0 - at) aks azs als aks′ azs′ als′
       evaluated t order O M l k =
-          let g = known-in row-of at aks azs als in
-          let xs = answers-in vks vzs vls in
-          let f = formed-rows (O .read) in
           let q : size t d ≡ s = rw (O .sizes-are) (sym S) in
-          let u = f .inside d l in
-          let b = f .some d l in
           let m : lo ≡ first t d = L ∙ ap (λ (x : ℕ). d + 1 - x) (sym q) in
-          let n : d + 1 - lo ≡ size t d = omega arith in
-          let e : answers-in vks′ vzs′ vls′ ≡ run-in t t bindings g (within t d) xs =
-          E .is t t (against O) ∙ ap₂ (λ (x y : ℕ). run-in t t bindings g (span x y) xs) m n in
-          let v : answer-at (answers-in vks′ vzs′ vls′) d ≡ value t bindings g d =
-          ap (λ (ys : List Answer). answer-at ys d) e ∙
-          value-run t t bindings f g d (record { known = l; sort = inl k }) xs
-          (rows-within vks vzs vls d (omega (arith, M .kinds-long)) (omega (arith, M .numbers-long)) (omega (arith, M .lengths-long))) in
+          let v =
+          expression-value (against O) (formed-rows (O .read)) d (record { known = l; sort = inl k }) m E (omega (arith, M .kinds-long)) (omega (arith, M .numbers-long))
+          (omega (arith, M .lengths-long)) in
           stores-same (made (same v G)) (J ∙ ap (λ (x : ℕ). x - at) P) Q

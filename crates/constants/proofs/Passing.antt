@@ -23,7 +23,7 @@ use Rattle.express.specs.kinds.AnswerRow.{AnswerRow}
 use Rattle.express.specs.kinds.AnswerRow as answer-row
 use Rattle.express.specs.kinds.Evaluate.{answer-at, value}
 use Rattle.express.proofs.names.Edges.{constant-edge-schema, constant-edge-iff}
-use Rattle.operations.proofs.Stored.{row-back}
+use Rattle.operations.proofs.Stored.{Storable, row-back}
 use Rattle.evaluate.specs.Answers.{answers-in}
 use Rattle.evaluate.specs.Evaluation.{known-in}
 use Rattle.evaluate.proofs.Rows.{row-there}
@@ -111,6 +111,13 @@ pub record HeldRows (t : Table) (lo hi at : ℕ) (aks₀ : List ℕ) (azs₀ : L
 row-same : {k l : ℕ} {z : ℤ} {w : AnswerRow} → k ≡ w .kind → z ≡ w .number → l ≡ w .length → answer-row.row k z l ≡ w
 row-same {w = w} p q r = rw (p, q, r)
 
+-- what is read from a row that holds the row of an answer is that answer
+pub row-read :
+    (ks : List ℕ) (zs : List ℤ) (ls : List ℕ) (i : ℕ) (a : Answer) → Storable a → i < length ks → i < length zs → i < length ls →
+    getD ks i 0 ≡ answer-row.row-of a .kind → getD zs i (pos 0) ≡ answer-row.row-of a .number → getD ls i 0 ≡ answer-row.row-of a .length →
+    answer-at (answers-in ks zs ls) i ≡ a
+row-read ks zs ls i a S x y z p q r = row-back S (row-same {w = answer-row.row-of a} p q r) (row-there ks zs ls i x y z)
+
 module _ {t : Table} {bytes starts lengths terminals kinds tokens sizes bindings declared order : List ℕ}
     (O : OfFile t bytes starts lengths terminals kinds tokens sizes bindings declared order) {row-of : List ℕ} (W : Rows t row-of) {lo hi at : ℕ} (S : Schema t lo hi at) where
   row-within : (c : ℕ) → Due t lo hi c → row t c - at < row t hi - at
@@ -129,12 +136,9 @@ module _ {t : Table} {bytes starts lengths terminals kinds tokens sizes bindings
     known-right c m D =
         let i = row t c - at in
         let l = row-within c D in
-        let q : getD row-of c 0 - at ≡ i = ap (λ (x : ℕ). x - at) (W .is c (due-known c D)) in
-        let e : answer-row.row (getD aks i 0) (getD azs i (pos 0)) (getD als i 0) ≡ answer-row.row-of (answer-of-constant t c) =
-        row-same (H .kinds-are .there c m D) (H .numbers-are .there c m D) (H .lengths-are .there c m D) in
-        ap (answer-at (answers-in aks azs als)) q ∙
-        row-back (answer-storable (O .read) (O .named) (O .scanned) (O .few) c) e
-        (row-there aks azs als i (omega (arith, l, R .kinds-long)) (omega (arith, l, R .numbers-long)) (omega (arith, l, R .lengths-long)))
+        ap (λ (x : ℕ). answer-at (answers-in aks azs als) (x - at)) (W .is c (due-known c D)) ∙
+        row-read aks azs als i (answer-of-constant t c) (answer-storable (O .read) (O .named) (O .scanned) (O .few) c) (omega (arith, l, R .kinds-long))
+        (omega (arith, l, R .numbers-long)) (omega (arith, l, R .lengths-long)) (H .kinds-are .there c m D) (H .numbers-are .there c m D) (H .lengths-are .there c m D)
 
     -- so the value of a constant whose uses have passed is its answer
     value-right :

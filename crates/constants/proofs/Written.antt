@@ -44,7 +44,7 @@ at-place p (suc n) i l = by (p n) (λ g. at-place p n i g) refl
         (λ g. wider (earlier g)) (le-or (length (keep p (span 0 n))) i)
     by false earlier h = wider (earlier (omega (arith, long, next-none p n h)))
 
-map-there : {A B : Type 0} (f : A → B) (xs : List A) (i : ℕ) (x : A) (y : B) → i < length xs → getD (map f xs) i y ≡ f (getD xs i x)
+pub map-there : {A B : Type 0} (f : A → B) (xs : List A) (i : ℕ) (x : A) (y : B) → i < length xs → getD (map f xs) i y ≡ f (getD xs i x)
 map-there f [] i x y l = absurd (omega arith)
 map-there f (a ∷ xs) zero x y l = refl
 map-there f (a ∷ xs) (suc i) x y l = map-there f xs i x y (omega arith)

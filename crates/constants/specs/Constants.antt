@@ -1,4 +1,4 @@
--- The answers of the constants of a file in its answer columns (K12, K35).
+-- The answers of the constants of a file in its answer columns (K13, K26, K36).
 use mathlib.Core.Path.{_≡_}
 use mathlib.Core.Bool.{Bool, _&&_}
 use mathlib.Core.List.{List, map}
@@ -27,7 +27,7 @@ use Rattle.express.specs.kinds.Evaluate.{answers, answer-at, value}
 use Rattle.evaluate.specs.Answers.{Stores}
 use Rattle.evaluate.specs.Evaluation.{known-in}
 
--- how many constants stand before a node: of a constant, its row (K35)
+-- how many constants stand before a node: of a constant, its row (K36)
 abbrev pub row-in : List ℕ → ℕ → ℕ
 row-in kinds n = length (keep (λ m. eqb (getD kinds m 0) node.constant) (span 0 n))
 
@@ -91,7 +91,7 @@ module _ (bytes starts lengths terminals kinds tokens sizes bindings declared : 
         (t : Table) (order : List ℕ) → OfFile t bytes starts lengths terminals kinds tokens sizes bindings declared order → Room t vks vzs vls → d < count t →
         kind t d ≡ node.constant → Stores (value t bindings (known-in row-of at aks azs als) d) (getD row-of d 0 - at) aks azs als aks′ azs′ als′
 
--- the nodes of a schema: an edge of constants does not leave them (N9)
+-- the nodes of a schema: an edge of constants does not leave them (N10)
 pub record Schema (t : Table) (lo hi at : ℕ) : Type 0 where
   pub known : hi < count t
   pub start : at ≡ row t lo

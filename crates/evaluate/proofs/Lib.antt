@@ -3,3 +3,4 @@ pub mod Nodes
 pub mod Literals
 pub mod Assembled
 pub mod Walking
+pub mod Value

@@ -30,15 +30,15 @@ pub record Child (f : Table → ℕ → ℕ) (sizes : List ℕ) (n r : ℕ) : Ty
 abbrev pub part : List ℕ → ℕ → ℕ → List ℕ
 part s p n = take n (drop p s)
 
--- THE ANSWER OF A NAMED CONSTANT, by the constant's node: it stands in the constant's row, of columns that start with row `at`
+-- K13: THE ANSWER OF A NAMED CONSTANT, by the constant's node: it stands in the constant's row, of columns that start with row `at`
 abbrev pub known-in : List ℕ → ℕ → List ℕ → List ℤ → List ℕ → ℕ → Answer
 known-in row-of at kinds numbers lengths c = answer-at (answers-in kinds numbers lengths) (getD row-of c 0 - at)
 
--- T10: an integer literal below 2 to the 63
+-- T10, T19: an integer literal below 2 to the 63
 pub record IntegerRead (s : List ℕ) (r : operations.Answer) : Type 0 where
   pub is : integer-value s < 2 ^ 63 → Gives r (integer (pos (integer-value s)))
 
--- T14: a binary literal, of up to 63 bits
+-- T14, T19: a binary literal of up to 63 bits
 pub record BinaryRead (s : List ℕ) (r : operations.Answer) : Type 0 where
   pub is : length (binary-bits s) ≤ 63 → binary-value s ≡ number (binary-bits s) → Gives r (binary (binary-bits s))
 
@@ -57,17 +57,17 @@ leaf-answer k w s =
 pub record Leaf (k w : ℕ) (s : List ℕ) (r : operations.Answer) : Type 0 where
   pub is : LiteralBytes k s → Gives r (leaf-answer k w s)
 
--- K14: a name, by what it is bound to
+-- K13: a name, by what it is bound to
 pub record Named (binding : ℕ) (file-kinds row-of : List ℕ) (at : ℕ) (kinds : List ℕ) (numbers : List ℤ) (lengths : List ℕ) (r : operations.Answer) : Type 0 where
   pub is :
       (t e : Table) (c : List ℕ) (f : ℕ → Answer) (n : ℕ) → t .kinds ≡ file-kinds → getD c n 0 ≡ binding →
       Gives r (answer-in e f (known-in row-of at kinds numbers lengths) n (name-shape-in t e c n))
 
--- K15 to K25: two operands
+-- K14 to K24: two operands
 pub record Combines (w : ℕ) (x y r : operations.Answer) : Type 0 where
   pub is : (a b : Answer) → Gives x a → Gives y b → Gives r (combined-by (operator-of w) a b)
 
--- K24: an interval
+-- K25: an interval
 pub record Intervals (terminals tokens sizes kinds : List ℕ) (numbers : List ℤ) (lengths : List ℕ) (n : ℕ) (r : operations.Answer) : Type 0 where
   pub is :
       (e : Table) → e .terminals ≡ terminals → e .tokens ≡ tokens → e .sizes ≡ sizes →
@@ -98,7 +98,7 @@ pub record Others (k : ℕ) (bytes starts lengths terminals : List ℕ) (token d
       e .terminals ≡ terminals → getD (e .tokens) n 0 ≡ token → (k ≡ node.constant → declared ≡ declared-number (declared-type e c n)) →
       LiteralBytes k (text e n) → Gives r (answer-in e (answer-at (answers-in kinds numbers sizes)) g n (shape-in t e c n))
 
--- What holds of the literals of every text that is read (`spelled` of proofs/Spelling).
+-- What holds of the literals of every text that is read (`spelled` of proofs/Literals).
 pub record Spelled (e : Table) : Type 0 where
   pub each : (n : ℕ) → LiteralBytes (kind e n) (text e n)
 

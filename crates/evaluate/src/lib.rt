@@ -206,7 +206,7 @@ fn two_operands(terminal: u8, x: Answer, y: Answer) -> Answer
     }
 }
 
-// An interval.
+// An interval, with the item in both of its relations.
 fn interval(
     terminals: &[u8],
     tokens: &[u32],
@@ -218,13 +218,12 @@ fn interval(
 ) -> Answer
     ensures { λ r. ⌜ Intervals (now (terminals .entry)) (now (tokens .entry)) (now (sizes .entry)) (now («value_kinds» .entry)) (now («value_numbers» .entry)) (now («value_lengths» .entry)) n r ⌝ }
 {
-    between(
-        bound(terminal_at(terminals, tokens, lower(sizes, n))),
-        bound(terminal_at(terminals, tokens, left(sizes, n))),
-        answer_at(value_kinds, value_numbers, value_lengths, low(sizes, n)),
-        answer_at(value_kinds, value_numbers, value_lengths, middle(sizes, n)),
-        answer_at(value_kinds, value_numbers, value_lengths, last(n)),
-    )
+    let first = answer_at(value_kinds, value_numbers, value_lengths, low(sizes, n));
+    let item = answer_at(value_kinds, value_numbers, value_lengths, middle(sizes, n));
+    let second = answer_at(value_kinds, value_numbers, value_lengths, last(n));
+    let lower_relation = bound(terminal_at(terminals, tokens, lower(sizes, n)));
+    let upper_relation = bound(terminal_at(terminals, tokens, left(sizes, n)));
+    between(lower_relation, upper_relation, first, item, second)
 }
 
 // An operation, from the answers of its operands.

@@ -63,7 +63,8 @@ mul-evaluate-schema c =
       c .before .before .shorter2 .ensures,
       c .before .before .before .before .before .before .before .loop .inv .numbers-kept,
       c .before
-          .before .before .before .before .before .before .before .before .before .before .before .before .before .before .before .before .before .before
+          .before .before .before .before .before .before .before .before .before .before .before .before .before .before .before .before .before
+          .before
           .before .before .before .before .good,
     )
 
@@ -107,7 +108,8 @@ add-n c =
       c .before .before .before .before .before .before .before .before .before .before .before .before .before .before .before .before
           .before .before .before .before .before .before .before .loop-test .taken,
       c .before .before .before .before .before .before .before .before
-          .before .before .before .before .before .before .before .before .before .before .before .before .before .before .before .before .before .before
+          .before .before .before .before .before .before .before .before .before .before .before .before .before .before .before .before .before
+          .before
           .before .before .before .before .before .before .before .before .before .before .before .before .before .before .good,
     )
 

@@ -39,7 +39,8 @@ add-n c =
       arith,
       c .before .before .before .before .before .before .before .before .before .before .before .before .before .loop-test .taken,
       c
-          .before .before .before .before .before .before .before .before .before .before .before .before .before .before .before .before .before .before
+          .before .before .before .before .before .before .before .before .before .before .before .before .before .before .before .before .before
+          .before
           .before .before .before .before .before .before .before .before .before .before .before .before .fits .hi,
     )
 

@@ -15,84 +15,84 @@ use Rattle.evaluate.proofs.terminal_at.Reads as terminal-at-reads
 use Rattle.operations.proofs.between.Reads as between-reads
 use Rattle.evaluate.proofs.Assembled.{intervals}
 
--- src/lib.rt:220:46
-lower-requires : tie.Need-lower-requires
-lower-requires c κs = search needs
-
--- src/lib.rt:220:15
-terminal-at-requires : tie.Need-terminal-at-requires
-terminal-at-requires c κs = search needs
-
--- src/lib.rt:220:9
-bound-requires : tie.Need-bound-requires
-bound-requires c κs = search needs
-
--- src/lib.rt:221:46
-left-requires : tie.Need-left-requires
-left-requires c κs = search needs
-
--- src/lib.rt:221:15
-terminal-at-requires-2 : tie.Need-terminal-at-requires-2
-terminal-at-requires-2 c κs = search needs
-
--- src/lib.rt:221:9
-bound-requires-2 : tie.Need-bound-requires-2
-bound-requires-2 c κs = search needs
-
--- src/lib.rt:222:62
+-- src/lib.rt:221:70
 low-requires : tie.Need-low-requires
 low-requires c κs = search needs
 
--- src/lib.rt:222:9
+-- src/lib.rt:221:9
 answer-at-requires : tie.Need-answer-at-requires
 answer-at-requires c κs = search needs
 
--- src/lib.rt:223:62
+-- src/lib.rt:222:69
 middle-requires : tie.Need-middle-requires
 middle-requires c κs = search needs
 
--- src/lib.rt:223:9
+-- src/lib.rt:222:9
 answer-at-requires-2 : tie.Need-answer-at-requires-2
 answer-at-requires-2 c κs = search needs
 
--- src/lib.rt:224:62
+-- src/lib.rt:223:71
 last-requires : tie.Need-last-requires
 last-requires c κs = search needs
 
--- src/lib.rt:224:9
+-- src/lib.rt:223:9
 answer-at-requires-3 : tie.Need-answer-at-requires-3
 answer-at-requires-3 c κs = search needs
 
--- src/lib.rt:219:5
+-- src/lib.rt:224:63
+lower-requires : tie.Need-lower-requires
+lower-requires c κs = search needs
+
+-- src/lib.rt:224:32
+terminal-at-requires : tie.Need-terminal-at-requires
+terminal-at-requires c κs = search needs
+
+-- src/lib.rt:224:9
+bound-requires : tie.Need-bound-requires
+bound-requires c κs = search needs
+
+-- src/lib.rt:225:63
+left-requires : tie.Need-left-requires
+left-requires c κs = search needs
+
+-- src/lib.rt:225:32
+terminal-at-requires-2 : tie.Need-terminal-at-requires-2
+terminal-at-requires-2 c κs = search needs
+
+-- src/lib.rt:225:9
+bound-requires-2 : tie.Need-bound-requires-2
+bound-requires-2 c κs = search needs
+
+-- src/lib.rt:226:5
 between-requires : tie.Need-between-requires
 between-requires c κs = search needs
 
--- src/lib.rt:208:1
+-- src/lib.rt:210:1
 returns : tie.Need-returns
 returns c =
-    intervals (c .before .before .before .before .before .before .before .before .before .before .before .before .lower .ensures) (c .before .before
-    .before .before .before .before .before .before .before .before .before .terminal-at .ensures) (c .before .before .before .before .before .before
-    .before .before .before .before .bound .ensures) (c .before .before .before .before .before .before .before .before .before .left .ensures) (c
-    .before .before .before .before .before .before .before .before .terminal-at2 .ensures) (c .before .before .before .before .before .before .before
-    .bound2 .ensures) (c .before .before .before .before .before .before .low .ensures) (c .before .before .before .before .before .answer-at
-    .ensures) (c .before .before .before .before .middle .ensures) (c .before .before .before .answer-at2 .ensures) (c .before .before .last .ensures)
-    (c .before .answer-at3 .ensures) (c .between .ensures)
+    intervals (c .before .before .before .before .before .before .lower .ensures) (c .before .before .before .before .before .terminal-at .ensures) (c
+    .before .before .before .before .bound .ensures) (c .before .before .before .left .ensures) (c .before .before .terminal-at2 .ensures) (c .before
+    .bound2 .ensures) (c .before .before .before .before .before .before .before .before .before .before .before .before .low .ensures) (c .before
+    .before .before .before .before .before .before .before .before .before .before .answer-at .ensures) (c .before .before .before .before .before
+    .before .before .before .before .before .middle .ensures) (c .before .before .before .before .before .before .before .before .before .answer-at2
+    .ensures) (c .before .before .before .before .before .before .before .before .last .ensures) (c .before .before .before .before .before .before
+    .before .answer-at3 .ensures) (c .between .ensures)
 
 pub interval-spec : {M : Type 1} → statement M
 interval-spec =
     tie.close
     (tie.spec
-    lower-requires
-    terminal-at-requires
-    bound-requires
-    left-requires
-    terminal-at-requires-2
-    bound-requires-2
     low-requires
     answer-at-requires
     middle-requires
     answer-at-requires-2
     last-requires
     answer-at-requires-3
+    lower-requires
+    terminal-at-requires
+    bound-requires
+    left-requires
+    terminal-at-requires-2
+    bound-requires-2
     between-requires
     returns)
