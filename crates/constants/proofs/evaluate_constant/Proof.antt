@@ -12,20 +12,16 @@ use Rattle.evaluate.proofs.put_answer.Reads as put-answer-reads
 use Rattle.constants.proofs.OneConstant.{one-constant}
 use native.Mathlib.Omega.{arith}
 
--- src/lib.rt:69:41
 add-saturating-sub : tie.Need-add-saturating-sub
 add-saturating-sub c =
     omega (arith, c .before .before .before .before .before .before .before .before .before .before .before .before .before .before .pre)
 
--- src/lib.rt:69:48
 index-at-requires : tie.Need-index-at-requires
 index-at-requires c κs = search needs
 
--- src/lib.rt:69:9
 saturating-sub-requires : tie.Need-saturating-sub-requires
 saturating-sub-requires c κs = search needs
 
--- src/lib.rt:80:9
 add-evaluate-expression : tie.Need-add-evaluate-expression
 add-evaluate-expression c =
     omega (
@@ -34,51 +30,39 @@ add-evaluate-expression c =
           .pre,
     )
 
--- src/lib.rt:70:5
 evaluate-expression-requires : tie.Need-evaluate-expression-requires
 evaluate-expression-requires c κs = search needs
 
--- src/lib.rt:92:39
 index-at-requires-2 : tie.Need-index-at-requires-2
 index-at-requires-2 c κs = search needs
 
--- src/lib.rt:92:9
 saturating-sub-requires-2 : tie.Need-saturating-sub-requires-2
 saturating-sub-requires-2 c κs = search needs
 
--- src/lib.rt:93:9
 answer-at-requires : tie.Need-answer-at-requires
 answer-at-requires c κs = search needs
 
--- src/lib.rt:94:5
 put-answer-requires : tie.Need-put-answer-requires
 put-answer-requires c κs = search needs
 
--- src/lib.rt:42:1
 same-length : tie.Need-same-length
 same-length c = search needs
 
--- src/lib.rt:42:1
 same-length-2 : tie.Need-same-length-2
 same-length-2 c = search needs
 
--- src/lib.rt:42:1
 same-length-3 : tie.Need-same-length-3
 same-length-3 c = search needs
 
--- src/lib.rt:42:1
 same-length-4 : tie.Need-same-length-4
 same-length-4 c = search needs
 
--- src/lib.rt:42:1
 same-length-5 : tie.Need-same-length-5
 same-length-5 c = search needs
 
--- src/lib.rt:42:1
 same-length-6 : tie.Need-same-length-6
 same-length-6 c = search needs
 
--- src/lib.rt:42:1
 returns : tie.Need-returns
 returns c =
     one-constant (c .before .before .before .before .before .before .before .before .before .before .before .before .before .before .before .before

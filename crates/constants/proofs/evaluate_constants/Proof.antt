@@ -8,43 +8,33 @@ use Rattle.constants.proofs.evaluate_schemas.Reads as evaluate-schemas-
 use Rattle.constants.proofs.number_rows.Reads as number-rows-reads
 use Rattle.constants.proofs.Written.{file-evaluated}
 
--- src/lib.rt:249:5
 number-rows-requires : tie.Need-number-rows-requires
 number-rows-requires c κs = search needs
 
--- src/lib.rt:250:5
 evaluate-schemas-requires : tie.Need-evaluate-schemas-requires
 evaluate-schemas-requires c κs = search needs
 
--- src/lib.rt:224:1
 same-length : tie.Need-same-length
 same-length c = search needs
 
--- src/lib.rt:224:1
 same-length-2 : tie.Need-same-length-2
 same-length-2 c = search needs
 
--- src/lib.rt:224:1
 same-length-3 : tie.Need-same-length-3
 same-length-3 c = search needs
 
--- src/lib.rt:224:1
 same-length-4 : tie.Need-same-length-4
 same-length-4 c = search needs
 
--- src/lib.rt:224:1
 same-length-5 : tie.Need-same-length-5
 same-length-5 c = search needs
 
--- src/lib.rt:224:1
 same-length-6 : tie.Need-same-length-6
 same-length-6 c = search needs
 
--- src/lib.rt:224:1
 same-length-7 : tie.Need-same-length-7
 same-length-7 c = search needs
 
--- src/lib.rt:224:1
 returns : tie.Need-returns
 returns c =
     file-evaluated (c .before .before .before .before .before .before .before .before .before .before .before .before .before .before .before .before

@@ -23,27 +23,21 @@ abbrev μ-loop : tie.MeasureT-loop
     value-kinds₀ value-numbers₀ value-lengths₀ i₀ answer-kinds answer-numbers answer-lengths value-kinds value-numbers value-lengths i = length order
     - i
 
--- src/lib.rt:128:5
 loop-holds : tie.Need-loop-holds Inv-loop μ-loop
 loop-holds c = passing-starts
 
--- src/lib.rt:129:32
 mul-index : tie.Need-mul-index Inv-loop μ-loop
 mul-index c = search needs
 
--- src/lib.rt:129:32
 shared-slice-read-index : tie.Need-shared-slice-read-index Inv-loop μ-loop
 shared-slice-read-index c = search needs
 
--- src/lib.rt:129:13
 index-requires : tie.Need-index-requires Inv-loop μ-loop
 index-requires c κs = search needs
 
--- src/lib.rt:130:12
 is-due-requires : tie.Need-is-due-requires Inv-loop μ-loop
 is-due-requires c κs = search needs
 
--- src/lib.rt:131:13
 evaluate-constant-requires : tie.Need-evaluate-constant-requires Inv-loop μ-loop
 evaluate-constant-requires c κs =
     due-below (c .before .before .before .before .before .before .before .before .before .before .before .before .before .before .before .before
@@ -53,7 +47,6 @@ evaluate-constant-requires c κs =
     .before .before .before .before .if1 .taken) (c .before .before .before .before .before .before .before .before .before .before .before .before
     .before .before .before .before .before .before .before .before .before .before .before .before .before .before .before .fits .hi .fits)
 
--- src/lib.rt:151:13
 add-i : tie.Need-add-i Inv-loop μ-loop
 add-i c =
     omega (
@@ -66,7 +59,6 @@ add-i c =
           .before .before .before .before .before .before .before .before .before .before .good,
     )
 
--- src/lib.rt:128:5
 loop-less : tie.Need-loop-less Inv-loop μ-loop
 loop-less c =
     omega (
@@ -75,7 +67,6 @@ loop-less c =
           .before .before .before .before .before .loop-test .taken,
     )
 
--- src/lib.rt:128:5
 loop-again : tie.Need-loop-again Inv-loop μ-loop
 loop-again c =
     passing-due (c .before .before .before .before .before .before .before .before .before .before .before .before .before .before .before .before
@@ -87,7 +78,6 @@ loop-again c =
     .before .before .if1 .taken) (c .before .before .before .before .before .before .before .before .before .before .evaluate-constant .ensures)
     (search needs) (search needs) (search needs) (search needs) (search needs) (search needs)
 
--- src/lib.rt:153:13
 add-i-2 : tie.Need-add-i-2 Inv-loop μ-loop
 add-i-2 c =
     omega (
@@ -97,41 +87,32 @@ add-i-2 c =
           .before .before .before .before .before .before .before .before .before .before .before .before .good,
     )
 
--- src/lib.rt:128:5
 loop-less-2 : tie.Need-loop-less-2 Inv-loop μ-loop
 loop-less-2 c = omega (arith, c .before .before .before .before .loop-test .taken)
 
--- src/lib.rt:128:5
 loop-again-2 : tie.Need-loop-again-2 Inv-loop μ-loop
 loop-again-2 c =
     passing-other (c .before .before .before .before .before .loop .inv) (c .before .before .before .before .loop-test .taken) (c .before .before
     .index .ensures) (c .before .is-due .ensures) (c .if1 .left)
 
--- src/lib.rt:99:1
 same-length : tie.Need-same-length Inv-loop μ-loop
 same-length c = c .before .loop .inv .kinds-kept
 
--- src/lib.rt:99:1
 same-length-2 : tie.Need-same-length-2 Inv-loop μ-loop
 same-length-2 c = c .before .loop .inv .numbers-kept
 
--- src/lib.rt:99:1
 same-length-3 : tie.Need-same-length-3 Inv-loop μ-loop
 same-length-3 c = c .before .loop .inv .lengths-kept
 
--- src/lib.rt:99:1
 same-length-4 : tie.Need-same-length-4 Inv-loop μ-loop
 same-length-4 c = c .before .loop .inv .value-kinds-kept
 
--- src/lib.rt:99:1
 same-length-5 : tie.Need-same-length-5 Inv-loop μ-loop
 same-length-5 c = c .before .loop .inv .value-numbers-kept
 
--- src/lib.rt:99:1
 same-length-6 : tie.Need-same-length-6 Inv-loop μ-loop
 same-length-6 c = c .before .loop .inv .value-lengths-kept
 
--- src/lib.rt:99:1
 returns : tie.Need-returns Inv-loop μ-loop
 returns c = passing-ends (c .before .loop .inv) (c .loop-test .left)
 

@@ -23,39 +23,30 @@ abbrev μ-loop : tie.MeasureT-loop
     value-numbers₀ value-lengths₀ n₀ lo₀ at₀ answer-kinds answer-numbers answer-lengths value-kinds value-numbers value-lengths n lo at = length kinds
     - n
 
--- src/lib.rt:187:5
 loop-holds : tie.Need-loop-holds Inv-loop μ-loop
 loop-holds c = filling-starts
 
--- src/lib.rt:188:12
 shared-slice-read-if1 : tie.Need-shared-slice-read-if1 Inv-loop μ-loop
 shared-slice-read-if1 c = c .before .loop-test .taken
 
--- src/lib.rt:189:17
 shorter-requires : tie.Need-shorter-requires Inv-loop μ-loop
 shorter-requires c κs = search needs
 
--- src/lib.rt:190:17
 shorter-requires-2 : tie.Need-shorter-requires-2 Inv-loop μ-loop
 shorter-requires-2 c κs = search needs
 
--- src/lib.rt:191:17
 shorter-requires-3 : tie.Need-shorter-requires-3 Inv-loop μ-loop
 shorter-requires-3 c κs = search needs
 
--- src/lib.rt:207:17
 sub-evaluate-schema : tie.Need-sub-evaluate-schema Inv-loop μ-loop
 sub-evaluate-schema c = search needs
 
--- src/lib.rt:207:17
 part-evaluate-schema-start : tie.Need-part-evaluate-schema-start Inv-loop μ-loop
 part-evaluate-schema-start c = search needs
 
--- src/lib.rt:207:17
 part-evaluate-schema-end : tie.Need-part-evaluate-schema-end Inv-loop μ-loop
 part-evaluate-schema-end c = search needs
 
--- src/lib.rt:208:17
 mul-evaluate-schema : tie.Need-mul-evaluate-schema Inv-loop μ-loop
 mul-evaluate-schema c =
     omega (
@@ -68,39 +59,30 @@ mul-evaluate-schema c =
           .before .before .before .before .good,
     )
 
--- src/lib.rt:208:17
 sub-evaluate-schema-2 : tie.Need-sub-evaluate-schema-2 Inv-loop μ-loop
 sub-evaluate-schema-2 c = search needs
 
--- src/lib.rt:208:17
 part-evaluate-schema-start-2 : tie.Need-part-evaluate-schema-start-2 Inv-loop μ-loop
 part-evaluate-schema-start-2 c = search needs
 
--- src/lib.rt:208:17
 part-evaluate-schema-end-2 : tie.Need-part-evaluate-schema-end-2 Inv-loop μ-loop
 part-evaluate-schema-end-2 c = search needs
 
--- src/lib.rt:209:17
 sub-evaluate-schema-3 : tie.Need-sub-evaluate-schema-3 Inv-loop μ-loop
 sub-evaluate-schema-3 c = search needs
 
--- src/lib.rt:209:17
 part-evaluate-schema-start-3 : tie.Need-part-evaluate-schema-start-3 Inv-loop μ-loop
 part-evaluate-schema-start-3 c = search needs
 
--- src/lib.rt:209:17
 part-evaluate-schema-end-3 : tie.Need-part-evaluate-schema-end-3 Inv-loop μ-loop
 part-evaluate-schema-end-3 c = search needs
 
--- src/lib.rt:192:13
 evaluate-schema-requires : tie.Need-evaluate-schema-requires Inv-loop μ-loop
 evaluate-schema-requires c κs = search needs
 
--- src/lib.rt:214:13
 index-at-requires : tie.Need-index-at-requires Inv-loop μ-loop
 index-at-requires c κs = search needs
 
--- src/lib.rt:215:13
 add-n : tie.Need-add-n Inv-loop μ-loop
 add-n c =
     omega (
@@ -113,7 +95,6 @@ add-n c =
           .before .before .before .before .before .before .before .before .before .before .before .before .before .before .good,
     )
 
--- src/lib.rt:187:5
 loop-less : tie.Need-loop-less Inv-loop μ-loop
 loop-less c =
     omega (
@@ -122,7 +103,6 @@ loop-less c =
           .before .before .before .before .before .before .before .loop-test .taken,
     )
 
--- src/lib.rt:187:5
 loop-again : tie.Need-loop-again Inv-loop μ-loop
 loop-again c =
     filling-schema (c .before .before .before .before .before .before .before .before .before .before .before .before .before .before .before .before
@@ -136,7 +116,6 @@ loop-again c =
     .ensures) _ _ _ (c .before .before .before .before .before .before .before .before .before .before .before .evaluate-schema .ensures) (search
     needs) (search needs) (search needs) (search needs) (search needs) (search needs) (search needs) (search needs) (search needs)
 
--- src/lib.rt:218:13
 add-n-2 : tie.Need-add-n-2 Inv-loop μ-loop
 add-n-2 c =
     omega (
@@ -146,39 +125,30 @@ add-n-2 c =
           .before .before .before .before .before .before .before .before .good,
     )
 
--- src/lib.rt:187:5
 loop-less-2 : tie.Need-loop-less-2 Inv-loop μ-loop
 loop-less-2 c = omega (arith, c .before .before .loop-test .taken)
 
--- src/lib.rt:187:5
 loop-again-2 : tie.Need-loop-again-2 Inv-loop μ-loop
 loop-again-2 c = filling-other (c .before .before .before .loop .inv) (c .before .before .loop-test .taken) (c .if1 .left)
 
--- src/lib.rt:159:1
 same-length : tie.Need-same-length Inv-loop μ-loop
 same-length c = c .before .loop .inv .kinds-kept
 
--- src/lib.rt:159:1
 same-length-2 : tie.Need-same-length-2 Inv-loop μ-loop
 same-length-2 c = c .before .loop .inv .numbers-kept
 
--- src/lib.rt:159:1
 same-length-3 : tie.Need-same-length-3 Inv-loop μ-loop
 same-length-3 c = c .before .loop .inv .lengths-kept
 
--- src/lib.rt:159:1
 same-length-4 : tie.Need-same-length-4 Inv-loop μ-loop
 same-length-4 c = c .before .loop .inv .value-kinds-kept
 
--- src/lib.rt:159:1
 same-length-5 : tie.Need-same-length-5 Inv-loop μ-loop
 same-length-5 c = c .before .loop .inv .value-numbers-kept
 
--- src/lib.rt:159:1
 same-length-6 : tie.Need-same-length-6 Inv-loop μ-loop
 same-length-6 c = c .before .loop .inv .value-lengths-kept
 
--- src/lib.rt:159:1
 returns : tie.Need-returns Inv-loop μ-loop
 returns c = filling-ends (c .before .loop .inv) (c .loop-test .left)
 

@@ -10,11 +10,9 @@ use Prim.Native.Nat.{ℕ}
 use lib.Dec.{eqb}
 use borrow.Author.Tests.{le-leb, lt-leb, lt-ltb, le-ltb}
 
--- src/lib.rt:33:9
 returns : tie.Need-returns
 returns c = rw (lt-leb (c .before .before .args .lo) (c .before .before .args .d) (c .if1 .taken))
 
--- src/lib.rt:36:9
 returns-2 : tie.Need-returns-2
 returns-2 c =
     rw (
@@ -23,11 +21,9 @@ returns-2 c =
           .args .d) (c .before .before .before .args .hi) (c .if2 .taken),
     )
 
--- src/lib.rt:38:5
 at8-requires : tie.Need-at8-requires
 at8-requires c κs = search needs
 
--- src/lib.rt:29:1
 returns-3 : tie.Need-returns-3
 returns-3 c =
     rw (

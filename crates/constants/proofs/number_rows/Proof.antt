@@ -17,23 +17,18 @@ Inv-loop kinds row-of₀ n₀ rows₀ row-of n rows = Numbering kinds row-of₀ 
 abbrev μ-loop : tie.MeasureT-loop
 μ-loop kinds row-of₀ n₀ rows₀ row-of n rows = length kinds - n
 
--- src/lib.rt:17:5
 loop-holds : tie.Need-loop-holds Inv-loop μ-loop
 loop-holds c = numbering-starts
 
--- src/lib.rt:18:35
 number-requires : tie.Need-number-requires Inv-loop μ-loop
 number-requires c κs = search needs
 
--- src/lib.rt:18:9
 put32-requires : tie.Need-put32-requires Inv-loop μ-loop
 put32-requires c κs = search needs
 
--- src/lib.rt:19:12
 shared-slice-read-if1 : tie.Need-shared-slice-read-if1 Inv-loop μ-loop
 shared-slice-read-if1 c = c .before .before .before .before .before .before .loop-test .taken
 
--- src/lib.rt:20:13
 add-rows : tie.Need-add-rows Inv-loop μ-loop
 add-rows c =
     omega (
@@ -43,41 +38,33 @@ add-rows c =
           .before .before .loop .inv .few,
     )
 
--- src/lib.rt:21:13
 add-n : tie.Need-add-n Inv-loop μ-loop
 add-n c = omega (arith, c .before .before .before .before .before .before .before .loop-test .taken)
 
--- src/lib.rt:17:5
 loop-less : tie.Need-loop-less Inv-loop μ-loop
 loop-less c = omega (arith, c .before .before .before .before .before .before .before .loop-test .taken)
 
--- src/lib.rt:17:5
 loop-again : tie.Need-loop-again Inv-loop μ-loop
 loop-again c =
     numbering-constant (c .before .before .before .before .before .before .before .before .loop .inv) (c .before .before .before .before .before
     .before .before .loop-test .taken) (c .before .before .before .before .before .number .ensures) (c .before .before .before .before .put32
     .ensures) (c .if1 .taken)
 
--- src/lib.rt:23:13
 add-n-2 : tie.Need-add-n-2 Inv-loop μ-loop
 add-n-2 c = omega (arith, c .before .before .before .before .before .before .before .loop-test .taken)
 
--- src/lib.rt:17:5
 loop-less-2 : tie.Need-loop-less-2 Inv-loop μ-loop
 loop-less-2 c = omega (arith, c .before .before .before .before .before .before .before .loop-test .taken)
 
--- src/lib.rt:17:5
 loop-again-2 : tie.Need-loop-again-2 Inv-loop μ-loop
 loop-again-2 c =
     numbering-other (c .before .before .before .before .before .before .before .before .loop .inv) (c .before .before .before .before .before .before
     .before .loop-test .taken) (c .before .before .before .before .before .number .ensures) (c .before .before .before .before .put32 .ensures) (c
     .if1 .left)
 
--- src/lib.rt:12:1
 same-length : tie.Need-same-length Inv-loop μ-loop
 same-length c = c .before .loop .inv .len
 
--- src/lib.rt:12:1
 returns : tie.Need-returns Inv-loop μ-loop
 returns c = numbering-ends (c .before .loop .inv) (c .loop-test .left)
 

@@ -9,45 +9,36 @@ use Rattle.evaluate.proofs.Rows.{no-kind, no-number, no-length, read-ro
 use mir.Syntax.{w64}
 use mir.ValLaws.{toZ-ofZ}
 
--- src/lib.rt:62:9
 returns : tie.Need-returns
 returns c =
     no-kind (c .before .before .before .args .kinds .now) (c .before .before .before .args .numbers .now) (c .before .before .before .args .lengths
     .now) (c .before .before .before .args .i) (c .if1 .taken)
 
--- src/lib.rt:65:9
 returns-2 : tie.Need-returns-2
 returns-2 c =
     no-number (c .before .before .before .before .args .kinds .now) (c .before .before .before .before .args .numbers .now) (c .before .before .before
     .before .args .lengths .now) (c .before .before .before .before .args .i) (c .if2 .taken)
 
--- src/lib.rt:68:9
 returns-3 : tie.Need-returns-3
 returns-3 c =
     no-length (c .before .before .before .before .before .args .kinds .now) (c .before .before .before .before .before .args .numbers .now) (c .before
     .before .before .before .before .args .lengths .now) (c .before .before .before .before .before .args .i) (c .if3 .taken)
 
--- src/lib.rt:70:19
 shared-slice-read-answer-of-row : tie.Need-shared-slice-read-answer-of-row
 shared-slice-read-answer-of-row c = search needs
 
--- src/lib.rt:70:29
 mul-answer-of-row : tie.Need-mul-answer-of-row
 mul-answer-of-row c = search needs
 
--- src/lib.rt:70:29
 shared-slice-copy-out-answer-of-row : tie.Need-shared-slice-copy-out-answer-of-row
 shared-slice-copy-out-answer-of-row c = search needs
 
--- src/lib.rt:70:41
 shared-slice-read-answer-of-row-2 : tie.Need-shared-slice-read-answer-of-row-2
 shared-slice-read-answer-of-row-2 c = search needs
 
--- src/lib.rt:70:5
 answer-of-row-requires : tie.Need-answer-of-row-requires
 answer-of-row-requires c κs = search needs
 
--- src/lib.rt:58:1
 returns-4 : tie.Need-returns-4
 returns-4 c =
     read-row (c .before .before .before .before .before .before .before .before .before .args .kinds .now) (c .before .before .before .before .before

@@ -14,55 +14,43 @@ use Rattle.evaluate.proofs.operation.Reads as operation-reads
 use Rattle.evaluate.proofs.other.Reads as other-reads
 use Rattle.evaluate.proofs.Assembled.{answered-name, answered-operation, answered-other}
 
--- src/lib.rt:328:9
 at8-requires : tie.Need-at8-requires
 at8-requires c κs = search needs
 
--- src/lib.rt:329:8
 is-name-requires : tie.Need-is-name-requires
 is-name-requires c κs = search needs
 
--- src/lib.rt:331:13
 at32-requires : tie.Need-at32-requires
 at32-requires c κs = search needs
 
--- src/lib.rt:330:9
 named-requires : tie.Need-named-requires
 named-requires c κs = search needs
 
--- src/lib.rt:330:9
 returns : tie.Need-returns
 returns c =
     answered-name (c .before .before .before .before .at8 .ensures) (c .before .before .before .is-name .ensures) (c .before .before .if1 .taken) (c
     .before .at32 .ensures) (c .named .ensures)
 
--- src/lib.rt:340:8
 is-operation-requires : tie.Need-is-operation-requires
 is-operation-requires c κs = search needs
 
--- src/lib.rt:341:9
 operation-requires : tie.Need-operation-requires
 operation-requires c κs = search needs
 
--- src/lib.rt:341:9
 returns-2 : tie.Need-returns-2
 returns-2 c =
     answered-operation (c .before .before .before .before .before .at8 .ensures) (c .before .before .is-operation .ensures) (c .before .if2 .taken) (c
     .operation .ensures)
 
--- src/lib.rt:349:9
 index-at-requires : tie.Need-index-at-requires
 index-at-requires c κs = search needs
 
--- src/lib.rt:350:9
 at32-requires-2 : tie.Need-at32-requires-2
 at32-requires-2 c κs = search needs
 
--- src/lib.rt:343:5
 other-requires : tie.Need-other-requires
 other-requires c κs = search needs
 
--- src/lib.rt:302:1
 returns-3 : tie.Need-returns-3
 returns-3 c =
     answered-other (c .before .before .before .before .before .before .before .at8 .ensures) (c .before .before .before .before .before .before

@@ -8,15 +8,12 @@ use Rattle.columns.proofs.saturating_sub.Reads as saturating-sub-reads
 use Rattle.evaluate.proofs.index_at.Reads as index-at-reads
 use Rattle.evaluate.proofs.Assembled.{child-before}
 
--- src/lib.rt:93:32
 index-at-requires : tie.Need-index-at-requires
 index-at-requires c κs = search needs
 
--- src/lib.rt:93:5
 saturating-sub-requires : tie.Need-saturating-sub-requires
 saturating-sub-requires c κs = search needs
 
--- src/lib.rt:90:1
 returns : tie.Need-returns
 returns c = child-before (c .before .index-at .ensures) (c .saturating-sub .ensures)
 

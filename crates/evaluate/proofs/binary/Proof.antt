@@ -11,34 +11,27 @@ use Rattle.evaluate.proofs.Literals.{binary-long, binary-short}
 use mathlib.Core.Path.{refl}
 use native.Mathlib.Omega.{arith}
 
--- src/lib.rt:142:42
 saturating-sub-requires : tie.Need-saturating-sub-requires
 saturating-sub-requires c κs = search needs
 
--- src/lib.rt:142:9
 shorter-requires : tie.Need-shorter-requires
 shorter-requires c κs = search needs
 
--- src/lib.rt:143:9
 saturating-sub-requires-2 : tie.Need-saturating-sub-requires-2
 saturating-sub-requires-2 c κs = search needs
 
--- src/lib.rt:145:9
 returns : tie.Need-returns
 returns c =
     binary-long (c .before .before .before .before .before .args .src .now) (c .before .before .before .before .before .args .start) (c .before
     .before .before .before .before .args .length) (c .before .before .before .saturating-sub .ensures) (c .before .before .shorter .ensures) (c
     .before .saturating-sub2 .ensures) (c .if1 .taken)
 
--- src/lib.rt:148:17
 binary-requires : tie.Need-binary-requires
 binary-requires c κs = search needs
 
--- src/lib.rt:149:17
 cast-t10 : tie.Need-cast-t10
 cast-t10 c = omega (arith, c .before .if1 .left)
 
--- src/lib.rt:139:1
 returns-2 : tie.Need-returns-2
 returns-2 c =
     binary-short (c .before .before .before .before .before .before .args .src .now) (c .before .before .before .before .before .before .args .start)

@@ -20,19 +20,15 @@ abbrev μ-loop : tie.MeasureT-loop
 μ-loop src starts lengths terminals kinds tokens sizes bindings lo hi file-kinds declared row-of at answer-kinds answer-numbers answer-lengths
     value-kinds₀ value-numbers₀ value-lengths₀ n₀ value-kinds value-numbers value-lengths n = hi - n
 
--- src/lib.rt:388:5
 loop-holds : tie.Need-loop-holds Inv-loop μ-loop
 loop-holds c = going-starts
 
--- src/lib.rt:389:13
 answered-requires : tie.Need-answered-requires Inv-loop μ-loop
 answered-requires c κs = search needs
 
--- src/lib.rt:410:9
 put-answer-requires : tie.Need-put-answer-requires Inv-loop μ-loop
 put-answer-requires c κs = search needs
 
--- src/lib.rt:411:9
 add-n : tie.Need-add-n Inv-loop μ-loop
 add-n c =
     omega (
@@ -44,31 +40,25 @@ add-n c =
           .before .before .before .before .before .before .before .before .before .before .before .before .fits .hi,
     )
 
--- src/lib.rt:388:5
 loop-less : tie.Need-loop-less Inv-loop μ-loop
 loop-less c =
     omega (arith, c .before .before .before .before .before .before .before .before .before .before .before .before .before .loop-test .taken)
 
--- src/lib.rt:388:5
 loop-again : tie.Need-loop-again Inv-loop μ-loop
 loop-again c =
     going-on (c .before .before .before .before .before .before .before .before .before .before .before .before .before .before .loop .inv) (c .before
     .before .before .before .before .before .before .before .before .before .before .before .before .loop-test .taken) (c .before .before .before
     .before .before .before .before .before .before .answered .ensures) (c .before .before .before .before .before .put-answer .ensures)
 
--- src/lib.rt:359:1
 same-length : tie.Need-same-length Inv-loop μ-loop
 same-length c = c .before .loop .inv .kinds-kept
 
--- src/lib.rt:359:1
 same-length-2 : tie.Need-same-length-2 Inv-loop μ-loop
 same-length-2 c = c .before .loop .inv .numbers-kept
 
--- src/lib.rt:359:1
 same-length-3 : tie.Need-same-length-3 Inv-loop μ-loop
 same-length-3 c = c .before .loop .inv .lengths-kept
 
--- src/lib.rt:359:1
 returns : tie.Need-returns Inv-loop μ-loop
 returns c = going-ends (c .before .loop .inv) (c .loop-test .left)
 

@@ -8,21 +8,17 @@ use Rattle.literals.proofs.integer.Reads as integer-reads
 use Rattle.evaluate.proofs.Literals.{integer-fits, integer-large, integer-small}
 use Rattle.evaluate.specs.Evaluation.{part}
 
--- src/lib.rt:131:9
 integer-requires : tie.Need-integer-requires
 integer-requires c κs = search needs
 
--- src/lib.rt:133:9
 returns : tie.Need-returns
 returns c =
     integer-large (part (c .before .before .before .args .src .now) (c .before .before .before .args .start) (c .before .before .before .args
     .length)) (c .before .integer .ensures) (c .if1 .taken)
 
--- src/lib.rt:135:21
 cast-t6 : tie.Need-cast-t6
 cast-t6 c = integer-fits (c .if1 .left)
 
--- src/lib.rt:128:1
 returns-2 : tie.Need-returns-2
 returns-2 c =
     integer-small (part (c .before .before .before .args .src .now) (c .before .before .before .args .start) (c .before .before .before .args

@@ -15,59 +15,45 @@ use Rattle.evaluate.proofs.terminal_at.Reads as terminal-at-reads
 use Rattle.operations.proofs.between.Reads as between-reads
 use Rattle.evaluate.proofs.Assembled.{intervals}
 
--- src/lib.rt:221:70
 low-requires : tie.Need-low-requires
 low-requires c κs = search needs
 
--- src/lib.rt:221:9
 answer-at-requires : tie.Need-answer-at-requires
 answer-at-requires c κs = search needs
 
--- src/lib.rt:222:69
 middle-requires : tie.Need-middle-requires
 middle-requires c κs = search needs
 
--- src/lib.rt:222:9
 answer-at-requires-2 : tie.Need-answer-at-requires-2
 answer-at-requires-2 c κs = search needs
 
--- src/lib.rt:223:71
 last-requires : tie.Need-last-requires
 last-requires c κs = search needs
 
--- src/lib.rt:223:9
 answer-at-requires-3 : tie.Need-answer-at-requires-3
 answer-at-requires-3 c κs = search needs
 
--- src/lib.rt:224:63
 lower-requires : tie.Need-lower-requires
 lower-requires c κs = search needs
 
--- src/lib.rt:224:32
 terminal-at-requires : tie.Need-terminal-at-requires
 terminal-at-requires c κs = search needs
 
--- src/lib.rt:224:9
 bound-requires : tie.Need-bound-requires
 bound-requires c κs = search needs
 
--- src/lib.rt:225:63
 left-requires : tie.Need-left-requires
 left-requires c κs = search needs
 
--- src/lib.rt:225:32
 terminal-at-requires-2 : tie.Need-terminal-at-requires-2
 terminal-at-requires-2 c κs = search needs
 
--- src/lib.rt:225:9
 bound-requires-2 : tie.Need-bound-requires-2
 bound-requires-2 c κs = search needs
 
--- src/lib.rt:226:5
 between-requires : tie.Need-between-requires
 between-requires c κs = search needs
 
--- src/lib.rt:210:1
 returns : tie.Need-returns
 returns c =
     intervals (c .before .before .before .before .before .before .lower .ensures) (c .before .before .before .before .before .terminal-at .ensures) (c

@@ -5,11 +5,9 @@ use Rattle.evaluate.proofs.is_name.Reads as reads
 use Rattle.evaluate.proofs.is_name.Lts as lts
 use borrow.Author.Tests.{ne-eqb}
 
--- src/lib.rt:296:9
 returns : tie.Need-returns
 returns c = rw (c .if1 .taken)
 
--- src/lib.rt:292:1
 returns-2 : tie.Need-returns-2
 returns-2 c = rw (ne-eqb _ 6 (c .if1 .left))
 

@@ -5,15 +5,12 @@ use Rattle.evaluate.proofs.is_operation.Reads as reads
 use Rattle.evaluate.proofs.is_operation.Lts as lts
 use borrow.Author.Tests.{ne-eqb}
 
--- src/lib.rt:284:9
 returns : tie.Need-returns
 returns c = rw (c .if1 .taken)
 
--- src/lib.rt:287:9
 returns-2 : tie.Need-returns-2
 returns-2 c = rw (c .if2 .taken)
 
--- src/lib.rt:280:1
 returns-3 : tie.Need-returns-3
 returns-3 c = rw (ne-eqb _ 9 (c .before .if1 .left), ne-eqb _ 10 (c .if2 .left))
 

@@ -9,31 +9,24 @@ use Rattle.evaluate.proofs.integer.Reads as integer-reads
 use Rattle.evaluate.proofs.operators.logical.Reads as logical-reads
 use Rattle.evaluate.proofs.Literals.{leaf-integer, leaf-binary, leaf-logical, leaf-other}
 
--- src/lib.rt:158:9
 integer-requires : tie.Need-integer-requires
 integer-requires c κs = search needs
 
--- src/lib.rt:158:9
 returns : tie.Need-returns
 returns c = leaf-integer (c .before .if1 .taken) (c .integer .ensures)
 
--- src/lib.rt:161:9
 binary-requires : tie.Need-binary-requires
 binary-requires c κs = search needs
 
--- src/lib.rt:161:9
 returns-2 : tie.Need-returns-2
 returns-2 c = leaf-binary (c .before .if2 .taken) (c .binary .ensures)
 
--- src/lib.rt:164:32
 logical-requires : tie.Need-logical-requires
 logical-requires c κs = search needs
 
--- src/lib.rt:164:9
 returns-3 : tie.Need-returns-3
 returns-3 c = leaf-logical (c .before .if3 .taken) (c .logical .ensures)
 
--- src/lib.rt:154:1
 returns-4 : tie.Need-returns-4
 returns-4 c = leaf-other (c .before .before .if1 .left) (c .before .if2 .left) (c .if3 .left)
 

@@ -8,15 +8,12 @@ use Rattle.evaluate.proofs.before.Reads as before-reads
 use Rattle.evaluate.proofs.last.Reads as last-reads
 use Rattle.evaluate.proofs.Assembled.{child-left}
 
--- src/lib.rt:99:19
 last-requires : tie.Need-last-requires
 last-requires c κs = search needs
 
--- src/lib.rt:99:5
 before-requires : tie.Need-before-requires
 before-requires c κs = search needs
 
--- src/lib.rt:96:1
 returns : tie.Need-returns
 returns c = child-left (c .before .last .ensures) (c .before2 .ensures)
 

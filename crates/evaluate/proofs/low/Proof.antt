@@ -8,15 +8,12 @@ use Rattle.evaluate.proofs.before.Reads as before-reads
 use Rattle.evaluate.proofs.lower.Reads as lower-reads
 use Rattle.evaluate.proofs.Assembled.{child-low}
 
--- src/lib.rt:117:19
 lower-requires : tie.Need-lower-requires
 lower-requires c κs = search needs
 
--- src/lib.rt:117:5
 before-requires : tie.Need-before-requires
 before-requires c κs = search needs
 
--- src/lib.rt:114:1
 returns : tie.Need-returns
 returns c = child-low (c .before .lower .ensures) (c .before2 .ensures)
 

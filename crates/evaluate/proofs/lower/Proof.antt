@@ -8,15 +8,12 @@ use Rattle.evaluate.proofs.before.Reads as before-reads
 use Rattle.evaluate.proofs.middle.Reads as middle-reads
 use Rattle.evaluate.proofs.Assembled.{child-lower}
 
--- src/lib.rt:111:19
 middle-requires : tie.Need-middle-requires
 middle-requires c κs = search needs
 
--- src/lib.rt:111:5
 before-requires : tie.Need-before-requires
 before-requires c κs = search needs
 
--- src/lib.rt:108:1
 returns : tie.Need-returns
 returns c = child-lower (c .before .middle .ensures) (c .before2 .ensures)
 

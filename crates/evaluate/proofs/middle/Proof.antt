@@ -8,15 +8,12 @@ use Rattle.evaluate.proofs.before.Reads as before-reads
 use Rattle.evaluate.proofs.left.Reads as left-reads
 use Rattle.evaluate.proofs.Assembled.{child-middle}
 
--- src/lib.rt:105:19
 left-requires : tie.Need-left-requires
 left-requires c κs = search needs
 
--- src/lib.rt:105:5
 before-requires : tie.Need-before-requires
 before-requires c κs = search needs
 
--- src/lib.rt:102:1
 returns : tie.Need-returns
 returns c = child-middle (c .before .left .ensures) (c .before2 .ensures)
 

@@ -12,23 +12,18 @@ use Rattle.evaluate.proofs.index_at.Reads as index-at-reads
 use Rattle.evaluate.proofs.Assembled.{named-unbound, named-item, named-constant, named-other}
 use native.Mathlib.Omega.{arith}
 
--- src/lib.rt:183:9
 returns : tie.Need-returns
 returns c = named-unbound (c .if1 .taken)
 
--- src/lib.rt:185:13
 sub-d : tie.Need-sub-d
 sub-d c = search needs
 
--- src/lib.rt:186:32
 index-requires : tie.Need-index-requires
 index-requires c κs = search needs
 
--- src/lib.rt:186:9
 at8-requires : tie.Need-at8-requires
 at8-requires c κs = search needs
 
--- src/lib.rt:188:9
 returns-2 : tie.Need-returns-2
 returns-2 c =
     named-item (c .before .before .before .if1 .left) (c .before .before .index .ensures) (c .before .at8 .ensures) (c .if2 .taken) (omega (
@@ -37,30 +32,24 @@ returns-2 c =
           .before .before .before .before .before .before .before .before .fits .binding,
     ))
 
--- src/lib.rt:191:60
 index-requires-2 : tie.Need-index-requires-2
 index-requires-2 c κs = search needs
 
--- src/lib.rt:191:43
 index-at-requires : tie.Need-index-at-requires
 index-at-requires c κs = search needs
 
--- src/lib.rt:191:13
 saturating-sub-requires : tie.Need-saturating-sub-requires
 saturating-sub-requires c κs = search needs
 
--- src/lib.rt:192:9
 answer-at-requires : tie.Need-answer-at-requires
 answer-at-requires c κs = search needs
 
--- src/lib.rt:192:9
 returns-3 : tie.Need-returns-3
 returns-3 c =
     named-constant (c .before .before .before .before .before .before .before .before .if1 .left) (c .before .before .before .before .before .before
     .before .index .ensures) (c .before .before .before .before .before .before .at8 .ensures) (c .before .before .before .before .if3 .taken) (c
     .before .before .before .index2 .ensures) (c .before .before .index-at .ensures) (c .before .saturating-sub .ensures) (c .answer-at .ensures)
 
--- src/lib.rt:170:1
 returns-4 : tie.Need-returns-4
 returns-4 c =
     named-other (c .before .before .before .before .if1 .left) (c .before .before .before .index .ensures) (c .before .before .at8 .ensures) (c

@@ -14,60 +14,47 @@ use Rattle.evaluate.proofs.two_operands.Reads as two-operands-reads
 use Rattle.operations.proofs.applied.Reads as applied-reads
 use Rattle.evaluate.proofs.Assembled.{operates-interval, operates-sign, operates-two, operates-none}
 
--- src/lib.rt:243:9
 interval-requires : tie.Need-interval-requires
 interval-requires c κs = search needs
 
--- src/lib.rt:243:9
 returns : tie.Need-returns
 returns c = operates-interval (c .before .if1 .taken) (c .interval .ensures)
 
--- src/lib.rt:245:70
 last-requires : tie.Need-last-requires
 last-requires c κs = search needs
 
--- src/lib.rt:245:9
 answer-at-requires : tie.Need-answer-at-requires
 answer-at-requires c κs = search needs
 
--- src/lib.rt:246:9
 terminal-at-requires : tie.Need-terminal-at-requires
 terminal-at-requires c κs = search needs
 
--- src/lib.rt:248:24
 sign-requires : tie.Need-sign-requires
 sign-requires c κs = search needs
 
--- src/lib.rt:248:9
 applied-requires : tie.Need-applied-requires
 applied-requires c κs = search needs
 
--- src/lib.rt:248:9
 returns-2 : tie.Need-returns-2
 returns-2 c =
     operates-sign (c .before .before .before .before .before .last .ensures) (c .before .before .before .before .answer-at .ensures) (c .before
     .before .before .terminal-at .ensures) (c .before .before .if2 .taken) (c .before .sign .ensures) (c .applied .ensures)
 
--- src/lib.rt:251:74
 left-requires : tie.Need-left-requires
 left-requires c κs = search needs
 
--- src/lib.rt:251:13
 answer-at-requires-2 : tie.Need-answer-at-requires-2
 answer-at-requires-2 c κs = search needs
 
--- src/lib.rt:252:9
 two-operands-requires : tie.Need-two-operands-requires
 two-operands-requires c κs = search needs
 
--- src/lib.rt:252:9
 returns-3 : tie.Need-returns-3
 returns-3 c =
     operates-two (c .before .before .before .before .before .before .before .last .ensures) (c .before .before .before .before .before .before
     .answer-at .ensures) (c .before .before .before .before .before .terminal-at .ensures) (c .before .before .before .if3 .taken) (c .before .before
     .left .ensures) (c .before .answer-at2 .ensures) (c .two-operands .ensures)
 
--- src/lib.rt:229:1
 returns-4 : tie.Need-returns-4
 returns-4 c = operates-none (c .before .before .before .before .before .if1 .left) (c .before .if2 .left) (c .if3 .left)
 

@@ -12,40 +12,31 @@ use Rattle.evaluate.proofs.leaf.Reads as leaf-reads
 use Rattle.operations.proofs.held.Reads as held-reads
 use Rattle.evaluate.proofs.Assembled.{others-constant, others-leaf}
 
--- src/lib.rt:275:95
 last-requires : tie.Need-last-requires
 last-requires c κs = search needs
 
--- src/lib.rt:275:42
 answer-at-requires : tie.Need-answer-at-requires
 answer-at-requires c κs = search needs
 
--- src/lib.rt:275:9
 held-requires : tie.Need-held-requires
 held-requires c κs = search needs
 
--- src/lib.rt:275:9
 returns : tie.Need-returns
 returns c =
     others-constant (c .before .before .before .if1 .taken) (c .before .before .last .ensures) (c .before .answer-at .ensures) (c .held .ensures)
 
--- src/lib.rt:277:16
 at8-requires : tie.Need-at8-requires
 at8-requires c κs = search needs
 
--- src/lib.rt:277:44
 index-at-requires : tie.Need-index-at-requires
 index-at-requires c κs = search needs
 
--- src/lib.rt:277:69
 index-at-requires-2 : tie.Need-index-at-requires-2
 index-at-requires-2 c κs = search needs
 
--- src/lib.rt:277:5
 leaf-requires : tie.Need-leaf-requires
 leaf-requires c κs = search needs
 
--- src/lib.rt:258:1
 returns-2 : tie.Need-returns-2
 returns-2 c =
     others-leaf (c .before .before .before .before .if1 .left) (c .before .before .before .at8 .ensures) (c .before .before .index-at .ensures) (c

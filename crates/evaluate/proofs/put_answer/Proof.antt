@@ -11,35 +11,27 @@ use Rattle.evaluate.proofs.Rows.{stores}
 use mir.Syntax.{w64}
 use mir.ValLaws.{toZ-ofZ}
 
--- src/lib.rt:77:9
 row-of-requires : tie.Need-row-of-requires
 row-of-requires c κs = search needs
 
--- src/lib.rt:78:5
 put8-requires : tie.Need-put8-requires
 put8-requires c κs = search needs
 
--- src/lib.rt:79:5
 put64-requires : tie.Need-put64-requires
 put64-requires c κs = search needs
 
--- src/lib.rt:80:5
 put8-requires-2 : tie.Need-put8-requires-2
 put8-requires-2 c κs = search needs
 
--- src/lib.rt:74:1
 same-length : tie.Need-same-length
 same-length c = search needs
 
--- src/lib.rt:74:1
 same-length-2 : tie.Need-same-length-2
 same-length-2 c = search needs
 
--- src/lib.rt:74:1
 same-length-3 : tie.Need-same-length-3
 same-length-3 c = search needs
 
--- src/lib.rt:74:1
 returns : tie.Need-returns
 returns c =
     stores (c .before .before .before .before .before .before .before .before .before .before .before .before .row-of .ensures) (c .before .before

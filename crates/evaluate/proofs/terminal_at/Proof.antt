@@ -7,15 +7,12 @@ use Rattle.evaluate.proofs.terminal_at.Lts as lts
 use Rattle.evaluate.proofs.at8.Reads as at8-reads
 use Rattle.evaluate.proofs.index_at.Reads as index-at-reads
 
--- src/lib.rt:124:20
 index-at-requires : tie.Need-index-at-requires
 index-at-requires c κs = search needs
 
--- src/lib.rt:124:5
 at8-requires : tie.Need-at8-requires
 at8-requires c κs = search needs
 
--- src/lib.rt:121:1
 returns : tie.Need-returns
 returns c = cc
 

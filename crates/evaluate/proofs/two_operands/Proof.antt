@@ -8,27 +8,21 @@ use Rattle.evaluate.proofs.operators.operator.Reads as operator-reads
 use Rattle.operations.proofs.combined.Reads as combined-reads
 use Rattle.evaluate.proofs.Assembled.{combines, combines-none}
 
--- src/lib.rt:201:11
 operator-requires : tie.Need-operator-requires
 operator-requires c κs = search needs
 
--- src/lib.rt:202:28
 enum-known-o : tie.Need-enum-known-o
 enum-known-o c = search needs
 
--- src/lib.rt:202:34
 combined-requires : tie.Need-combined-requires
 combined-requires c κs = search needs
 
--- src/lib.rt:203:33
 enum-told : tie.Need-enum-told
 enum-told c = search needs
 
--- src/lib.rt:198:1
 returns : tie.Need-returns
 returns c = combines (c .before .before .before .before .operator .ensures) (c .before .before .o .given .1) (c .combined .ensures)
 
--- src/lib.rt:198:1
 returns-2 : tie.Need-returns-2
 returns-2 c = combines-none (c .before .before .operator .ensures) (c .enum-told .given .1)
 

@@ -5,11 +5,9 @@ use Rattle.evaluate.proofs.operators.bound.Reads as reads
 use Rattle.evaluate.proofs.operators.bound.Lts as lts
 use borrow.Author.Tests.{ne-eqb}
 
--- src/operators.rt:37:9
 returns : tie.Need-returns
 returns c = rw (c .if1 .taken)
 
--- src/operators.rt:33:1
 returns-2 : tie.Need-returns-2
 returns-2 c = rw (ne-eqb _ 17 (c .if1 .left))
 

@@ -5,15 +5,12 @@ use Rattle.evaluate.proofs.operators.logical.Reads as reads
 use Rattle.evaluate.proofs.operators.logical.Lts as lts
 use borrow.Author.Tests.{ne-eqb}
 
--- src/operators.rt:46:9
 returns : tie.Need-returns
 returns c = rw (c .if1 .taken)
 
--- src/operators.rt:49:9
 returns-2 : tie.Need-returns-2
 returns-2 c = rw (c .if2 .taken)
 
--- src/operators.rt:42:1
 returns-3 : tie.Need-returns-3
 returns-3 c = rw (ne-eqb _ 139 (c .before .if1 .left), ne-eqb _ 80 (c .if2 .left))
 

@@ -6,92 +6,74 @@ use Rattle.evaluate.proofs.operators.operator.Lts as lts
 use borrow.Author.Tests.{ne-eqb}
 use Rattle.express.specs.kinds.Shape.{operator-of}
 
--- src/operators.rt:54:1
 returns : tie.Need-returns
 unfolding operator-of
 returns c = rw (c .match .keys1)
 
--- src/operators.rt:54:1
 returns-2 : tie.Need-returns-2
 unfolding operator-of
 returns-2 c = rw (c .match .keys2)
 
--- src/operators.rt:54:1
 returns-3 : tie.Need-returns-3
 unfolding operator-of
 returns-3 c = rw (c .match .keys3)
 
--- src/operators.rt:54:1
 returns-4 : tie.Need-returns-4
 unfolding operator-of
 returns-4 c = rw (c .match .keys4)
 
--- src/operators.rt:54:1
 returns-5 : tie.Need-returns-5
 unfolding operator-of
 returns-5 c = rw (c .match .keys5)
 
--- src/operators.rt:54:1
 returns-6 : tie.Need-returns-6
 unfolding operator-of
 returns-6 c = rw (c .match .keys6)
 
--- src/operators.rt:54:1
 returns-7 : tie.Need-returns-7
 unfolding operator-of
 returns-7 c = rw (c .match .keys7)
 
--- src/operators.rt:54:1
 returns-8 : tie.Need-returns-8
 unfolding operator-of
 returns-8 c = rw (c .match .keys8)
 
--- src/operators.rt:54:1
 returns-9 : tie.Need-returns-9
 unfolding operator-of
 returns-9 c = rw (c .match .keys9)
 
--- src/operators.rt:54:1
 returns-10 : tie.Need-returns-10
 unfolding operator-of
 returns-10 c = rw (c .match .keys10)
 
--- src/operators.rt:54:1
 returns-11 : tie.Need-returns-11
 unfolding operator-of
 returns-11 c = rw (c .match .keys11)
 
--- src/operators.rt:54:1
 returns-12 : tie.Need-returns-12
 unfolding operator-of
 returns-12 c = rw (c .match .keys12)
 
--- src/operators.rt:54:1
 returns-13 : tie.Need-returns-13
 unfolding operator-of
 returns-13 c = rw (c .match .keys13)
 
--- src/operators.rt:54:1
 returns-14 : tie.Need-returns-14
 unfolding operator-of
 returns-14 c = rw (c .match .keys14)
 
--- src/operators.rt:54:1
 returns-15 : tie.Need-returns-15
 unfolding operator-of
 returns-15 c = rw (c .match .keys15)
 
--- src/operators.rt:54:1
 returns-16 : tie.Need-returns-16
 unfolding operator-of
 returns-16 c = rw (c .match .keys16)
 
--- src/operators.rt:54:1
 returns-17 : tie.Need-returns-17
 unfolding operator-of
 returns-17 c = rw (c .match .keys17)
 
--- src/operators.rt:54:1
 returns-18 : tie.Need-returns-18
 unfolding operator-of
 returns-18 c =
