@@ -249,7 +249,7 @@ pub fn applied(s: Sign, x: Answer) -> Answer
     }
 }
 
-// An interval is the AND of its two relations, with the item in both.
+// Both relations of an interval, joined by AND; the item stands in each.
 pub fn between(o: Relation, p: Relation, low: Answer, item: Answer, high: Answer) -> Answer
     ensures { λ r. ⌜ answer-of r ≡ between (relation-of o) (relation-of p) (answer-of low) (answer-of item) (answer-of high) ⌝ }
 {
