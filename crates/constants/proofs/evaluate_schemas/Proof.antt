@@ -9,12 +9,15 @@ use Rattle.tree.proofs.Next.{next-beyond}
 use Rattle.constants.proofs.Schemas.{Here, filling-starts, filling-next, filling-schema, filling-ends}
 
 abbrev Inv-loop : tie.InvT-loop
-Inv-loop src starts lengths terminals kinds tokens sizes bindings declared order row-of answer-kinds₀ answer-numbers₀ answer-lengths₀ value-kinds₀ value-numbers₀ value-lengths₀ n₀ lo₀ at₀ answer-kinds answer-numbers answer-lengths value-kinds value-numbers value-lengths n lo at =
+Inv-loop src starts lengths terminals kinds tokens sizes bindings declared order row-of answer-kinds₀ answer-numbers₀ answer-lengths₀ value-kinds₀
+    value-numbers₀ value-lengths₀ n₀ lo₀ at₀ answer-kinds answer-numbers answer-lengths value-kinds value-numbers value-lengths n lo at =
     Here src starts lengths terminals kinds tokens sizes bindings declared order row-of answer-kinds₀ answer-numbers₀ answer-lengths₀ value-kinds₀
     value-numbers₀ value-lengths₀ answer-kinds answer-numbers answer-lengths value-kinds value-numbers value-lengths n lo at
 
 abbrev μ-loop : tie.MeasureT-loop
-μ-loop src starts lengths terminals kinds tokens sizes bindings declared order row-of answer-kinds₀ answer-numbers₀ answer-lengths₀ value-kinds₀ value-numbers₀ value-lengths₀ n₀ lo₀ at₀ answer-kinds answer-numbers answer-lengths value-kinds value-numbers value-lengths n lo at = length kinds - n
+μ-loop src starts lengths terminals kinds tokens sizes bindings declared order row-of answer-kinds₀ answer-numbers₀ answer-lengths₀ value-kinds₀
+    value-numbers₀ value-lengths₀ n₀ lo₀ at₀ answer-kinds answer-numbers answer-lengths value-kinds value-numbers value-lengths n lo at = length kinds
+    - n
 
 next-of-kind-requires : tie.Need-next-of-kind-requires Inv-loop μ-loop
 next-of-kind-requires c κs = search needs
@@ -41,7 +44,14 @@ part-evaluate-schema-end : tie.Need-part-evaluate-schema-end Inv-loop μ-loop
 part-evaluate-schema-end c = search needs
 
 mul-evaluate-schema : tie.Need-mul-evaluate-schema Inv-loop μ-loop
-mul-evaluate-schema c = omega (arith, c .before .before .shorter2 .ensures, c .before .before .before .before .before .loop .inv .filling .numbers-kept, c .before .before .before .before .before .before .before .before .before .before .before .before .before .before .before .before .before .before .before .before .before .before .good)
+mul-evaluate-schema c = omega (
+  arith,
+  c .before .before .shorter2 .ensures,
+  c .before .before .before .before .before .loop .inv .filling
+      .numbers-kept,
+  c .before .before .before .before .before .before .before .before .before .before .before .before .before .before .before .before
+      .before .before .before .before .before .before .good,
+)
 
 sub-evaluate-schema-2 : tie.Need-sub-evaluate-schema-2 Inv-loop μ-loop
 sub-evaluate-schema-2 c = search needs
@@ -68,18 +78,40 @@ index-at-requires : tie.Need-index-at-requires Inv-loop μ-loop
 index-at-requires c κs = search needs
 
 add-lo : tie.Need-add-lo Inv-loop μ-loop
-add-lo c = omega (arith, c .before .before .before .before .before .before .before .before .before .before .before .before .before .before .before .before .before .before .before .before .before .loop-test .taken, c .before .before .before .before .before .before .before .before .before .before .before .before .before .before .before .before .before .before .before .before .before .before .before .before .before .before .before .before .before .before .before .before .before .before .before .before .before .before .before .good)
+add-lo c = omega (
+  arith,
+  c .before .before .before .before .before .before .before .before .before .before .before .before .before .before .before
+      .before .before .before .before .before .before .loop-test .taken,
+  c .before .before .before .before .before .before .before .before .before
+      .before .before .before .before .before .before .before .before .before .before .before .before .before .before .before .before .before .before
+      .before .before .before .before .before .before .before .before .before .before .before .before .good,
+)
 
 next-of-kind-requires-2 : tie.Need-next-of-kind-requires-2 Inv-loop μ-loop
 next-of-kind-requires-2 c κs = search needs
 
 loop-less : tie.Need-loop-less Inv-loop μ-loop
-loop-less c = let h = next-beyond _ _ _ (c .next-of-kind2 .ensures) in omega (arith, h, c .before .before .before .before .before .before .before .before .before .before .before .before .before .before .before .before .before .before .before .before .before .before .loop-test .taken)
+loop-less c = let h = next-beyond _ _ _ (c .next-of-kind2 .ensures) in omega (
+  arith,
+  h,
+  c .before .before .before .before .before .before .before
+      .before .before .before .before .before .before .before .before .before .before .before .before .before .before .before .loop-test .taken,
+)
 
 loop-again : tie.Need-loop-again Inv-loop μ-loop
 loop-again c =
-    filling-next (filling-schema (c .before .before .before .before .before .before .before .before .before .before .before .before .before .before .before .before .before .before .before .before .before .before .before .loop .inv .filling) (c .before .before .before .before .before .before .before .before .before .before .before .before .before .before .before .before .before .before .before .before .before .before .loop-test .taken) (c .before .before .before .before .before .before .before .before .before .before .before .before .before .before .before .before .before .before .before .before .before .before .before .loop .inv .stands (c .before .before .before .before .before .before .before .before .before .before .before .before .before .before .before .before .before .before .before .before .before .before .loop-test .taken)) (c .before .before .before .before .before .before .before .before .before .before .before .before .before .before .before .before .before .before .before .before .before .shorter .ensures)
-    (c .before .before .before .before .before .before .before .before .before .before .before .before .before .before .before .before .before .before .before .before .shorter2 .ensures) (c .before .before .before .before .before .before .before .before .before .before .before .before .before .before .before .before .before .before .before .shorter3 .ensures) (c .before .index-at .ensures) _ _ _ (c .before .before .before .before .before .before .before .before .before .before .before .before .evaluate-schema .ensures) (search needs) (search needs) (search needs)
+    filling-next (filling-schema (c .before .before .before .before .before .before .before .before .before .before .before .before .before .before
+    .before .before .before .before .before .before .before .before .before .loop .inv .filling) (c .before .before .before .before .before .before
+    .before .before .before .before .before .before .before .before .before .before .before .before .before .before .before .before .loop-test .taken)
+    (c .before .before .before .before .before .before .before .before .before .before .before .before .before .before .before .before .before .before
+    .before .before .before .before .before .loop .inv .stands (c .before .before .before .before .before .before .before .before .before .before
+    .before .before .before .before .before .before .before .before .before .before .before .before .loop-test .taken)) (c .before .before .before
+    .before .before .before .before .before .before .before .before .before .before .before .before .before .before .before .before .before .before
+    .shorter .ensures)
+    (c .before .before .before .before .before .before .before .before .before .before .before .before .before .before .before .before .before .before
+    .before .before .shorter2 .ensures) (c .before .before .before .before .before .before .before .before .before .before .before .before .before
+    .before .before .before .before .before .before .shorter3 .ensures) (c .before .index-at .ensures) _ _ _ (c .before .before .before .before
+    .before .before .before .before .before .before .before .before .evaluate-schema .ensures) (search needs) (search needs) (search needs)
     (search needs) (search needs) (search needs) (search needs) (search needs) (search needs)) (c .next-of-kind2 .ensures)
 
 same-length : tie.Need-same-length Inv-loop μ-loop
