@@ -1,4 +1,4 @@
--- `index::symbols::alike` meets its contract: the bytes before i agree. Assumes nothing.
+-- `spellings::alike` meets its contract: the bytes before i agree. Assumes nothing.
 use Rattle.spellings.proofs.alike.Statement.{statement}
 use Rattle.spellings.proofs.alike.Tie as tie
 use borrow.Author.Needs.{needs}

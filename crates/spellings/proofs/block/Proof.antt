@@ -1,4 +1,4 @@
--- `index::symbols::block` meets its contract: the mask takes the low five bits of each byte. Assumes nothing.
+-- `spellings::block` meets its contract: the mask takes the low five bits of each byte. Assumes nothing.
 use borrow.Author.Needs.{needs}
 use Rattle.spellings.proofs.block.Statement.{statement}
 use Rattle.spellings.proofs.block.Tie as tie

@@ -1,4 +1,4 @@
--- `index::symbols::equal` meets its contract: the bytes before i are the same. Assumes nothing.
+-- `spellings::equal` meets its contract: the bytes before i are the same. Assumes nothing.
 use Rattle.spellings.proofs.equal.Statement.{statement}
 use Rattle.spellings.proofs.equal.Tie as tie
 use borrow.Author.Needs.{needs}

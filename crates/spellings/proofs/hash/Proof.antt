@@ -1,4 +1,4 @@
--- `index::symbols::hash` meets its contract: by the laws of `Hashing`. Assumes nothing.
+-- `spellings::hash` meets its contract: by the laws of `Hashing`. Assumes nothing.
 use Rattle.spellings.proofs.hash.Statement.{statement}
 use Rattle.spellings.proofs.hash.Tie as tie
 use borrow.Author.Needs.{needs}

@@ -1,4 +1,4 @@
--- `index::symbols::lower_case` meets its contract: the two tests are the definition's. Assumes nothing.
+-- `spellings::lower_case` meets its contract: the two tests are the definition's. Assumes nothing.
 use Rattle.express.specs.tokens.Bytes.{lower}
 use borrow.Author.Tests.{le-leb, lt-leb}
 use borrow.Author.Needs.{needs}

@@ -1,4 +1,4 @@
--- `index::symbols::short_block` meets its contract: the bytes that a short word does not have are 0. Assumes nothing.
+-- `spellings::short_block` meets its contract: the bytes that a short word does not have are 0. Assumes nothing.
 use borrow.Author.Needs.{needs}
 use Rattle.spellings.proofs.short_block.Statement.{statement}
 use Rattle.spellings.proofs.short_block.Tie as tie

@@ -1,4 +1,4 @@
--- `index::symbols::along` meets its contract: by the laws of `Walk`; the token falls with each turn, so the walk ends whatever `next` holds. Assumes nothing.
+-- `symbols::along` meets its contract: by the laws of `Walk`; the token falls with each turn, so the walk ends whatever `next` holds. Assumes nothing.
 use Rattle.symbols.proofs.along.Statement.{statement}
 use Rattle.symbols.proofs.along.Tie as tie
 use borrow.Author.Needs.{needs}

@@ -1,4 +1,4 @@
--- `index::symbols::end` meets its contract: the sum of two 32-bit numbers fits. Assumes nothing.
+-- `symbols::end` meets its contract: the sum of two 32-bit numbers fits. Assumes nothing.
 use borrow.Author.Needs.{needs}
 use Rattle.symbols.proofs.end.Statement.{statement}
 use Rattle.symbols.proofs.end.Tie as tie

@@ -1,4 +1,4 @@
--- `index::symbols::enter` meets its contract: by the laws of `Enters`. Assumes nothing.
+-- `symbols::enter` meets its contract: by the laws of `Enters`. Assumes nothing.
 use borrow.Author.Needs.{needs}
 use Rattle.symbols.proofs.enter.Statement.{statement}
 use Rattle.symbols.proofs.enter.Tie as tie

@@ -1,4 +1,4 @@
--- `index::symbols::fill` meets its contract: by the laws of `Filling`. Assumes nothing.
+-- `symbols::fill` meets its contract: by the laws of `Filling`. Assumes nothing.
 use Rattle.symbols.proofs.fill.Statement.{statement}
 use Rattle.symbols.proofs.fill.Tie as tie
 use borrow.Author.Needs.{needs}

@@ -1,4 +1,4 @@
--- `index::symbols::intern` meets its contract: room, empty chains, and `fill`. Assumes nothing.
+-- `symbols::intern` meets its contract: room, empty chains, and `fill`. Assumes nothing.
 use borrow.Author.Needs.{needs}
 use Rattle.symbols.proofs.intern.Statement.{statement}
 use Rattle.symbols.proofs.intern.Tie as tie

@@ -1,4 +1,4 @@
--- `index::symbols::leads` meets its contract: the part of the bytes is the token's spelling. Assumes nothing.
+-- `symbols::leads` meets its contract: the part of the bytes is the token's spelling. Assumes nothing.
 use borrow.Author.Needs.{needs}
 use Rattle.symbols.proofs.leads.Statement.{statement}
 use Rattle.symbols.proofs.leads.Tie as tie

@@ -1,4 +1,4 @@
--- `index::symbols::least` meets its contract: the token met on the chain is the first of its spelling. Assumes nothing.
+-- `symbols::least` meets its contract: the token met on the chain is the first of its spelling. Assumes nothing.
 use borrow.Author.Needs.{needs}
 use Rattle.symbols.proofs.least.Statement.{statement}
 use Rattle.symbols.proofs.least.Tie as tie

@@ -1,4 +1,4 @@
--- `index::symbols::range` meets its contract: a part of the buckets is below them all. Assumes nothing.
+-- `symbols::range` meets its contract: a part of the buckets is below them all. Assumes nothing.
 use borrow.Author.Needs.{needs}
 use Rattle.symbols.proofs.range.Statement.{statement}
 use Rattle.symbols.proofs.range.Tie as tie

@@ -1,4 +1,4 @@
--- `index::symbols::room` meets its contract: the tests are the definition's. Assumes nothing.
+-- `symbols::room` meets its contract: the tests are the definition's. Assumes nothing.
 use borrow.Author.Needs.{needs}
 use Rattle.symbols.proofs.room.Statement.{statement}
 use Rattle.symbols.proofs.room.Tie as tie

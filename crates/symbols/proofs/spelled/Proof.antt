@@ -1,4 +1,4 @@
--- `index::symbols::spelled` meets its contract: the part of the bytes is the token's spelling. Assumes nothing.
+-- `symbols::spelled` meets its contract: the part of the bytes is the token's spelling. Assumes nothing.
 use borrow.Author.Needs.{needs}
 use Rattle.symbols.proofs.spelled.Statement.{statement}
 use Rattle.symbols.proofs.spelled.Tie as tie

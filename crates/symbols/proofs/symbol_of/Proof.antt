@@ -1,4 +1,4 @@
--- `index::symbols::symbol_of` meets its contract: the token met on the chain of the word's bucket is the least that is spelled so. Assumes nothing.
+-- `symbols::symbol_of` meets its contract: the token met on the chain of the word's bucket is the least that is spelled so. Assumes nothing.
 use borrow.Author.Needs.{needs}
 use Rattle.symbols.proofs.symbol_of.Statement.{statement}
 use Rattle.symbols.proofs.symbol_of.Tie as tie

@@ -1,4 +1,4 @@
--- `index::symbols::terminal_at` meets its contract: past the end of a list its default stands. Assumes nothing.
+-- `symbols::terminal_at` meets its contract: past the end of a list its default stands. Assumes nothing.
 use borrow.Author.Needs.{needs}
 use Rattle.symbols.proofs.terminal_at.Statement.{statement}
 use Rattle.symbols.proofs.terminal_at.Tie as tie

@@ -1,4 +1,4 @@
--- `index::symbols::token_bucket` meets its contract: the part of the bytes is the token's spelling. Assumes nothing.
+-- `symbols::token_bucket` meets its contract: the part of the bytes is the token's spelling. Assumes nothing.
 use borrow.Author.Needs.{needs}
 use Rattle.symbols.proofs.token_bucket.Statement.{statement}
 use Rattle.symbols.proofs.token_bucket.Tie as tie

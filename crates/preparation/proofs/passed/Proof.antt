@@ -1,8 +1,8 @@
--- `scopes::passed` meets its contract: each field is what the calls give. Assumes nothing.
+-- `preparation::passed` meets its contract: each field is what the calls give. Assumes nothing.
 use borrow.Author.Needs.{needs}
-use Rattle.scopes.proofs.passed.Statement.{statement}
-use Rattle.scopes.proofs.passed.Tie as tie
-use Rattle.scopes.proofs.Classes.{passed-by}
+use Rattle.preparation.proofs.passed.Statement.{statement}
+use Rattle.preparation.proofs.passed.Tie as tie
+use Rattle.preparation.proofs.Classes.{passed-by}
 
 sort-in-requires : tie.Need-sort-in-requires
 sort-in-requires c κs = search needs
@@ -27,17 +27,14 @@ saturating-sub-requires-2 c κs = search needs
 
 returns : tie.Need-returns
 returns c =
-    passed-by (cc (c .before .before .before .before .before .choose .ensures, c .before .before .before .before .before .before .sort-in .ensures)) (cc (
-      c .before
-          .before .before .before .choose2 .ensures,
-      c .before .before .before .before .before .before .sort-in .ensures,
-    ))
-    (cc (
-      c .before .before .saturating-sub .ensures,
-      c .before .before .before .choose3 .ensures,
-      c .before .before .before .before .before .before .sort-in
-          .ensures,
-    )) (cc (c .saturating-sub2 .ensures, c .before .entries-in .ensures))
+    passed-by
+    (c .before .before .before .before .before .before .sort-in .ensures)
+    (c .before .entries-in .ensures)
+    (c .before .before .before .before .before .choose .ensures)
+    (c .before .before .before .before .choose2 .ensures)
+    (c .before .before .before .choose3 .ensures)
+    (c .before .before .saturating-sub .ensures)
+    (c .saturating-sub2 .ensures)
 
 pub passed-spec : {M : Type 1} → statement M
 passed-spec =

@@ -14,14 +14,14 @@ use Rattle.relations.specs.Select.{span, keep}
 use Rattle.relations.proofs.Select.{span-step, span-end, or-right}
 use Rattle.express.specs.syntax.Tree.{Table, count, nodes, kind, role, symbol, is-declaration, owner, schema-of}
 use Rattle.express.specs.names.Fault.{sort, scope}
-use Rattle.scopes.specs.Entries.{none, schemas, declared, items-of-types, radix, key-of, Entry, own-entry, other-entries, entries, vertex, others-before}
+use Rattle.scopes.specs.Entries.{none, schemas, declared, items-of-types, items-of-schemas, radix, key-of, Entry, own-entry, other-entries, entries, vertex, others-before}
 use Rattle.scopes.specs.Standing.{sort-by, class-of, Stands, PassedBy, Ended, Counted}
 use Rattle.scopes.specs.Preparation.{Consistent, Enterable, Entered, Filled, scope-by, declared-by, own-by, schema-by}
 use Rattle.scopes.specs.declared.Here.{Here}
 use Rattle.scopes.specs.declared.Counts.{Counts}
-use Rattle.scopes.proofs.Sorting.{sort-is, declared-sort, sort-below, owner-below, schema-below}
-use Rattle.scopes.proofs.Classes.{class-sort}
+use Rattle.scopes.proofs.Sorting.{key-within, sort-is, declared-sort, sort-below, owner-below, schema-below}
+use Rattle.preparation.proofs.Classes.{class-sort}
 use Rattle.scopes.proofs.Passing.{stands-end, stands-step, vertex-step, vertex-le, vertex-small, vertex-none, others-step, others-none, others-small, entries-count}
 
 -- ---- stores, the later place first
 module _ {A : Type 0} where
@@ -181,8 +181,14 @@ scope-small s schema owner h o = by (leb s schemas) (eqb s declared)
     by false false = o
 
 module _ {s schema owner vertex at symbol node : ℕ} where
-  pub keyable : {x : ℕ} → Enterable s schema owner vertex at symbol node → x ≡ scope-by s schema owner → (s ≤ 6) × (x < radix) × (symbol < radix)
-  keyable E e = (omega (arith, E .sorted), rw e (scope-small s schema owner (E .schema-small) (E .owner-small)), E .symbol-small)
+  pub keyed :
+      {k x : ℕ} → Enterable s schema owner vertex at symbol node → k ≡ key-of (s % 8) (x % radix) symbol → x ≡ scope-by s schema owner → k ≡ key-of s (scope-by s schema owner) symbol
+  keyed E e h =
+      key-within s (scope-by s schema owner) symbol (e ∙ ap (λ (c : ℕ). key-of (s % 8) (c % radix) symbol) h) (omega (arith, E .sorted))
+      (scope-small s schema owner (E .schema-small) (E .owner-small))
+
+  pub item-keyed : {k : ℕ} → Enterable s schema owner vertex at symbol node → k ≡ key-of (items-of-schemas % 8) (schema % radix) symbol → k ≡ key-of items-of-schemas schema symbol
+  item-keyed E e = key-within items-of-schemas schema symbol e (omega arith) (E .schema-small)
 
   module _ {f : Entry → ℕ} {a : List ℕ} where
     pub entered-none : s ≡ none → Entered f s schema owner vertex at symbol node a a
@@ -217,9 +223,6 @@ module _ {s schema owner vertex at symbol node : ℕ} where
               ∙ ap (set (set a at (f (own-by s schema owner symbol node))) (at + 1)) m
               ∙ rw (add-one, ne-eqb s none (λ q. omega (arith, q, e)), ne-eqb s declared (λ q. omega (arith, q, e)), eq-eqb s items-of-types e);
         }
-
-pub keyed : (s y schema owner : ℕ) {k x : ℕ} → k ≡ key-of s x y → x ≡ scope-by s schema owner → k ≡ key-of s (scope-by s schema owner) y
-keyed s y schema owner e h = e ∙ ap (λ (c : ℕ). key-of s c y) h
 
 -- ---- the loop
 pub filling-long : {f : Entry → ℕ} {t : Table} {was column : List ℕ} {i : ℕ} → Filling f t was column i → length column ≡ length was

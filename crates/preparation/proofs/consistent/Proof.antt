@@ -1,8 +1,8 @@
--- `scopes::dictionary::consistent` meets its contract: the nodes below i pass. Assumes nothing.
-use Rattle.scopes.proofs.dictionary.consistent.Statement.{statement}
-use Rattle.scopes.proofs.dictionary.consistent.Tie as tie
-use Rattle.scopes.proofs.Checking.{Passing, passing-starts, passing-goes-on, passing-ends, too-many, too-short, outside, too-high}
+-- `preparation::consistent` meets its contract: the nodes below i pass. Assumes nothing.
+use Rattle.preparation.proofs.consistent.Statement.{statement}
+use Rattle.preparation.proofs.consistent.Tie as tie
+use Rattle.preparation.proofs.Checking.{Passing, passing-starts, passing-goes-on, passing-ends, too-many, too-short, outside, too-high}
 use Rattle.scopes.specs.Standing.{table-of}
 use Prim.Native.Nat.{_-_}
 use lib.ListN.{length}
 use borrow.Author.Needs.{needs}

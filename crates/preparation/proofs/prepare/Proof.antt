@@ -1,9 +1,9 @@
--- `scopes::dictionary::prepare` meets its contract: by the laws of `Preparing`: what is refused is left as it was, and there is room for what is built. Assumes nothing.
+-- `preparation::prepare` meets its contract: by the laws of `Preparing`: what is refused is left as it was, and there is room for what is built. Assumes nothing.
 use borrow.Author.Needs.{needs}
-use Rattle.scopes.proofs.dictionary.prepare.Statement.{statement}
-use Rattle.scopes.proofs.dictionary.prepare.Tie as tie
+use Rattle.preparation.proofs.prepare.Statement.{statement}
+use Rattle.preparation.proofs.prepare.Tie as tie
 use borrow.Author.Tests.{not-false}
-use Rattle.scopes.proofs.Preparing.{refused-columns, refused-room, total-small, prefix-fits, prefix-long, prepares}
+use Rattle.preparation.proofs.Preparing.{refused-columns, refused-room, total-small, prefix-fits, prefix-long, prepares}
 use native.Mathlib.Omega.{arith}
 
 consistent-requires : tie.Need-consistent-requires

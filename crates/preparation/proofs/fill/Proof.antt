@@ -1,11 +1,11 @@
--- `scopes::dictionary::fill` meets its contract: the entries of the nodes from i on stand in the columns. Assumes nothing.
-use Rattle.scopes.proofs.dictionary.fill.Statement.{statement}
-use Rattle.scopes.proofs.dictionary.fill.Tie as tie
+-- `preparation::fill` meets its contract: the entries of the nodes from i on stand in the columns. Assumes nothing.
+use Rattle.preparation.proofs.fill.Statement.{statement}
+use Rattle.preparation.proofs.fill.Tie as tie
 use borrow.Author.Needs.{needs}
 use mathlib.Core.Path.{refl, ap}
 use Rattle.columns.specs.Column.{tabulated}
 use Rattle.scopes.specs.Standing.{table-of, class-table}
-use Rattle.scopes.proofs.Filling.{Entering, entering-starts, entering-small, entering-fits, entering-goes-on, filling-ends, filling-long}
+use Rattle.preparation.proofs.Filling.{Entering, entering-starts, entering-small, entering-fits, entering-goes-on, filling-ends, filling-long}
 use native.Mathlib.Omega.{arith}
 use Prim.Native.Nat.{ℕ, _-_}
 use lib.ListN.{getD}

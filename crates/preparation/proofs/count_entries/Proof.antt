@@ -1,15 +1,15 @@
--- `scopes::count_entries` meets its contract: the entries before node i are counted, whatever the tokens are. Assumes nothing.
-use Rattle.scopes.proofs.count_entries.Statement.{statement}
-use Rattle.scopes.proofs.count_entries.Tie as tie
+-- `preparation::count_entries` meets its contract: the entries before node i are counted, whatever the tokens are. Assumes nothing.
+use Rattle.preparation.proofs.count_entries.Statement.{statement}
+use Rattle.preparation.proofs.count_entries.Tie as tie
 use borrow.Author.Needs.{needs}
 use mathlib.Core.Path.{refl, _≡_}
 use mathlib.Core.List.{List, []}
 use Prim.Native.Nat.{ℕ, _-_, _≤_, _<_}
 use lib.ListN.{length}
 use Rattle.columns.specs.Column.{tabulated}
 use Rattle.scopes.specs.Entries.{radix}
 use Rattle.scopes.specs.Standing.{table-of, class-table, Counted}
 use Rattle.scopes.proofs.Passing.{counted-starts, counted-step, counted-small}
 use native.Mathlib.Omega.{arith}
 
 abbrev Inv-loop : tie.InvT-loop

@@ -1,8 +1,8 @@
--- `scopes::dictionary::room` meets its contract: the smallest of the three lengths is compared. Assumes nothing.
+-- `preparation::room` meets its contract: the smallest of the three lengths is compared. Assumes nothing.
 use borrow.Author.Needs.{needs}
-use Rattle.scopes.proofs.dictionary.room.Statement.{statement}
-use Rattle.scopes.proofs.dictionary.room.Tie as tie
-use Rattle.scopes.proofs.Checking.{refutes, room-decided}
+use Rattle.preparation.proofs.room.Statement.{statement}
+use Rattle.preparation.proofs.room.Tie as tie
+use Rattle.preparation.proofs.Checking.{refutes, room-decided}
 use native.Mathlib.Omega.{arith}
 
 returns : tie.Need-returns

@@ -31,29 +31,34 @@ module _ (class k r : ℕ) (e : class ≡ class-of (sort-by k r)) where
   class-declares : eqb (class % 8) declared ≡ declares k
   class-declares = ap (λ (s : ℕ). eqb s declared) class-sort ∙ sort-declares k r
 
-pub passed-by :
-    {class n : ℕ} {after h : Here} → h .owner ≡ cond (eqb (class % 8) declared) n (after .owner) → h .schema ≡ cond (eqb (class % 8) schemas) n (after .schema) →
-    h .vertex ≡ after .vertex - cond (eqb (class % 8) declared) 1 0 → h .other ≡ after .other - class / 8 → PassedBy class n after h
-passed-by {class} {n} {after} {h} o s v x =
-    record {
-      is = λ k r e. record {
-        owner-is = o ∙ ap (λ (b : Bool). cond b n (after .owner)) (class-declares class k r e);
-        schema-is = s ∙ ap (λ (b : Bool). cond b n (after .schema)) (class-schema class k r e);
-        vertex-is = v ∙ ap (λ (b : Bool). after .vertex - cond b 1 0) (class-declares class k r e);
-        other-is = x ∙ ap (λ (m : ℕ). after .other - m) (class-entries class k r e);
-      };
-    }
+-- by the sort that was read in the class, and the numbers that the calls gave
+module _ {class sort m : ℕ} (q : sort ≡ class % 8) (w : m ≡ class / 8) where
+  pub passed-by :
+      {n p : ℕ} {after h : Here} → h .owner ≡ cond (eqb sort declared) n (after .owner) → h .schema ≡ cond (eqb sort schemas) n (after .schema) →
+      p ≡ cond (eqb sort declared) 1 0 → h .vertex ≡ after .vertex - p → h .other ≡ after .other - m → PassedBy class n after h
+  passed-by {n} {p} {after} {h} o s one v x =
+      record {
+        is = λ k r e. record {
+          owner-is = o ∙ ap (λ (b : Bool). cond b n (after .owner)) (read k r e);
+          schema-is = s ∙ ap (λ (b : Bool). cond b n (after .schema)) (ap (λ (y : ℕ). eqb y schemas) q ∙ class-schema class k r e);
+          vertex-is = v ∙ ap (λ (y : ℕ). after .vertex - y) (one ∙ ap (λ (b : Bool). cond b 1 0) (read k r e));
+          other-is = x ∙ ap (λ (y : ℕ). after .other - y) (w ∙ class-entries class k r e);
+        };
+      }
+    where
+      read : (k r : ℕ) → class ≡ class-of (sort-by k r) → eqb sort declared ≡ declares k
+      read k r e = ap (λ (y : ℕ). eqb y declared) q ∙ class-declares class k r e
 
-pub more-by :
-    {class : ℕ} {before c : Counts} → c .declarations ≡ before .declarations + cond (eqb (class % 8) declared) 1 0 → c .others ≡ before .others + class / 8 →
-    MoreBy class before c
-more-by {class} {before} d o =
-    record {
-      is = λ k r e. record {
-        declarations-is = d ∙ ap (λ (b : Bool). before .declarations + cond b 1 0) (class-declares class k r e);
-        others-is = o ∙ ap (λ (m : ℕ). before .others + m) (class-entries class k r e);
-      };
-    }
+  pub more-by :
+      {p : ℕ} {before c : Counts} → p ≡ cond (eqb sort declared) 1 0 → c .declarations ≡ before .declarations + p → c .others ≡ before .others + m → MoreBy class before c
+  more-by {p} {before} one d o =
+      record {
+        is = λ k r e. record {
+          declarations-is =
+            d ∙ ap (λ (y : ℕ). before .declarations + y) (one ∙ ap (λ (b : Bool). cond b 1 0) (ap (λ (y : ℕ). eqb y declared) q ∙ class-declares class k r e));
+          others-is = o ∙ ap (λ (y : ℕ). before .others + y) (w ∙ class-entries class k r e);
+        };
+      }
 
 -- ---- the table
 

@@ -1,11 +1,12 @@
--- `scopes::more` meets its contract: each field is what the calls give, and small counts stay small. Assumes nothing.
+-- `preparation::more` meets its contract: each field is what the calls give, and small counts stay small. Assumes nothing.
 use borrow.Author.Needs.{needs}
-use Rattle.scopes.proofs.more.Statement.{statement}
-use Rattle.scopes.proofs.more.Tie as tie
-use Rattle.scopes.proofs.Classes.{more-by}
+use Rattle.preparation.proofs.more.Statement.{statement}
+use Rattle.preparation.proofs.more.Tie as tie
+use Rattle.preparation.proofs.Classes.{more-by}
 use Rattle.scopes.proofs.Passing.{one-or-none}
 use native.Mathlib.Omega.{arith}
 use lib.Dec.{eqb}
+use mathlib.Core.Path.{refl}
 
 sort-in-requires : tie.Need-sort-in-requires
 sort-in-requires c κs = search needs
@@ -23,7 +24,8 @@ add-others : tie.Need-add-others
 add-others c = omega (arith, c .before .before .before .before .before .pre .1, c .before .entries-in .ensures, c .before .before .before .before .before .fits .class)
 
 returns : tie.Need-returns
-returns c = more-by (cc (c .before .before .before .choose .ensures, c .before .before .before .before .sort-in .ensures)) (cc (c .before .entries-in .ensures))
+returns c =
+    more-by (c .before .before .before .before .sort-in .ensures) (c .before .entries-in .ensures) (c .before .before .before .choose .ensures) refl refl
 
 pub more-spec : {M : Type 1} → statement M
 more-spec =

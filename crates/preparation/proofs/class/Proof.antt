@@ -1,13 +1,13 @@
--- `scopes::class` meets its contract: the entry of a kind and a role. Assumes nothing.
+-- `preparation::class` meets its contract: the entry of a kind and a role. Assumes nothing.
 use borrow.Author.Needs.{needs}
-use Rattle.scopes.proofs.class.Statement.{statement}
-use Rattle.scopes.proofs.class.Tie as tie
-use Rattle.scopes.proofs.Classes.{class-high, class-at}
+use Rattle.preparation.proofs.class.Statement.{statement}
+use Rattle.preparation.proofs.class.Tie as tie
+use Rattle.preparation.proofs.Classes.{class-high, class-at}
 use native.Mathlib.Omega.{arith}
 use mathlib.Core.Path.{_≡_}
 use Prim.Native.Nat.{_+_, _*_}
 use lib.ListN.{getD}
 use Rattle.scopes.specs.Standing.{sort-by, class-of, first-letter}
 
 returns : tie.Need-returns
 returns c = class-high (c .before .args .kind) (c .before .args .role) (c .if1 .taken)
