@@ -10,18 +10,18 @@ use lib.ListN.{length, take, drop, getD, length-take, length-drop, length-append
 use lib.Seq.{getD-drop, getD-take, take-append-le, drop-append-seam}
 use lib.Dec.{eqb, leb}
 use borrow.Author.Tests.{eqb-true, eq-eqb, leb-true, le-leb}
 use Rattle.express.specs.tokens.Bytes.{digit, letter, word-byte, same}
 use Rattle.express.specs.tokens.Bytes as bytes
 use Rattle.express.specs.tokens.Terminal.{Fixed, symbols, among}
 use Rattle.express.specs.tokens.Token.{all-of, some-of, is-word, is-integer, is-exponent, is-fraction, is-decimal, is-real, is-string, is-binary, is-symbol, spelled-kind}
 use Rattle.express.specs.tokens.Lexis.{Lexed, at, dashes, opens, pair, TokenRow, lexed-whole}
 use Rattle.express.specs.tokens.Cut.{Passes, adjacent, number-byte, joins, moved, behind}
 use Rattle.relations.specs.Select.{any}
 use Rattle.relations.proofs.Select.{and-fst, and-snd, and-both, or-cases, or-left, or-right}
 use Rattle.express.proofs.tokens.Spelling.{same-true}
-use Rattle.express.proofs.tokens.Cut.{passes-in, cut-rest}
-use Rattle.express.proofs.tokens.Agree.{Uncrossed, passes-agree, passes-none, passes-part}
-use Rattle.express.proofs.tokens.Boundary.{text-passes}
+use Rattle.theorems.proofs.tokens.Cut.{passes-in, cut-rest}
+use Rattle.theorems.proofs.tokens.Agree.{Uncrossed, passes-agree, passes-none, passes-part}
+use Rattle.theorems.proofs.tokens.Boundary.{text-passes}
 
 -- ---- the bytes of words, numbers and binaries
 

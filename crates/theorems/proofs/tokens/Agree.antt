@@ -9,17 +9,17 @@ use lib.ListN.{length, take, drop, getD, length-take, length-drop, drop-of-lengt
 use lib.Seq.{ext-getD, getD-drop, getD-take}
 use lib.Dec.{eqb}
 use borrow.Author.Tests.{eqb-true, eqb-false, ne-eqb, not-true}
 use Rattle.express.specs.tokens.Bytes.{space, printable}
 use Rattle.express.specs.tokens.Token.{in-string, spelled-kind, standing-kind, longest, longest-size, longest-kind}
 use Rattle.express.specs.tokens.Token as token
 use Rattle.express.specs.tokens.Lexis.{Reading, at, refused, end-of-run, run, opens, closes, dashes, in-line, end-of-remark, skipped-in, skipped, too-large, longest-end, TokenRow}
 use Rattle.express.specs.tokens.Lexis.{longest-in, lexed-whole}
 use Rattle.express.specs.tokens.Cut.{Passes, here, over-space, over-line, over-remark, over-token}
 use Rattle.relations.proofs.Select.{and-fst, and-snd}
 use Rattle.express.proofs.tokens.Places.{one-cut, past, run-low, and-false}
 use Rattle.express.proofs.tokens.TokenRows.{run-holds}
 use Rattle.express.proofs.tokens.Longest.{longest-is, run-none, ended, Strings, string-at, string-open, strings, string-stands, standing}
-use Rattle.express.proofs.tokens.Cut.{run-stops-of, space-in, remark-in, token-in, passes-in, cut-rest}
+use Rattle.theorems.proofs.tokens.Cut.{run-stops-of, space-in, remark-in, token-in, passes-in, cut-rest}
 
 -- ---- the longest, the other way round
 

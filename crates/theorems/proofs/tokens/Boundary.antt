@@ -11,15 +11,15 @@ use lib.Seq.{getD-drop}
 use borrow.Author.Tests.{ltb-true, ltb-false, eqb-true}
 use mathlib.Core.Bool.{false≢true}
 use Rattle.relations.proofs.Select.{and-snd}
 use Rattle.express.proofs.tokens.TokenRows.{run-holds}
 use Rattle.express.specs.tokens.Bytes.{space}
 use Rattle.express.specs.tokens.Token.{longest-kind}
 use Rattle.express.specs.tokens.Lexis.{Reading, at, refused, run, opens, dashes, in-line, end-of-remark, reading-then, skipped, longest-end, TokenRow, Lexed, stopped, row-and-rest}
 use Rattle.express.specs.tokens.Lexis.{longest-after-blank, lexed-whole}
 use Rattle.express.specs.tokens.Cut.{Passes, here, over-space, over-line, over-remark, over-token}
 use Rattle.express.proofs.tokens.Places.{run-low, run-high, inside-at, skip-inside, pair-in}
-use Rattle.express.proofs.tokens.Turns.{skipped-step, from, from-step, whole-from}
-use Rattle.express.proofs.tokens.Cut.{line-feed, space-in, remark-in, token-in}
+use Rattle.theorems.proofs.tokens.Turns.{skipped-step, from, from-step, whole-from}
+use Rattle.theorems.proofs.tokens.Cut.{line-feed, space-in, remark-in, token-in}
 
 pub passes-then : {s : List ℕ} {p q c : ℕ} {rs ts : List TokenRow} → Passes s p rs q → Passes s q ts c → Passes s p (rs ++ ts) c
 passes-then here y = y

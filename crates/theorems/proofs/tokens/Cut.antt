@@ -10,15 +10,15 @@ use lib.ListN.{length, take, drop, getD, length-drop, drop-of-length-le}
 use lib.Seq.{drop-drop, getD-drop}
 use lib.Dec.{eqb, ltb}
 use borrow.Author.Tests.{ltb-true, ltb-false, lt-ltb, le-ltb, eqb-true, not-false}
 use Rattle.express.specs.tokens.Bytes.{space}
 use Rattle.express.specs.tokens.Token.{longest, longest-size, longest-kind}
 use Rattle.express.specs.tokens.Lexis.{Reading, at, refused, end-of-run, run, opens, closes, dashes, in-line, end-of-remark, reading-then, skipped-in, skipped, too-large, longest-end}
 use Rattle.express.specs.tokens.Lexis.{TokenRow, Lexed, stopped, row-and-rest, longest-after-blank, longest-in, lexed-whole}
 use Rattle.express.specs.tokens.Cut.{Passes, here, over-space, over-line, over-remark, over-token, moved-stop, moved, behind}
 use Rattle.express.proofs.tokens.Longest.{run-is, first-is, token-is-longest}
 use Rattle.express.proofs.tokens.Places.{tail, in-text, pair-in, run-low, inside-at, remark-inside, token-inside}
 use Rattle.relations.proofs.Select.{and-fst}
-use Rattle.express.proofs.tokens.Turns.{skipped-is, skipped-step, from, from-is, from-step, whole-from}
+use Rattle.theorems.proofs.tokens.Turns.{skipped-is, skipped-step, from, from-is, from-step, whole-from}
 
 -- ---- what is passed, and the rest
 

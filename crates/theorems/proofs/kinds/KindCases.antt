@@ -11,38 +11,38 @@ use Rattle.ebnf.specs.Set.{mem}
 use Rattle.ebnf.specs.Rows.{Row}
 use Rattle.ebnf.specs.Parse.{descend, budget, parse}
 use Rattle.ebnf.specs.Depth.{first-deep, good}
 use Rattle.express.specs.kinds.Answer.{UNKNOWN, TRUE, integer, logical, binary, item, end}
 use Rattle.express.specs.tokens.Terminal.{bytes, among, terminal-of}
 use Rattle.express.specs.tokens.Spelling.{symbol-of, symbols-of}
 use Rattle.express.specs.syntax.Tree.{Table, kind, nodes, is, owner, schema-of}
 use Rattle.relations.specs.Select.{span, first-from, keep, any}
 use Rattle.express.specs.syntax.Syntax.{whole, parsed, with-rows}
 use Rattle.express.specs.syntax.Grammar.{file}
 use Rattle.express.specs.syntax.NodeKind.{constant}
 use Rattle.express.specs.tokens.Bytes.{upper, lower, word-byte, space, same}
 use Rattle.relations.specs.Reach.{added, closure}
 use Rattle.express.specs.names.Scope.{declarations, items, own, super-edges, renaming-edges, type-edges, inherited, candidates, type-meant, items-of, item-meant, means, binding, bindings}
 use Rattle.express.specs.tokens.Lexis.{end-of-run, end-of-remark, skipped-in, skipped, end-of-integer, end-of-exponent, end-of-real, end-of-string}
 use Rattle.express.specs.tokens.Lexis.{end-of-binary, lone, size-of-symbol, end-of-symbol, token-kind-at, end-of-token, lexed-in, numeral, integer-value, binary-bits}
 use Rattle.express.specs.kinds.Integer.{exact, quotient, remainder, DIV, MOD, power}
 use Rattle.express.specs.kinds.Logic.{AND, OR, XOR}
 use Rattle.relations.specs.Order.{compare-lists}
 use Rattle.express.specs.kinds.Bits.{join}
 use Rattle.express.specs.kinds.Declared.{simple, denoted-in}
 use Rattle.express.specs.kinds.Shape.{operator-of, shape-in}
 use Rattle.express.specs.names.Fault.{sort, scope, repeated, type-name-fault, cyclic, qualified, expression, constant-edges}
 use Rattle.express.specs.names.Names.{stages, least, first-fault, names}
 use Rattle.express.specs.tokens.Scanned.{Scanned}
 use Rattle.express.proofs.tokens.Fast.{scanned-by}
 use Rattle.express.specs.kinds.Rule.{Exactly}
 use Rattle.express.specs.kinds.Operate.{Kind}
 use Rattle.express.specs.kinds.Kind.{Typing, typed, ill-typed, type-nodes-in, type-constants, typing}
 use Rattle.express.specs.kinds.Evaluate.{run-in, evaluate, answers, answer-at}
 use Rattle.express.proofs.syntax.Syntax.{read-good}
 use Rattle.express.proofs.names.Names.{names-passes}
-use Rattle.express.proofs.kinds.OrderTest.{every, in-order, order-passes}
-use Rattle.express.proofs.kinds.OrderTest as order
+use Rattle.theorems.proofs.kinds.OrderTest.{every, in-order, order-passes}
+use Rattle.theorems.proofs.kinds.OrderTest as order
 use Rattle.express.proofs.theorems.File.{file-exact}
 
 abbrev kinds-in : Typing → List Kind
 kinds-in (typed ks) = ks
