@@ -1,10 +1,47 @@
 // The stages of names, one after the other: what is declared twice, the names of types with their graph and its order, what is
 // inherited, and the names in expressions with the graph of the constants and its order. A stage computes on where an earlier
 // one has found a fault; the faults are put together at the end.
-ghost use Rattle.names.specs.Stages.{BindsDeclarations, BindsInherited, BindsExpressions};
+ghost use Rattle.names.specs.Stages.{PreparesFile, BindsDeclarations, BindsInherited, BindsExpressions};
 use columns::saturating_sub;
 use columns::shorter;
 use faults::Fault;
+use index::Outcome;
+use scopes::dictionary::Preparation;
+
+// Interns the identifiers of a file, and enters what it declares into its dictionary.
+pub fn prepare(
+    src: &[u8],
+    starts: &[u32],
+    lengths: &[u32],
+    terminals: &[u8],
+    kinds: &[u8],
+    tokens: &[u32],
+    roles: &[u32],
+    symbols: &mut [u32],
+    keys: &mut [u64],
+    nodes: &mut [u32],
+    heads: &mut [u32],
+    next: &mut [u32],
+) -> Preparation
+    ensures { λ r. ⌜ PreparesFile (now (src .entry)) (now (starts .entry)) (now (lengths .entry)) (now (terminals .entry)) (now (kinds .entry)) (now (tokens .entry))
+        (now (roles .entry)) (now (symbols .entry)) (now (keys .entry)) (now (nodes .entry)) (now (heads .entry)) (now (next .entry)) r
+        (now (symbols .exit)) (now (keys .exit)) (now (nodes .exit)) (now (heads .exit)) (now (next .exit)) ⌝ }
+{
+    let interned = index::symbols::intern(src, starts, lengths, terminals, symbols, heads, next);
+    match interned {
+        Outcome::Done => scopes::dictionary::prepare(
+            kinds,
+            tokens,
+            roles,
+            &symbols[..starts.len()],
+            keys,
+            nodes,
+            heads,
+            next,
+        ),
+        Outcome::Short => Preparation::Unfit,
+    }
+}
 
 // Stages 9, 10 and 11 of types, and 13 of types: the bindings of the names of types, the graph of the declarations and an order of
 // them.
