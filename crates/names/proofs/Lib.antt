@@ -1,2 +1,3 @@
 pub mod Staged
 pub mod Preparing
+pub mod Bound
