@@ -24,7 +24,7 @@ use Rattle.scopes.specs.declared.dictionary.Preparation.the-variants.{Done, Unf
 use Rattle.scopes.proofs.Tables.{columns-of, same-entries, prepared-for}
 use Rattle.names.specs.Stages.{FilePrepared, PreparesFile}
 
-length-span : (i d : ℕ) → length (span i d) ≡ d
+pub length-span : (i d : ℕ) → length (span i d) ≡ d
 unfolding span
 length-span i zero = refl
 length-span i (suc d) = ap suc (length-span (suc i) d)

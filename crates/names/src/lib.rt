@@ -1,6 +1,8 @@
 // The stages of names, one after the other: what is declared twice, the names of types with their graph and its order, what is
 // inherited, and the names in expressions with the graph of the constants and its order. A stage computes on where an earlier
 // one has found a fault; the faults are put together at the end.
+pub mod resolution;
+
 ghost use Rattle.names.specs.Binding.{BindsNames};
 ghost use Rattle.names.specs.Stages.{PreparesFile, BindsDeclarations, BindsInherited, BindsExpressions};
 use columns::saturating_sub;
