@@ -4,3 +4,4 @@ pub mod Bound
 pub mod Copying
 pub mod Rooms
 pub mod Fitting
+pub mod Resolving

@@ -30,7 +30,7 @@ length-span i zero = refl
 length-span i (suc d) = ap suc (length-span (suc i) d)
 
 -- a symbol for each token
-as-many : (src starts lengths terminals : List ℕ) → length (symbols-of src starts lengths terminals) ≡ length starts
+pub as-many : (src starts lengths terminals : List ℕ) → length (symbols-of src starts lengths terminals) ≡ length starts
 unfolding symbols-of
 as-many src starts lengths terminals = length-map (span 0 (length starts)) (symbol-of src starts lengths terminals) ∙ length-span 0 (length starts)
 

@@ -1,10 +1,12 @@
 -- The names of a file, from its bytes, its tokens and its nodes (N1 to N19).
 use mathlib.Core.Path.{_≡_}
 use mathlib.Core.Logic.{_≢_}
-use mathlib.Core.Bool.{Bool, true, false}
+use mathlib.Core.Bool.{Bool, true, false, cond}
 use mathlib.Core.List.{List}
-use Prim.Native.Nat.{ℕ, _*_, _≤_, _<_}
+use Prim.Native.Nat.{ℕ, _*_, _≤_, _<_, min}
+use lib.Dec.{eqb}
 use lib.ListN.{length, take}
+use lib.Seq.{sets}
 use Rattle.relations.specs.Reach.{Joins}
 use Rattle.relations.specs.Sorted.{Arranged}
 use Rattle.express.specs.syntax.Grammar.{file}
@@ -94,3 +96,11 @@ pub record BindsPrepared (kinds tokens sizes roles symbols starts keys nodes hea
 abbrev pub done-with : Preparation → Bool → Bool
 done-with preparation.Done b = b
 done-with preparation.Unfit b = false
+
+-- `finish`: the answer to a fault, and the bindings in their column where there is none
+abbrev pub answer-to : Fault → Resolution
+answer-to f = cond (eqb (f .number) 0) Bound (Faulty (f .number) (f .place))
+
+pub record Finishes (f : Fault) (bound bindings : List ℕ) (r : Resolution) (bindings′ : List ℕ) : Type 0 where
+  pub answer : r ≡ answer-to f
+  pub bindings-are : bindings′ ≡ cond (eqb (f .number) 0) (sets bindings 0 (take (min (length bound) (length bindings)) bound)) bindings
