@@ -12,10 +12,10 @@ use Rattle.express.specs.tokens.Spelling.{symbol-of, symbols-of}
 use Rattle.relations.specs.Select.{span}
 use Rattle.relations.proofs.Select.{and-fst, and-snd}
 use Rattle.index.specs.Room.{done, enough}
-use Rattle.index.specs.Interning.{Interns}
+use Rattle.symbols.specs.Interning.{Interns}
 use Rattle.index.specs.declared.Outcome.{Outcome}
 use Rattle.index.specs.declared.Outcome.the-variants as outcome
-use Rattle.index.proofs.Interning.{interned}
+use Rattle.symbols.proofs.Interning.{interned}
 use Rattle.scopes.specs.Entries.{entries}
 use Rattle.scopes.specs.Standing.{table-of}
 use Rattle.scopes.specs.Preparation.{Prepares, Refused, Answers}

@@ -29,7 +29,7 @@ use Rattle.scopes.specs.Preparation.{Decides, Prepared}
 use Rattle.scopes.specs.declared.Counts.{Counts}
 use Rattle.scopes.specs.declared.dictionary.Preparation.{Preparation}
 use Rattle.scopes.specs.declared.dictionary.Preparation.the-variants as preparation
-use Rattle.scopes.proofs.Preparing.{entries-total, total-small}
+use Rattle.preparation.proofs.Preparing.{entries-total, total-small}
 use Rattle.scopes.proofs.Tables.{columns-of, same-entries, counted-for}
 use Rattle.faults.specs.declared.Fault.{Fault}
 use Rattle.faults.specs.Meaning.{fault-of}

@@ -30,9 +30,9 @@ pub fn prepare(
         (now (roles .entry)) (now (symbols .entry)) (now (keys .entry)) (now (nodes .entry)) (now (heads .entry)) (now (next .entry)) r
         (now (symbols .exit)) (now (keys .exit)) (now (nodes .exit)) (now (heads .exit)) (now (next .exit)) ⌝ }
 {
-    let interned = index::symbols::intern(src, starts, lengths, terminals, symbols, heads, next);
+    let interned = symbols::intern(src, starts, lengths, terminals, symbols, heads, next);
     match interned {
-        Outcome::Done => scopes::dictionary::prepare(
+        Outcome::Done => preparation::prepare(
             kinds,
             tokens,
             roles,

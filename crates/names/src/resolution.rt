@@ -203,7 +203,7 @@ pub fn resolve(
     let prepared = prepare(
         src, starts, lengths, terminals, kinds, tokens, bindings, symbols, keys, nodes, heads, next,
     );
-    let counts = scopes::count_entries(kinds, bindings);
+    let counts = preparation::count_entries(kinds, bindings);
     let enough = room(
         kinds.len(),
         counts.declarations,

@@ -3,7 +3,7 @@ use borrow.Author.Needs.{needs}
 use Rattle.names.proofs.resolution.room.Statement.{statement}
 use Rattle.names.proofs.resolution.room.Tie as tie
 use native.Mathlib.Omega.{arith}
-use Rattle.scopes.proofs.Checking.{refutes}
+use Rattle.preparation.proofs.Checking.{refutes}
 use Rattle.names.proofs.Rooms.{stage-room-decided}
 
 returns : tie.Need-returns
