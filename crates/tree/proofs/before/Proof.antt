@@ -1,8 +1,8 @@
--- `typing::before` meets its contract: the size stands in the column. Assumes nothing.
+-- `tree::before` meets its contract: the size stands in the column. Assumes nothing.
 use borrow.Author.Needs.{needs}
-use Rattle.typing.proofs.before.Statement.{statement}
-use Rattle.typing.proofs.before.Tie as tie
-use Rattle.typing.proofs.Assembled.{child-before}
+use Rattle.tree.proofs.before.Statement.{statement}
+use Rattle.tree.proofs.before.Tie as tie
+use Rattle.tree.proofs.Children.{child-before}
 
 index-at-requires : tie.Need-index-at-requires
 index-at-requires c κs = search needs

@@ -1,8 +1,8 @@
--- `typing::left` meets its contract: the child before the last. Assumes nothing.
+-- `tree::left` meets its contract: the child before the last. Assumes nothing.
 use borrow.Author.Needs.{needs}
-use Rattle.typing.proofs.left.Statement.{statement}
-use Rattle.typing.proofs.left.Tie as tie
-use Rattle.typing.proofs.Assembled.{child-left}
+use Rattle.tree.proofs.left.Statement.{statement}
+use Rattle.tree.proofs.left.Tie as tie
+use Rattle.tree.proofs.Children.{child-left}
 
 last-requires : tie.Need-last-requires
 last-requires c κs = search needs

@@ -1,8 +1,8 @@
--- `typing::middle` meets its contract: the child before the upper operator. Assumes nothing.
+-- `tree::middle` meets its contract: the child before the upper operator. Assumes nothing.
 use borrow.Author.Needs.{needs}
-use Rattle.typing.proofs.middle.Statement.{statement}
-use Rattle.typing.proofs.middle.Tie as tie
-use Rattle.typing.proofs.Assembled.{child-middle}
+use Rattle.tree.proofs.middle.Statement.{statement}
+use Rattle.tree.proofs.middle.Tie as tie
+use Rattle.tree.proofs.Children.{child-middle}
 
 left-requires : tie.Need-left-requires
 left-requires c κs = search needs

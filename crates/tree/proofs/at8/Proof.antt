@@ -1,7 +1,7 @@
--- `evaluate::at8` meets its contract: past the end of a list its default stands. Assumes nothing.
+-- `tree::at8` meets its contract: past the end of a list its default stands. Assumes nothing.
 use borrow.Author.Needs.{needs}
-use Rattle.evaluate.proofs.at8.Statement.{statement}
-use Rattle.evaluate.proofs.at8.Tie as tie
+use Rattle.tree.proofs.at8.Statement.{statement}
+use Rattle.tree.proofs.at8.Tie as tie
 use lib.ListN.{List·getD-eq-default}
 use mathlib.Core.Path.{sym}
 

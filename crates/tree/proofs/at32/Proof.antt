@@ -1,7 +1,7 @@
--- `typing::at32` meets its contract: past the end of a list its default stands. Assumes nothing.
+-- `tree::at32` meets its contract: past the end of a list its default stands. Assumes nothing.
 use borrow.Author.Needs.{needs}
-use Rattle.typing.proofs.at32.Statement.{statement}
-use Rattle.typing.proofs.at32.Tie as tie
+use Rattle.tree.proofs.at32.Statement.{statement}
+use Rattle.tree.proofs.at32.Tie as tie
 use lib.ListN.{List·getD-eq-default}
 use mathlib.Core.Path.{sym}
 
