@@ -16,9 +16,9 @@ use Rattle.express.specs.names.Scope.{bindings}
 use Rattle.express.specs.names.Fault.{Fault}
 use Rattle.express.specs.names.Names.{names}
 use Rattle.express.specs.kinds.Kind.{Typing, typed, ill-typed, typing}
-use Rattle.express.specs.whole.Reply.{Report}
+use Rattle.express.specs.whole.Reply.{Accepted, Checked, accepted, refused, Report}
 use Rattle.parsing.specs.Parsing.{rows-of}
-use Rattle.constants.specs.Constants.{row-in}
+use Rattle.constants.specs.Constants.{row-in, file-answers}
 use Rattle.stages.specs.declared.Stage.{Stage}
 use Rattle.stages.specs.declared.Stage.the-variants.{Done, Refused}
 
@@ -83,6 +83,16 @@ name-stage s token-rows node-rows answer-rows = then-stage (constant-stage s tok
 abbrev pub kind-stage : List ℕ → ℕ → ℕ → ℕ → Stage
 kind-stage s token-rows node-rows answer-rows =
     then-stage (name-stage s token-rows node-rows answer-rows) (of-kinds (table-of s) (typing (table-of s) (bindings (table-of s))))
+
+-- ---- what the last stage says of the file
+
+-- what a file whose stages are all done is accepted with
+abbrev pub accepted-with : List ℕ → Accepted
+accepted-with s = record { tokens = lexed s .rows; table = table-of s; bindings = bindings (table-of s); answers = file-answers (table-of s) }
+
+abbrev pub outcome-by : List ℕ → Stage → Checked
+outcome-by s (Done n) = accepted (accepted-with s)
+outcome-by s (Refused k p) = refused k p
 
 -- the report, from the ends of the stages of tokens and nodes and of the last one (R6)
 abbrev pub reported : Stage → Stage → Stage → Report
