@@ -23,6 +23,8 @@ use Rattle.express.proofs.tokens.TokenRows.{tokens-of}
 use Rattle.express.proofs.syntax.Syntax.{express, accepted-iff, parsed-iff, whole-value}
 use Rattle.express.proofs.syntax.Descent.{phrase, so, parse-is, phrase-placed}
 use Rattle.express.proofs.syntax.Count.{Counted, phrase-counted, gain}
+use Rattle.stages.specs.declared.Stage.the-variants.{Done}
+use Rattle.stages.specs.Line.{of-reading, token-stage}
 
 clash : {A : Type 0} → _≡_ {A = ℕ} 0 1 → A
 clash z = absurd (omega arith)
@@ -40,6 +42,17 @@ tokens-few s = by (leb (length s) most) refl
     by : (b : Bool) → leb (length s) most ≡ b → length (lexed s .rows) ≤ most
     by true e = omega (arith, tokens-of s .few, leb-true (length s) most e)
     by false e = rw (too-long-is s e) (omega arith)
+
+-- a file whose tokens are read is not too long
+pub bytes-few : (s : List ℕ) (rows n : ℕ) → token-stage s rows ≡ Done n → length s ≤ most
+unfolding tokens
+bytes-few s rows n e = by (leb (length s) most) refl
+  where
+    by : (b : Bool) → leb (length s) most ≡ b → length s ≤ most
+    by true u = leb-true (length s) most u
+    by false u = let q : of-reading (counted (lexis.refused 1 most) 0 rows) ≡ Done n =
+        ap (λ (l : Lexed). of-reading (counted (l .stop) (length (l .rows)) rows)) (sym (too-long-is s u)) ∙ e in
+        clash (cc)
 
 -- the number beside a refusal by 1, 2, 3 or 6
 pub place-small : (s : List ℕ) (rows k p : ℕ) → tokens (lexed s) rows ≡ lexis.refused k p → p ≤ most

@@ -29,6 +29,9 @@ use Rattle.stages.specs.Reading.{ScansTokens, of-parse, Few, OfParse, Pa
 use Rattle.stages.proofs.Bounds.{place-small, rows-few}
 use Rattle.stages.proofs.Counting.{row-short}
 
+clash : {A : Type 0} → _≡_ {A = ℕ} 0 1 → A
+clash z = absurd (omega arith)
+
 -- ---- tokens
 
 module _ {s k₀ s₀ z₀ k′ s′ z′ : List ℕ} {r : Step} where
@@ -96,7 +99,8 @@ module _ {before : Stage} {size : ℕ} {starts ts scratch kinds tokens sizes rol
       ParsesTokens before size starts ts scratch kinds tokens sizes roles r scratch′ kinds′ tokens′ sizes′ roles′
   parsed-tokens {n} {p} {r} e P O =
       rw e (record {
-        is = λ h few room.
+        passed-on = λ k q u. clash (cc);
+        is = λ m u h few room.
             let entries = node-entries kinds tokens sizes roles in
             let a : p ≡ answer entries (parsed file ts) = P .answers ∙ rw (le-leb (length ts) most few, le-leb (length ts) (length scratch) room) in
             let f : Few p = rw a (few-answer entries (parsed file ts) (λ v q. let l = rows-few file ts v q in omega arith)) in
@@ -109,7 +113,7 @@ module _ {before : Stage} {size : ℕ} {starts ts scratch kinds tokens sizes rol
       })
 
   pub passed-tokens : {k p : ℕ} → before ≡ Refused k p → ParsesTokens before size starts ts scratch kinds tokens sizes roles (Refused k p) scratch kinds tokens sizes roles
-  passed-tokens e = rw e (record { is = λ h f g. refl; kinds-are = refl; tokens-are = refl; sizes-are = refl; roles-are = refl; scratch-is = refl })
+  passed-tokens e = rw e (record { passed-on = λ j q u. u; is = λ m u h f g. clash (cc); kinds-are = refl; tokens-are = refl; sizes-are = refl; roles-are = refl; scratch-is = refl })
 
 -- a place that is read is there, whatever stands for one that is not
 pub either-default : (xs : List ℕ) (i a b : ℕ) → i < length xs → getD xs i a ≡ getD xs i b

@@ -2,3 +2,4 @@ pub mod Bounds
 pub mod Counting
 pub mod Laws
 pub mod Straight
+pub mod Nodes

@@ -10,6 +10,7 @@ use Rattle.express.specs.tokens.Lexis.{most, lexed}
 use Rattle.express.specs.tokens.Scanned.{token-table}
 use Rattle.express.specs.syntax.Grammar.{file}
 use Rattle.express.specs.syntax.Syntax.{parsed}
+use Rattle.express.specs.syntax.Tree.{Table}
 use Rattle.express.specs.whole.Reply.{token-entries, node-entries}
 use Rattle.parsing.specs.declared.Parsed.{Parsed}
 use Rattle.parsing.specs.declared.Parsed.the-variants.{Accepted, Unexpected, TooDeep, Short, Scratch, Long}
@@ -62,13 +63,40 @@ left-after (Refused k p) ts scratch = scratch
 
 -- `parse_tokens`, for a list of terminals as long as a file may have, with scratch for each
 pub record ParsesTokens (before : Stage) (size : ℕ) (starts ts scratch kinds tokens sizes roles : List ℕ) (r : Stage) (scratch′ kinds′ tokens′ sizes′ roles′ : List ℕ) : Type 0 where
-  pub is :
-      size ≤ most → length ts ≤ most → length ts ≤ length scratch → r ≡ then-stage before (λ _. of-syntax starts size (node-entries kinds tokens sizes roles) (parsed file ts))
+  pub passed-on : (k p : ℕ) → before ≡ Refused k p → r ≡ Refused k p
+  pub is : (n : ℕ) → before ≡ Done n → size ≤ most → length ts ≤ most → length ts ≤ length scratch → r ≡ of-syntax starts size (node-entries kinds tokens sizes roles) (parsed file ts)
   pub kinds-are : kinds′ ≡ sets kinds 0 (map (λ (r : Row). r .kind) (rows-after before ts scratch))
   pub tokens-are : tokens′ ≡ sets tokens 0 (map (λ (r : Row). r .token) (rows-after before ts scratch))
   pub sizes-are : sizes′ ≡ sets sizes 0 (map (λ (r : Row). r .size) (rows-after before ts scratch))
   pub roles-are : roles′ ≡ sets roles 0 (map (λ (r : Row). r .role) (rows-after before ts scratch))
   pub scratch-is : scratch′ ≡ left-after before ts scratch
+
+-- the token columns of a file that is scanned, with an entry of each scratch for each token
+pub record TokenColumns (s : List ℕ) (n : ℕ) (kinds starts lengths terminals scratch : List ℕ) : Type 0 where
+  pub kinds-are : kinds ≡ lexis.kinds (lexed s)
+  pub starts-are : starts ≡ lexis.starts (lexed s)
+  pub lengths-are : lengths ≡ lexis.sizes (lexed s)
+  pub terminal-room : n ≤ length terminals
+  pub scratch-room : n ≤ length scratch
+
+-- the first n entries of the node columns are those of a table
+pub record NodeColumns (t : Table) (n : ℕ) (kinds tokens sizes roles : List ℕ) : Type 0 where
+  pub kinds-are : take n kinds ≡ t .kinds
+  pub tokens-are : take n tokens ≡ t .tokens
+  pub sizes-are : take n sizes ≡ t .sizes
+  pub roles-are : take n roles ≡ t .roles
+
+-- `read_nodes`, after the tokens of a file, with a table of so many entries
+pub record NodesRead (s : List ℕ) (token-rows node-rows : ℕ) (r : Stage) (terminals kinds tokens sizes roles : List ℕ) : Type 0 where
+  pub is : r ≡ node-stage s token-rows node-rows
+  pub terminals-are : (n : ℕ) → token-stage s token-rows ≡ Done n → take n terminals ≡ token-table s .terminals
+  pub nodes-are : (n : ℕ) → r ≡ Done n → NodeColumns (table-of s) n kinds tokens sizes roles
+
+pub record ReadsNodes (s : List ℕ) (before : Stage) (token-kinds starts lengths terminals scratch kinds tokens sizes roles : List ℕ) (r : Stage)
+    (terminals′ kinds′ tokens′ sizes′ roles′ : List ℕ) : Type 0 where
+  pub is :
+      (token-rows : ℕ) → before ≡ token-stage s token-rows → ((n : ℕ) → before ≡ Done n → TokenColumns s n token-kinds starts lengths terminals scratch) →
+      NodesRead s token-rows (node-entries kinds tokens sizes roles) r terminals′ kinds′ tokens′ sizes′ roles′
 
 -- ---- room for the answers
 

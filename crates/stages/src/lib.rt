@@ -4,7 +4,7 @@ ghost use lib.ListN.{getD};
 ghost use Prim.Native.Nat.{_≤_};
 ghost use Rattle.express.specs.tokens.Lexis.{most};
 ghost use Rattle.stages.specs.Line.{count-of};
-ghost use Rattle.stages.specs.Reading.{ScansTokens, OfParse, ParsesTokens, Constants, FitsConstants};
+ghost use Rattle.stages.specs.Reading.{ScansTokens, OfParse, ParsesTokens, ReadsNodes, Constants, FitsConstants};
 use blanks::Step;
 use parsing::Parsed;
 
@@ -91,6 +91,39 @@ pub fn parse_tokens(
         }
         Stage::Refused(k, p) => Stage::Refused(k, p),
     }
+}
+
+// From the tokens of a file to its nodes: the terminals of the tokens, and the parse of these.
+pub fn read_nodes(
+    before: Stage,
+    src: &[u8],
+    token_kinds: &[u8],
+    starts: &[u32],
+    lengths: &[u32],
+    terminals: &mut [u8],
+    scratch: &mut [u64],
+    kinds: &mut [u8],
+    tokens: &mut [u32],
+    sizes: &mut [u32],
+    roles: &mut [u32],
+) -> Stage
+    ensures { λ r. ⌜ ReadsNodes (now (src .entry)) before (now («token_kinds» .entry)) (now (starts .entry)) (now (lengths .entry)) (now (terminals .entry))
+        (now (scratch .entry)) (now (kinds .entry)) (now (tokens .entry)) (now (sizes .entry)) (now (roles .entry)) r
+        (now (terminals .exit)) (now (kinds .exit)) (now (tokens .exit)) (now (sizes .exit)) (now (roles .exit)) ⌝ }
+{
+    terminals::terminals(src, token_kinds, starts, lengths, terminals);
+    let n = columns::shorter(token_kinds.len(), terminals.len());
+    parse_tokens(
+        before,
+        src.len(),
+        starts,
+        &terminals[..n],
+        scratch,
+        kinds,
+        tokens,
+        sizes,
+        roles,
+    )
 }
 
 // How many constants there are.
