@@ -3,3 +3,4 @@ pub mod Counting
 pub mod Laws
 pub mod Straight
 pub mod Nodes
+pub mod KindLaws

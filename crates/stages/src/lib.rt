@@ -3,10 +3,15 @@ ghost use mathlib.Core.Path.{_≡_};
 ghost use lib.ListN.{getD};
 ghost use Prim.Native.Nat.{_≤_};
 ghost use Rattle.express.specs.tokens.Lexis.{most};
+ghost use Rattle.stages.specs.KindStage.{of-typing, TypesFile};
 ghost use Rattle.stages.specs.Line.{count-of};
 ghost use Rattle.stages.specs.Reading.{ScansTokens, OfParse, ParsesTokens, ReadsNodes, Constants, FitsConstants};
 use blanks::Step;
+use declared_types::declared_types;
 use parsing::Parsed;
+use scopes::at;
+use typing::Typing;
+use typing::type_constants;
 
 // A stage that is done, with a count, or the refusal of it or of one before it: the reply and the number beside it.
 pub enum Stage {
@@ -154,6 +159,46 @@ pub fn fit_constants(before: Stage, kinds: &[u8], entries: usize) -> Stage
                 return Stage::Done(n);
             }
             Stage::Refused(codes::replies::ANSWERS_SHORT, columns::number(n))
+        }
+        Stage::Refused(k, p) => Stage::Refused(k, p),
+    }
+}
+
+// What a typing comes to, of a file with n constants.
+fn of_typing(typing: Typing, starts: &[u32], tokens: &[u32], n: usize) -> Stage
+    ensures { λ r. ⌜ r ≡ of-typing (now (starts .entry)) (now (tokens .entry)) typing n ⌝ }
+{
+    match typing {
+        Typing::Typed => Stage::Done(n),
+        Typing::Fault(f, node) => {
+            let token = columns::index(at(tokens, node));
+            Stage::Refused(f, at(starts, token))
+        }
+    }
+}
+
+// The kinds of the constants: replies 14 and 15. What is declared stands in a column by node.
+pub fn type_file(
+    before: Stage,
+    starts: &[u32],
+    terminals: &[u8],
+    kinds: &[u8],
+    tokens: &[u32],
+    sizes: &[u32],
+    bindings: &[u32],
+    order: &[u32],
+    declared: &mut [u32],
+    scratch: &mut [u32],
+) -> Stage
+    ensures { λ r. ⌜ TypesFile before (now (starts .entry)) (now (terminals .entry)) (now (kinds .entry)) (now (tokens .entry)) (now (sizes .entry))
+        (now (bindings .entry)) (now (order .entry)) (now (declared .entry)) (now (scratch .entry)) r (now (declared .exit)) ⌝ }
+{
+    match before {
+        Stage::Done(n) => {
+            declared_types(terminals, kinds, tokens, sizes, bindings, order, declared);
+            let typing =
+                type_constants(terminals, kinds, tokens, sizes, bindings, declared, scratch);
+            of_typing(typing, starts, tokens, n)
         }
         Stage::Refused(k, p) => Stage::Refused(k, p),
     }
