@@ -4,3 +4,4 @@ pub mod Laws
 pub mod Straight
 pub mod Nodes
 pub mod KindLaws
+pub mod AnswerLaws
