@@ -3,7 +3,7 @@ use mathlib.Core.Path.{_≡_}
 use mathlib.Core.Logic.{_↔_, _≢_}
 use mathlib.Core.List.{List}
 use Prim.Native.Nat.{ℕ, _≤_, _<_}
-use lib.IntN.{pos}
+use lib.IntN.{ℤ, pos}
 use lib.ListN.{length, getD, replicate}
 use Rattle.express.specs.kinds.Answer.{Answer}
 use Rattle.express.specs.kinds.AnswerRow.{row, row-answer}
@@ -11,6 +11,22 @@ use Rattle.express.specs.kinds.Kind.{constants}
 use Rattle.express.specs.kinds.Rule.{Exactly}
 use Rattle.express.specs.whole.Reply.{Accepted, accepted, Report, report, Tables, token-entries, node-entries, answer-entries, outcome, tables-after}
 use Rattle.express.specs.whole.Acceptance.{Acceptable}
+
+-- the ten columns together
+abbrev pub tables-of : List ℕ → List ℕ → List ℕ → List ℕ → List ℕ → List ℕ → List ℕ → List ℕ → List ℤ → List ℕ → Tables
+tables-of token-kinds token-starts token-lengths node-kinds node-tokens node-sizes node-bindings answer-kinds answer-numbers answer-lengths =
+    record {
+      token-kinds = token-kinds;
+      token-starts = token-starts;
+      token-lengths = token-lengths;
+      node-kinds = node-kinds;
+      node-tokens = node-tokens;
+      node-sizes = node-sizes;
+      node-bindings = node-bindings;
+      answer-kinds = answer-kinds;
+      answer-numbers = answer-numbers;
+      answer-lengths = answer-lengths;
+    }
 
 -- R7: tables of zeros, each column as long as it was
 abbrev pub zeros : Tables → Tables

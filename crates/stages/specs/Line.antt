@@ -94,7 +94,12 @@ abbrev pub outcome-by : List ℕ → Stage → Checked
 outcome-by s (Done n) = accepted (accepted-with s)
 outcome-by s (Refused k p) = refused k p
 
--- the report, from the ends of the stages of tokens and nodes and of the last one (R6)
-abbrev pub reported : Stage → Stage → Stage → Report
-reported tokens nodes (Done n) = record { reply = 0; number = 0; tokens = count-of tokens; nodes = count-of nodes; constants = n }
+-- the report, from the numbers of tokens and nodes and the end of the last stage (R6)
+abbrev pub reported : ℕ → ℕ → Stage → Report
+reported tokens nodes (Done n) = record { reply = 0; number = 0; tokens = tokens; nodes = nodes; constants = n }
 reported tokens nodes (Refused k p) = record { reply = k; number = p; tokens = 0; nodes = 0; constants = 0 }
+
+-- the entries of a table that stand: none after a refusal (R7)
+abbrev pub kept-of : Stage → ℕ → ℕ
+kept-of (Done n) entries = entries
+kept-of (Refused k p) entries = 0
