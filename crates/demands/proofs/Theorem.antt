@@ -17,7 +17,7 @@ use Rattle.express.specs.whole.Acceptance.{Acceptable}
 use Rattle.express.proofs.whole.Numbers.{numbered, reply-zero}
 use Rattle.express.proofs.whole.AnswerRow.{row-back}
 use Rattle.express.proofs.theorems.Acceptance.{accepted-iff}
-use Rattle.demands.specs.Checks.{zeros, AcceptableIn, answer-in, Checks}
+use Rattle.demands.specs.Checks.{tables-of, zeros, AcceptableIn, answer-in, Checks}
 
 -- ---- the row of an answer, from the columns
 
@@ -83,3 +83,15 @@ module _ (s : List ℕ) (l m : Tables) (r : Report) (reports : r ≡ report (out
         answers = λ a p. rw (reports, is-accepted a p) (p .as-many);
         follows = λ a p i h. rw (holds, is-accepted a p) (exact a p i (rw (reports, is-accepted a p, p .as-many) at h));
       }
+
+-- ---- tables that are alike column by column
+
+columns-alike : {a b c d e f g h : List ℕ} {i : List ℤ} {j a′ b′ c′ d′ e′ f′ g′ h′ : List ℕ} {i′ : List ℤ} {j′ : List ℕ} →
+    a ≡ a′ → b ≡ b′ → c ≡ c′ → d ≡ d′ → e ≡ e′ → f ≡ f′ → g ≡ g′ → h ≡ h′ → i ≡ i′ → j ≡ j′ → tables-of a b c d e f g h i j ≡ tables-of a′ b′ c′ d′ e′ f′ g′ h′ i′ j′
+columns-alike p q r s t u v w x y = rw (p, q, r, s, t, u, v, w, x, y)
+
+pub tables-alike : (m l : Tables) →
+    m .token-kinds ≡ l .token-kinds → m .token-starts ≡ l .token-starts → m .token-lengths ≡ l .token-lengths →
+    m .node-kinds ≡ l .node-kinds → m .node-tokens ≡ l .node-tokens → m .node-sizes ≡ l .node-sizes → m .node-bindings ≡ l .node-bindings →
+    m .answer-kinds ≡ l .answer-kinds → m .answer-numbers ≡ l .answer-numbers → m .answer-lengths ≡ l .answer-lengths → m ≡ l
+tables-alike m l p q r s t u v w x y = columns-alike p q r s t u v w x y

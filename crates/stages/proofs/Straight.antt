@@ -10,8 +10,9 @@ use lib.ListN.{length, length-map}
 use Rattle.ebnf.specs.Rows.{Row, Rows}
 use Rattle.ebnf.specs.Depth.{Outcome, good, unexpected, too-deep}
 use Rattle.express.specs.tokens.Lexis as lexis
-use Rattle.express.specs.tokens.Lexis.{Reading, counted, lexed, tokens}
-use Rattle.express.specs.tokens.Scanned.{Scanned, token-table}
+use Rattle.express.specs.tokens.Lexis.{TokenRow, Reading, counted, most, lexed, tokens}
+use Rattle.express.specs.tokens.Terminal.{terminal-of}
+use Rattle.express.specs.tokens.Scanned.{Scanned, row-bytes, token-table}
 use Rattle.express.specs.syntax.Grammar.{file}
 use Rattle.express.specs.syntax.Syntax.{parsed, with-rows, Read}
 use Rattle.express.specs.syntax.Tree.{Table, count}
@@ -27,6 +28,8 @@ use Rattle.constants.specs.Constants.{file-answers}
 use Rattle.stages.specs.declared.Stage.{Stage}
 use Rattle.stages.specs.declared.Stage.the-variants.{Done, Refused}
 use Rattle.stages.specs.Line.{then-stage, count-of, of-reading, of-syntax, of-constants, of-names, of-kinds}
+use Rattle.stages.proofs.Bounds.{tokens-few, rows-few}
+use Rattle.stages.proofs.Counting.{row-short}
 use Rattle.stages.specs.Line.{table-of, token-stage, node-stage, constant-stage, name-stage, kind-stage, outcome-by}
 
 clash : {A : Type 0} → _≡_ {A = ℕ} 0 1 → A
@@ -197,3 +200,13 @@ module _ (s : List ℕ) (tr : ℕ) where
 -- the token columns of the table are those of the bytes
 pub table-scanned : (s : List ℕ) → Scanned (table-of s)
 table-scanned s = record { starts-are = refl; lengths-are = refl; terminals-are = refl; symbols-are = refl }
+
+-- G36, T1: the counts of a file that is read fit into 32 bits
+module _ {s : List ℕ} {tr nr : ℕ} where
+  pub nodes-few : {n : ℕ} → NodesDone s tr nr n → count (table-of s) ≤ most
+  nodes-few N =
+      let c : count (table-of s) ≡ length (N .rows .rows) = rw (N .parsed-as) (length-map (N .rows .rows) (λ (x : Row). x .kind)) in
+      omega (arith, c, rows-few file (token-table s .terminals) (N .rows) (N .parsed-as), length-map (lexed s .rows) (λ (r : TokenRow). terminal-of (r .kind) (row-bytes s r)), tokens-few s)
+
+pub constants-few : (t : Table) → length (constants t) ≤ count t
+constants-few t = row-short (t .kinds)
