@@ -334,6 +334,10 @@ fn main() {
             println!("{name:24}{:8}{:8}  {step:12}{a:8.3}{b:10.3}{:8.2}", file.len(), rows.len(), a / b);
         }
     }
+    if "names".contains(&only) {
+        print_names();
+        print_hostile_names();
+    }
     if "kinds".contains(&only) {
         print_kinds();
     }

@@ -9,7 +9,7 @@ use reference::terminals::classify;
 use reference::{names, symbols, tokens, File, Refusal};
 
 const FILES: u64 = 50_000;
-const HIERARCHIES: u64 = 10_000;
+const HIERARCHIES: u64 = 15_000;
 
 /// What a column holds before a call, by entry.
 fn before(i: usize) -> u32 {
@@ -208,7 +208,7 @@ fn hold_all(files: impl Iterator<Item = Vec<u8>>) -> [u32; 14] {
 fn names_of_random_files_are_the_reference_s() {
     let seen = hold_all((0..FILES).map(random::file));
     println!("{seen:?}");
-    assert!([0, 9, 10, 11, 12, 13].iter().all(|&reply: &usize| seen[reply] > 1_000), "{seen:?}");
+    assert!([0, 9, 10, 11, 13].iter().all(|&reply: &usize| seen[reply] > 1_000), "{seen:?}");
 }
 
 #[test]
@@ -217,35 +217,65 @@ fn names_of_the_cases_are_the_reference_s() {
     assert!([0, 9, 10, 11, 12, 13].iter().all(|&reply: &usize| seen[reply] > 5), "{seen:?}");
 }
 
-/// Entities with supertypes before and behind them, attributes of few names, and uses of them.
+/// An entity of a hierarchy: those above it, and the names of its attributes.
+struct Entity {
+    above: Vec<usize>,
+    attributes: Vec<usize>,
+}
+
+/// So many numbers below a limit, each once.
+fn some(rng: &mut Rng, count: usize, limit: usize) -> Vec<usize> {
+    let mut numbers: Vec<usize> = (0..count).filter(|_| limit > 0).map(|_| rng.below(limit)).collect();
+    numbers.sort_unstable();
+    numbers.dedup();
+    numbers
+}
+
+/// The name of an attribute that an entity has or inherits along one path, if the path comes to one.
+fn attribute_of(rng: &mut Rng, entities: &[Entity], entity: usize) -> Option<usize> {
+    let mut at = entity;
+    while let Some(Entity { above, attributes }) = entities.get(at) {
+        let up = above.get(rng.below(above.len().max(1)));
+        match (up, attributes.get(rng.below(attributes.len().max(1)))) {
+            (_, Some(&name)) if rng.one_in(3) || up.is_none() => return Some(name),
+            (None, _) => return None,
+            (Some(&next), _) => at = next,
+        }
+        if rng.one_in(40) {
+            return None;
+        }
+    }
+    None
+}
+
+/// Entities with supertypes, before them alone or anywhere; attributes with names of their own or one of a few; uses of what
+/// they have and inherit, and now and then of any name.
 fn hierarchy(seed: u64) -> Vec<u8> {
     let mut rng = Rng::new(seed);
-    let entities = 2 + rng.below(12);
-    let names = 2 + rng.below(20);
-    let loose = rng.one_in(6);
+    let (count, shared, loose) = (2 + rng.below(12), 2 + rng.below(12), rng.one_in(5));
+    let entities: Vec<Entity> = (0..count)
+        .map(|entity| {
+            let (wide, many) = (rng.below(3), rng.below(3));
+            let above = some(&mut rng, wide, if loose { count } else { entity });
+            let own = some(&mut rng, many, 9);
+            let attributes =
+                own.into_iter().map(|own| if rng.one_in(2) { rng.below(shared) } else { 100 + 10 * entity + own }).collect();
+            Entity { above, attributes }
+        })
+        .collect();
     let mut text = String::from("SCHEMA s;\nCONSTANT k : INTEGER := 1; END_CONSTANT;\n");
-    for entity in 0..entities {
-        text += &format!("ENTITY e{entity}");
-        let reach = if loose { entities } else { entity };
-        let mut above: Vec<usize> = (0..rng.below(4)).filter(|_| reach > 0).map(|_| rng.below(reach)).collect();
-        above.sort_unstable();
-        above.dedup();
-        if !above.is_empty() {
-            let list: Vec<String> = above.iter().map(|it| format!("e{it}")).collect();
-            text += &format!(" SUBTYPE OF ({})", list.join(", "));
-        }
-        text += ";\n";
-        let mut own: Vec<usize> = (0..rng.below(3)).map(|_| if rng.one_in(3) { rng.below(names) } else { 100 + entity * 10 + rng.below(9) }).collect();
-        own.sort_unstable();
-        own.dedup();
-        own.iter().for_each(|name| text += &format!("a{name} : INTEGER;\n"));
-        let mut used = |rng: &mut Rng| match rng.below(8) {
-            0 => "k".to_string(),
-            1..=3 => format!("a{}", 100 + rng.below(entity + 1) * 10 + rng.below(9)),
-            _ => format!("a{}", rng.below(names)),
+    for (number, entity) in entities.iter().enumerate() {
+        let above: Vec<String> = entity.above.iter().map(|it| format!("e{it}")).collect();
+        let list = if above.is_empty() { String::new() } else { format!(" SUBTYPE OF ({})", above.join(", ")) };
+        text += &format!("ENTITY e{number}{list};\n");
+        entity.attributes.iter().for_each(|name| text += &format!("a{name} : INTEGER;\n"));
+        let used = |rng: &mut Rng| match attribute_of(rng, &entities, number) {
+            Some(name) if !rng.one_in(60) => format!("a{name}"),
+            _ if rng.one_in(20) => format!("a{}", rng.below(shared)),
+            _ => "k".to_string(),
         };
         if rng.one_in(2) {
-            text += &format!("DERIVE\nd{entity} : INTEGER := {};\n", used(&mut rng));
+            text += &format!("DERIVE\nd{number} : INTEGER := {};\n", used(&mut rng));
         }
         if rng.one_in(2) {
             text += &format!("WHERE\nw{} : {} = {};\n", rng.below(3), used(&mut rng), used(&mut rng));
@@ -259,7 +289,7 @@ fn hierarchy(seed: u64) -> Vec<u8> {
 fn names_of_hierarchies_are_the_reference_s() {
     let seen = hold_all((0..HIERARCHIES).map(hierarchy));
     println!("{seen:?}");
-    assert!([0, 9, 10, 12, 13].iter().all(|&reply: &usize| seen[reply] > 200), "{seen:?}");
+    assert!([0, 12, 13].iter().all(|&reply: &usize| seen[reply] > 2_000), "{seen:?}");
 }
 
 /// A column that is one entry too short is found out, and then the roles stand as they did.
