@@ -7,7 +7,7 @@ use Prim.Native.Nat.{ℕ, zero, suc, _+_, _*_, _-_, _/_, _%_, _≤_, _<_, min}
 use native.Mathlib.Decide.{decLt}
 use native.Mathlib.Numerals.{add-one}
 use native.Mathlib.Omega.{arith}
-use native.Mathlib.Nat.{mul-le-mul-left, mul-lt-mul-of-pos-right}
+use native.Mathlib.Nat.{mul-le-mul-left, mul-lt-mul-of-pos-right, mod-lt}
 use lib.ListN.{length, take, drop, getD, length-map, length-drop, drop-of-length-le, List·getD-map, List·getD-eq-default}
 use lib.Seq.{drop-cons, ext-getD, take-all, take-nil}
 use Rattle.express.specs.tokens.Bytes.{lower, same}
@@ -15,9 +15,9 @@ use Rattle.express.specs.tokens.Spelling.{spelling}
 use Rattle.relations.proofs.Select.{untrue, and-snd, and-both}
 use Rattle.express.proofs.tokens.Spelling.{same-true, same-refl}
 use lib.Bits.{bitAnd, and-block, and-mask}
-use lib.Dec.{eqb, leb}
-use borrow.Author.Tests.{eqb-true, eq-eqb, le-leb, lt-leb}
-use Rattle.index.specs.Bucket.{block, joined, hash-blocks, hash-of, range-of, Four, IsBlock, Joins, Hashes, InRange}
+use lib.Dec.{eqb, leb, ltb}
+use borrow.Author.Tests.{eqb-true, eq-eqb, le-leb, lt-leb, lt-ltb, le-ltb}
+use Rattle.index.specs.Bucket.{mixed, block, joined, hash-blocks, hash-of, range-of, bucket-of, Four, IsBlock, Joins, Hashes, InRange, InBucket}
 
 abbrev pub folded : List ℕ → List ℕ
 folded xs = map lower xs
@@ -270,3 +270,24 @@ module _ {h m : ℕ} (buckets : ℕ) (small : h < 4294967296) (e : m ≡ min buc
       let pos : 0 < m = omega arith in
       let lt : h * m < 4294967296 * m = mul-lt-mul-of-pos-right small pos in
       record { is = ap (λ (x : ℕ). h * x / 4294967296) e; small = omega arith }
+
+-- the bucket of a key: its own, or that of the number of 32 bits that it is mixed to
+
+mixed-small : (x : ℕ) → mixed x < 4294967296
+unfolding mixed
+mixed-small x = mod-lt _ (omega arith)
+
+pub key-fits : (buckets x : ℕ) {h m : ℕ} → h ≡ mixed x → m ≡ min buckets 4294967296 → h * m < 18446744073709551616
+key-fits buckets x {h} q e = let l : h < 4294967296 = rw q (mixed-small x) in range-fits buckets l e
+
+pub own-bucket : (buckets x : ℕ) → x < buckets → InBucket buckets x x
+unfolding bucket-of
+own-bucket buckets x l = record { is = rw (lt-ltb x buckets l); small = l }
+
+pub mixed-bucket : (buckets x : ℕ) {h m : ℕ} → buckets ≤ x → h ≡ mixed x → m ≡ min buckets 4294967296 → 0 < buckets → InBucket buckets x (h * m / 4294967296)
+unfolding bucket-of
+mixed-bucket buckets x {h} n q e some =
+    let l : h < 4294967296 = rw q (mixed-small x) in
+    let r = in-range buckets l e some in
+    let t : ltb x buckets ≡ false = le-ltb x buckets n in
+    record { is = r .is ∙ ap (range-of buckets) q ∙ rw t; small = r .small }

@@ -2,8 +2,10 @@
 -- bits, wherever these stand, fall far apart, 32 bits are multiplied twice by large odd numbers (the first is 2 ^ 32 over the golden
 -- ratio).
 use mathlib.Core.Path.{_≡_}
+use mathlib.Core.Bool.{cond}
 use mathlib.Core.List.{List, map}
 use Prim.Native.Nat.{ℕ, zero, suc, _+_, _-_, _*_, _/_, _%_, _<_, min}
+use lib.Dec.{ltb}
 use lib.ListN.{length, getD}
 use Rattle.express.specs.tokens.Bytes.{lower}
 
@@ -25,8 +27,13 @@ spread x by = x % word * by % word
 unfoldable pub mixed : ℕ → ℕ
 mixed x = let once = spread (x % word + x / word) first-factor in spread (once + once / fold) second-factor
 
+-- the bucket of a number of 32 bits, by its high bits
+unfoldable pub range-of : ℕ → ℕ → ℕ
+range-of buckets h = h * min buckets word / word
+
+-- the bucket of a key: its own, where there are so many
 unfoldable pub bucket-of : ℕ → ℕ → ℕ
-bucket-of buckets x = mixed x % buckets
+bucket-of buckets x = cond (ltb x buckets) x (range-of buckets (mixed x))
 
 -- what an inner function gives
 pub record InBucket (buckets x r : ℕ) : Type 0 where
@@ -51,10 +58,6 @@ hash-blocks (suc n) h k xs = hash-blocks n (joined h (block xs k)) (k + 4) xs
 -- a number of 32 bits for a word: its blocks, the last one being its last four bytes
 unfoldable pub hash-of : List ℕ → ℕ
 hash-of xs = joined (hash-blocks ((length xs - 1) / 4) 0 0 xs) (block xs (length xs - 4))
-
--- the bucket of such a number, by its high bits
-unfoldable pub range-of : ℕ → ℕ → ℕ
-range-of buckets h = h * min buckets word / word
 
 pub record InRange (buckets h r : ℕ) : Type 0 where
   pub is : r ≡ range-of buckets h

@@ -51,10 +51,13 @@ fn mix(x: u64) -> u64
     (once + once / FOLD) % WORD * SECOND_FACTOR % WORD
 }
 
-// The bucket that a number falls into.
+// The bucket that a number falls into: small numbers, as symbols are, have buckets of their own.
 fn bucket(x: u64, buckets: usize) -> usize
     requires { ⌜ 0 < buckets ⌝ }
     ensures { λ r. ⌜ InBucket buckets x r ⌝ }
 {
-    (mix(x) % (buckets as u64)) as usize
+    if x < buckets as u64 {
+        return x as usize;
+    }
+    (mix(x) * (columns::shorter(buckets, RANGE) as u64) / WORD) as usize
 }

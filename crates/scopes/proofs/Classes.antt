@@ -44,6 +44,11 @@ passed-by {class} {n} {after} {h} o s v x =
       };
     }
 
+-- a node of class 0 changes nothing
+pub passed-nothing : {class n : ℕ} {after : Here} → class ≡ 0 → PassedBy class n after after
+passed-nothing {n = n} {after = after} z =
+    rw z (passed-by {class = 0} {n = n} {after = after} {h = after} refl refl (omega arith) (omega arith))
+
 pub more-by :
     {class : ℕ} {before c : Counts} → c .declarations ≡ before .declarations + cond (eqb (class % 8) declared) 1 0 → c .others ≡ before .others + class / 8 →
     MoreBy class before c

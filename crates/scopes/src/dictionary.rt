@@ -145,17 +145,19 @@ fn fill(
     while 0 < i {
         i -= 1;
         let class = crate::class(&classes, kinds[i], roles[i]);
-        let k = index(tokens[i]);
-        here = crate::passed(class, i, here);
-        enter_node(
-            keys,
-            nodes,
-            declarations + here.other,
-            here,
-            crate::sort_in(class),
-            symbols[k],
-            i,
-        );
+        if class != crate::NOTHING {
+            let k = index(tokens[i]);
+            here = crate::passed(class, i, here);
+            enter_node(
+                keys,
+                nodes,
+                declarations + here.other,
+                here,
+                crate::sort_in(class),
+                symbols[k],
+                i,
+            );
+        }
     }
 }
 

@@ -114,6 +114,9 @@ const ROWS: u8 = 32;
 
 const COLUMNS: usize = 8;
 
+// The class of what declares nothing.
+pub(crate) const NOTHING: u8 = 0;
+
 // In a class, the sort is what is below this number.
 const SORTS: u8 = 8;
 
