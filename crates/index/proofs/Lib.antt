@@ -1,3 +1,4 @@
+pub mod Buckets
 pub mod Search
 pub mod Entries
 pub mod Examples

@@ -2,7 +2,9 @@
 -- bits, wherever these stand, fall far apart, 32 bits are multiplied twice by large odd numbers (the first is 2 ^ 32 over the golden
 -- ratio).
 use mathlib.Core.Path.{_≡_}
+use mathlib.Core.Bool.{cond}
 use Prim.Native.Nat.{ℕ, _+_, _*_, _/_, _%_, _<_, min}
+use lib.Dec.{ltb}
 
 abbrev pub word : ℕ
 word = 4294967296
@@ -22,17 +24,18 @@ spread x by = x % word * by % word
 unfoldable pub mixed : ℕ → ℕ
 mixed x = let once = spread (x % word + x / word) first-factor in spread (once + once / fold) second-factor
 
+-- the bucket of a number of 32 bits, by its high bits
+unfoldable pub range-of : ℕ → ℕ → ℕ
+range-of buckets h = h * min buckets word / word
+
+-- the bucket of a key: its own, where there are so many
 unfoldable pub bucket-of : ℕ → ℕ → ℕ
-bucket-of buckets x = mixed x % buckets
+bucket-of buckets x = cond (ltb x buckets) x (range-of buckets (mixed x))
 
 -- what an inner function gives
 pub record InBucket (buckets x r : ℕ) : Type 0 where
   pub is : r ≡ bucket-of buckets x
   pub small : r < buckets
-
--- the bucket of a number of 32 bits, by its high bits
-unfoldable pub range-of : ℕ → ℕ → ℕ
-range-of buckets h = h * min buckets word / word
 
 pub record InRange (buckets h r : ℕ) : Type 0 where
   pub is : r ≡ range-of buckets h

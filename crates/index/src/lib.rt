@@ -8,9 +8,11 @@ ghost use Prim.Native.Nat.{_<_};
 ghost use Rattle.index.specs.Bucket.{mixed, InBucket};
 ghost use Rattle.index.specs.Room.{fits};
 
-// Numbers of 32 bits are below this one; two large odd numbers to multiply by (the first is 2 ^ 32 over the golden ratio), and
+// Numbers of 32 bits are below this one, which stands here twice, the second as a count; two large odd numbers to multiply by (the first is 2 ^ 32 over the golden ratio), and
 // the bits that are folded between them.
 pub const WORD: u64 = 4294967296;
+
+pub const RANGE: usize = 4294967296;
 
 pub const FIRST_FACTOR: u64 = 2654435761;
 
@@ -48,10 +50,13 @@ fn mix(x: u64) -> u64
     (once + once / FOLD) % WORD * SECOND_FACTOR % WORD
 }
 
-// The bucket that a number falls into.
+// The bucket that a number falls into: small numbers, as symbols are, have buckets of their own.
 fn bucket(x: u64, buckets: usize) -> usize
     requires { ⌜ 0 < buckets ⌝ }
     ensures { λ r. ⌜ InBucket buckets x r ⌝ }
 {
-    (mix(x) % (buckets as u64)) as usize
+    if x < buckets as u64 {
+        return x as usize;
+    }
+    (mix(x) * (columns::shorter(buckets, RANGE) as u64) / WORD) as usize
 }

@@ -131,7 +131,7 @@ module _ {kinds tokens roles symbols keys nodes first to spellings attributes ow
         let K = F .columns in
         let G = F .graph in
         let w : v ≡ vertex-count t = omega (arith, G .long) in
-        let D = C .is t (F .entry-heads) (F .entry-next) (K .kinds-are) (K .tokens-are) (K .symbols-are) (F .prepared) w A in
+        let D = C .is t (F .entry-heads) (F .entry-next) (K .kinds-are) (K .tokens-are) (K .symbols-are) (F .read) (F .prepared) w A in
         let same : from ≡ found = omega (arith, D .begins, A .nodes-long, A .owners-long) in
         let L : rest from spellings′ ≡ map (symbol-key t) (attribute.attributes t) = rest-is from spellings′ ∙ rw same (collected-end A D .0) in
         let n : length (rest from spellings′) ≡ length (attribute.attributes t) = ap length L ∙ length-map (attribute.attributes t) (symbol-key t) in

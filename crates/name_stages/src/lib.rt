@@ -49,7 +49,8 @@ pub fn bind_declarations(
 }
 
 // Stores at each use, attribute and label what its symbol means among the attributes that its owner inherits. The attributes of the
-// file stand at the ends of three columns, with chains of their own.
+// file stand at the ends of three columns, with chains of their own. What a symbol meant stands in two columns: where
+// they are as long as there are symbols, a name that an entity asks for again costs one look-up.
 pub fn bind_inherited(
     kinds: &[u8],
     tokens: &[u32],
@@ -64,6 +65,8 @@ pub fn bind_inherited(
     owners: &mut [u32],
     heads: &mut [u32],
     next: &mut [u32],
+    stamps: &mut [u32],
+    meanings: &mut [u32],
     mark: &mut [u32],
     queue: &mut [u32],
     bound: &mut [u32],
@@ -103,6 +106,8 @@ pub fn bind_inherited(
         &owners[from..],
         heads,
         next,
+        stamps,
+        meanings,
         mark,
         queue,
         bound,

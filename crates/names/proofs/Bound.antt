@@ -100,17 +100,17 @@ asking-no-type t n a = by (is-use t n) refl (tree.is-scope-member t n) refl
     by false e false f = absurd (false≢true (sym (rw (e, f) refl) ∙ a))
 
 module _ {kinds tokens sizes roles symbols starts keys nodes heads next bound first to types constants scratch spellings attributes owners attribute-heads attribute-next mark queue : List ℕ}
-    {a b r : code.Fault} {bound₁ first₁ to₁ types₁ scratch₁ bound₂ bound₃ first₂ to₂ constants₁ : List ℕ} where
+    {a b r : code.Fault} {bound₁ first₁ to₁ types₁ bound₂ constants₁ scratch₁ bound₃ first₂ to₂ constants₂ : List ℕ} where
   pub names-bound :
       BindsDeclarations kinds tokens roles symbols starts keys nodes heads next bound first to types scratch a bound₁ first₁ to₁ types₁ →
-      length bound₁ ≡ length bound → length first₁ ≡ length first → length to₁ ≡ length to → length scratch₁ ≡ length scratch →
+      length bound₁ ≡ length bound → length first₁ ≡ length first → length to₁ ≡ length to →
       BindsInherited kinds tokens roles symbols keys nodes first₁ to₁ spellings attributes owners attribute-heads attribute-next mark queue bound₁ bound₂ →
-      length bound₂ ≡ length bound₁ →
-      BindsExpressions kinds tokens sizes roles symbols starts keys nodes heads next bound₂ first₁ to₁ constants scratch₁ b bound₃ first₂ to₂ constants₁ →
+      length bound₂ ≡ length bound₁ → length constants₁ ≡ length constants → length scratch₁ ≡ length scratch →
+      BindsExpressions kinds tokens sizes roles symbols starts keys nodes heads next bound₂ first₁ to₁ constants₁ scratch₁ b bound₃ first₂ to₂ constants₂ →
       fault-of r ≡ or-later (fault-of a) (fault-of b) →
       BindsNames kinds tokens sizes roles symbols starts keys nodes heads next bound first to types constants scratch spellings attributes owners attribute-heads attribute-next mark queue
-      r bound₃ types₁ constants₁
-  names-bound D lb lf lt ls I lb₂ E e = record {
+      r bound₃ types₁ constants₂
+  names-bound D lb lf lt I lb₂ lc ls E e = record {
     is = λ t S C z R.
         let P = D .is t S (record { columns = C; bound-room = R .bound-room; graph-room = R .type-graph }) (R .type-order) in
         let right : fault-of a .number ≡ 0 → Passes (tree.nodes t) (type-name-fault t) = λ (q : fault-of a .number ≡ 0).
@@ -132,7 +132,7 @@ module _ {kinds tokens sizes roles symbols starts keys nodes heads next bound fi
           bound-room = omega (arith, R .bound-room, lb);
           empty = λ n l y. P .entries n l ∙ ap (λ (x : Bool). cond x (binding t n) 0) (asking-no-type t n y);
         }) in
-        let Q : fault-of a .number ≡ 0 → ExpressionsBound t b bound₃ first₂ to₂ constants₁ = λ (q : fault-of a .number ≡ 0).
+        let Q : fault-of a .number ≡ 0 → ExpressionsBound t b bound₃ first₂ to₂ constants₂ = λ (q : fault-of a .number ≡ 0).
         E .is t S (record {
           of-file = record {
             read = C .read;
@@ -143,7 +143,7 @@ module _ {kinds tokens sizes roles symbols starts keys nodes heads next bound fi
           bound-room = omega (arith, R .bound-room, lb, lb₂);
           bound-is = λ n l. inherited q n l ∙ ap (cond (asks t n) (inherited-code t n)) (P .entries n l);
           graph-room = rw (lf, lt) (R .constant-graph);
-        }) (record { order-room = R .constant-order .order-room; scratch-room = omega (arith, R .constant-order .scratch-room, ls) }) in
+        }) (record { order-room = omega (arith, R .constant-order .order-room, lc); scratch-room = omega (arith, R .constant-order .scratch-room, ls) }) in
         let clean : r .number ≡ 0 → fault-of a .number ≡ 0 = λ (n : r .number ≡ 0). no-first (fault-of a) (fault-of b) (ap (λ (f : Fault). f .number) (sym e) ∙ n) in
         let clean-later : r .number ≡ 0 → fault-of b .number ≡ 0 = λ (n : r .number ≡ 0). no-later (fault-of a) (fault-of b) (ap (λ (f : Fault). f .number) (sym e) ∙ n) in
         record {

@@ -253,11 +253,10 @@ module _ {src starts lengths terminals kinds tokens sizes roles symbols keys nod
           let n : length kinds ≡ count t = ap length (F .kinds-are) in
           let o : length roles ≡ count t = ap length (F .roles-are) ∙ as-many-roles (F .read) in
           let m : min (length bound′) (length roles) ≡ count t = omega (arith, l, n, o) in
-          let w : take (min (length bound′) (length roles)) bound′ ≡ bindings t = ap (λ (k : ℕ). take k bound′) m ∙ bound-all t bound′ (omega (arith, l, n)) (N .entries z) in
-          (
+          let w : take (min (length bound′) (length roles)) bound′ ≡ bindings t = ap (λ (k : ℕ). take k bound′) m ∙ bound-all t bound′ (omega (arith, l, n)) (N .entries z) in (
             ap (λ (x : express.Fault). x .number) (sym (N .reply)) ∙ z,
             E .bindings-are ∙ ap (λ (x : Bool). cond x (sets roles 0 (take (min (length bound′) (length roles)) bound′)) roles) (eq-eqb (f .number) 0 z)
-            ∙ sets-over roles _ (omega (arith, length-take-le (min (length bound′) (length roles)) bound′ (omega arith), m, o)) ∙ w,
+                ∙ sets-over roles _ (omega (arith, length-take-le (min (length bound′) (length roles)) bound′ (omega arith), m, o)) ∙ w,
             N .types-arranged z,
             N .constants-arranged z,
           )

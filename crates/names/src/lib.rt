@@ -46,7 +46,7 @@ pub fn prepare(
 }
 
 // All stages, over a dictionary that is prepared: the first fault, and where there is none the bindings of all nodes, and an order of
-// the declarations by their types and one by their constants.
+// the declarations by their types and one by their constants. The columns of the second order, which comes last, serve what is inherited.
 pub fn bind_names(
     kinds: &[u8],
     tokens: &[u32],
@@ -79,7 +79,19 @@ pub fn bind_names(
         r (now (bound .exit)) (now (types .exit)) (now (constants .exit)) ⌝ }
 {
     let declared = bind_declarations(
-        kinds, tokens, roles, symbols, starts, keys, nodes, heads, next, bound, first, to, types,
+        kinds,
+        tokens,
+        roles,
+        symbols,
+        starts,
+        keys,
+        nodes,
+        heads,
+        next,
+        bound,
+        first,
+        to,
+        types,
         scratch,
     );
     bind_inherited(
@@ -96,13 +108,28 @@ pub fn bind_names(
         owners,
         attribute_heads,
         attribute_next,
+        constants,
+        scratch,
         mark,
         queue,
         bound,
     );
     let used = bind_expressions(
-        kinds, tokens, sizes, roles, symbols, starts, keys, nodes, heads, next, bound, first, to,
-        constants, scratch,
+        kinds,
+        tokens,
+        sizes,
+        roles,
+        symbols,
+        starts,
+        keys,
+        nodes,
+        heads,
+        next,
+        bound,
+        first,
+        to,
+        constants,
+        scratch,
     );
     faults::or_later(declared, used)
 }

@@ -60,7 +60,13 @@ fn room(
     if scratch < SEARCH_WORDS * vertices {
         return false;
     }
-    let by_node = shorter(bound, shorter(to, shorter(spellings, shorter(attributes, shorter(owners, next)))));
+    let by_node = shorter(
+        bound,
+        shorter(
+            to,
+            shorter(spellings, shorter(attributes, shorter(owners, next))),
+        ),
+    );
     let by_vertex = shorter(types, shorter(constants, shorter(mark, queue)));
     if by_node < count {
         return false;
@@ -201,7 +207,18 @@ pub fn resolve(
         r (now (bindings .exit)) (now (types .exit)) (now (constants .exit)) ⌝ }
 {
     let prepared = prepare(
-        src, starts, lengths, terminals, kinds, tokens, bindings, symbols, keys, nodes, heads, next,
+        src,
+        starts,
+        lengths,
+        terminals,
+        kinds,
+        tokens,
+        bindings,
+        symbols,
+        keys,
+        nodes,
+        heads,
+        next,
     );
     let counts = preparation::count_entries(kinds, bindings);
     let enough = room(

@@ -60,6 +60,11 @@ module _ {class sort m : ℕ} (q : sort ≡ class % 8) (w : m ≡ class / 8) whe
         };
       }
 
+-- a node of class 0 changes nothing
+pub passed-nothing : {class n : ℕ} {after : Here} → class ≡ 0 → PassedBy class n after after
+passed-nothing {class} {n} {after} z =
+    rw z (passed-by {class = 0} {sort = 0} {m = 0} refl refl {n = n} {p = 0} {after = after} {h = after} refl refl refl (omega arith) (omega arith))
+
 -- ---- the table
 
 -- a role from 7 on is that of no label and no supertype

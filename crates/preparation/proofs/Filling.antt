@@ -20,7 +20,7 @@ use Rattle.scopes.specs.Preparation.{Consistent, Enterable, Entered, Filled, sc
 use Rattle.scopes.specs.declared.Here.{Here}
 use Rattle.scopes.specs.declared.Counts.{Counts}
 use Rattle.scopes.proofs.Sorting.{key-within, sort-is, declared-sort, sort-below, owner-below, schema-below}
-use Rattle.preparation.proofs.Classes.{class-sort}
+use Rattle.preparation.proofs.Classes.{class-sort, passed-nothing}
 use Rattle.scopes.proofs.Passing.{stands-end, stands-step, vertex-step, vertex-le, vertex-small, vertex-none, others-step, others-none, others-small, entries-count}
 
 -- ---- stores, the later place first
@@ -204,7 +204,8 @@ module _ {s schema owner vertex at symbol node : ℕ} where
         more : Entry
         more = schema-by s schema owner symbol node
 
-        by : (p q : Bool) → p ≡ true → q ≡ true → set a vertex (f own) ≡ sets (sets a vertex (map f (cond p (own ∷ []) []))) at (map f (cond q [] (own ∷ cond (eqb s items-of-types) (more ∷ []) [])))
+        by : (p q : Bool) → p ≡ true → q ≡ true → set a vertex (f own) ≡ sets (sets a vertex (map f (cond p (own ∷ []) []))) at (map f (cond q [] (own ∷ cond (eqb s
+            items-of-types) (more ∷ []) [])))
         by p q e g = rw (e, g)
 
     pub entered-other :
@@ -280,3 +281,11 @@ module _ {t : Table} {keys₀ nodes₀ : List ℕ} where
           keys-filling = filling-goes-on low (rw (sym back) at (E .keys-filling)) (entered-at now-stands sorted ys (placed e) K);
           nodes-filling = filling-goes-on low (rw (sym back) at (E .nodes-filling)) (entered-at now-stands sorted ys (placed e) N);
         }
+
+  -- a node of class 0 has no entry
+  pub entering-skip :
+      {keys nodes : List ℕ} {here : Here} {class d i : ℕ} → Entering t d keys₀ nodes₀ keys nodes here i → 0 < i →
+      class ≡ class-of (sort-by (kind t (i - 1)) (role t (i - 1))) → class ≡ 0 → Entering t d keys₀ nodes₀ keys nodes here (i - 1)
+  entering-skip E l C z =
+      let s = ap (λ (x : ℕ). x % 8) z in
+      entering-goes-on E l C (passed-nothing z) refl refl refl (entered-none s) (entered-none s)

@@ -64,6 +64,9 @@ const ROWS: u8 = 32;
 
 const COLUMNS: usize = 8;
 
+// The class of what declares nothing.
+const NOTHING: u8 = 0;
+
 // In a class, the sort is what is below this number.
 const SORTS: u8 = 8;
 
@@ -262,17 +265,19 @@ fn fill(
     while 0 < i {
         i -= 1;
         let class = class(&classes, kinds[i], roles[i]);
-        let k = index(tokens[i]);
-        here = passed(class, i, here);
-        enter_node(
-            keys,
-            nodes,
-            declarations + here.other,
-            here,
-            sort_in(class),
-            symbols[k],
-            i,
-        );
+        if class != NOTHING {
+            let k = index(tokens[i]);
+            here = passed(class, i, here);
+            enter_node(
+                keys,
+                nodes,
+                declarations + here.other,
+                here,
+                sort_in(class),
+                symbols[k],
+                i,
+            );
+        }
     }
 }
 

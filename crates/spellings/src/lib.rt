@@ -137,10 +137,8 @@ pub fn alike(a: &[u8], b: &[u8]) -> bool
     }
     let mut i = 0;
     while i < a.len() {
-        if a[i] != b[i] {
-            if lower_case(a[i]) != lower_case(b[i]) {
-                return false;
-            }
+        if lower_case(a[i]) != lower_case(b[i]) {
+            return false;
         }
         i += 1;
     }

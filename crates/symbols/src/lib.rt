@@ -19,14 +19,12 @@ use index::dictionary::Found;
 use index::scratch;
 
 // The numbers of 32 bits, as a count.
-const RANGE: usize = 4294967296;
-
 // The bucket of a number of 32 bits.
 fn range(h: u64, buckets: usize) -> usize
     requires { ⌜ (h < 4294967296) × (0 < buckets) ⌝ }
     ensures { λ r. ⌜ InRange buckets h r ⌝ }
 {
-    (h * (shorter(buckets, RANGE) as u64) / index::WORD) as usize
+    (h * (shorter(buckets, index::RANGE) as u64) / index::WORD) as usize
 }
 
 // Where a token begins and ends, as far as it lies in the bytes.

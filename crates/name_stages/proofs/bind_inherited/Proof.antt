@@ -21,17 +21,17 @@ shorter-requires-3 : tie.Need-shorter-requires-3
 shorter-requires-3 c κs = search needs
 
 mul-build : tie.Need-mul-build
-mul-build c =
-    omega (
-      arith,
-      c .shorter3 .ensures,
-      c .before .shorter2 .ensures,
-      c .before .before .shorter .ensures,
-      c .before .before .before .before .before .before .before .before .before
-          .collect-attributes .kept .1 .1 .1 .1 .1 .1 .0,
-      c .before .before .before .before .before .before .before .before .before .before .before .before .before .before .before .before .before
-          .before .before .before .before .before .before .before .before .before .before .before .before .before .good,
-    )
+mul-build c = omega (
+  arith,
+  c .shorter3 .ensures,
+  c .before .shorter2 .ensures,
+  c .before .before .shorter .ensures,
+  c .before .before .before .before .before .before
+      .before .before .before .collect-attributes .kept .1 .1 .1 .1 .1 .1 .0,
+  c .before .before .before .before .before .before .before .before .before .before .before
+      .before .before .before .before .before .before .before .before .before .before .before .before .before .before .before .before .before .before .before .before
+      .before .good,
+)
 
 sub-build : tie.Need-sub-build
 sub-build c = search needs
@@ -46,20 +46,19 @@ build-requires : tie.Need-build-requires
 build-requires c κs = search needs
 
 mul-inherit-all : tie.Need-mul-inherit-all
-mul-inherit-all c =
-    omega (
-      arith,
-      c .before .before .before .before .before .before .before .before .before .shorter3 .ensures,
-      c .before .before .before .before .before .before .before .before .before .before
-          .shorter2 .ensures,
-      c .before .before .before .before .before .before .before .before .before .before .before .shorter .ensures,
-      c .before .before .before .before .before .before
-          .before .before .before .before .before .before .before .before .before .before .before .before .collect-attributes .kept .1 .1 .1 .1 .1 .1 .0,
-      c .before .before .before .before .before
-          .before .before .before .before .before .before .before .before .before .before .before .before .before .before .before .before .before .before .before .before .before .before
-              .before
-          .before .before .before .before .before .before .before .before .before .before .before .good,
-    )
+mul-inherit-all c = omega (
+  arith,
+  c .before .before .before .before .before .before .before .before .before .shorter3 .ensures,
+  c .before .before .before .before .before
+      .before .before .before .before .before .shorter2 .ensures,
+  c .before .before .before .before .before .before .before .before .before .before .before .shorter
+      .ensures,
+  c .before .before .before .before .before .before .before .before .before .before .before .before .before .before .before .before .before .before
+      .collect-attributes .kept .1 .1 .1 .1 .1 .1 .0,
+  c .before .before .before .before .before .before .before .before .before .before .before .before .before .before
+      .before .before .before .before .before .before .before .before .before .before .before .before .before .before .before .before .before .before .before .before
+      .before .before .before .before .before .before .before .good,
+)
 
 sub-inherit-all : tie.Need-sub-inherit-all
 sub-inherit-all c = search needs
@@ -71,21 +70,19 @@ part-inherit-all-end : tie.Need-part-inherit-all-end
 part-inherit-all-end c = search needs
 
 mul-inherit-all-2 : tie.Need-mul-inherit-all-2
-mul-inherit-all-2 c =
-    omega (
-      arith,
-      c .before .before .before .before .before .before .before .before .before .before .before .shorter3 .ensures,
-      c .before .before .before .before .before .before .before .before
-          .before .before .before .before .shorter2 .ensures,
-      c .before .before .before .before .before .before .before .before .before .before .before .before .before .shorter .ensures,
-      c
-          .before .before .before .before .before .before .before .before .before .before .before .before .before .before .before .before .before .before .before .before .collect-attributes
-              .kept
-          .1 .1 .1 .1 .1 .1 .1 .0,
-      c .before .before .before .before .before .before .before .before .before .before .before .before .before .before .before .before .before .before .before
-          .before .before .before .before .before .before .before .before .before .before .before .before .before .before .before .before .before .before .before .before .before .before
-              .good,
-    )
+mul-inherit-all-2 c = omega (
+  arith,
+  c .before .before .before .before .before .before .before .before .before .before .before .shorter3 .ensures,
+  c .before .before
+      .before .before .before .before .before .before .before .before .before .before .shorter2 .ensures,
+  c .before .before .before .before .before .before .before .before
+      .before .before .before .before .before .shorter .ensures,
+  c .before .before .before .before .before .before .before .before .before .before .before .before .before
+      .before .before .before .before .before .before .before .collect-attributes .kept .1 .1 .1 .1 .1 .1 .1 .0,
+  c .before .before .before .before .before .before .before
+      .before .before .before .before .before .before .before .before .before .before .before .before .before .before .before .before .before .before .before .before
+      .before .before .before .before .before .before .before .before .before .before .before .before .before .before .before .before .good,
+)
 
 sub-inherit-all-2 : tie.Need-sub-inherit-all-2
 sub-inherit-all-2 c = search needs
@@ -97,21 +94,20 @@ part-inherit-all-end-2 : tie.Need-part-inherit-all-end-2
 part-inherit-all-end-2 c = search needs
 
 mul-inherit-all-3 : tie.Need-mul-inherit-all-3
-mul-inherit-all-3 c =
-    omega (
-      arith,
-      c .before .before .before .before .before .before .before .before .before .before .before .before .before .shorter3 .ensures,
-      c .before .before .before .before .before .before
-          .before .before .before .before .before .before .before .before .shorter2 .ensures,
-      c .before .before .before .before .before .before .before .before .before .before .before .before
-          .before .before .before .shorter .ensures,
-      c .before .before .before .before .before .before .before .before .before .before .before .before .before .before .before .before .before
-          .before .before .before .before .before .collect-attributes .kept .1 .1 .1 .1 .1 .1 .1 .1 .0,
-      c .before .before .before .before .before .before .before .before .before .before .before
-          .before .before .before .before .before .before .before .before .before .before .before .before .before .before .before .before .before .before .before .before .before .before
-              .before
-          .before .before .before .before .before .before .before .before .before .good,
-    )
+mul-inherit-all-3 c = omega (
+  arith,
+  c .before .before .before .before .before .before .before .before .before .before .before .before .before .shorter3 .ensures,
+  c
+      .before .before .before .before .before .before .before .before .before .before .before .before .before .before .shorter2 .ensures,
+  c .before .before .before .before
+      .before .before .before .before .before .before .before .before .before .before .before .shorter .ensures,
+  c .before .before .before .before .before .before .before
+      .before .before .before .before .before .before .before .before .before .before .before .before .before .before .before .collect-attributes .kept .1 .1 .1 .1 .1 .1 .1
+      .1 .0,
+  c .before .before .before .before .before .before .before .before .before .before .before .before .before .before .before .before .before .before .before
+      .before .before .before .before .before .before .before .before .before .before .before .before .before .before .before .before .before .before .before .before
+      .before .before .before .before .before .before .good,
+)
 
 sub-inherit-all-3 : tie.Need-sub-inherit-all-3
 sub-inherit-all-3 c = search needs
@@ -126,53 +122,64 @@ inherit-all-requires : tie.Need-inherit-all-requires
 inherit-all-requires c κs = search needs
 
 same-length : tie.Need-same-length
-same-length c = c .before .before .before .before .before .before .before .before .before .before .before .before .before .before .before .before .before .before .before .before .before
-    .before .before .before .before .before .before .before .before .before .before .before .before .before .before .before .collect-attributes .kept .1 .1 .1 .1 .1 .1 .0
+same-length c = c .before .before .before .before .before .before .before .before .before .before .before .before .before .before .before .before .before .before .before
+    .before .before .before .before .before .before .before .before .before .before .before .before .before .before .before .before .before .before .before .before
+    .before .before .before .collect-attributes .kept .1 .1 .1 .1 .1 .1 .0
 
 same-length-2 : tie.Need-same-length-2
-same-length-2 c = c .before .before .before .before .before .before .before .before .before .before .before .before .before .before .before .before .before .before .before .before .before
-    .before .before .before .before .before .before .before .before .before .before .before .before .before .before .before .collect-attributes .kept .1 .1 .1 .1 .1 .1 .1 .0
+same-length-2 c = c .before .before .before .before .before .before .before .before .before .before .before .before .before .before .before .before .before .before
+    .before .before .before .before .before .before .before .before .before .before .before .before .before .before .before .before .before .before .before .before
+    .before .before .before .before .collect-attributes .kept .1 .1 .1 .1 .1 .1 .1 .0
 
 same-length-3 : tie.Need-same-length-3
-same-length-3 c = c .before .before .before .before .before .before .before .before .before .before .before .before .before .before .before .before .before .before .before .before .before
-    .before .before .before .before .before .before .before .before .before .before .before .before .before .before .before .collect-attributes .kept .1 .1 .1 .1 .1 .1 .1 .1 .0
+same-length-3 c = c .before .before .before .before .before .before .before .before .before .before .before .before .before .before .before .before .before .before
+    .before .before .before .before .before .before .before .before .before .before .before .before .before .before .before .before .before .before .before .before
+    .before .before .before .before .collect-attributes .kept .1 .1 .1 .1 .1 .1 .1 .1 .0
 
 same-length-4 : tie.Need-same-length-4
-same-length-4 c = search needs
+same-length-4 c = c .before .before .before .before .before .before .before .before .before .before .before .before .before .before .before .before .before .before
+    .before .before .before .before .before .before .before .before .before .before .build .kept .1 .0
 
 same-length-5 : tie.Need-same-length-5
-same-length-5 c = search needs
+same-length-5 c = c .before .before .before .before .before .before .before .before .before .before .before .before .before .before .before .before .before .before
+    .before .before .before .before .before .before .before .before .before .before .build .kept .1 .1 .0
 
 same-length-6 : tie.Need-same-length-6
-same-length-6 c = search needs
+same-length-6 c = c .before .before .before .before .before .before .before .before .before .before .inherit-all .kept .1 .1 .1 .1 .1 .1 .1 .1 .1 .1 .1 .1 .1 .0
 
 same-length-7 : tie.Need-same-length-7
-same-length-7 c = search needs
+same-length-7 c = c .before .before .before .before .before .before .before .before .before .before .inherit-all .kept .1 .1 .1 .1 .1 .1 .1 .1 .1 .1 .1 .1 .1 .1 .0
 
 same-length-8 : tie.Need-same-length-8
-same-length-8 c = search needs
+same-length-8 c = c .before .before .before .before .before .before .before .before .before .before .inherit-all .kept .1 .1 .1 .1 .1 .1 .1 .1 .1 .1 .1 .1 .1 .1 .1 .0
+
+same-length-9 : tie.Need-same-length-9
+same-length-9 c = c .before .before .before .before .before .before .before .before .before .before .inherit-all .kept .1 .1 .1 .1 .1 .1 .1 .1 .1 .1 .1 .1 .1 .1 .1 .1 .0
+
+same-length-10 : tie.Need-same-length-10
+same-length-10 c = c .before .before .before .before .before .before .before .before .before .before .inherit-all .kept .1 .1 .1 .1 .1 .1 .1 .1 .1 .1 .1 .1 .1 .1 .1 .1 .1 .0
 
 returns : tie.Need-returns
-returns c =
-    inherited-bound
-    (c .before .before .before .before .before .before .before .before .before .before .before .before .before .before .before .before .before .before .before .before .before .before
-    .before .before .before .before .before .before .before .before .before .before .before .before .before .before .before .before .before .before .saturating-sub .ensures)
-    (c .before .before .before .before .before .before .before .before .before .before .before .before .before .before .before .before .before .before .before .before .before .before
-    .before .before .before .before .before .before .before .before .before .before .before .before .before .before .collect-attributes .ensures)
-    (c .before .before .before .before .before .before .before .before .before .before .before .before .before .before .before .before .before .before .before .before .before .before
-    .before .before .before .before .before .before .before .before .before .before .before .before .before .before .collect-attributes .kept .1 .1 .1 .1 .1 .1 .0)
-    (c .before .before .before .before .before .before .before .before .before .before .before .before .before .before .before .before .before .before .before .before .before .before
-    .before .before .before .before .before .before .before .before .before .before .before .before .before .before .collect-attributes .kept .1 .1 .1 .1 .1 .1 .1 .0)
-    (c .before .before .before .before .before .before .before .before .before .before .before .before .before .before .before .before .before .before .before .before .before .before
-    .before .before .before .before .before .before .before .before .before .before .before .before .before .before .collect-attributes .kept .1 .1 .1 .1 .1 .1 .1 .1 .0)
-    (c .before .before .before .before .before .before .before .before .before .before .before .before .before .before .before .before .before .before .before .before .before .before
-    .before .before .before .before .before .before .before .shorter .ensures)
-    (c .before .before .before .before .before .before .before .before .before .before .before .before .before .before .before .before .before .before .before .before .before .before
-    .before .before .before .before .before .before .shorter2 .ensures)
-    (c .before .before .before .before .before .before .before .before .before .before .before .before .before .before .before .before .before .before .before .before .before .before
-    .before .before .before .before .before .shorter3 .ensures)
-    (c .before .before .before .before .before .before .before .before .before .before .before .before .before .before .before .before .before .before .before .before .before .before .build
-    .ensures) (c .before .before .before .before .before .before .inherit-all .ensures)
+returns c = inherited-bound (c .before .before .before .before .before .before .before .before .before .before .before .before .before .before .before .before .before
+    .before .before .before .before .before .before .before .before .before .before .before .before .before .before .before .before .before .before .before .before
+    .before .before .before .before .before .before .before .before .before .saturating-sub .ensures) (c .before .before .before .before .before .before .before .before
+    .before .before .before .before .before .before .before .before .before .before .before .before .before .before .before .before .before .before .before .before
+    .before .before .before .before .before .before .before .before .before .before .before .before .before .before .collect-attributes .ensures) (c .before .before
+    .before .before .before .before .before .before .before .before .before .before .before .before .before .before .before .before .before .before .before .before
+    .before .before .before .before .before .before .before .before .before .before .before .before .before .before .before .before .before .before .before .before
+    .collect-attributes .kept .1 .1 .1 .1 .1 .1 .0) (c .before .before .before .before .before .before .before .before .before .before .before .before .before .before
+    .before .before .before .before .before .before .before .before .before .before .before .before .before .before .before .before .before .before .before .before
+    .before .before .before .before .before .before .before .before .collect-attributes .kept .1 .1 .1 .1 .1 .1 .1 .0) (c .before .before .before .before .before .before
+    .before .before .before .before .before .before .before .before .before .before .before .before .before .before .before .before .before .before .before .before
+    .before .before .before .before .before .before .before .before .before .before .before .before .before .before .before .before .collect-attributes .kept .1 .1 .1 .1
+    .1 .1 .1 .1 .0) (c .before .before .before .before .before .before .before .before .before .before .before .before .before .before .before .before .before .before
+    .before .before .before .before .before .before .before .before .before .before .before .before .before .before .before .before .before .shorter .ensures) (c .before
+    .before .before .before .before .before .before .before .before .before .before .before .before .before .before .before .before .before .before .before .before
+    .before .before .before .before .before .before .before .before .before .before .before .before .before .shorter2 .ensures) (c .before .before .before .before .before
+    .before .before .before .before .before .before .before .before .before .before .before .before .before .before .before .before .before .before .before .before
+    .before .before .before .before .before .before .before .before .shorter3 .ensures) (c .before .before .before .before .before .before .before .before .before .before
+    .before .before .before .before .before .before .before .before .before .before .before .before .before .before .before .before .before .before .build .ensures) (c
+    .before .before .before .before .before .before .before .before .before .before .inherit-all .ensures)
 
 pub bind-inherited-spec : {M : Type 1} → statement M
 bind-inherited-spec =
@@ -209,4 +216,6 @@ bind-inherited-spec =
     same-length-6
     same-length-7
     same-length-8
+    same-length-9
+    same-length-10
     returns)

@@ -7,8 +7,7 @@ use Rattle.express.specs.tokens.Bytes.{lower}
 use borrow.Author.Count.{below-more}
 use lib.ListN.{length, getD}
 use Prim.Native.Nat.{ℕ, _≤_, _<_, _-_}
-use mathlib.Core.Path.{_≡_, sym, ap, _∙_}
-use mathlib.Core.Logic.{⊎-elim}
+use mathlib.Core.Path.{_≡_, sym, _∙_}
 use native.Mathlib.Omega.{arith}
 
 abbrev Inv-loop : tie.InvT-loop
@@ -22,12 +21,6 @@ returns c = sym (differ-length (c .before .before .before .args .a .now) (c .bef
 
 loop-holds : tie.Need-loop-holds Inv-loop μ-loop
 loop-holds c = search needs
-
-shared-slice-read-if2 : tie.Need-shared-slice-read-if2 Inv-loop μ-loop
-shared-slice-read-if2 c = search needs
-
-shared-slice-read-if2-2 : tie.Need-shared-slice-read-if2-2 Inv-loop μ-loop
-shared-slice-read-if2-2 c = search needs
 
 shared-slice-read-lower-case : tie.Need-shared-slice-read-lower-case Inv-loop μ-loop
 shared-slice-read-lower-case c = search needs
@@ -43,9 +36,9 @@ lower-case-requires-2 c κs = search needs
 
 returns-2 : tie.Need-returns-2 Inv-loop μ-loop
 returns-2 c =
-    let s = c .before .before .before .before .before .before .before .before .before .before .before .before .before in
-    sym (differ-at (s .args .a .now) (s .args .b .now) (c .before .before .before .before .before .before .before .before .before .loop .i)
-    (λ e. c .if3 .taken (c .before .before .before .lower-case .ensures ∙ e ∙ sym (c .before .lower-case2 .ensures))))
+    let s = c .before .before .before .before .before .before .before .before .before .before in
+    sym (differ-at (s .args .a .now) (s .args .b .now) (c .before .before .before .before .before .before .loop .i)
+    (λ e. c .if2 .taken (c .before .before .before .lower-case .ensures ∙ e ∙ sym (c .before .lower-case2 .ensures))))
 
 add-i : tie.Need-add-i Inv-loop μ-loop
 add-i c = search needs
@@ -57,7 +50,7 @@ loop-again : tie.Need-loop-again Inv-loop μ-loop
 loop-again c = (
   search needs,
   search needs,
-  below-more _ _ (c .before .before .before .before .loop .inv .2) (⊎-elim (λ w. sym (w .2 .ensures) ∙ w .5 .left ∙ w .4 .ensures) (λ w. ap lower (w .left)) (c .if2 .came)),
+  below-more _ _ (c .before .before .before .before .before .before .loop .inv .2) (sym (c .before .before .before .lower-case .ensures) ∙ c .if2 .left ∙ c .before .lower-case2 .ensures),
 )
 
 returns-3 : tie.Need-returns-3 Inv-loop μ-loop
@@ -73,8 +66,6 @@ alike-spec =
     μ-loop
     returns
     loop-holds
-    shared-slice-read-if2
-    shared-slice-read-if2-2
     shared-slice-read-lower-case
     lower-case-requires
     shared-slice-read-lower-case-2

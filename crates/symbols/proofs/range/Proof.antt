@@ -2,7 +2,7 @@
 use borrow.Author.Needs.{needs}
 use Rattle.symbols.proofs.range.Statement.{statement}
 use Rattle.symbols.proofs.range.Tie as tie
-use Rattle.symbols.proofs.Ranges.{range-fits, in-range}
+use Rattle.index.proofs.Buckets.{range-fits, in-range}
 
 shorter-requires : tie.Need-shorter-requires
 shorter-requires c κs = search needs

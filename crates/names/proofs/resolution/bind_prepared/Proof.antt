@@ -22,8 +22,11 @@ slice-relend-prefix-bind-names : tie.Need-slice-relend-prefix-bind-names
 slice-relend-prefix-bind-names c = search needs
 
 slice-aggregate-bind-names-3 : tie.Need-slice-aggregate-bind-names-3
-slice-aggregate-bind-names-3 c = part-long _ _ (omega (arith, c .before .before .before .before .before .before .before .before .before .before .before .before .before .before .before
-    .before .before .before .before .before .before .before .before .before .before .before .before .pre .0 .first-room))
+slice-aggregate-bind-names-3 c = part-long _ _ (omega (
+  arith,
+  c .before .before .before .before .before .before .before .before .before .before .before .before .before .before .before
+      .before .before .before .before .before .before .before .before .before .before .before .before .pre .0 .first-room,
+))
 
 slice-relend-prefix-bind-names-2 : tie.Need-slice-relend-prefix-bind-names-2
 slice-relend-prefix-bind-names-2 c = search needs
@@ -61,10 +64,13 @@ same-length-2 c = joined-long (c .before .before .before .before .before .before
     .before .before .before .before .before .before .before .before .before .before .before .before .before .before .before .before .before .before .before .before .before .before .before
     .before .before .before .before .before .before .before .before .before .before .before .before .before .before .before .before .before .before .before .before .before .before .args
     .first .now) (c .before .before .before .before .before .before .before .before .before .before .before .before .before .before .before .before .before .before .before .before .before
-    .before .before .before .before .before .bind-names .last .1 .1 .1 .1 .1 .1 .1 .1 .1 .1 .1 .0) (omega (arith, c .before .before .before .before .before .before .before .before .before
-    .before .before .before .before .before .before .before .before .before .before .before .before .before .before .before .before .before .before .before .before .before .before .before
-    .before .before .before .before .before .before .before .before .before .before .before .before .before .before .before .before .before .before .before .before .before .before .before
-    .before .before .before .before .before .before .before .before .before .before .pre .0 .first-room)) (c .before .before .before .before .before .before .before .before .before .before
+    .before .before .before .before .before .bind-names .last .1 .1 .1 .1 .1 .1 .1 .1 .1 .1 .1 .0) (omega (
+      arith,
+      c .before .before .before .before .before .before .before .before .before
+          .before .before .before .before .before .before .before .before .before .before .before .before .before .before .before .before .before .before .before .before .before .before .before
+          .before .before .before .before .before .before .before .before .before .before .before .before .before .before .before .before .before .before .before .before .before .before .before
+          .before .before .before .before .before .before .before .before .before .before .pre .0 .first-room,
+    )) (c .before .before .before .before .before .before .before .before .before .before
     .before .before .before .before .before .before .before .before .before .before .before .before .before .before .before .before .bind-names .kept .1 .1 .1 .1 .1 .1 .1 .1 .1 .1 .1 .0)
 
 same-length-3 : tie.Need-same-length-3

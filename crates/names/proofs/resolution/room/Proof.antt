@@ -49,18 +49,41 @@ shorter-requires-8 : tie.Need-shorter-requires-8
 shorter-requires-8 c κs = search needs
 
 returns-6 : tie.Need-returns-6
-returns-6 c = refutes (λ r. omega (arith, c .if6 .taken, c .before .before .before .before .before .before .before .before .shorter .ensures, c .before .before .before .before .before
-    .before .before .shorter2 .ensures, c .before .before .before .before .before .before .shorter3 .ensures, c .before .before .before .before .before .shorter4 .ensures, c .before .before
-    .before .before .shorter5 .ensures, r .bound-room, r .to-room, r .spellings-room, r .attributes-room, r .owners-room, r .next-room))
+returns-6 c = refutes (λ r. omega (
+  arith,
+  c .if6 .taken,
+  c .before .before .before .before .before .before .before .before .shorter .ensures,
+  c .before .before .before .before .before
+      .before .before .shorter2 .ensures,
+  c .before .before .before .before .before .before .shorter3 .ensures,
+  c .before .before .before .before .before .shorter4 .ensures,
+  c .before .before
+      .before .before .shorter5 .ensures,
+  r .bound-room,
+  r .to-room,
+  r .spellings-room,
+  r .attributes-room,
+  r .owners-room,
+  r .next-room,
+))
 
 returns-7 : tie.Need-returns-7
-returns-7 c = stage-room-decided (omega (arith, c .before .before .before .before .before .before .before .before .before .before .before .before .before .if1 .left)) (omega (arith, c
-    .before .before .before .before .before .before .before .before .before .before .before .before .if2 .left)) (c .before .before .before .before .before .before .before .before .before
-    .before .before .if3 .left) (omega (arith, c .before .before .before .before .before .before .before .before .before .before .if4 .left)) (omega (arith, c .before .before .before
-    .before .before .before .before .before .before .if5 .left)) (c .before .before .before .before .before .before .before .before .shorter .ensures) (c .before .before .before .before
+returns-7 c = stage-room-decided (omega (arith, c .before .before .before .before .before .before .before .before .before .before .before .before .before .if1 .left)) (omega (
+  arith,
+  c
+      .before .before .before .before .before .before .before .before .before .before .before .before .if2 .left,
+)) (c .before .before .before .before .before .before .before .before .before
+    .before .before .if3 .left) (omega (arith, c .before .before .before .before .before .before .before .before .before .before .if4 .left)) (omega (
+      arith,
+      c .before .before .before
+          .before .before .before .before .before .before .if5 .left,
+    )) (c .before .before .before .before .before .before .before .before .shorter .ensures) (c .before .before .before .before
     .before .before .before .shorter2 .ensures) (c .before .before .before .before .before .before .shorter3 .ensures) (c .before .before .before .before .before .shorter4 .ensures) (c
-    .before .before .before .before .shorter5 .ensures) (c .before .before .before .shorter6 .ensures) (c .before .before .shorter7 .ensures) (c .before .shorter8 .ensures) (omega (arith, c
-    .if6 .left))
+    .before .before .before .before .shorter5 .ensures) (c .before .before .before .shorter6 .ensures) (c .before .before .shorter7 .ensures) (c .before .shorter8 .ensures) (omega (
+      arith,
+      c
+          .if6 .left,
+    ))
 
 pub room-spec : {M : Type 1} → statement M
 room-spec =
