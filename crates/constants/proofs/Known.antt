@@ -17,9 +17,10 @@ use Rattle.express.specs.kinds.Evaluate.{answer-at}
 use Rattle.express.specs.kinds.Kind.{constants}
 use Rattle.evaluate.specs.Answers.{answers-in}
 use Rattle.evaluate.specs.Evaluation.{known-in}
-use Rattle.constants.specs.Constants.{row, answer-of-constant, file-answers, OfFile, Rows, Holds, WrittenRows}
-use Rattle.constants.proofs.Settled.{answer-storable}
-use Rattle.constants.proofs.Passing.{row-read}
+use Rattle.constants.specs.Constants.{file-answers, WrittenRows}
+use Rattle.schemas.specs.Rows.{row, answer-of-constant, OfFile, Rows, Holds}
+use Rattle.schemas.proofs.Settled.{answer-storable}
+use Rattle.schemas.proofs.Passing.{row-read}
 use Rattle.constants.proofs.Written.{map-there}
 
 -- what stands in the row of a constant

@@ -4,12 +4,14 @@ use mathlib.Core.Logic.{_⊎_, inl, inr, ⊎-elim}
 use mathlib.Core.List.{List, _++_}
 use Prim.Native.Nat.{ℕ, min, suc, _+_, _-_, _≤_, _<_}
 use native.Mathlib.Omega.{arith}
-use borrow.Author.Tests.{ne-eqb}
+use lib.Dec.{eqb}
 use lib.IntN.{ℤ}
 use lib.ListN.{length, getD, take, drop, length-take, length-drop, List·getD-append, List·getD-eq-default}
 use lib.Seq.{length-take-le, getD-take, getD-drop, getD-append-add}
 use Rattle.ebnf.specs.Set.{mem}
-use Rattle.relations.proofs.Select.{le-or, first-is}
+use Rattle.relations.specs.Select.{first-from}
+use Rattle.relations.proofs.Select.{le-or, First, first-is}
+use Rattle.tree.proofs.Next.{next-is}
 use Rattle.express.specs.syntax.NodeKind as node
 use Rattle.express.specs.syntax.Grammar.{file}
 use Rattle.express.specs.syntax.Syntax.{Read}
@@ -19,8 +21,9 @@ use Rattle.express.specs.kinds.Kind.{constants}
 use Rattle.express.proofs.syntax.Within.{schema-over}
 use Rattle.express.proofs.names.Owned.{in-schema}
 use Rattle.express.proofs.kinds.Backward.{schema-step, schema-end, schema-rises}
-use Rattle.constants.specs.Constants.{row, answer-of-constant, OfFile, Rows, Room, Holds, Schema, Filled, FilledRows, FillsSchema, FillsSchemas}
-use Rattle.constants.proofs.Numbering.{row-none, row-rises, row-before, row-other}
+use Rattle.constants.specs.Constants.{FillsSchemas}
+use Rattle.schemas.specs.Rows.{row, answer-of-constant, OfFile, Rows, Room, Holds, Schema, Filled, FilledRows, FillsSchema}
+use Rattle.schemas.proofs.Numbering.{row-none, row-rises, row-before, row-other}
 
 -- ---- one column, of which the part from row h on was lent
 module _ {A : Type 0} {z : A} {f : Answer → A} {t : Table} {lo n at h : ℕ} {was column part′ : List A} (post : List A) where
@@ -103,19 +106,43 @@ stage-starts t =
       same = λ c a b. let q : c ≡ 0 = omega arith in ap (schema-of t) q;
     }
 
-module _ {t : Table} {n lo at : ℕ} (S : Stage t n lo at) (l : n < count t) where
-  stage-other : (kind t n ≡ node.schema → ⊥) → Stage t (n + 1) lo at
-  stage-other k =
-      let f = S .from in
-      let q : schema-of t n ≡ schema-of t (n + 1) = schema-step t n l ∙ rw (ne-eqb (kind t n) node.schema k) in
-      record {
-        upto = omega arith;
-        from = omega arith;
-        start = S .start;
-        before = S .before;
-        same = λ c a b. ⊎-elim (λ (d : n + 1 ≤ c). let e : c ≡ n + 1 = omega arith in ap (schema-of t) e) (λ (d : c < n + 1). S .same c a (omega arith) ∙ q) (le-or (n + 1) c);
-      }
+-- the next schema ends the one in which n stands
+stage-next : {t : Table} {n lo at : ℕ} → Stage t n lo at → {m : ℕ} → m ≡ first-from (is t node.schema) n (count t - n) → Stage t m lo at
+unfolding schema-of
+stage-next {t} {n} {lo} {at} S {m} e =
+    record {
+      upto = upto;
+      from = omega (arith, S .from, beyond);
+      start = S .start;
+      before = S .before;
+      same = λ c a b. by c a b (le-or c n);
+    }
+  where
+    F : First (is t node.schema) n (count t - n) m
+    F = subst (First (is t node.schema) n (count t - n)) (sym e) (first-is (is t node.schema) n (count t - n))
 
+    beyond : n ≤ m
+    beyond = F .from
+
+    upto : m ≤ count t
+    upto = omega (arith, F .upto, S .upto)
+
+    here : schema-of t n ≡ m
+    here = sym e
+
+    itself : schema-of t m ≡ m
+    itself =
+        ⊎-elim (λ (g : count t ≤ m). let q : m ≡ count t = omega (arith, upto) in ap (schema-of t) q ∙ schema-end t ∙ sym q)
+        (λ (g : m < count t). schema-step t m g ∙ rw (F .passes (omega (arith, beyond)))) (le-or (count t) m)
+
+    by : (c : ℕ) → lo ≤ c → c ≤ m → (c ≤ n) ⊎ (n < c) → schema-of t c ≡ schema-of t m
+    by c a b (inl g) = S .same c a g ∙ here ∙ sym itself
+    by c a b (inr g) =
+        let u = schema-rises t n c (omega arith) (omega (arith, upto)) in
+        let v = schema-rises t c m b upto in
+        omega (arith, u, v, here, itself)
+
+module _ {t : Table} {n lo at : ℕ} (S : Stage t n lo at) (l : n < count t) where
   module _ (k : kind t n ≡ node.schema) where
     here : schema-of t n ≡ n
     here = schema-step t n l ∙ rw k
@@ -162,6 +189,13 @@ pub record Filling (bytes starts lengths terminals kinds tokens sizes bindings d
       (t : Table) → OfFile t bytes starts lengths terminals kinds tokens sizes bindings declared order → Rows t row-of → Room t vks₀ vzs₀ vls₀ →
       Holds (length (constants t)) aks₀ azs₀ als₀ → Stage t n lo at × FilledRows t 0 lo 0 aks₀ azs₀ als₀ aks azs als
 
+-- where a schema stands at n, unless all have passed
+pub record Here (bytes starts lengths terminals kinds tokens sizes bindings declared order row-of aks₀ : List ℕ) (azs₀ : List ℤ) (als₀ vks₀ : List ℕ) (vzs₀ : List ℤ)
+    (vls₀ aks : List ℕ) (azs : List ℤ) (als vks : List ℕ) (vzs : List ℤ) (vls : List ℕ) (n lo at : ℕ) : Type 0 where
+  pub filling :
+      Filling bytes starts lengths terminals kinds tokens sizes bindings declared order row-of aks₀ azs₀ als₀ vks₀ vzs₀ vls₀ aks azs als vks vzs vls n lo at
+  pub stands : n < length kinds → getD kinds n 0 ≡ node.schema
+
 -- a part of a column is long enough for the rows of a schema
 part-long : {A : Type 0} (t : Table) {lo n at h : ℕ} (column : List A) → h ≡ min at (length column) → at ≡ row t lo → lo ≤ n → row t n ≤ length column →
     row t n - at ≤ length (take (length column - h) (drop h column))
@@ -190,12 +224,13 @@ module _ {bytes starts lengths terminals kinds tokens sizes bindings declared or
 
   module _ {aks : List ℕ} {azs : List ℤ} {als vks : List ℕ} {vzs : List ℤ} {vls : List ℕ} {n lo at : ℕ}
       (P : Filling bytes starts lengths terminals kinds tokens sizes bindings declared order row-of aks₀ azs₀ als₀ vks₀ vzs₀ vls₀ aks azs als vks vzs vls n lo at) where
-    module _ (l : n < length kinds) where
-      pub filling-other :
-          (getD kinds n 0 ≡ node.schema → ⊥) →
-          Filling bytes starts lengths terminals kinds tokens sizes bindings declared order row-of aks₀ azs₀ als₀ vks₀ vzs₀ vls₀ aks azs als vks vzs vls (n + 1) lo at
-      filling-other k =
-          record {
+    -- the next schema
+    pub filling-next :
+        {m : ℕ} → m ≡ first-from (λ j. eqb (getD kinds j 0) node.schema) n (length kinds - n) →
+        Here bytes starts lengths terminals kinds tokens sizes bindings declared order row-of aks₀ azs₀ als₀ vks₀ vzs₀ vls₀ aks azs als vks vzs vls m lo at
+    filling-next {m} q =
+        record {
+          filling = record {
             kinds-kept = P .kinds-kept;
             numbers-kept = P .numbers-kept;
             lengths-kept = P .lengths-kept;
@@ -204,10 +239,13 @@ module _ {bytes starts lengths terminals kinds tokens sizes bindings declared or
             value-lengths-kept = P .value-lengths-kept;
             is = λ t O W M R.
                 let Q = P .is t O W M R in
-                let e = O .kinds-are in
-                (stage-other (Q .0) (rw e l) (rw e k), Q .1);
-          }
+                let e = ap (λ (ks : List ℕ). first-from (λ j. eqb (getD ks j 0) node.schema) n (length ks - n)) (O .kinds-are) in
+                (stage-next (Q .0) (q ∙ sym e), Q .1);
+          };
+          stands = next-is kinds node.schema n q;
+        }
 
+    module _ (l : n < length kinds) where
       module _ (k : getD kinds n 0 ≡ node.schema) {a b c o : ℕ} (a-is : a ≡ min at (length aks)) (b-is : b ≡ min at (length azs)) (c-is : c ≡ min at (length als)) (o-is : o ≡ getD row-of n 0)
           {aks′ : List ℕ} {azs′ : List ℤ} {als′ : List ℕ} (post₁ : List ℕ) (post₂ : List ℤ) (post₃ : List ℕ) {vks′ : List ℕ} {vzs′ : List ℤ} {vls′ : List ℕ} where
         pub filling-schema :

@@ -4,6 +4,7 @@ use mathlib.Core.Logic.{_⊎_, inl, inr, ⊎-elim}
 use mathlib.Core.Bool.{Bool, true, false, false≢true, _||_}
 use mathlib.Core.List.{List}
 use Prim.Native.Nat.{ℕ, suc, _+_, _-_, _≤_, _<_}
+use native.Mathlib.Decide.{ℕ-discrete}
 use native.Mathlib.Omega.{arith}
 use borrow.Author.Tests.{eqb-true, eqb-false, ne-eqb, lt-ltb}
 use lib.Dec.{eqb}
@@ -15,48 +16,63 @@ use Rattle.express.specs.kinds.Answer.{Answer}
 use Rattle.express.specs.kinds.Declared.{Declared, INTEGER, BOOLEAN, LOGICAL, BINARY, enumeration, other, declared-type}
 use Rattle.express.specs.kinds.DeclaredColumn.{declared-number}
 use Rattle.express.specs.kinds.Relation.{Relation}
-use Rattle.express.specs.kinds.Shape.{Sign, operator-of, sign-of, bound-of, text}
+use Rattle.express.specs.kinds.Shape.{Sign, operator-of, sign-of, bound-of, text, name-shape-in}
 use Rattle.express.specs.kinds.Operate.{combined, applied, between}
-use Rattle.express.specs.kinds.Evaluate.{held, answer-at}
+use Rattle.express.specs.kinds.Evaluate.{held, answer-in, answer-at}
 use Rattle.relations.proofs.Select.{or-cases, le-or}
 use Rattle.operations.specs.Meaning.{answer-of, is-boolean, Holds}
 use Rattle.operations.specs.Meaning as operations
 use Rattle.operations.specs.declared.Answer as code
-use Rattle.operations.specs.declared.Answer.the-variants.{Indeterminate, Item}
+use Rattle.operations.specs.declared.Answer.the-variants.{Indeterminate}
+use Rattle.operations.specs.declared.Answer.the-variants as variants
 use Rattle.operations.specs.declared.Operator as operator-type
 use Rattle.operations.proofs.Stored.{Storable, combined-storable, applied-storable, between-storable, held-storable}
 use Rattle.evaluate.specs.declared.operators.Reading.{Reading}
 use Rattle.evaluate.specs.declared.operators.Reading.the-variants.{Evaluated, Unevaluated}
 use Rattle.evaluate.specs.Operators.{reading-of, combined-by}
-use Rattle.evaluate.specs.Answers.{answers-in, Gives}
+use Rattle.operations.specs.Stored.{stored}
+use Rattle.evaluate.specs.Answers.{answers-in, Gives, Stores, Keeps}
 use Rattle.tree.specs.Children.{Child}
-use Rattle.evaluate.specs.Evaluation.{part, LiteralBytes, Leaf, Named, Combines, Intervals, Operation, Operates, Plain, Others, Answered}
-use Rattle.evaluate.proofs.Rows.{held-whole, same, nothing, whole-of}
+use Rattle.evaluate.specs.Evaluation.{part, known-in, LiteralBytes, Leaf, Named, Combines, Intervals, Operation, Operates, Plain, Others, Item, Answered, EvaluatesNode}
+use Rattle.evaluate.proofs.Rows.{held-whole, same, nothing, whole-of, stored-rows}
 use Rattle.evaluate.proofs.Nodes.{at-sign, at-operator, at-interval, at-constant, at-name, at-item, at-leaf, unbound, bound-item, bound-constant, bound-other}
 
 -- ---- names
 bound-kind : (x : ℕ) {m k : ℕ} {file-kinds : List ℕ} → m ≡ x - 1 → k ≡ getD file-kinds m 0 → (t : Table) → t .kinds ≡ file-kinds → kind t (x - 1) ≡ k
 bound-kind x M K t h = rw (h, ← M) (sym K)
 
-module _ {x : ℕ} {file-kinds row-of : List ℕ} {at : ℕ} {ks : List ℕ} {zs : List ℤ} {ls : List ℕ} where
-  pub named-unbound : x ≡ 0 → Named x file-kinds row-of at ks zs ls Indeterminate
-  named-unbound z = record { is = λ t e c f n k q. same (unbound t e c f _ n x q z) nothing }
+keeps-same :
+    {x y : Answer} {i : ℕ} {ks : List ℕ} {zs : List ℤ} {ls ks′ : List ℕ} {zs′ : List ℤ} {ls′ : List ℕ} → x ≡ y → Keeps x i ks zs ls ks′ zs′ ls′ → Keeps y i ks zs ls ks′ zs′ ls′
+keeps-same {x} {y} {i} {ks} {zs} {ls} {ks′} {zs′} {ls′} q K = subst (λ (a : Answer). Keeps a i ks zs ls ks′ zs′ ls′) q K
+
+pub an-item : {k d : ℕ} → k ≡ node.enumeration-item → d < 4294967296 → Item k d (variants.Item d)
+an-item {k} {d} h l = record { is-item = λ i. record { is = refl; whole = lt-ltb d 4294967296 l }; is-none = λ i. absurd (i h) }
+
+pub no-item : {k d : ℕ} → (k ≡ node.enumeration-item → ⊥) → Item k d Indeterminate
+no-item h = record { is-item = λ i. absurd (h i); is-none = λ i. nothing }
+
+module _ {x : ℕ} {file-kinds row-of : List ℕ} {at : ℕ} {aks : List ℕ} {azs : List ℤ} {als ks : List ℕ} {zs : List ℤ} {ls ks′ : List ℕ} {zs′ : List ℤ} {ls′ : List ℕ} {n : ℕ} where
+  pub named-unbound : x ≡ 0 → Stores (stored (answer-of Indeterminate)) n ks zs ls ks′ zs′ ls′ → Named x file-kinds row-of at aks azs als ks zs ls ks′ zs′ ls′ n
+  named-unbound z S = record { is = λ t e c f k q. record { is = stored-rows (same (unbound t e c f _ n x q z) nothing) S } }
 
   module _ (z : x ≡ 0 → ⊥) {m k : ℕ} (M : m ≡ x - 1) (K : k ≡ getD file-kinds m 0) where
-    pub named-item : k ≡ node.enumeration-item → x - 1 < 4294967296 → Named x file-kinds row-of at ks zs ls (Item (x - 1))
-    named-item i l =
-        record { is = λ t e c f n h q. same (bound-item t e c f _ n x q z (bound-kind x M K t h ∙ i)) (record { is = refl; whole = lt-ltb (x - 1) 4294967296 l }) }
-
     pub named-constant :
-        k ≡ node.constant → {o p j : ℕ} → o ≡ x - 1 → p ≡ getD row-of o 0 → j ≡ p - at → {r : code.Answer} → Gives r (answer-at (answers-in ks zs ls) j) →
-        Named x file-kinds row-of at ks zs ls r
+        k ≡ node.constant → {o p j : ℕ} → o ≡ x - 1 → p ≡ getD row-of o 0 → j ≡ p - at → Keeps (answer-at (answers-in aks azs als) j) n ks zs ls ks′ zs′ ls′ →
+        Named x file-kinds row-of at aks azs als ks zs ls ks′ zs′ ls′ n
     named-constant i {o} {p} {j} O P J G =
         let q₀ : j ≡ getD row-of (x - 1) 0 - at = J ∙ ap (λ (y : ℕ). y - at) (P ∙ ap (λ (y : ℕ). getD row-of y 0) O) in
-        record { is = λ t e c f n h q. same (ap (answer-at (answers-in ks zs ls)) q₀ ∙ bound-constant t e c f _ n x q z (bound-kind x M K t h ∙ i)) G }
+        record { is = λ t e c f h q. keeps-same (ap (answer-at (answers-in aks azs als)) q₀ ∙ bound-constant t e c f _ n x q z (bound-kind x M K t h ∙ i)) G }
 
-    pub named-other : (k ≡ node.enumeration-item → ⊥) → (k ≡ node.constant → ⊥) → Named x file-kinds row-of at ks zs ls Indeterminate
-    named-other u v =
-        record { is = λ t e c f n h q. same (bound-other t e c f _ n x q z (λ i. u (sym (bound-kind x M K t h) ∙ i)) (λ i. v (sym (bound-kind x M K t h) ∙ i))) nothing }
+    pub named-other :
+        (k ≡ node.constant → ⊥) → {r : code.Answer} → Item k (x - 1) r → Stores (stored (answer-of r)) n ks zs ls ks′ zs′ ls′ →
+        Named x file-kinds row-of at aks azs als ks zs ls ks′ zs′ ls′ n
+    named-other v {r} I S = record { is = λ t e c f h q. record { is = stored-rows (by t e c f h q (ℕ-discrete k node.enumeration-item)) S } }
+      where
+        by : (t e : Table) (c : List ℕ) (f : ℕ → Answer) → t .kinds ≡ file-kinds → getD c n 0 ≡ x → Dec (k ≡ node.enumeration-item) →
+            Gives r (answer-in e f (known-in row-of at aks azs als) n (name-shape-in t e c n))
+        by t e c f h q (yes i) = same (bound-item t e c f _ n x q z (bound-kind x M K t h ∙ i)) (I .is-item i)
+        by t e c f h q (no i) =
+            same (bound-other t e c f _ n x q z (λ g. i (sym (bound-kind x M K t h) ∙ g)) (λ g. v (sym (bound-kind x M K t h) ∙ g))) (I .is-none i)
 
 -- ---- two operands
 module _ {w : ℕ} {R : Reading} (E : reading-of R ≡ operator-of w) {x y : code.Answer} where
@@ -216,35 +232,43 @@ plain-kind k g h =
 kind-of : (n : ℕ) {k : ℕ} {kinds : List ℕ} → k ≡ getD kinds n 0 → (e : Table) → e .kinds ≡ kinds → kind e n ≡ k
 kind-of n K e h = rw h (sym K)
 
-module _ {bytes starts lengths terminals kinds tokens sizes bindings file-kinds declared row-of : List ℕ} {at : ℕ} {aks : List ℕ} {azs : List ℤ} {als ks : List ℕ}
-    {zs : List ℤ} {ls : List ℕ} {n k : ℕ} (K : k ≡ getD kinds n 0) {r : code.Answer} where
-  pub answered-name :
-      {b : Bool} → b ≡ (eqb k node.name || eqb k node.qualified-item) → b ≡ true → {x : ℕ} → x ≡ getD bindings n 0 →
-      Named x file-kinds row-of at aks azs als r →
-      Answered bytes starts lengths terminals kinds tokens sizes bindings file-kinds declared row-of at aks azs als ks zs ls n r
-  answered-name B h {x} X N =
-      record {
-        is = λ t e A.
-            let G = N .is t e bindings (answer-at (answers-in ks zs ls)) n (A .file-kinds-are) (sym X) in
-            let q = kind-of n K e (A .kinds-are) in
-            ⊎-elim (λ i. same (at-name t e bindings _ _ n (q ∙ i)) G) (λ i. same (at-item t e bindings _ _ n (q ∙ i)) G) (named-kind k (sym B ∙ h));
-      }
-
+module _ {bytes starts lengths terminals tokens sizes declared ks : List ℕ} {zs : List ℤ} {ls : List ℕ} {k n : ℕ} {r : code.Answer} where
   pub answered-operation :
       {b : Bool} → b ≡ (eqb k node.unary || (eqb k node.two-operand || eqb k node.interval)) → b ≡ true → Operates k terminals tokens sizes ks zs ls n r →
-      Answered bytes starts lengths terminals kinds tokens sizes bindings file-kinds declared row-of at aks azs als ks zs ls n r
+      Answered bytes starts lengths terminals tokens sizes declared ks zs ls k n r
   answered-operation B h O =
-      record { is = λ t e A. O .is t e bindings _ (A .terminals-are) (A .tokens-are) (A .sizes-are) (kind-of n K e (A .kinds-are)) (operation-kind k (sym B ∙ h)) }
+      record {
+        is = λ t e kinds bindings file-kinds g A q i. O .is t e bindings g (A .terminals-are) (A .tokens-are) (A .sizes-are) q (operation-kind k (sym B ∙ h));
+      }
 
   pub answered-other :
-      {b c : Bool} → b ≡ (eqb k node.name || eqb k node.qualified-item) → b ≡ false →
-      c ≡ (eqb k node.unary || (eqb k node.two-operand || eqb k node.interval)) → c ≡ false → {o d : ℕ} → o ≡ getD tokens n 0 → d ≡ getD declared n 0 →
-      Others k bytes starts lengths terminals o d ks zs ls n r →
-      Answered bytes starts lengths terminals kinds tokens sizes bindings file-kinds declared row-of at aks azs als ks zs ls n r
-  answered-other B h C i {o} {d} O D Q =
+      {c : Bool} → c ≡ (eqb k node.unary || (eqb k node.two-operand || eqb k node.interval)) → c ≡ false → {o d : ℕ} → o ≡ getD tokens n 0 → d ≡ getD declared n 0 →
+      Others k bytes starts lengths terminals o d ks zs ls n r → Answered bytes starts lengths terminals tokens sizes declared ks zs ls k n r
+  answered-other C h {o} {d} O D Q =
       record {
-        is = λ t e A.
-            let q = kind-of n K e (A .kinds-are) in
-            Q .is t e bindings _ (plain-kind k (sym B ∙ h) (sym C ∙ i)) q (A .bytes-are) (A .starts-are) (A .lengths-are) (A .terminals-are) (rw (A .tokens-are) (sym O))
+        is = λ t e kinds bindings file-kinds g A q i.
+            Q .is t e bindings g (plain-kind k i (sym C ∙ h)) q (A .bytes-are) (A .starts-are) (A .lengths-are) (A .terminals-are) (rw (A .tokens-are) (sym O))
             (λ j. D ∙ A .declares .constants n (known e n 16 (q ∙ j)) (q ∙ j)) (subst (λ (u : ℕ). LiteralBytes u (text e n)) q (A .spelled .each n));
       }
+
+-- ---- and it is kept
+module _ {bytes starts lengths terminals kinds tokens sizes bindings file-kinds declared row-of : List ℕ} {at : ℕ} {aks : List ℕ} {azs : List ℤ} {als ks : List ℕ}
+    {zs : List ℤ} {ls ks′ : List ℕ} {zs′ : List ℤ} {ls′ : List ℕ} {n k : ℕ} (K : k ≡ getD kinds n 0) {b : Bool} (B : b ≡ (eqb k node.name || eqb k node.qualified-item)) where
+  pub node-named :
+      b ≡ true → {x : ℕ} → x ≡ getD bindings n 0 → Named x file-kinds row-of at aks azs als ks zs ls ks′ zs′ ls′ n →
+      EvaluatesNode bytes starts lengths terminals kinds tokens sizes bindings file-kinds declared row-of at aks azs als ks zs ls ks′ zs′ ls′ n
+  node-named h {x} X N =
+      record {
+        is = λ t e A.
+            let f = answer-at (answers-in ks zs ls) in
+            let g = known-in row-of at aks azs als in
+            let q = kind-of n K e (A .kinds-are) in
+            keeps-same (⊎-elim (λ m. at-name t e bindings f g n (q ∙ m)) (λ m. at-item t e bindings f g n (q ∙ m)) (named-kind k (sym B ∙ h)))
+            (N .is t e bindings f (A .file-kinds-are) (sym X));
+      }
+
+  pub node-answered :
+      b ≡ false → {r : code.Answer} → Answered bytes starts lengths terminals tokens sizes declared ks zs ls k n r → Stores (stored (answer-of r)) n ks zs ls ks′ zs′ ls′ →
+      EvaluatesNode bytes starts lengths terminals kinds tokens sizes bindings file-kinds declared row-of at aks azs als ks zs ls ks′ zs′ ls′ n
+  node-answered h N S =
+      record { is = λ t e A. record { is = stored-rows (N .is t e kinds bindings file-kinds _ A (kind-of n K e (A .kinds-are)) (sym B ∙ h)) S } }

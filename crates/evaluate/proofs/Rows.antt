@@ -1,8 +1,9 @@
 -- Answers in the rows of three columns: what is read at a row, and what storing one leaves.
 use mathlib.Core.Path.{_≡_, refl, sym, ap, subst, _∙_}
+use mathlib.Core.Logic.{_⊎_, inl, inr}
 use mathlib.Core.Bool.{Bool, true, false, cond}
 use mathlib.Core.List.{List, [], _∷_}
-use Prim.Native.Nat.{ℕ, zero, suc, _≤_, _<_}
+use Prim.Native.Nat.{ℕ, min, zero, suc, _≤_, _<_}
 use native.Mathlib.Omega.{arith}
 use lib.IntN.{ℤ, pos}
 use lib.ListN.{length, getD, set}
@@ -15,7 +16,8 @@ use Rattle.operations.specs.declared.Answer as operations
 use Rattle.operations.specs.declared.Answer.the-variants.{Indeterminate}
 use Rattle.operations.specs.declared.rows.Row.{Row}
 use Rattle.operations.proofs.Stored.{Storable, kept, row-back}
-use Rattle.evaluate.specs.Answers.{answers-in, Gives, Stores}
+use Rattle.evaluate.specs.Answers.{answers-in, Gives, Stores, Keeps}
+use Rattle.relations.proofs.Select.{le-or}
 
 stored-storable : (a : Answer) → storable (stored a) ≡ true
 stored-storable a = by (storable a) refl
@@ -146,3 +148,25 @@ module _ {a : operations.Answer} {x : Answer} (g : Gives a x) where
       rw (S .kinds-are, S .numbers-are, S .lengths-are)
       (set-rows ks zs ls i (row-of y .kind) (row-of y .number) (row-of y .length) ∙
       ap (λ (v : Answer). set (answers-in ks zs ls) i (stored (row-answer (row-of v)))) made ∙ ap (set (answers-in ks zs ls) i) back)
+
+-- ---- copying a row
+module _ (aks : List ℕ) (azs : List ℤ) (als : List ℕ) (i : ℕ) {ks : List ℕ} {zs : List ℤ} {ls ks′ : List ℕ} {zs′ : List ℤ} {ls′ : List ℕ} {n : ℕ} where
+  pub copies :
+      i < length aks → i < length azs → i < length als → {z : ℤ} → z ≡ getD azs i (pos 0) →
+      ks′ ≡ set ks n (getD aks i 0) → zs′ ≡ set zs n z → ls′ ≡ set ls n (getD als i 0) → Keeps (answer-at (answers-in aks azs als) i) n ks zs ls ks′ zs′ ls′
+  copies a b c {z} q p s u =
+      record {
+        is = rw (p, s, u)
+            (set-rows ks zs ls n (getD aks i 0) z (getD als i 0) ∙
+            ap (set (answers-in ks zs ls) n) (ap (λ (y : ℤ). stored (row-answer (row (getD aks i 0) y (getD als i 0)))) q ∙ sym (row-there aks azs als i a b c)));
+      }
+
+  pub copies-none :
+      {m : ℕ} → m ≡ min (length aks) (min (length azs) (length als)) → m ≤ i → Stores (stored (answer-of Indeterminate)) n ks zs ls ks′ zs′ ls′ →
+      Keeps (answer-at (answers-in aks azs als) i) n ks zs ls ks′ zs′ ls′
+  copies-none e l S = record { is = stored-rows (by (le-or (length aks) i) (le-or (length azs) i)) S }
+    where
+      by : (length aks ≤ i) ⊎ (i < length aks) → (length azs ≤ i) ⊎ (i < length azs) → Gives Indeterminate (answer-at (answers-in aks azs als) i)
+      by (inl h) g = no-kind aks azs als i h
+      by (inr h) (inl g) = no-number aks azs als i g
+      by (inr h) (inr g) = no-length aks azs als i (omega (arith, e, l))

@@ -3,19 +3,15 @@ use mathlib.Core.Path.{_≡_, refl, sym, ap, _∙_}
 use mathlib.Core.List.{List}
 use Prim.Native.Nat.{ℕ, _+_, _-_, _≤_, _<_}
 use lib.IntN.{ℤ}
-use lib.ListN.{length, set, length-set}
+use lib.ListN.{length, set}
 use Rattle.relations.specs.Select.{span}
 use Rattle.relations.proofs.Select.{span-step, span-end}
 use Rattle.express.specs.syntax.Tree.{Table}
 use Rattle.express.specs.kinds.Answer.{Answer}
 use Rattle.express.specs.kinds.Shape.{shape-in}
 use Rattle.express.specs.kinds.Evaluate.{answer-in, answer-at, run-in}
-use Rattle.operations.specs.Meaning.{answer-of}
-use Rattle.operations.specs.Stored.{stored}
-use Rattle.operations.specs.declared.Answer as code
-use Rattle.evaluate.specs.Answers.{answers-in, Stores}
-use Rattle.evaluate.specs.Evaluation.{known-in, Against, Answered, EvaluatesNodes}
-use Rattle.evaluate.proofs.Rows.{stored-rows}
+use Rattle.evaluate.specs.Answers.{answers-in}
+use Rattle.evaluate.specs.Evaluation.{known-in, Against, EvaluatesNode, EvaluatesNodes}
 
 module _ (t e : Table) (c : List ℕ) (g : ℕ → Answer) (hi n : ℕ) (xs : List Answer) where
   here : n < hi → run-in t e c g (span n (hi - n)) xs ≡ run-in t e c g (span (n + 1) (hi - (n + 1))) (set xs n (answer-in e (answer-at xs) g n (shape-in t e c n)))
@@ -45,16 +41,17 @@ module _ {bytes starts lengths terminals kinds tokens sizes bindings : List ℕ}
   module _ {ks₀ : List ℕ} {zs₀ : List ℤ} {ls₀ ks : List ℕ} {zs : List ℤ} {ls : List ℕ} {n : ℕ} (G : Going bytes starts lengths terminals kinds tokens
       sizes bindings lo hi file-kinds declared row-of at aks azs als ks₀ zs₀ ls₀ ks zs ls n) where
     pub going-on :
-        n < hi → {r : code.Answer} → Answered bytes starts lengths terminals kinds tokens sizes bindings file-kinds declared row-of at aks azs als ks zs ls n r →
-        {ks′ : List ℕ} {zs′ : List ℤ} {ls′ : List ℕ} → Stores (stored (answer-of r)) n ks zs ls ks′ zs′ ls′ → Going bytes starts lengths terminals
-        kinds tokens sizes bindings lo hi file-kinds declared row-of at aks azs als ks₀ zs₀ ls₀ ks′ zs′ ls′ (n + 1)
-    going-on l N S =
+        n < hi → {ks′ : List ℕ} {zs′ : List ℤ} {ls′ : List ℕ} →
+        EvaluatesNode bytes starts lengths terminals kinds tokens sizes bindings file-kinds declared row-of at aks azs als ks zs ls ks′ zs′ ls′ n →
+        length ks′ ≡ length ks → length zs′ ≡ length zs → length ls′ ≡ length ls →
+        Going bytes starts lengths terminals kinds tokens sizes bindings lo hi file-kinds declared row-of at aks azs als ks₀ zs₀ ls₀ ks′ zs′ ls′ (n + 1)
+    going-on l N p q r =
         record {
-          kinds-kept = ap length (S .kinds-are) ∙ length-set ks n _ ∙ G .kinds-kept;
-          numbers-kept = ap length (S .numbers-are) ∙ length-set zs n _ ∙ G .numbers-kept;
-          lengths-kept = ap length (S .lengths-are) ∙ length-set ls n _ ∙ G .lengths-kept;
+          kinds-kept = p ∙ G .kinds-kept;
+          numbers-kept = q ∙ G .numbers-kept;
+          lengths-kept = r ∙ G .lengths-kept;
           is = λ t e A.
-              ap (run-in t e bindings (known-in row-of at aks azs als) (span (n + 1) (hi - (n + 1)))) (stored-rows (N .is t e A) S) ∙
+              ap (run-in t e bindings (known-in row-of at aks azs als) (span (n + 1) (hi - (n + 1)))) (N .is t e A .is) ∙
               sym (here t e bindings (known-in row-of at aks azs als) hi n (answers-in ks zs ls) l) ∙ G .is t e A;
         }
 

@@ -28,3 +28,7 @@ pub record Stores (a : Answer) (i : ℕ) (kinds : List ℕ) (numbers : List ℤ)
   pub kinds-are : kinds′ ≡ set kinds i (row-of a .kind)
   pub numbers-are : numbers′ ≡ set numbers i (row-of a .number)
   pub lengths-are : lengths′ ≡ set lengths i (row-of a .length)
+
+-- a stands in row i of the answers that the columns hold, as far as they reach; the others are as they were
+pub record Keeps (a : Answer) (i : ℕ) (kinds : List ℕ) (numbers : List ℤ) (lengths kinds′ : List ℕ) (numbers′ : List ℤ) (lengths′ : List ℕ) : Type 0 where
+  pub is : answers-in kinds′ numbers′ lengths′ ≡ set (answers-in kinds numbers lengths) i a

@@ -1,6 +1,6 @@
 -- The evaluation of one expression against a file (K12 to K26).
 use mathlib.Core.Path.{_≡_}
-use mathlib.Core.Bool.{cond}
+use mathlib.Core.Bool.{false, cond, _||_}
 use mathlib.Core.List.{List}
 use mathlib.Core.Logic.{_⊎_}
 use Prim.Native.Nat.{ℕ, _-_, _^_, _≤_, _<_}
@@ -11,7 +11,7 @@ use Rattle.relations.specs.Select.{span}
 use Rattle.express.specs.tokens.Lexis.{integer-value, binary-bits, binary-value}
 use Rattle.express.specs.syntax.NodeKind as node
 use Rattle.express.specs.syntax.Tree.{Table, kind, terminal, last, upper, lower, middle, low}
-use Rattle.express.specs.kinds.Answer.{Answer, indeterminate, integer, logical, binary}
+use Rattle.express.specs.kinds.Answer.{Answer, indeterminate, integer, logical, binary, item}
 use Rattle.express.specs.kinds.Bits.{number}
 use Rattle.express.specs.kinds.DeclaredColumn.{DeclaredColumn, declared-number}
 use Rattle.express.specs.kinds.Declared.{declared-type}
@@ -20,7 +20,7 @@ use Rattle.express.specs.kinds.Operate.{between}
 use Rattle.express.specs.kinds.Evaluate.{answer-in, answer-at, run-in}
 use Rattle.operations.specs.declared.Answer as operations
 use Rattle.evaluate.specs.Operators.{combined-by}
-use Rattle.evaluate.specs.Answers.{answers-in, Gives}
+use Rattle.evaluate.specs.Answers.{answers-in, Gives, Keeps}
 
 -- the bytes of a token that starts at p and has n bytes
 abbrev pub part : List ℕ → ℕ → ℕ → List ℕ
@@ -53,11 +53,17 @@ leaf-answer k w s =
 pub record Leaf (k w : ℕ) (s : List ℕ) (r : operations.Answer) : Type 0 where
   pub is : LiteralBytes k s → Gives r (leaf-answer k w s)
 
--- K13: a name, by what it is bound to
-pub record Named (binding : ℕ) (file-kinds row-of : List ℕ) (at : ℕ) (kinds : List ℕ) (numbers : List ℤ) (lengths : List ℕ) (r : operations.Answer) : Type 0 where
+-- K13: an item by its node d; no other declaration but a constant has an answer
+pub record Item (k d : ℕ) (r : operations.Answer) : Type 0 where
+  pub is-item : k ≡ node.enumeration-item → Gives r (item d)
+  pub is-none : (k ≡ node.enumeration-item → ⊥) → Gives r indeterminate
+
+-- K13: the answer of a name, by what it is bound to, is kept
+pub record Named (binding : ℕ) (file-kinds row-of : List ℕ) (at : ℕ) (kinds : List ℕ) (numbers : List ℤ) (lengths value-kinds : List ℕ) (value-numbers : List ℤ)
+    (value-lengths value-kinds′ : List ℕ) (value-numbers′ : List ℤ) (value-lengths′ : List ℕ) (n : ℕ) : Type 0 where
   pub is :
-      (t e : Table) (c : List ℕ) (f : ℕ → Answer) (n : ℕ) → t .kinds ≡ file-kinds → getD c n 0 ≡ binding →
-      Gives r (answer-in e f (known-in row-of at kinds numbers lengths) n (name-shape-in t e c n))
+      (t e : Table) (c : List ℕ) (f : ℕ → Answer) → t .kinds ≡ file-kinds → getD c n 0 ≡ binding →
+      Keeps (answer-in e f (known-in row-of at kinds numbers lengths) n (name-shape-in t e c n)) n value-kinds value-numbers value-lengths value-kinds′ value-numbers′ value-lengths′
 
 -- K14 to K24: two operands
 pub record Combines (w : ℕ) (x y r : operations.Answer) : Type 0 where
@@ -111,13 +117,22 @@ pub record Against (t e : Table) (bytes starts lengths terminals kinds tokens si
   pub declares : DeclaredColumn e bindings declared
   pub spelled : Spelled e
 
+-- THE ANSWER OF A NODE of kind k that is no name, from the answers that the columns of values hold
+pub record Answered (bytes starts lengths terminals tokens sizes declared value-kinds : List ℕ) (value-numbers : List ℤ) (value-lengths : List ℕ) (k n : ℕ) (r : operations.Answer)
+    : Type 0 where
+  pub is :
+      (t e : Table) (kinds bindings file-kinds : List ℕ) (g : ℕ → Answer) → Against t e bytes starts lengths terminals kinds tokens sizes bindings file-kinds declared →
+      kind e n ≡ k → (eqb k node.name || eqb k node.qualified-item) ≡ false →
+      Gives r (answer-in e (answer-at (answers-in value-kinds value-numbers value-lengths)) g n (shape-in t e bindings n))
+
 module _ (bytes starts lengths terminals kinds tokens sizes bindings : List ℕ) where
-  -- THE ANSWER OF A NODE, from the answers that the columns of values hold, and those of the constants
-  pub record Answered (file-kinds declared row-of : List ℕ) (at : ℕ) (answer-kinds : List ℕ) (answer-numbers : List ℤ) (answer-lengths value-kinds : List ℕ)
-      (value-numbers : List ℤ) (value-lengths : List ℕ) (n : ℕ) (r : operations.Answer) : Type 0 where
+  -- THE ANSWER OF A NODE, by those and by the answers of the constants, is kept for its parent
+  pub record EvaluatesNode (file-kinds declared row-of : List ℕ) (at : ℕ) (answer-kinds : List ℕ) (answer-numbers : List ℤ) (answer-lengths value-kinds : List ℕ)
+      (value-numbers : List ℤ) (value-lengths value-kinds′ : List ℕ) (value-numbers′ : List ℤ) (value-lengths′ : List ℕ) (n : ℕ) : Type 0 where
     pub is :
         (t e : Table) → Against t e bytes starts lengths terminals kinds tokens sizes bindings file-kinds declared →
-        Gives r (answer-in e (answer-at (answers-in value-kinds value-numbers value-lengths)) (known-in row-of at answer-kinds answer-numbers answer-lengths) n (shape-in t e bindings n))
+        Keeps (answer-in e (answer-at (answers-in value-kinds value-numbers value-lengths)) (known-in row-of at answer-kinds answer-numbers answer-lengths) n (shape-in t e bindings n))
+        n value-kinds value-numbers value-lengths value-kinds′ value-numbers′ value-lengths′
 
   -- THE EVALUATION OF AN EXPRESSION, its nodes from lo up to hi: from the answers that the columns of values held to those that they hold afterwards
   pub record EvaluatesNodes (lo hi : ℕ) (file-kinds declared row-of : List ℕ) (at : ℕ) (answer-kinds : List ℕ) (answer-numbers : List ℤ) (answer-lengths value-kinds : List ℕ)

@@ -10,8 +10,8 @@ ghost use Rattle.express.specs.syntax.NodeKind as node;
 ghost use Rattle.express.specs.kinds.Evaluate.{answer-at};
 ghost use Rattle.operations.specs.Meaning.{answer-of};
 ghost use Rattle.operations.specs.Stored.{stored};
-ghost use Rattle.evaluate.specs.Answers.{Gives, Stores, answers-in};
-ghost use Rattle.evaluate.specs.Evaluation.{part, IntegerRead, BinaryRead, Leaf, Named, Combines, Intervals, Operates, Others, Answered, EvaluatesNodes};
+ghost use Rattle.evaluate.specs.Answers.{Gives, Stores, Keeps, answers-in};
+ghost use Rattle.evaluate.specs.Evaluation.{part, IntegerRead, BinaryRead, Leaf, Named, Combines, Intervals, Operates, Others, Item, Answered, EvaluatesNode, EvaluatesNodes};
 use crate::operators::Reading;
 use crate::operators::bound;
 use crate::operators::logical;
@@ -25,8 +25,8 @@ use operations::combined;
 use operations::held;
 use operations::rows::answer_of_row;
 use operations::rows::row_of;
-use tree::at32;
 use tree::at8;
+use tree::at32;
 use tree::index_at;
 use tree::last;
 use tree::left;
@@ -61,6 +61,37 @@ pub fn put_answer(kinds: &mut [u8], numbers: &mut [i64], lengths: &mut [u8], i: 
     columns::put8(kinds, i, row.kind);
     columns::put64(numbers, i, row.number);
     columns::put8(lengths, i, row.length);
+}
+
+// Copies row i of some columns to row n of others; past the end of the former stands the row of `?`.
+fn copy_row(
+    kinds: &[u8],
+    numbers: &[i64],
+    lengths: &[u8],
+    i: usize,
+    value_kinds: &mut [u8],
+    value_numbers: &mut [i64],
+    value_lengths: &mut [u8],
+    n: usize,
+)
+    ensures { λ _. ⌜ Keeps (answer-at (answers-in (now (kinds .entry)) (now (numbers .entry)) (now (lengths .entry))) i) n
+        (now («value_kinds» .entry)) (now («value_numbers» .entry)) (now («value_lengths» .entry))
+        (now («value_kinds» .exit)) (now («value_numbers» .exit)) (now («value_lengths» .exit)) ⌝ }
+{
+    let rows = columns::shorter(kinds.len(), columns::shorter(numbers.len(), lengths.len()));
+    if i >= rows {
+        put_answer(
+            value_kinds,
+            value_numbers,
+            value_lengths,
+            n,
+            Answer::Indeterminate,
+        );
+        return;
+    }
+    columns::put8(value_kinds, n, kinds[i]);
+    columns::put64(value_numbers, n, numbers[i]);
+    columns::put8(value_lengths, n, lengths[i]);
 }
 
 // The terminal of a node's naming token.
@@ -112,8 +143,18 @@ fn leaf(kind: u8, terminal: u8, src: &[u8], start: usize, length: usize) -> Answ
     Answer::Indeterminate
 }
 
-// A name by what it is bound to: an item, or a constant, whose answer is read by its row.
-fn named(
+// An item by its node; no other declaration but a constant has an answer.
+fn item(kind: u8, d: u32) -> Answer
+    ensures { λ r. ⌜ Item kind d r ⌝ }
+{
+    if kind == codes::nodes::ITEM {
+        return Answer::Item(d);
+    }
+    Answer::Indeterminate
+}
+
+// Keeps the answer of a name, by what it is bound to: that of a constant is copied from its row.
+fn store_named(
     binding: u32,
     file_kinds: &[u8],
     row_of: &[u32],
@@ -121,23 +162,43 @@ fn named(
     answer_kinds: &[u8],
     answer_numbers: &[i64],
     answer_lengths: &[u8],
-) -> Answer
-    ensures { λ r. ⌜ Named binding (now («file_kinds» .entry)) (now («row_of» .entry)) at
-        (now («answer_kinds» .entry)) (now («answer_numbers» .entry)) (now («answer_lengths» .entry)) r ⌝ }
+    value_kinds: &mut [u8],
+    value_numbers: &mut [i64],
+    value_lengths: &mut [u8],
+    n: usize,
+)
+    ensures { λ _. ⌜ Named binding (now («file_kinds» .entry)) (now («row_of» .entry)) at
+        (now («answer_kinds» .entry)) (now («answer_numbers» .entry)) (now («answer_lengths» .entry))
+        (now («value_kinds» .entry)) (now («value_numbers» .entry)) (now («value_lengths» .entry))
+        (now («value_kinds» .exit)) (now («value_numbers» .exit)) (now («value_lengths» .exit)) n ⌝ }
 {
     if binding == 0 {
-        return Answer::Indeterminate;
+        put_answer(
+            value_kinds,
+            value_numbers,
+            value_lengths,
+            n,
+            Answer::Indeterminate,
+        );
+        return;
     }
     let d = binding - 1;
     let kind = at8(file_kinds, columns::index(d));
-    if kind == codes::nodes::ITEM {
-        return Answer::Item(d);
-    }
     if kind == codes::nodes::CONSTANT {
         let row = columns::saturating_sub(index_at(row_of, columns::index(d)), at);
-        return answer_at(answer_kinds, answer_numbers, answer_lengths, row);
+        copy_row(
+            answer_kinds,
+            answer_numbers,
+            answer_lengths,
+            row,
+            value_kinds,
+            value_numbers,
+            value_lengths,
+            n,
+        );
+        return;
     }
-    Answer::Indeterminate
+    put_answer(value_kinds, value_numbers, value_lengths, n, item(kind, d));
 }
 
 // Two operands; `/` is not evaluated.
@@ -260,45 +321,24 @@ fn is_name(kind: u8) -> bool
     kind == codes::nodes::QUALIFIED_ITEM
 }
 
-// The answer of a node.
+// The answer of a node that is no name.
 fn answered(
     src: &[u8],
     starts: &[u32],
     lengths: &[u32],
     terminals: &[u8],
-    kinds: &[u8],
     tokens: &[u32],
     sizes: &[u32],
-    bindings: &[u32],
-    file_kinds: &[u8],
     declared: &[u32],
-    row_of: &[u32],
-    at: usize,
-    answer_kinds: &[u8],
-    answer_numbers: &[i64],
-    answer_lengths: &[u8],
     value_kinds: &[u8],
     value_numbers: &[i64],
     value_lengths: &[u8],
+    kind: u8,
     n: usize,
 ) -> Answer
-    ensures { λ r. ⌜ Answered (now (src .entry)) (now (starts .entry)) (now (lengths .entry)) (now (terminals .entry)) (now (kinds .entry))
-        (now (tokens .entry)) (now (sizes .entry)) (now (bindings .entry))
-        (now («file_kinds» .entry)) (now (declared .entry)) (now («row_of» .entry)) at (now («answer_kinds» .entry)) (now («answer_numbers» .entry)) (now («answer_lengths» .entry))
-        (now («value_kinds» .entry)) (now («value_numbers» .entry)) (now («value_lengths» .entry)) n r ⌝ }
+    ensures { λ r. ⌜ Answered (now (src .entry)) (now (starts .entry)) (now (lengths .entry)) (now (terminals .entry)) (now (tokens .entry)) (now (sizes .entry))
+        (now (declared .entry)) (now («value_kinds» .entry)) (now («value_numbers» .entry)) (now («value_lengths» .entry)) kind n r ⌝ }
 {
-    let kind = at8(kinds, n);
-    if is_name(kind) {
-        return named(
-            at32(bindings, n),
-            file_kinds,
-            row_of,
-            at,
-            answer_kinds,
-            answer_numbers,
-            answer_lengths,
-        );
-    }
     if is_operation(kind) {
         return operation(
             kind,
@@ -324,6 +364,68 @@ fn answered(
         value_lengths,
         n,
     )
+}
+
+// Keeps the answer of a node for its parent.
+fn evaluate_node(
+    src: &[u8],
+    starts: &[u32],
+    lengths: &[u32],
+    terminals: &[u8],
+    kinds: &[u8],
+    tokens: &[u32],
+    sizes: &[u32],
+    bindings: &[u32],
+    file_kinds: &[u8],
+    declared: &[u32],
+    row_of: &[u32],
+    at: usize,
+    answer_kinds: &[u8],
+    answer_numbers: &[i64],
+    answer_lengths: &[u8],
+    value_kinds: &mut [u8],
+    value_numbers: &mut [i64],
+    value_lengths: &mut [u8],
+    n: usize,
+)
+    ensures { λ _. ⌜ EvaluatesNode (now (src .entry)) (now (starts .entry)) (now (lengths .entry)) (now (terminals .entry)) (now (kinds .entry))
+        (now (tokens .entry)) (now (sizes .entry)) (now (bindings .entry))
+        (now («file_kinds» .entry)) (now (declared .entry)) (now («row_of» .entry)) at (now («answer_kinds» .entry)) (now («answer_numbers» .entry)) (now («answer_lengths» .entry))
+        (now («value_kinds» .entry)) (now («value_numbers» .entry)) (now («value_lengths» .entry))
+        (now («value_kinds» .exit)) (now («value_numbers» .exit)) (now («value_lengths» .exit)) n ⌝ }
+{
+    let kind = at8(kinds, n);
+    if is_name(kind) {
+        store_named(
+            at32(bindings, n),
+            file_kinds,
+            row_of,
+            at,
+            answer_kinds,
+            answer_numbers,
+            answer_lengths,
+            value_kinds,
+            value_numbers,
+            value_lengths,
+            n,
+        );
+        return;
+    }
+    let answer = answered(
+        src,
+        starts,
+        lengths,
+        terminals,
+        tokens,
+        sizes,
+        declared,
+        value_kinds,
+        value_numbers,
+        value_lengths,
+        kind,
+        n,
+    );
+    put_answer(value_kinds, value_numbers, value_lengths, n, answer);
 }
 
 // Evaluates the nodes from lo up to hi, hi itself not, of an expression against a file; the answer of each is kept for its parent.
@@ -357,7 +459,7 @@ pub fn evaluate_expression(
 {
     let mut n = lo;
     while n < hi {
-        let answer = answered(
+        evaluate_node(
             src,
             starts,
             lengths,
@@ -378,7 +480,6 @@ pub fn evaluate_expression(
             value_lengths,
             n,
         );
-        put_answer(value_kinds, value_numbers, value_lengths, n, answer);
         n += 1;
     }
 }

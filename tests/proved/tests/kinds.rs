@@ -478,6 +478,33 @@ fn mixed_order(file: &Named, rng: &mut Rng) -> Vec<u32> {
     order
 }
 
+/// Schemas of the same names, each with up to seven constants, of which each names the next; the last one's value is the
+/// schema's number.
+fn many_schemas(schemas: usize) -> Vec<u8> {
+    let schema = |i: usize| {
+        let constants: Vec<String> = (1..i % 8).map(|j| format!("c{j} : INTEGER := c{} + {i};", j + 1)).collect();
+        let last = format!("c{} : INTEGER := {i};", (i % 8).max(1));
+        format!("SCHEMA s{i}; CONSTANT {} {last} END_CONSTANT; END_SCHEMA;", constants.join(" "))
+    };
+    (0..schemas).map(schema).collect::<String>().into_bytes()
+}
+
+#[test]
+fn files_of_many_schemas() {
+    for schemas in [1, 2, 9, 100, 300] {
+        let file = named(&many_schemas(schemas)).expect("names");
+        let answers = file.answers.as_ref().expect("answers");
+        // The first constant of schema i has the sum of i as often as the schema has constants.
+        let firsts = (0..schemas).map(|i| (i * (i % 8).max(1)) as i64);
+        let starts = (0..schemas).map(|i| (0..i).map(|i| (i % 8).max(1)).sum::<usize>());
+        assert!(firsts.zip(starts).all(|(first, row)| answers[row] == AnswerRow { kind: 1, number: first, length: 0 }));
+        [0, 3].into_iter().for_each(|spare| hold_with(&file, spare));
+        let mut declared = column(file.kinds.len());
+        declared_types(file.nodes(), &file.type_order, &mut declared);
+        (0..20).for_each(|seed| hold_answers(&file, &declared, &mixed_order(&file, &mut Rng::new(seed)), 0));
+    }
+}
+
 #[test]
 fn constants_in_other_orders() {
     let mut moved = 0;

@@ -35,7 +35,9 @@ loop-less : tie.Need-loop-less Inv-loop μ-loop
 loop-less c = search needs
 
 loop-again : tie.Need-loop-again Inv-loop μ-loop
-loop-again c = along-read _ _ (c .before .before .before .before .before .before .loop-test .taken) (c .before .before .before .before .before .before .before .loop .inv) (c .before .before .store-constant .kept .1 .1 .1 .1 .1 .0) (c .before .before .before .before .index .ensures) (c .before .before .store-constant .ensures)
+loop-again c = along-read _ _ (c .before .before .before .before .before .before .loop-test .taken) (c .before .before .before .before .before .before
+    .before .loop .inv) (c .before .before .store-constant .kept .1 .1 .1 .1 .1 .0) (c .before .before .before .before .index .ensures) (c .before
+    .before .store-constant .ensures)
 
 same-length : tie.Need-same-length Inv-loop μ-loop
 same-length c = c .before .loop .inv .long

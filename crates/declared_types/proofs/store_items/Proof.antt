@@ -33,7 +33,8 @@ loop-less : tie.Need-loop-less Inv-loop μ-loop
 loop-less c = search needs
 
 loop-again : tie.Need-loop-again Inv-loop μ-loop
-loop-again c = along-goes-on _ _ (c .before .before .before .before .before .loop-test .taken) (c .before .before .before .before .before .before .loop .inv) (c .before .before .store-items-of .kept .1 .1 .0) (c .before .before .store-items-of .ensures)
+loop-again c = along-goes-on _ _ (c .before .before .before .before .before .loop-test .taken) (c .before .before .before .before .before .before
+    .loop .inv) (c .before .before .store-items-of .kept .1 .1 .0) (c .before .before .store-items-of .ensures)
 
 same-length : tie.Need-same-length Inv-loop μ-loop
 same-length c = c .before .loop .inv .long

@@ -34,21 +34,32 @@ store-item-requires : tie.Need-store-item-requires Inv-loop μ-loop
 store-item-requires c κs = search needs
 
 add-i : tie.Need-add-i Inv-loop μ-loop
-add-i c = omega (arith, c .before .before .before .before .before .loop-test .taken, c .before .before .before .before .before .before .before .before .before .before .index .ensures, c .before .before .before .before .before .before .before .before .before .before .before .before .before .before .fits .node)
+add-i c = omega (
+  arith,
+  c .before .before .before .before .before .loop-test .taken,
+  c .before .before .before .before .before .before .before .before
+      .before .before .index .ensures,
+  c .before .before .before .before .before .before .before .before .before .before .before .before .before .before
+      .fits .node,
+)
 
 loop-less : tie.Need-loop-less Inv-loop μ-loop
 loop-less c = omega (arith, c .before .before .before .before .before .loop-test .taken)
 
 loop-again : tie.Need-loop-again Inv-loop μ-loop
 loop-again c =
-    item-goes-on (c .before .before .before .before .before .before .before .before .before .before .before .before .before .before .args .kinds .now) (c .before .before .before .before .before .before .before .before .before .before .before .before .before .before .args .sizes .now) (c .before .before .before .before .before .loop-test .taken) (c .before .before .before .before .before .before .loop .inv) (c .before .before .store-item .kept .1 .0) (c .before .before .before .before .at82 .ensures)
+    item-goes-on (c .before .before .before .before .before .before .before .before .before .before .before .before .before .before .args .kinds .now)
+    (c .before .before .before .before .before .before .before .before .before .before .before .before .before .before .args .sizes .now) (c .before
+    .before .before .before .before .loop-test .taken) (c .before .before .before .before .before .before .loop .inv) (c .before .before .store-item
+    .kept .1 .0) (c .before .before .before .before .at82 .ensures)
     (c .before .before .store-item .ensures)
 
 same-length : tie.Need-same-length Inv-loop μ-loop
 same-length c = c .before .loop .inv .long
 
 returns-2 : tie.Need-returns-2 Inv-loop μ-loop
-returns-2 c = items-of-type _ _ _ _ (c .before .before .before .before .before .index .ensures) (c .before .before .before .before .at8 .ensures) (c .before .before .before .if1 .left) (c .before .before .first-node .ensures) (up-ends _ _ _ (c .loop-test .left) (c .before .loop .inv))
+returns-2 c = items-of-type _ _ _ _ (c .before .before .before .before .before .index .ensures) (c .before .before .before .before .at8 .ensures) (c
+    .before .before .before .if1 .left) (c .before .before .first-node .ensures) (up-ends _ _ _ (c .loop-test .left) (c .before .loop .inv))
 
 pub store-items-of-spec : {M : Type 1} → statement M
 store-items-of-spec =

@@ -1,20 +1,16 @@
 -- `evaluate::evaluate_expression` meets its contract: what is left to evaluate comes to the same at every turn. Assumes nothing.
 use Rattle.evaluate.proofs.evaluate_expression.Statement.{statement}
 use Rattle.evaluate.proofs.evaluate_expression.Tie as tie
-use Rattle.evaluate.proofs.evaluate_expression.Reads as reads
-use Rattle.evaluate.proofs.evaluate_expression.Lts as lts
-use Rattle.evaluate.proofs.answered.Reads as answered-reads
-use Rattle.evaluate.proofs.put_answer.Reads as put-answer-reads
 use borrow.Author.Needs.{needs}
-use Rattle.evaluate.proofs.Walking.{Going, going-starts, going-on, going-ends}
 use Prim.Native.Nat.{_-_}
 use native.Mathlib.Omega.{arith}
+use Rattle.evaluate.proofs.Walking.{Going, going-starts, going-on, going-ends}
 
 abbrev Inv-loop : tie.InvT-loop
 Inv-loop src starts lengths terminals kinds tokens sizes bindings lo hi file-kinds declared row-of at answer-kinds answer-numbers answer-lengths
-    value-kinds₀ value-numbers₀ value-lengths₀ n₀ value-kinds value-numbers value-lengths n = Going src starts lengths terminals kinds tokens sizes
-    bindings lo hi file-kinds declared row-of at answer-kinds answer-numbers answer-lengths value-kinds₀ value-numbers₀ value-lengths₀ value-kinds
-    value-numbers value-lengths n
+    value-kinds₀ value-numbers₀ value-lengths₀ n₀ value-kinds value-numbers value-lengths n =
+    Going src starts lengths terminals kinds tokens sizes bindings lo hi file-kinds declared row-of at answer-kinds answer-numbers answer-lengths
+    value-kinds₀ value-numbers₀ value-lengths₀ value-kinds value-numbers value-lengths n
 
 abbrev μ-loop : tie.MeasureT-loop
 μ-loop src starts lengths terminals kinds tokens sizes bindings lo hi file-kinds declared row-of at answer-kinds answer-numbers answer-lengths
@@ -23,32 +19,25 @@ abbrev μ-loop : tie.MeasureT-loop
 loop-holds : tie.Need-loop-holds Inv-loop μ-loop
 loop-holds c = going-starts
 
-answered-requires : tie.Need-answered-requires Inv-loop μ-loop
-answered-requires c κs = search needs
-
-put-answer-requires : tie.Need-put-answer-requires Inv-loop μ-loop
-put-answer-requires c κs = search needs
+evaluate-node-requires : tie.Need-evaluate-node-requires Inv-loop μ-loop
+evaluate-node-requires c κs = search needs
 
 add-n : tie.Need-add-n Inv-loop μ-loop
-add-n c =
-    omega (
-      arith,
-      c .before .before .before .before .before .before .before .before .before .before .before .before .before .loop-test .taken,
-      c
-          .before .before .before .before .before .before .before .before .before .before .before .before .before .before .before .before .before
-          .before
-          .before .before .before .before .before .before .before .before .before .before .before .before .fits .hi,
-    )
+add-n c = omega (
+  arith,
+  c .before .before .before .before .before .before .before .before .before .loop-test .taken,
+  c .before .before .before .before
+      .before .before .before .before .before .before .before .before .before .before .before .before .before .before .before .before .before .before
+      .before .before .before .before .fits .hi,
+)
 
 loop-less : tie.Need-loop-less Inv-loop μ-loop
-loop-less c =
-    omega (arith, c .before .before .before .before .before .before .before .before .before .before .before .before .before .loop-test .taken)
+loop-less c = omega (arith, c .before .before .before .before .before .before .before .before .before .loop-test .taken)
 
 loop-again : tie.Need-loop-again Inv-loop μ-loop
-loop-again c =
-    going-on (c .before .before .before .before .before .before .before .before .before .before .before .before .before .before .loop .inv) (c .before
-    .before .before .before .before .before .before .before .before .before .before .before .before .loop-test .taken) (c .before .before .before
-    .before .before .before .before .before .before .answered .ensures) (c .before .before .before .before .before .put-answer .ensures)
+loop-again c = going-on (c .before .before .before .before .before .before .before .before .before .before .loop .inv) (c .before .before .before
+    .before .before .before .before .before .before .loop-test .taken) (c .before .before .before .before .before .evaluate-node .ensures) (search
+    needs) (search needs) (search needs)
 
 same-length : tie.Need-same-length Inv-loop μ-loop
 same-length c = c .before .loop .inv .kinds-kept
@@ -69,8 +58,7 @@ evaluate-expression-spec =
     Inv-loop
     μ-loop
     loop-holds
-    answered-requires
-    put-answer-requires
+    evaluate-node-requires
     add-n
     loop-less
     loop-again

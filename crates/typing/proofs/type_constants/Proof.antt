@@ -50,8 +50,16 @@ loop-less c = let h = next-beyond _ _ _ (c .next-of-kind2 .ensures) in omega (ar
 
 loop-again : tie.Need-loop-again Inv-loop μ-loop
 loop-again c =
-    passing-next (passing-constant (c .before .before .before .before .before .before .before .before .before .before .loop .inv .passing) (c .before .before .before .before .before .before .before .before .before .loop-test .taken) (c .before .before .before .before .before .before .before .before .before .before .loop .inv .stands (c .before .before .before .before .before .before .before .before .before .loop-test .taken)) (c .before .before .before .before .before .before .before .before .index-at .ensures)
-    (c .before .before .before .before .before .before .before .saturating-sub .ensures) (c .before .before .before .before .before .type-expression .ensures) (c .before .enum-told .given .1)) (omega (arith, c .before .before .before .before .before .before .before .before .before .loop-test .taken)) (c .next-of-kind2 .ensures)
+    passing-next (passing-constant (c .before .before .before .before .before .before .before .before .before .before .loop .inv .passing) (c .before
+    .before .before .before .before .before .before .before .before .loop-test .taken) (c .before .before .before .before .before .before .before
+    .before .before .before .loop .inv .stands (c .before .before .before .before .before .before .before .before .before .loop-test .taken)) (c
+    .before .before .before .before .before .before .before .before .index-at .ensures)
+    (c .before .before .before .before .before .before .before .saturating-sub .ensures) (c .before .before .before .before .before .type-expression
+    .ensures) (c .before .enum-told .given .1)) (omega (
+      arith,
+      c .before .before .before .before .before .before .before .before .before .loop-test
+          .taken,
+    )) (c .next-of-kind2 .ensures)
 
 enum-known-typing : tie.Need-enum-known-typing Inv-loop μ-loop
 enum-known-typing c = search needs
@@ -61,7 +69,10 @@ same-length c = c .before .before .before .before .before .type-expression .ensu
 
 returns : tie.Need-returns Inv-loop μ-loop
 returns c =
-    passing-stops (c .before .before .before .before .before .before .before .before .before .before .loop .inv .passing) (c .before .before .before .before .before .before .before .before .before .loop-test .taken) (c .before .before .before .before .before .before .before .before .before .before .loop .inv .stands (c .before .before .before .before .before .before .before .before .before .loop-test .taken)) (c .before .before .before .before .before .before .before .before .index-at .ensures)
+    passing-stops (c .before .before .before .before .before .before .before .before .before .before .loop .inv .passing) (c .before .before .before
+    .before .before .before .before .before .before .loop-test .taken) (c .before .before .before .before .before .before .before .before .before
+    .before .loop .inv .stands (c .before .before .before .before .before .before .before .before .before .loop-test .taken)) (c .before .before
+    .before .before .before .before .before .before .index-at .ensures)
     (c .before .before .before .before .before .before .before .saturating-sub .ensures) (c .before .before .before .before .before .type-expression .ensures) (c .before .typing .given .1)
 
 same-length-2 : tie.Need-same-length-2 Inv-loop μ-loop

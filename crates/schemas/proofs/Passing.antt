@@ -27,9 +27,9 @@ use Rattle.operations.proofs.Stored.{Storable, row-back}
 use Rattle.evaluate.specs.Answers.{answers-in}
 use Rattle.evaluate.specs.Evaluation.{known-in}
 use Rattle.evaluate.proofs.Rows.{row-there}
-use Rattle.constants.specs.Constants.{row, due, answer-of-constant, OfFile, Rows, Room, Holds, EvaluatesConstant, Schema, Filled, FillsSchema}
-use Rattle.constants.proofs.Settled.{value-alike, uses-edge, settled, answer-storable}
-use Rattle.constants.proofs.Numbering.{row-rises, row-before}
+use Rattle.schemas.specs.Rows.{row, due, answer-of-constant, OfFile, Rows, Room, Holds, EvaluatesConstant, Schema, Filled, FillsSchema}
+use Rattle.schemas.proofs.Settled.{value-alike, uses-edge, settled, answer-storable}
+use Rattle.schemas.proofs.Numbering.{row-rises, row-before}
 
 -- ---- the order
 mem-next : (xs : List ℕ) (i k : ℕ) → List·Memᴰ k (take (suc i) xs) → List·Memᴰ k (take i xs) ⊎ (k ≡ getD xs i 0)

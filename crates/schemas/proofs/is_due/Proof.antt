@@ -1,9 +1,9 @@
--- `constants::is_due` meets its contract: test by test. Assumes nothing.
+-- `schemas::is_due` meets its contract: test by test. Assumes nothing.
 use borrow.Author.Needs.{needs}
-use Rattle.constants.proofs.is_due.Statement.{statement}
-use Rattle.constants.proofs.is_due.Tie as tie
-use Rattle.constants.proofs.is_due.Reads as reads
-use Rattle.constants.proofs.is_due.Lts as lts
+use Rattle.schemas.proofs.is_due.Statement.{statement}
+use Rattle.schemas.proofs.is_due.Tie as tie
+use Rattle.schemas.proofs.is_due.Reads as reads
+use Rattle.schemas.proofs.is_due.Lts as lts
 use mathlib.Core.Path.{ap}
 use Prim.Native.Nat.{ℕ}
 use lib.Dec.{eqb}

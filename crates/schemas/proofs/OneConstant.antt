@@ -19,7 +19,7 @@ use Rattle.evaluate.specs.Evaluation.{known-in, Against, EvaluatesNodes}
 use Rattle.evaluate.proofs.Literals.{spelled}
 use Rattle.evaluate.proofs.Rows.{same, made}
 use Rattle.evaluate.proofs.Value.{expression-value}
-use Rattle.constants.specs.Constants.{OfFile, Room, EvaluatesConstant}
+use Rattle.schemas.specs.Rows.{OfFile, Room, EvaluatesConstant}
 
 pub against :
     {t : Table} {bytes starts lengths terminals kinds tokens sizes bindings declared order : List ℕ} →

@@ -12,7 +12,7 @@ use lib.Seq.{getD-set-same, getD-set-other}
 use Rattle.relations.specs.Select.{span, keep}
 use Rattle.relations.proofs.Select.{span-append, keep-append, placed}
 use Rattle.express.specs.syntax.NodeKind as node
-use Rattle.constants.specs.Constants.{row-in, NumbersRows}
+use Rattle.schemas.specs.Rows.{row-in, NumbersRows}
 
 module _ (p : ℕ → Bool) where
   abbrev so-far : ℕ → ℕ

@@ -1,0 +1,4 @@
+pub mod Settled
+pub mod Numbering
+pub mod OneConstant
+pub mod Passing
