@@ -6,20 +6,21 @@ ghost use lib.ListN.{length, getD};
 ghost use Rattle.ebnf.specs.Set.{mem};
 ghost use Rattle.express.specs.tokens.Terminal.{identifier, dot};
 ghost use Rattle.express.specs.syntax.Grammar.{expression, sum, term, factor, operand, atom, interval, relations, additions, multiplications, signs, comparisons};
-ghost use Rattle.parsing.specs.Reading.{atom-label, is-place, Ready, Reads, ReadsAnywhere, Compares, Combines};
+ghost use Rattle.parsing.specs.Reading.{atom-label, Ready, Reads, ReadsAnywhere, Compares, Combines};
 ghost use Rattle.parsing.specs.Parsing.{Parsing};
 ghost use Rattle.parsing.specs.Outcome.{Judging, Parses};
 use codes::labels;
+use layout::lay_out;
+use nesting::end_of;
+use nesting::first_deep;
+use nesting::judged;
 use parsing::Judgement;
 use parsing::MOST;
 use parsing::NO_LABEL;
 use parsing::Parsed;
 use parsing::Read;
-use parsing::end_of;
 use parsing::expect;
-use parsing::first_deep;
-use parsing::judged;
-use parsing::lay_out;
+use parsing::is_place;
 use parsing::put_row;
 use parsing::token;
 
@@ -298,18 +299,6 @@ fn compared(terminals: &[u8], rows: &mut [u64], p: usize, n: usize) -> Read
         return sum(terminals, rows, p + 1, n + 1);
     }
     Read::Refused(p)
-}
-
-// A place that a reader may be given: within a list that is not too long, with no more rows before it than tokens.
-fn is_place(terminals: &[u8], p: usize, n: usize) -> bool
-    ensures { λ r. ⌜ r ≡ is-place (now (terminals .entry)) p n ⌝ }
-{
-    if terminals.len() <= MOST {
-        if p <= terminals.len() {
-            return n <= p;
-        }
-    }
-    false
 }
 
 // An expression from a place on; where that is no place, nothing is read.
