@@ -1,7 +1,7 @@
 -- The words lent are the first part of scratch; the rest is not touched.
 use borrow.Author.Needs.{needs}
-use Rattle.expressions.proofs.parse_expression.Statement.{statement}
-use Rattle.expressions.proofs.parse_expression.Tie as tie
+use Rattle.whole_expressions.proofs.parse_expression.Statement.{statement}
+use Rattle.whole_expressions.proofs.parse_expression.Tie as tie
 use mathlib.Core.Path.{refl, sym}
 use native.Mathlib.Omega.{arith}
 use lib.ListN.{length}

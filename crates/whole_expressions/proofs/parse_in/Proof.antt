@@ -1,7 +1,7 @@
 -- A word's parts are its row's, and the words are the rows of the outcome.
 use borrow.Author.Needs.{needs}
-use Rattle.expressions.proofs.parse_in.Statement.{statement}
-use Rattle.expressions.proofs.parse_in.Tie as tie
+use Rattle.whole_expressions.proofs.parse_in.Statement.{statement}
+use Rattle.whole_expressions.proofs.parse_in.Tie as tie
 use Rattle.parsing.proofs.Columns.{parses}
 
 whole-requires : tie.Need-whole-requires
