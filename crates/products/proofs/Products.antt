@@ -13,10 +13,10 @@ use mir.Val.{SFits, ofZ}
 use Rattle.express.specs.kinds.Answer.{Answer, integer, end}
 use Rattle.express.specs.kinds.Integer.{exact, product, negation, negative, signed}
 use Rattle.express.proofs.kinds.Integer.{least, greatest}
-use Rattle.integers.specs.Range.{limit, beyond}
+use Rattle.products.specs.Range.{limit, beyond}
 use Rattle.integers.proofs.Exact.{own, exact-fits, exact-over, Gives, gives, below-zero, sign-is, bits-are}
 use Rattle.integers.proofs.Sums.{less-is}
-use Rattle.integers.proofs.Quotients.{neg-mag, Divides, some, safe, own-quot}
+use Rattle.products.proofs.Quotients.{neg-mag, Divides, some, safe, own-quot}
 
 -- ---- -n against -(m + 1)
 below-neg : (m n : ℕ) → ltZ (negsuc m) (negℤ (pos n)) ≡ true → n < suc m

@@ -1,8 +1,8 @@
 use mathlib.Core.Path.{sym, _∙_}
-use Rattle.integers.proofs.Quotients.{Divides}
-use Rattle.integers.proofs.Products.{mul-zero, mul-minus-one, mul-safe, mul-bounded}
-use Rattle.integers.proofs.multiply.Statement.{statement}
-use Rattle.integers.proofs.multiply.Tie as tie
+use Rattle.products.proofs.Quotients.{Divides}
+use Rattle.products.proofs.Products.{mul-zero, mul-minus-one, mul-safe, mul-bounded}
+use Rattle.products.proofs.multiply.Statement.{statement}
+use Rattle.products.proofs.multiply.Tie as tie
 
 divides : (c : tie.Else2) → Divides (c .before .before .args .a) (c .before .before .args .b)
 divides c =

@@ -1,6 +1,6 @@
-use Rattle.integers.proofs.Products.{beyond-minus, beyond-plus}
-use Rattle.integers.proofs.beyond.Statement.{statement}
-use Rattle.integers.proofs.beyond.Tie as tie
+use Rattle.products.proofs.Products.{beyond-minus, beyond-plus}
+use Rattle.products.proofs.beyond.Statement.{statement}
+use Rattle.products.proofs.beyond.Tie as tie
 
 pub beyond-spec : {M : Type 1} → statement M
 beyond-spec =

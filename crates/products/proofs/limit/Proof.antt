@@ -1,6 +1,6 @@
-use Rattle.integers.proofs.Products.{limit-by}
-use Rattle.integers.proofs.limit.Statement.{statement}
-use Rattle.integers.proofs.limit.Tie as tie
+use Rattle.products.proofs.Products.{limit-by}
+use Rattle.products.proofs.limit.Statement.{statement}
+use Rattle.products.proofs.limit.Tie as tie
 
 pub limit-spec : {M : Type 1} → statement M
 limit-spec =
