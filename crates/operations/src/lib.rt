@@ -105,10 +105,10 @@ fn computed(o: Arithmetic, a: i64, b: i64) -> Outcome
 {
     match o {
         Arithmetic::Minus => integers::subtract(a, b),
-        Arithmetic::Times => integers::multiply(a, b),
-        Arithmetic::Divide => integers::div(a, b),
-        Arithmetic::Modulo => integers::modulo(a, b),
-        Arithmetic::Power => integers::power(a, b),
+        Arithmetic::Times => products::multiply(a, b),
+        Arithmetic::Divide => products::div(a, b),
+        Arithmetic::Modulo => products::modulo(a, b),
+        Arithmetic::Power => products::power(a, b),
     }
 }
 

@@ -18,7 +18,6 @@ use index::Outcome;
 use index::dictionary::Found;
 use index::scratch;
 
-// The numbers of 32 bits, as a count.
 // The bucket of a number of 32 bits.
 fn range(h: u64, buckets: usize) -> usize
     requires { ⌜ (h < 4294967296) × (0 < buckets) ⌝ }

@@ -25,7 +25,9 @@ same-length-2 c = search needs
 
 returns-2 : tie.Need-returns-2
 returns-2 c = (
-  entered-declared (c .before .before .before .before .before .before .before .if2 .taken) (keyed (c .before .before .before .before .before .before .before .before .before .before .before .before .before .pre) (c .before .before .before .before .before .before .before .before .key .ensures)
+  entered-declared (c .before .before .before .before .before .before .before .if2 .taken) (keyed
+      (c .before .before .before .before .before .before .before .before .before .before .before .before .before .pre)
+      (c .before .before .before .before .before .before .before .before .key .ensures)
       (c .before .before .before .before .before .before .before .before .before .scope .ensures)) (c .before .before .before .before .enter .ensures .0),
   entered-declared (c .before .before .before .before .before .before .before .if2 .taken) refl (c .before .before .before .before .enter .ensures .1),
 )
@@ -41,10 +43,13 @@ same-length-4 c = search needs
 
 returns-3 : tie.Need-returns-3
 returns-3 c = (
-  entered-other (c .before .before .before .before .before .before .before .before .before .before .before .if1 .left) (c .before .before .before .before .before .before .before .before .if2 .left) (c .if3 .taken)
-      (keyed (c .before .before .before .before .before .before .before .before .before .before .before .before .before .before .pre) (c .before .before .before .before .before .before .before .before .before .key .ensures)
+  entered-other (c .before .before .before .before .before .before .before .before .before .before .before .if1 .left)
+      (c .before .before .before .before .before .before .before .before .if2 .left) (c .if3 .taken)
+      (keyed (c .before .before .before .before .before .before .before .before .before .before .before .before .before .before .pre)
+          (c .before .before .before .before .before .before .before .before .before .key .ensures)
       (c .before .before .before .before .before .before .before .before .before .before .scope .ensures)) (c .before .before .before .before .before .enter2 .ensures .0),
-  entered-other (c .before .before .before .before .before .before .before .before .before .before .before .if1 .left) (c .before .before .before .before .before .before .before .before .if2 .left) (c .if3 .taken) refl
+  entered-other (c .before .before .before .before .before .before .before .before .before .before .before .if1 .left)
+      (c .before .before .before .before .before .before .before .before .if2 .left) (c .if3 .taken) refl
       (c .before .before .before .before .before .enter2 .ensures .1),
 )
 
@@ -66,12 +71,18 @@ same-length-6 c = search needs
 returns-4 : tie.Need-returns-4
 returns-4 c = (
   entered-item (c .before .before .before .before .before .before .before .before .if3 .left)
-      (keyed (c .before .before .before .before .before .before .before .before .before .before .before .before .before .before .before .before .before .before .before .before .before .before .pre)
+      (keyed
+          (c .before .before .before .before .before .before .before .before .before .before .before
+              .before .before .before .before .before .before .before .before .before .before .before .pre)
       (c .before .before .before .before .before .before .before .before .before .before .before .before .before .before .before .before .before .key .ensures)
       (c .before .before .before .before .before .before .before .before .before .before .before .before .before .before .before .before .before .before .scope .ensures))
-      (item-keyed (c .before .before .before .before .before .before .before .before .before .before .before .before .before .before .before .before .before .before .before .before .before .before .pre) (c .before .before .before .before .before .key2 .ensures))
+      (item-keyed
+          (c .before .before .before .before .before .before .before .before .before .before .before
+              .before .before .before .before .before .before .before .before .before .before .before .pre)
+          (c .before .before .before .before .before .key2 .ensures))
       (c .before .before .before .before .before .before .before .before .before .before .before .before .before .enter2 .ensures .0) (c .before .before .before .before .enter3 .ensures .0),
-  entered-item (c .before .before .before .before .before .before .before .before .if3 .left) refl refl (c .before .before .before .before .before .before .before .before .before .before .before .before .before .enter2 .ensures .1)
+  entered-item (c .before .before .before .before .before .before .before .before .if3 .left) refl refl
+      (c .before .before .before .before .before .before .before .before .before .before .before .before .before .enter2 .ensures .1)
       (c .before .before .before .before .enter3 .ensures .1),
 )
 

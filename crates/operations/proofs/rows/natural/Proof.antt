@@ -1,4 +1,4 @@
-use Rattle.integers.proofs.Powers.{plus-casts}
+use Rattle.products.proofs.Powers.{plus-casts}
 use Rattle.operations.proofs.Reading.{below-zero, from-zero}
 use Rattle.operations.proofs.rows.natural.Statement.{statement}
 use Rattle.operations.proofs.rows.natural.Tie as tie
