@@ -3,10 +3,10 @@ ghost use mathlib.Core.Path.{_≡_};
 ghost use Prim.Native.Nat.{_<_};
 ghost use Rattle.constants.specs.Constants.{due, NumbersRows, EvaluatesConstant, FillsSchema, FillsSchemas, EvaluatesConstants};
 use evaluate::answer_at;
-use evaluate::at8;
 use evaluate::evaluate_expression;
-use evaluate::index_at;
 use evaluate::put_answer;
+use tree::at8;
+use tree::index_at;
 
 // The row of each constant by its node: how many constants stand before it.
 pub fn number_rows(kinds: &[u8], row_of: &mut [u32])

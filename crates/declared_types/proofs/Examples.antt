@@ -6,20 +6,20 @@ use mathlib.Core.Bool.{Bool, _||_}
 use mathlib.Core.List.{List, [], _∷_, _++_, List·Memᴰ, List·Memᴰ·append-cases}
 use Prim.Native.Nat.{ℕ}
 use lib.ListN.{replicate}
-use Rattle.relations.specs.Select.{span, first-from, keep}
+use Rattle.relations.specs.Select.{span, keep}
 use Rattle.relations.specs.Reach.{Reaches, Joins}
 use Rattle.relations.specs.Sorted.{Arranged}
 use Rattle.relations.proofs.Select.{mem-upto, upto-mem, keep-mem, mem-keep}
 use Rattle.relations.proofs.Topological.{acyclic-arranged}
 use Rattle.express.specs.syntax.NodeKind as node
-use Rattle.express.specs.syntax.Tree.{Table, count, symbol, is-name-in, is-declaration, nodes, owner, schema-of}
+use Rattle.express.specs.syntax.Tree.{Table, count, symbol, is-name-in, is-declaration, nodes, schema-of}
 use Rattle.express.specs.tokens.Terminal.{the, LOGICAL}
 use Rattle.express.specs.names.Scope.{declarations-of, edges, renaming-edges, super-edges, type-edges}
 use Rattle.express.specs.names.Names.{WellNamed}
 use Rattle.express.specs.kinds.Declared.{simple}
 use Rattle.express.proofs.names.Meaning.{declarations-iff, edge-start, cyclic-fine}
 use Rattle.declared_types.specs.Storing.{table-of, enumeration-number, base-number, type-number}
-use Rattle.declared_types.specs.Storing.{item-stored, type-stored, constant-stored, down, items-stored, types-stored, constants-stored}
+use Rattle.declared_types.specs.Storing.{type-items-stored, type-stored, constant-stored, items-stored, types-stored, constants-stored}
 
 -- node: 2 CONSTANT of the type 10; 6 CONSTANT of the type 16; 7 ENTITY; 10 TYPE, an enumeration; 12 TYPE, a renaming of 10; 16 TYPE, a select; 18 TYPE LOGICAL;
 -- 21 CONSTANT of the type 12
@@ -35,12 +35,15 @@ small-file =
 small-bindings : List ℕ
 small-bindings = 11 ∷ 9 ∷ 0 ∷ 0 ∷ 17 ∷ 9 ∷ 0 ∷ 0 ∷ 0 ∷ 0 ∷ 0 ∷ 11 ∷ 0 ∷ 11 ∷ 13 ∷ 0 ∷ 0 ∷ 0 ∷ 0 ∷ 13 ∷ 9 ∷ 0 ∷ 0 ∷ 0 ∷ []
 
+small-order : List ℕ
+small-order = 2 ∷ 6 ∷ 7 ∷ 10 ∷ 12 ∷ 16 ∷ 18 ∷ 21 ∷ []
+
 its-numbers :
-    constants-stored small-file small-bindings
-    (types-stored small-file small-bindings (2 ∷ 6 ∷ 7 ∷ 10 ∷ 12 ∷ 16 ∷ 18 ∷ 21 ∷ []) (items-stored small-file (replicate 24 99)))
+    constants-stored small-file small-bindings small-order
+    (types-stored small-file small-bindings small-order (items-stored small-file small-order (replicate 24 99)))
     ≡ 99 ∷ 99 ∷ 15 ∷ 99 ∷ 99 ∷ 99 ∷ 0 ∷ 99 ∷ 15 ∷ 99 ∷ 15 ∷ 99 ∷ 15 ∷ 99 ∷ 99 ∷ 99 ∷ 0 ∷ 99 ∷ 3 ∷ 99 ∷ 99 ∷ 15 ∷ 99 ∷ 99 ∷ []
-unfolding small-file small-bindings constants-stored types-stored items-stored constant-stored type-stored item-stored type-number base-number enumeration-number simple down
-    span owner first-from
+unfolding small-file small-bindings small-order constants-stored types-stored items-stored constant-stored type-stored type-items-stored type-number base-number
+    enumeration-number simple span
 its-numbers = refl
 
 -- where names are in order, the declarations have an order

@@ -1,5 +1,6 @@
 pub mod Passing
 pub mod Sorting
+pub mod Items
 pub mod Whole
 pub mod Declaring
 pub mod Examples

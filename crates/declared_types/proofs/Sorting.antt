@@ -3,15 +3,14 @@ use mathlib.Core.Path.{_≡_, refl, sym, ap, _∙_}
 use mathlib.Core.Logic.{_⊎_, inl, inr, ⊎-elim}
 use mathlib.Core.Bool.{Bool, true, false, cond, false≢true}
 use mathlib.Core.List.{List, [], _∷_, foldl, List·Memᴰ, List·Memᴰ·head, List·Memᴰ·tail, List·Memᴰ·cases-cons, List·Memᴰ·not-nil}
-use Prim.Native.Nat.{ℕ, zero, suc, _<_}
+use Prim.Native.Nat.{ℕ, _<_}
 use native.Mathlib.Omega.{arith}
 use borrow.Author.Tests.{eqb-true, eqb-false}
 use lib.Dec.{eqb}
 use lib.ListN.{length, getD, set, length-set}
 use lib.Seq.{getD-set-same, getD-set-other}
 use Rattle.relations.specs.Sorted.{Sorted, done, next}
-use Rattle.relations.proofs.Select.{le-or}
-use Rattle.declared_types.specs.Storing.{store, down}
+use Rattle.declared_types.specs.Storing.{store}
 
 -- a store changes no entry that fails the test
 module _ (p : ℕ → Bool) (number : List ℕ → ℕ → ℕ) where
@@ -102,14 +101,3 @@ module _ (E : ℕ → ℕ → Type 0) (p : ℕ → Bool) (number : List ℕ → 
 pub independent : {passed : List ℕ} (ds : List ℕ) → Sorted (λ n m. ⊥) passed ds
 independent [] = done
 independent (d ∷ ds) = next (λ m e. absurd e) (independent ds)
-
--- the numbers below n
-pub mem-down : (n k : ℕ) → k < n → List·Memᴰ k (down n)
-unfolding down
-mem-down zero k l = absurd (omega arith)
-mem-down (suc n) k l = ⊎-elim (λ g. List·Memᴰ·head (omega arith)) (λ g. List·Memᴰ·tail (mem-down n k g)) (le-or n k)
-
-pub down-mem : (n k : ℕ) → List·Memᴰ k (down n) → k < n
-unfolding down
-down-mem zero k m = absurd (List·Memᴰ·not-nil m)
-down-mem (suc n) k m = ⊎-elim (λ z. omega arith) (λ m′. let l = down-mem n k m′ in omega arith) (List·Memᴰ·cases-cons m)

@@ -21,11 +21,11 @@ use Rattle.express.specs.kinds.Declared.{Declared, enumeration, other, declarat
 use Rattle.express.specs.kinds.DeclaredColumn.{declared-number, DeclaredColumn}
 use Rattle.express.proofs.syntax.FormedRows.{formed-rows}
 use Rattle.express.proofs.syntax.KindSets as set
-use Rattle.express.proofs.kinds.Backward.{owner-rises, owner-end}
 use Rattle.express.proofs.kinds.Denotes.{denoted-step, bound-is, bound-name, type-below, renaming-edge, base-known}
 use Rattle.declared_types.specs.Storing.{last-node, enumeration-number, base-number, type-number}
-use Rattle.declared_types.specs.Storing.{item-stored, type-stored, constant-stored, down, items-stored, types-stored, constants-stored}
-use Rattle.declared_types.proofs.Sorting.{Stored, Sound, list-stored, independent, mem-down, down-mem}
+use Rattle.declared_types.specs.Storing.{type-stored, constant-stored, items-stored, types-stored, constants-stored}
+use Rattle.declared_types.proofs.Sorting.{Stored, Sound, list-stored, independent}
+use Rattle.declared_types.proofs.Items.{item-stored, nodes-of-types, in-type, all-types, item-there, type-node-below}
 
 -- a node of a kind is of no other
 is-other : (t : Table) (j k n : ℕ) → (j ≡ k → ⊥) → is t j n ≡ true → is t k n ≡ false
@@ -105,22 +105,32 @@ module _ {t : Table} (R : Read file t) (W : WellNamed t) (few : count t + 5 < 42
 
   module _ {order : List ℕ} (A : Arranged (Joins (type-edges t)) (keep (is-declaration t) (nodes t)) order) (column : List ℕ) (room : count t ≤ length column) where
     abbrev with-items : List ℕ
-    with-items = items-stored t column
+    with-items = items-stored t order column
 
     abbrev with-types : List ℕ
     with-types = types-stored t b order with-items
 
     abbrev with-constants : List ℕ
-    with-constants = constants-stored t b with-types
+    with-constants = constants-stored t b order with-types
+
+    -- the declarations of the order are nodes
+    below : (n : ℕ) → List·Memᴰ n order → n < count t
+    below n m = upto-mem (count t) n (keep-mem (is-declaration t) (nodes t) (A .among n m) .0)
+
+    there : (n : ℕ) → n < count t → is-declaration t n ≡ true → List·Memᴰ n order
+    there n l h = A .complete n (mem-keep (is-declaration t) (nodes t) (mem-upto (count t) n l) h)
 
     abbrev Items : List ℕ → Type 0
-    Items = Stored (λ n m. ⊥) (is t node.enumeration-item) (λ c n. enumeration-number (owner t n)) (λ n. enumeration-number (owner t n)) column (λ n. List·Memᴰ n (down (count t)))
+    Items =
+        Stored (λ n m. ⊥) (is t node.enumeration-item) (λ c n. enumeration-number (owner t n)) (λ n. enumeration-number (owner t n)) column
+        (λ n. List·Memᴰ n (nodes-of-types t order))
 
     items-right : Items with-items
-    unfolding items-stored item-stored
+    unfolding item-stored
     items-right =
-        list-stored (λ n m. ⊥) (is t node.enumeration-item) (λ c n. enumeration-number (owner t n)) (λ n. enumeration-number (owner t n)) column
-        (λ c n h o e. refl) (independent (down (count t))) (λ n m. let l = down-mem (count t) n m in omega arith)
+        rw (all-types R order below column)
+        (list-stored (λ n m. ⊥) (is t node.enumeration-item) (λ c n. enumeration-number (owner t n)) (λ n. enumeration-number (owner t n)) column
+        (λ c n h o e. refl) (independent (nodes-of-types t order)) (λ n m. let l = type-node-below t order below n m in omega arith))
 
     abbrev Types : List ℕ → Type 0
     Types = Stored (Joins (type-edges t)) (is t node.type) (type-number t b) wanted with-items (λ n. List·Memᴰ n order)
@@ -129,19 +139,19 @@ module _ {t : Table} (R : Read file t) (W : WellNamed t) (few : count t + 5 < 42
     unfolding types-stored type-stored
     types-right =
         list-stored (Joins (type-edges t)) (is t node.type) (type-number t b) wanted with-items (types-sound with-items) (A .sorted)
-        (λ n m. let k = upto-mem (count t) n (keep-mem (is-declaration t) (nodes t) (A .among n m) .0) in let g = items-right .long in omega arith)
+        (λ n m. let k = below n m in let g = items-right .long in omega arith)
 
     abbrev Constants : List ℕ → Type 0
     Constants =
         Stored (λ n m. ⊥) (is t node.constant) (λ c n. base-number t b c (type-node t n)) (λ n. base-number t b with-types (type-node t n)) with-types
-        (λ n. List·Memᴰ n (nodes t))
+        (λ n. List·Memᴰ n order)
 
     constants-right : Constants with-constants
     unfolding constants-stored constant-stored
     constants-right =
         list-stored (λ n m. ⊥) (is t node.constant) (λ c n. base-number t b c (type-node t n)) (λ n. base-number t b with-types (type-node t n)) with-types
-        (constants-sound with-types) (independent (nodes t))
-        (λ n m. let k = upto-mem (count t) n m in let g = items-right .long in let h = types-right .long in omega arith)
+        (constants-sound with-types) (independent order)
+        (λ n m. let k = below n m in let g = items-right .long in let h = types-right .long in omega arith)
 
     -- a type that a name is bound to has its number
     type-there : (n : ℕ) → bound t b node.type n ≡ true → getD with-types (declaration b n) 0 ≡ wanted (declaration b n)
@@ -149,8 +159,7 @@ module _ {t : Table} (R : Read file t) (W : WellNamed t) (few : count t + 5 < 42
         let h = bound-is R W n node.type i in
         let l = type-below R W (declaration b n) h in
         types-right .right (declaration b n)
-        (A .complete (declaration b n)
-        (mem-keep (is-declaration t) (nodes t) (mem-upto (count t) (declaration b n) l) (rw (eqb-true (kind t (declaration b n)) node.type h)))) h
+        (there (declaration b n) l (rw (eqb-true (kind t (declaration b n)) node.type h))) h
 
     type-named : (n : ℕ) → n < count t → bound t b node.type n ≡ true → getD with-types (declaration b n) 0 ≡ declared-number (denoted t b n)
     unfolding base-number
@@ -164,7 +173,7 @@ module _ {t : Table} (R : Read file t) (W : WellNamed t) (few : count t + 5 < 42
     column-declared = record {
       constants = λ c l e.
           let k = type-node-known c l e in
-          constants-right .right c (mem-upto (count t) c l) (eq-eqb (kind t c) node.constant e)
+          constants-right .right c (there c l (rw e)) (eq-eqb (kind t c) node.constant e)
           ∙ base-right with-types (type-node t c) (k .0) (k .1) (λ i. type-there (type-node t c) i);
       types = λ n l i.
           constants-right .others (declaration b n)
@@ -172,9 +181,9 @@ module _ {t : Table} (R : Read file t) (W : WellNamed t) (few : count t + 5 < 42
           ∙ type-named n l i;
       items = λ m l e.
           let h = eq-eqb (kind t m) node.enumeration-item e in
-          let o = owner-rises t m (count t) (omega arith) (omega arith) in
-          let z = owner-end t in
+          let I = in-type R m l e in
+          let o = I .known in
           constants-right .others m (is-other t node.enumeration-item node.constant m (λ (z : _≡_ {A = ℕ} 14 17). omega arith) h)
           ∙ (types-right .others m (is-other t node.enumeration-item node.type m (λ (z : _≡_ {A = ℕ} 14 18). omega arith) h)
-          ∙ (items-right .right m (mem-down (count t) m l) h ∙ numbered (owner t m) (omega arith)));
+          ∙ (items-right .right m (item-there R order m l e (there (owner t m) o (rw (I .is-type)))) h ∙ numbered (owner t m) (omega arith)));
     }

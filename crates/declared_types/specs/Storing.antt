@@ -1,12 +1,13 @@
 -- The numbers of items, types and constants, as they are stored one after the other: from the columns of a file, and from what the column of numbers
 -- holds by then.
 use mathlib.Core.Bool.{Bool, cond}
-use mathlib.Core.List.{List, [], _∷_, foldl}
-use Prim.Native.Nat.{ℕ, zero, suc, _+_}
+use mathlib.Core.List.{List, [], foldl}
+use Prim.Native.Nat.{ℕ, _+_, _-_}
 use lib.Dec.{leb}
 use lib.ListN.{getD, set}
 use Rattle.express.specs.syntax.NodeKind.{simple-type, enumeration-item, constant, type}
-use Rattle.express.specs.syntax.Tree.{Table, count, terminal, first, is, type-node, nodes, owner}
+use Rattle.relations.specs.Select.{span}
+use Rattle.express.specs.syntax.Tree.{Table, terminal, first, is, type-node}
 use Rattle.express.specs.kinds.Declared.{declaration, bound, simple, renames}
 use Rattle.express.specs.kinds.DeclaredColumn.{declared-number}
 
@@ -37,8 +38,10 @@ type-number t b column d =
 abbrev pub store : (ℕ → Bool) → (List ℕ → ℕ → ℕ) → List ℕ → ℕ → List ℕ
 store p number column n = cond (p n) (set column n (number column n)) column
 
-unfoldable pub item-stored : Table → List ℕ → ℕ → List ℕ
-item-stored t = store (is t enumeration-item) (λ column n. enumeration-number (owner t n))
+-- the items of a type d: all of its nodes that are some
+unfoldable pub type-items-stored : Table → List ℕ → ℕ → List ℕ
+type-items-stored t column d =
+    cond (is t type d) (foldl (store (is t enumeration-item) (λ column n. enumeration-number d)) column (span (first t d) (d - first t d))) column
 
 unfoldable pub type-stored : Table → List ℕ → List ℕ → ℕ → List ℕ
 type-stored t b = store (is t type) (type-number t b)
@@ -46,17 +49,12 @@ type-stored t b = store (is t type) (type-number t b)
 unfoldable pub constant-stored : Table → List ℕ → List ℕ → ℕ → List ℕ
 constant-stored t b = store (is t constant) (λ column c. base-number t b column (type-node t c))
 
--- the numbers below n, from the last to the first
-unfoldable pub down : ℕ → List ℕ
-down zero = []
-down (suc n) = n ∷ down n
-
--- all items, all types in an order, all constants
-unfoldable pub items-stored : Table → List ℕ → List ℕ
-items-stored t column = foldl (item-stored t) column (down (count t))
+-- all items, all types and all constants, as the declarations stand in an order
+unfoldable pub items-stored : Table → List ℕ → List ℕ → List ℕ
+items-stored t order column = foldl (type-items-stored t) column order
 
 unfoldable pub types-stored : Table → List ℕ → List ℕ → List ℕ → List ℕ
 types-stored t b order column = foldl (type-stored t b) column order
 
-unfoldable pub constants-stored : Table → List ℕ → List ℕ → List ℕ
-constants-stored t b column = foldl (constant-stored t b) column (nodes t)
+unfoldable pub constants-stored : Table → List ℕ → List ℕ → List ℕ → List ℕ
+constants-stored t b order column = foldl (constant-stored t b) column order

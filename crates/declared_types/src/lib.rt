@@ -10,32 +10,14 @@ ghost use lib.Dec.{eqb};
 ghost use Rattle.express.specs.syntax.NodeKind.{enumeration-item};
 ghost use Rattle.express.specs.kinds.Declared.{simple};
 ghost use Rattle.express.specs.kinds.DeclaredColumn.{declared-number};
-ghost use Rattle.scopes.specs.Standing.{declares};
 ghost use Rattle.declared_types.specs.Storing.{table-of, enumeration-number, base-number, type-number};
-ghost use Rattle.declared_types.specs.Storing.{type-stored, constant-stored, items-stored, types-stored, constants-stored};
+ghost use Rattle.declared_types.specs.Storing.{type-items-stored, type-stored, constant-stored, items-stored, types-stored, constants-stored};
 ghost use Rattle.declared_types.specs.Promise.{Declares};
 use columns::index;
 use columns::put32;
 use columns::saturating_sub;
-
-// The number at an index; past the end of the column 0.
-fn at(column: &[u32], i: usize) -> u32
-    ensures { λ r. ⌜ r ≡ getD (now (column .entry)) i 0 ⌝ }
-{
-    if i < column.len() {
-        return column[i];
-    }
-    0
-}
-
-fn byte_at(column: &[u8], i: usize) -> u8
-    ensures { λ r. ⌜ r ≡ getD (now (column .entry)) i 0 ⌝ }
-{
-    if i < column.len() {
-        return column[i];
-    }
-    0
-}
+use tree::at8;
+use tree::at32;
 
 // The number of the enumeration whose type is a node.
 fn enumeration(node: usize) -> u32
@@ -79,17 +61,17 @@ fn base(
         (table-of (now (terminals .entry)) (now (kinds .entry)) (now (tokens .entry)) [])
         (now (bindings .entry)) (now (column .entry)) node ⌝ }
 {
-    if byte_at(kinds, node) == codes::nodes::SIMPLE_TYPE {
-        return simple_type(byte_at(terminals, index(at(tokens, node))));
+    if at8(kinds, node) == codes::nodes::SIMPLE_TYPE {
+        return simple_type(at8(terminals, index(at32(tokens, node))));
     }
-    let binding = index(at(bindings, node));
+    let binding = index(at32(bindings, node));
     if binding == 0 {
         return numbers::OTHER;
     }
-    if byte_at(kinds, binding - 1) != codes::nodes::TYPE {
+    if at8(kinds, binding - 1) != codes::nodes::TYPE {
         return numbers::OTHER;
     }
-    at(column, binding - 1)
+    at32(column, binding - 1)
 }
 
 // The first node of a subtree (G30).
@@ -97,7 +79,7 @@ fn first_node(sizes: &[u32], node: u32) -> usize
     ensures { λ r. ⌜ r ≡ node + 1 - getD (now (sizes .entry)) node 0 ⌝ }
 {
     let n = index(node);
-    saturating_sub(n + 1, index(at(sizes, n)))
+    saturating_sub(n + 1, index(at32(sizes, n)))
 }
 
 // Does a type rename what its first node is or names? That stands two tokens after the type's name, the names of a select
@@ -105,7 +87,7 @@ fn first_node(sizes: &[u32], node: u32) -> usize
 fn renames(tokens: &[u32], node: u32, first: usize) -> bool
     ensures { λ r. ⌜ r ≡ eqb (getD (now (tokens .entry)) first 0) (getD (now (tokens .entry)) node 0 + 2) ⌝ }
 {
-    index(at(tokens, first)) == index(at(tokens, index(node))) + 2
+    index(at32(tokens, first)) == index(at32(tokens, index(node))) + 2
 }
 
 // The number of a type, by its first node: an item, what it renames, or the first name of a select list.
@@ -123,7 +105,7 @@ fn underlying(
         (now (bindings .entry)) (now (column .entry)) node ⌝ }
 {
     let first = first_node(sizes, node);
-    let lists_items = byte_at(kinds, first) == codes::nodes::ITEM;
+    let lists_items = at8(kinds, first) == codes::nodes::ITEM;
     if lists_items {
         return enumeration(index(node));
     }
@@ -138,17 +120,7 @@ fn type_node(sizes: &[u32], constant: usize) -> usize
     ensures { λ r. ⌜ r ≡ (constant - 1) - getD (now (sizes .entry)) (constant - 1) 0 ⌝ }
 {
     let last = saturating_sub(constant, 1);
-    saturating_sub(last, index(at(sizes, last)))
-}
-
-// The declaration that node i is or lies in, from its kind and from that of the next node.
-fn owner(kind: u8, i: usize, after: usize) -> usize
-    ensures { λ r. ⌜ r ≡ cond (declares kind) i after ⌝ }
-{
-    if scopes::is_declaration(kind) {
-        return i;
-    }
-    after
+    saturating_sub(last, index(at32(sizes, last)))
 }
 
 fn store_item(kind: u8, column: &mut [u32], i: usize, owner: usize)
@@ -159,6 +131,21 @@ fn store_item(kind: u8, column: &mut [u32], i: usize, owner: usize)
         return;
     }
     put32(column, i, enumeration(owner));
+}
+
+// The items of a type: all of its nodes that are some.
+fn store_items_of(kinds: &[u8], sizes: &[u32], column: &mut [u32], node: u32)
+    ensures { λ _. ⌜ now (column .exit) ≡ type-items-stored (table-of [] (now (kinds .entry)) [] (now (sizes .entry))) (now (column .entry)) node ⌝ }
+{
+    let d = index(node);
+    if at8(kinds, d) != codes::nodes::TYPE {
+        return;
+    }
+    let mut i = first_node(sizes, node);
+    while i < d {
+        store_item(at8(kinds, i), column, i, d);
+        i += 1;
+    }
 }
 
 fn store_type(
@@ -174,7 +161,7 @@ fn store_type(
         (table-of (now (terminals .entry)) (now (kinds .entry)) (now (tokens .entry)) (now (sizes .entry)))
         (now (bindings .entry)) (now (column .entry)) node ⌝ }
 {
-    if byte_at(kinds, index(node)) != codes::nodes::TYPE {
+    if at8(kinds, index(node)) != codes::nodes::TYPE {
         return;
     }
     let number = underlying(terminals, kinds, tokens, sizes, bindings, column, node);
@@ -194,7 +181,7 @@ fn store_constant(
         (table-of (now (terminals .entry)) (now (kinds .entry)) (now (tokens .entry)) (now (sizes .entry)))
         (now (bindings .entry)) (now (column .entry)) i ⌝ }
 {
-    if byte_at(kinds, i) != codes::nodes::CONSTANT {
+    if at8(kinds, i) != codes::nodes::CONSTANT {
         return;
     }
     let number = base(
@@ -208,17 +195,14 @@ fn store_constant(
     put32(column, i, number);
 }
 
-// The items, from the last node to the first.
-fn store_items(kinds: &[u8], column: &mut [u32])
-    ensures { λ _. ⌜ now (column .exit) ≡ items-stored (table-of [] (now (kinds .entry)) [] []) (now (column .entry)) ⌝ }
+// The items of all types.
+fn store_items(kinds: &[u8], sizes: &[u32], order: &[u32], column: &mut [u32])
+    ensures { λ _. ⌜ now (column .exit) ≡ items-stored (table-of [] (now (kinds .entry)) [] (now (sizes .entry))) (now (order .entry)) (now (column .entry)) ⌝ }
 {
-    let mut declaration = kinds.len();
-    let mut i = kinds.len();
-    while 0 < i {
-        i -= 1;
-        let kind = kinds[i];
-        declaration = owner(kind, i, declaration);
-        store_item(kind, column, i, declaration);
+    let mut i = 0;
+    while i < order.len() {
+        store_items_of(kinds, sizes, column, order[i]);
+        i += 1;
     }
 }
 
@@ -249,15 +233,17 @@ fn store_constants(
     tokens: &[u32],
     sizes: &[u32],
     bindings: &[u32],
+    order: &[u32],
     column: &mut [u32],
 )
     ensures { λ _. ⌜ now (column .exit) ≡ constants-stored
         (table-of (now (terminals .entry)) (now (kinds .entry)) (now (tokens .entry)) (now (sizes .entry)))
-        (now (bindings .entry)) (now (column .entry)) ⌝ }
+        (now (bindings .entry)) (now (order .entry)) (now (column .entry)) ⌝ }
 {
     let mut i = 0;
-    while i < kinds.len() {
-        store_constant(terminals, kinds, tokens, sizes, bindings, column, i);
+    while i < order.len() {
+        let constant = index(order[i]);
+        store_constant(terminals, kinds, tokens, sizes, bindings, column, constant);
         i += 1;
     }
 }
@@ -276,7 +262,7 @@ pub fn declared_types(
     ensures { λ _. ⌜ Declares (now (terminals .entry)) (now (kinds .entry)) (now (tokens .entry)) (now (sizes .entry))
         (now (bindings .entry)) (now (order .entry)) (now (column .entry)) (now (column .exit)) ⌝ }
 {
-    store_items(kinds, column);
+    store_items(kinds, sizes, order, column);
     store_types(terminals, kinds, tokens, sizes, bindings, order, column);
-    store_constants(terminals, kinds, tokens, sizes, bindings, column);
+    store_constants(terminals, kinds, tokens, sizes, bindings, order, column);
 }

@@ -10,7 +10,7 @@ use lib.Dec.{eqb}
 use lib.IntN.{ℤ}
 use lib.ListN.{getD, List·getD-eq-default}
 use Rattle.express.specs.syntax.NodeKind as node
-use Rattle.express.specs.syntax.Tree.{Table, count, kind, terminal, last, before, left, upper, lower, middle, low}
+use Rattle.express.specs.syntax.Tree.{Table, count, kind, terminal, last, left, upper, lower, middle, low}
 use Rattle.express.specs.kinds.Answer.{Answer}
 use Rattle.express.specs.kinds.Declared.{Declared, INTEGER, BOOLEAN, LOGICAL, BINARY, enumeration, other, declared-type}
 use Rattle.express.specs.kinds.DeclaredColumn.{declared-number}
@@ -29,26 +29,10 @@ use Rattle.evaluate.specs.declared.operators.Reading.{Reading}
 use Rattle.evaluate.specs.declared.operators.Reading.the-variants.{Evaluated, Unevaluated}
 use Rattle.evaluate.specs.Operators.{reading-of, combined-by}
 use Rattle.evaluate.specs.Answers.{answers-in, Gives}
-use Rattle.evaluate.specs.Evaluation.{Child, part, LiteralBytes, Leaf, Named, Combines, Intervals, Operation, Operates, Plain, Others, Answered}
+use Rattle.tree.specs.Children.{Child}
+use Rattle.evaluate.specs.Evaluation.{part, LiteralBytes, Leaf, Named, Combines, Intervals, Operation, Operates, Plain, Others, Answered}
 use Rattle.evaluate.proofs.Rows.{held-whole, same, nothing, whole-of}
 use Rattle.evaluate.proofs.Nodes.{at-sign, at-operator, at-interval, at-constant, at-name, at-item, at-leaf, unbound, bound-item, bound-constant, bound-other}
-
--- ---- children
-module _ {sizes : List ℕ} {n : ℕ} where
-  pub child-before : {s r : ℕ} → s ≡ getD sizes n 0 → r ≡ n - s → Child before sizes n r
-  child-before p q = record { is = λ e h. q ∙ rw (p, ← h) }
-
-  pub child-left : {m r : ℕ} → m ≡ n - 1 → Child before sizes m r → Child left sizes n r
-  child-left p q = record { is = λ e h. q .is e h ∙ ap (before e) p }
-
-  pub child-middle : {m r : ℕ} → Child left sizes n m → Child before sizes m r → Child middle sizes n r
-  child-middle p q = record { is = λ e h. q .is e h ∙ ap (before e) (p .is e h) }
-
-  pub child-lower : {m r : ℕ} → Child middle sizes n m → Child before sizes m r → Child lower sizes n r
-  child-lower p q = record { is = λ e h. q .is e h ∙ ap (before e) (p .is e h) }
-
-  pub child-low : {m r : ℕ} → Child lower sizes n m → Child before sizes m r → Child low sizes n r
-  child-low p q = record { is = λ e h. q .is e h ∙ ap (before e) (p .is e h) }
 
 -- ---- names
 bound-kind : (x : ℕ) {m k : ℕ} {file-kinds : List ℕ} → m ≡ x - 1 → k ≡ getD file-kinds m 0 → (t : Table) → t .kinds ≡ file-kinds → kind t (x - 1) ≡ k

@@ -22,10 +22,6 @@ use Rattle.operations.specs.declared.Answer as operations
 use Rattle.evaluate.specs.Operators.{combined-by}
 use Rattle.evaluate.specs.Answers.{answers-in, Gives}
 
--- a child of a node, by the column of sizes
-pub record Child (f : Table → ℕ → ℕ) (sizes : List ℕ) (n r : ℕ) : Type 0 where
-  pub is : (e : Table) → e .sizes ≡ sizes → r ≡ f e n
-
 -- the bytes of a token that starts at p and has n bytes
 abbrev pub part : List ℕ → ℕ → ℕ → List ℕ
 part s p n = take n (drop p s)

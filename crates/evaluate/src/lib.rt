@@ -4,16 +4,14 @@ pub mod operators;
 
 ghost use mathlib.Core.Path.{_≡_};
 ghost use mathlib.Core.Bool.{_||_};
-ghost use Prim.Native.Nat.{_-_};
 ghost use lib.Dec.{eqb};
 ghost use lib.ListN.{getD};
 ghost use Rattle.express.specs.syntax.NodeKind as node;
 ghost use Rattle.express.specs.kinds.Evaluate.{answer-at};
-ghost use Rattle.express.specs.syntax.Tree as Tree;
 ghost use Rattle.operations.specs.Meaning.{answer-of};
 ghost use Rattle.operations.specs.Stored.{stored};
 ghost use Rattle.evaluate.specs.Answers.{Gives, Stores, answers-in};
-ghost use Rattle.evaluate.specs.Evaluation.{Child, part, IntegerRead, BinaryRead, Leaf, Named, Combines, Intervals, Operates, Others, Answered, EvaluatesNodes};
+ghost use Rattle.evaluate.specs.Evaluation.{part, IntegerRead, BinaryRead, Leaf, Named, Combines, Intervals, Operates, Others, Answered, EvaluatesNodes};
 use crate::operators::Reading;
 use crate::operators::bound;
 use crate::operators::logical;
@@ -27,34 +25,17 @@ use operations::combined;
 use operations::held;
 use operations::rows::answer_of_row;
 use operations::rows::row_of;
+use tree::at32;
+use tree::at8;
+use tree::index_at;
+use tree::last;
+use tree::left;
+use tree::low;
+use tree::lower;
+use tree::middle;
 
 // The number of the declared type BOOLEAN.
 const BOOLEAN: u32 = 1;
-
-// The number at an index; past the end of the column 0.
-pub fn at8(column: &[u8], i: usize) -> u8
-    ensures { λ r. ⌜ r ≡ getD (now (column .entry)) i 0 ⌝ }
-{
-    if i < column.len() {
-        return column[i];
-    }
-    0
-}
-
-fn at32(column: &[u32], i: usize) -> u32
-    ensures { λ r. ⌜ r ≡ getD (now (column .entry)) i 0 ⌝ }
-{
-    if i < column.len() {
-        return column[i];
-    }
-    0
-}
-
-pub fn index_at(column: &[u32], i: usize) -> usize
-    ensures { λ r. ⌜ r ≡ getD (now (column .entry)) i 0 ⌝ }
-{
-    columns::index(at32(column, i))
-}
 
 // The answer that is kept in a row, and `?` past the end of the columns.
 pub fn answer_at(kinds: &[u8], numbers: &[i64], lengths: &[u8], i: usize) -> Answer
@@ -80,43 +61,6 @@ pub fn put_answer(kinds: &mut [u8], numbers: &mut [i64], lengths: &mut [u8], i: 
     columns::put8(kinds, i, row.kind);
     columns::put64(numbers, i, row.number);
     columns::put8(lengths, i, row.length);
-}
-
-// The last child of a node stands just before it, each other child just before the tree of the next.
-fn last(n: usize) -> usize
-    ensures { λ r. ⌜ r ≡ n - 1 ⌝ }
-{
-    columns::saturating_sub(n, 1)
-}
-
-fn before(sizes: &[u32], n: usize) -> usize
-    ensures { λ r. ⌜ Child Tree.before (now (sizes .entry)) n r ⌝ }
-{
-    columns::saturating_sub(n, index_at(sizes, n))
-}
-
-fn left(sizes: &[u32], n: usize) -> usize
-    ensures { λ r. ⌜ Child Tree.left (now (sizes .entry)) n r ⌝ }
-{
-    before(sizes, last(n))
-}
-
-fn middle(sizes: &[u32], n: usize) -> usize
-    ensures { λ r. ⌜ Child Tree.middle (now (sizes .entry)) n r ⌝ }
-{
-    before(sizes, left(sizes, n))
-}
-
-fn lower(sizes: &[u32], n: usize) -> usize
-    ensures { λ r. ⌜ Child Tree.lower (now (sizes .entry)) n r ⌝ }
-{
-    before(sizes, middle(sizes, n))
-}
-
-fn low(sizes: &[u32], n: usize) -> usize
-    ensures { λ r. ⌜ Child Tree.low (now (sizes .entry)) n r ⌝ }
-{
-    before(sizes, lower(sizes, n))
 }
 
 // The terminal of a node's naming token.

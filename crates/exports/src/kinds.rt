@@ -1,6 +1,7 @@
-// What types and constants are declared with, and the typing of constants.
+// What types and constants are declared with, the typing of constants, and their answers.
 ghost use mathlib.Core.Path.{_≡_};
 ghost use Rattle.declared_types.specs.Promise.{Declares};
+ghost use Rattle.constants.specs.Constants.{EvaluatesConstants};
 ghost use Rattle.exports.specs.Reply.{typing-reply, typing-node, Types};
 use typing::Typing;
 
@@ -63,4 +64,51 @@ pub extern "C" fn woffulent_type_constants(
     );
     *node = typing_node(typing);
     typing_reply(typing)
+}
+
+#[no_mangle]
+pub extern "C" fn woffulent_evaluate_constants(
+    src: &[u8],
+    starts: &[u32],
+    lengths: &[u32],
+    terminals: &[u8],
+    kinds: &[u8],
+    tokens: &[u32],
+    sizes: &[u32],
+    bindings: &[u32],
+    declared: &[u32],
+    order: &[u32],
+    row_of: &mut [u32],
+    answer_kinds: &mut [u8],
+    answer_numbers: &mut [i64],
+    answer_lengths: &mut [u8],
+    value_kinds: &mut [u8],
+    value_numbers: &mut [i64],
+    value_lengths: &mut [u8],
+)
+    ensures { λ _. ⌜ EvaluatesConstants (now (src .entry)) (now (starts .entry)) (now (lengths .entry)) (now (terminals .entry)) (now (kinds .entry))
+        (now (tokens .entry)) (now (sizes .entry)) (now (bindings .entry)) (now (declared .entry)) (now (order .entry)) (now («row_of» .entry))
+        (now («answer_kinds» .entry)) (now («answer_numbers» .entry)) (now («answer_lengths» .entry))
+        (now («value_kinds» .entry)) (now («value_numbers» .entry)) (now («value_lengths» .entry))
+        (now («row_of» .exit)) (now («answer_kinds» .exit)) (now («answer_numbers» .exit)) (now («answer_lengths» .exit)) ⌝ }
+{
+    constants::evaluate_constants(
+        src,
+        starts,
+        lengths,
+        terminals,
+        kinds,
+        tokens,
+        sizes,
+        bindings,
+        declared,
+        order,
+        row_of,
+        answer_kinds,
+        answer_numbers,
+        answer_lengths,
+        value_kinds,
+        value_numbers,
+        value_lengths,
+    );
 }

@@ -1,7 +1,7 @@
 // Interning, and the dictionary over keys.
 ghost use mathlib.Core.Path.{_≡_};
 ghost use Rattle.index.specs.Room.{done};
-ghost use Rattle.index.specs.Interning.{Interns, FindsSymbol};
+ghost use Rattle.symbols.specs.Interning.{Interns, FindsSymbol};
 ghost use Rattle.index.specs.Dictionary.{Builds, Finds, Continues};
 ghost use Rattle.exports.specs.Encoded.{Encoded, entry};
 use index::Outcome;
@@ -41,7 +41,7 @@ pub extern "C" fn woffulent_intern(
     ensures { λ r. ⌜ Encoded done (λ o. Interns (now (bytes .entry)) (now (starts .entry)) (now (lengths .entry)) (now (terminals .entry)) (now (symbols .entry)) (now (heads .entry))
         (now (next .entry)) o (now (symbols .exit)) (now (heads .exit)) (now (next .exit))) r ⌝ }
 {
-    is_done(index::symbols::intern(bytes, starts, lengths, terminals, symbols, heads, next))
+    is_done(symbols::intern(bytes, starts, lengths, terminals, symbols, heads, next))
 }
 
 #[no_mangle]
@@ -55,7 +55,7 @@ pub extern "C" fn woffulent_symbol_of(
 ) -> usize
     ensures { λ r. ⌜ Encoded entry (FindsSymbol (now (bytes .entry)) (now (starts .entry)) (now (lengths .entry)) (now (heads .entry)) (now (next .entry)) (now (word .entry))) r ⌝ }
 {
-    entry_of(index::symbols::symbol_of(bytes, starts, lengths, heads, next, word))
+    entry_of(symbols::symbol_of(bytes, starts, lengths, heads, next, word))
 }
 
 #[no_mangle]

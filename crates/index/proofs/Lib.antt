@@ -1,5 +1,3 @@
 pub mod Search
 pub mod Entries
-pub mod Spellings
-pub mod Interning
 pub mod Examples

@@ -39,20 +39,20 @@ use Rattle.inheritance.proofs.TypeGraphs.{type-graph}
 use Rattle.names.specs.Stages.{OrderRoom, ChainRoom, DeclarationsBound, BindsDeclarations, BindsInherited, ExpressionsBound, BindsExpressions}
 
 -- a fault hides all later ones, and where there is none the later one stands
-hides : (f g : Fault) → (f .number ≡ 0 → ⊥) → or-later f g ≡ f
+pub hides : (f g : Fault) → (f .number ≡ 0 → ⊥) → or-later f g ≡ f
 hides f g d = ap (λ (b : Bool). cond b g f) (ne-eqb (f .number) 0 d)
 
-gives-way : (f g : Fault) → f .number ≡ 0 → or-later f g ≡ g
+pub gives-way : (f g : Fault) → f .number ≡ 0 → or-later f g ≡ g
 gives-way f g e = ap (λ (b : Bool). cond b g f) (eq-eqb (f .number) 0 e)
 
 -- what stands before a fault of no number has none, and what follows it
-no-first : (f g : Fault) → or-later f g .number ≡ 0 → f .number ≡ 0
+pub no-first : (f g : Fault) → or-later f g .number ≡ 0 → f .number ≡ 0
 no-first f g e = by-cases (ℕ-discrete (f .number) 0) (λ z. z) (λ d. absurd (d (ap (λ (x : Fault). x .number) (sym (hides f g d)) ∙ e)))
 
-no-later : (f g : Fault) → or-later f g .number ≡ 0 → g .number ≡ 0
+pub no-later : (f g : Fault) → or-later f g .number ≡ 0 → g .number ≡ 0
 no-later f g e = ap (λ (x : Fault). x .number) (sym (gives-way f g (no-first f g e))) ∙ e
 
-same-later : (f g h : Fault) → (f .number ≡ 0 → g ≡ h) → or-later f g ≡ or-later f h
+pub same-later : (f g h : Fault) → (f .number ≡ 0 → g ≡ h) → or-later f g ≡ or-later f h
 same-later f g h e = by-cases (ℕ-discrete (f .number) 0) (λ z. ap (or-later f) (e z)) (λ d. hides f g d ∙ sym (hides f h d))
 
 module _ {kinds tokens roles symbols starts keys nodes heads next bound first to order scratch : List ℕ} {a b c d r : code.Fault} {bound′ first′ to′ order′ scratch′ : List ℕ} where

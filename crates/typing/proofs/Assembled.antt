@@ -6,7 +6,7 @@ use Prim.Native.Nat.{ℕ, _-_}
 use native.Mathlib.Omega.{arith}
 use lib.ListN.{getD}
 use Rattle.express.specs.syntax.NodeKind as node
-use Rattle.express.specs.syntax.Tree.{Table, kind, terminal, before, left, middle, low}
+use Rattle.express.specs.syntax.Tree.{Table, kind, terminal, left, middle, low}
 use Rattle.express.specs.kinds.Declared.{simple, declared-type}
 use Rattle.express.specs.kinds.DeclaredColumn.{declared-number}
 use Rattle.express.specs.kinds.Shape.{operator-of, sign-of}
@@ -16,25 +16,11 @@ use Rattle.typing.specs.declared.kinds.Class.{Class}
 use Rattle.typing.specs.declared.kinds.Finding.{Finding}
 use Rattle.typing.specs.declared.kinds.Finding.the-variants.{OfKind, Fault}
 use Rattle.typing.specs.Findings.{finding-of, class-of, class-of-sign, applied, leaf-found, KindOfType, Evaluated, Held}
-use Rattle.typing.specs.Typings.{kinds-of, Child, Against, Named, Operates, Finds}
+use Rattle.typing.specs.Typings.{kinds-of, Against, Named, Operates, Finds}
+use Rattle.tree.specs.Children.{Child}
 use Rattle.typing.proofs.Numbered.{common-kind}
 use Rattle.typing.proofs.Nodes.{known, kind-held, at-sign, at-operator, at-interval, at-simple-type, at-leaf, at-constant, at-name, at-item}
 use Rattle.typing.proofs.Nodes.{unbound, bound-item, bound-constant, bound-type, bound-other}
-
--- ---- children
-
-module _ {sizes : List ℕ} {n : ℕ} where
-  pub child-before : {s r : ℕ} → s ≡ getD sizes n 0 → r ≡ n - s → Child before sizes n r
-  child-before p q = record { is = λ e h. q ∙ rw (p, ← h) }
-
-  pub child-left : {m r : ℕ} → m ≡ n - 1 → Child before sizes m r → Child left sizes n r
-  child-left p q = record { is = λ e h. q .is e h ∙ ap (before e) p }
-
-  pub child-middle : {m r : ℕ} → Child left sizes n m → Child before sizes m r → Child middle sizes n r
-  child-middle p q = record { is = λ e h. q .is e h ∙ ap (before e) (p .is e h) }
-
-  pub child-low : {m o r : ℕ} → Child middle sizes n m → Child before sizes m o → Child before sizes o r → Child low sizes n r
-  child-low p q s = record { is = λ e h. s .is e h ∙ ap (before e) (q .is e h ∙ ap (before e) (p .is e h)) }
 
 -- ---- operations
 

@@ -1,13 +1,15 @@
 -- The typing of the constants one after the other; what it comes to does not go by what the lent column held before.
 use mathlib.Core.Path.{_≡_, refl, sym, ap, _∙_}
 use mathlib.Core.Logic.{inl}
-use mathlib.Core.Bool.{true, false}
+use mathlib.Core.Bool.{true}
 use mathlib.Core.List.{List, [], _∷_, List·Memᴰ, List·Memᴰ·head, List·Memᴰ·tail}
 use Prim.Native.Nat.{ℕ, suc, _+_, _-_, _≤_, _<_}
 use native.Mathlib.Omega.{arith}
-use borrow.Author.Tests.{eqb-true, eq-eqb, ne-eqb}
+use borrow.Author.Tests.{eqb-true, eq-eqb}
+use lib.Dec.{eqb}
 use lib.ListN.{length, getD, set, replicate, length-set, length-replicate, length-map}
-use Rattle.relations.specs.Select.{span, keep}
+use Rattle.relations.specs.Select.{span, first-from, keep}
+use Rattle.tree.proofs.Next.{next-kept, next-is}
 use Rattle.relations.proofs.Select.{span-mem, keep-mem, span-end}
 use Rattle.express.specs.syntax.NodeKind as node
 use Rattle.express.specs.syntax.Tree.{Table, count, kind, size, first, nodes, is, within}
@@ -82,6 +84,11 @@ pub record Passing (terminals kinds tokens sizes bindings declared was scratch :
       (t : Table) → OfFile t terminals kinds tokens sizes bindings declared → count t ≤ length was →
       outcome (typing t bindings) ≡ outcome (type-constants t bindings (from t n) (kinds-of scratch))
 
+-- where a constant stands at n, unless all have passed
+pub record Here (terminals kinds tokens sizes bindings declared was scratch : List ℕ) (n : ℕ) : Type 0 where
+  pub passing : Passing terminals kinds tokens sizes bindings declared was scratch n
+  pub stands : n < length kinds → getD kinds n 0 ≡ node.constant
+
 module _ {terminals kinds tokens sizes bindings declared : List ℕ} where
   starts :
       (t : Table) → OfFile t terminals kinds tokens sizes bindings declared → (was : List ℕ) → count t ≤ length was →
@@ -124,18 +131,22 @@ module _ {terminals kinds tokens sizes bindings declared : List ℕ} where
                 sym (P .is t O l ∙ rw (span-end (count t) n m));
           }
 
-      module _ (h : n < length kinds) where
-        -- a node that is no constant
-        pub passing-other : (getD kinds n 0 ≡ node.constant → ⊥) → Passing terminals kinds tokens sizes bindings declared was scratch (n + 1)
-        passing-other i =
-            record {
+      -- the next constant
+      pub passing-next :
+          n ≤ length kinds → {m : ℕ} → m ≡ first-from (λ j. eqb (getD kinds j 0) node.constant) n (length kinds - n) →
+          Here terminals kinds tokens sizes bindings declared was scratch m
+      passing-next h {m} e =
+          record {
+            passing = record {
               kept = P .kept;
               is = λ t O l.
-                  let m : n < count t = rw (O .kinds-are) h in
-                  let o : is t node.constant n ≡ false = ne-eqb (kind t n) node.constant (λ e. i (rw (O .kinds-are) at e)) in
-                  P .is t O l ∙ rw (keep-step (count t) (is t node.constant) n m, o);
-            }
+                  let q = ap (λ (ks : List ℕ). first-from (λ j. eqb (getD ks j 0) node.constant) n (length ks - n)) (O .kinds-are) in
+                  P .is t O l ∙ rw (e, ← q) (ap (λ (ns : List ℕ). outcome (type-constants t bindings ns (kinds-of scratch))) (next-kept (is t node.constant) (count t) n (rw (O .kinds-are) h)));
+            };
+            stands = next-is kinds node.constant n e;
+          }
 
+      module _ (h : n < length kinds) where
         -- a constant
         module _ (i : getD kinds n 0 ≡ node.constant) {s lo : ℕ} (S : s ≡ getD sizes n 0) (L : lo ≡ n + 1 - s) {after : List ℕ} {r : Typing}
             (T : TypesNodes terminals kinds tokens sizes bindings lo (n + 1) kinds declared scratch after r) where

@@ -32,10 +32,6 @@ abbrev pub outcome : express.Typing → Typing
 outcome (typed ks) = Typed
 outcome (ill-typed f n) = Fault f n
 
--- a child of a node, by the column of sizes
-pub record Child (f : Table → ℕ → ℕ) (sizes : List ℕ) (n r : ℕ) : Type 0 where
-  pub is : (e : Table) → e .sizes ≡ sizes → r ≡ f e n
-
 -- Names in a table e are bound by c to nodes of the file's table t, whose names are bound by b; and what is declared in either stands in one column.
 pub record Names (t : Table) (b : List ℕ) (e : Table) (c kinds file-kinds declared : List ℕ) : Type 0 where
   pub own-kinds : e .kinds ≡ kinds

@@ -3,10 +3,7 @@
 pub mod kinds;
 
 ghost use mathlib.Core.Path.{_≡_};
-ghost use Prim.Native.Nat.{_-_};
-ghost use lib.ListN.{getD};
-ghost use Rattle.express.specs.syntax.Tree as Tree;
-ghost use Rattle.typing.specs.Typings.{Child, Named, Operates, Finds, TypesNodes, TypesConstants};
+ghost use Rattle.typing.specs.Typings.{Named, Operates, Finds, TypesNodes, TypesConstants};
 use crate::kinds::Finding;
 use crate::kinds::UNTYPED;
 use crate::kinds::apply;
@@ -19,67 +16,19 @@ use crate::kinds::leaf;
 use crate::kinds::operator_class;
 use crate::kinds::sign_class;
 use crate::kinds::simple;
+use tree::at8;
+use tree::at32;
+use tree::index_at;
+use tree::last;
+use tree::left;
+use tree::low;
+use tree::middle;
+use tree::next_of_kind;
 
 // What the typing of some nodes comes to: the reply and the node of the first fault.
 pub enum Typing {
     Typed,
     Fault(u8, usize),
-}
-
-// The number at an index; past the end of the column 0.
-fn at8(column: &[u8], i: usize) -> u8
-    ensures { λ r. ⌜ r ≡ getD (now (column .entry)) i 0 ⌝ }
-{
-    if i < column.len() {
-        return column[i];
-    }
-    0
-}
-
-fn at32(column: &[u32], i: usize) -> u32
-    ensures { λ r. ⌜ r ≡ getD (now (column .entry)) i 0 ⌝ }
-{
-    if i < column.len() {
-        return column[i];
-    }
-    0
-}
-
-fn index_at(column: &[u32], i: usize) -> usize
-    ensures { λ r. ⌜ r ≡ getD (now (column .entry)) i 0 ⌝ }
-{
-    columns::index(at32(column, i))
-}
-
-// The last child of a node stands just before it, each other child just before the tree of the next.
-fn last(n: usize) -> usize
-    ensures { λ r. ⌜ r ≡ n - 1 ⌝ }
-{
-    columns::saturating_sub(n, 1)
-}
-
-fn before(sizes: &[u32], n: usize) -> usize
-    ensures { λ r. ⌜ Child Tree.before (now (sizes .entry)) n r ⌝ }
-{
-    columns::saturating_sub(n, index_at(sizes, n))
-}
-
-fn left(sizes: &[u32], n: usize) -> usize
-    ensures { λ r. ⌜ Child Tree.left (now (sizes .entry)) n r ⌝ }
-{
-    before(sizes, last(n))
-}
-
-fn middle(sizes: &[u32], n: usize) -> usize
-    ensures { λ r. ⌜ Child Tree.middle (now (sizes .entry)) n r ⌝ }
-{
-    before(sizes, left(sizes, n))
-}
-
-fn low(sizes: &[u32], n: usize) -> usize
-    ensures { λ r. ⌜ Child Tree.low (now (sizes .entry)) n r ⌝ }
-{
-    before(sizes, before(sizes, middle(sizes, n)))
 }
 
 // A name by what it is bound to: an item, a constant, or else a type.
@@ -210,28 +159,24 @@ pub fn type_constants(
     ensures { λ r. ⌜ TypesConstants (now (terminals .entry)) (now (kinds .entry)) (now (tokens .entry)) (now (sizes .entry))
         (now (bindings .entry)) (now (declared .entry)) (now (scratch .entry)) (now (scratch .exit)) r ⌝ }
 {
-    let mut n = 0;
+    let mut n = next_of_kind(kinds, codes::nodes::CONSTANT, 0);
     while n < kinds.len() {
-        if kinds[n] == codes::nodes::CONSTANT {
-            let first = columns::saturating_sub(n + 1, index_at(sizes, n));
-            let typing = type_expression(
-                terminals,
-                kinds,
-                tokens,
-                sizes,
-                bindings,
-                first,
-                n + 1,
-                kinds,
-                declared,
-                scratch,
-            );
-            match typing {
-                Typing::Typed => n += 1,
-                Typing::Fault(f, m) => return Typing::Fault(f, m),
-            }
-        } else {
-            n += 1;
+        let first = columns::saturating_sub(n + 1, index_at(sizes, n));
+        let typing = type_expression(
+            terminals,
+            kinds,
+            tokens,
+            sizes,
+            bindings,
+            first,
+            n + 1,
+            kinds,
+            declared,
+            scratch,
+        );
+        match typing {
+            Typing::Typed => n = next_of_kind(kinds, codes::nodes::CONSTANT, n + 1),
+            Typing::Fault(f, m) => return Typing::Fault(f, m),
         }
     }
     Typing::Typed

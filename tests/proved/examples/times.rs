@@ -4,10 +4,10 @@
 //! The reference allocates its rows anew in each run, which is part of its time.
 
 use compare::random::{well_typed, Rng, LARGEST};
-use proved::{declared_types, intern, parse, scan, terminals, type_constants, Nodes};
+use proved::{declared_types, evaluate_constants, intern, parse, scan, terminals, type_constants, Nodes, Rows, Text};
 use reference::outline::Outline;
 use reference::terminals::classify;
-use reference::{kinds, names, parser};
+use reference::{evaluation, kinds, names, parser};
 use reference::{symbols, tokens, AnswerRow, File, TokenRow, MAX_BYTES};
 use std::hint::black_box;
 use std::time::Instant;
@@ -94,9 +94,19 @@ fn codes(file: &[u8], rows: &[TokenRow]) -> Vec<u8> {
     codes
 }
 
-/// Of a file whose nodes and bindings are there: the proved declared types, the proved typing, the reference's typing, which
-/// has the declared types in it, and its outline, by which that finds types and constants.
-fn typing(bytes: &[u8]) -> [f64; 4] {
+/// The proved functions from declared types to answers, and what the reference does in their place, with its outline, by which
+/// it finds types and constants.
+struct Kinds {
+    proved: [f64; 3],
+    reference: [f64; 3],
+}
+
+fn lent((kinds, numbers, lengths): &mut (Vec<u8>, Vec<i64>, Vec<u8>)) -> Rows<'_> {
+    Rows { kinds, numbers, lengths }
+}
+
+/// Of a file whose nodes and bindings are there.
+fn kinds_of(bytes: &[u8]) -> Kinds {
     let tokens = tokens::read(bytes).expect("tokens");
     let terminals = classify(bytes, &tokens);
     let nodes = parser::read(&terminals).expect("nodes");
@@ -107,33 +117,52 @@ fn typing(bytes: &[u8]) -> [f64; 4] {
     let node_kinds: Vec<u8> = nodes.iter().map(|node| node.kind).collect();
     let node_tokens: Vec<u32> = nodes.iter().map(|node| node.token).collect();
     let sizes: Vec<u32> = nodes.iter().map(|node| node.size).collect();
-    let order: Vec<u32> = names.type_order.iter().map(|&number| outline.declarations[number as usize].node).collect();
+    let node = |&declaration: &u32| outline.declarations[declaration as usize].node;
+    let types: Vec<u32> = names.type_order.iter().map(node).collect();
+    let order: Vec<u32> = names.constant_order.iter().map(node).collect();
+    let starts: Vec<u32> = tokens.iter().map(|token| token.start).collect();
+    let lengths: Vec<u32> = tokens.iter().map(|token| token.length).collect();
     let codes = codes(bytes, &tokens);
+    let text = Text { bytes, starts: &starts, lengths: &lengths };
     let columns =
         Nodes { terminals: &codes, kinds: &node_kinds, tokens: &node_tokens, sizes: &sizes, bindings: &names.bindings };
-    let (mut column, mut scratch) = (vec![0; nodes.len()], vec![0; nodes.len()]);
+    let (mut column, mut scratch, mut row_of) = (vec![0; nodes.len()], vec![0; nodes.len()], vec![0; nodes.len()]);
     let [declared, outlined] =
-        best(|| declared_types(black_box(columns), &order, &mut column), || Outline::new(black_box(&nodes)));
+        best(|| declared_types(black_box(columns), &types, &mut column), || Outline::new(black_box(&nodes)));
     assert_eq!(type_constants(columns, &column, &mut scratch), Ok(()));
     let [typed, checked] = best(
         || type_constants(black_box(columns), &column, &mut scratch),
         || kinds::check(black_box(&file), &names).is_ok(),
     );
-    [declared, typed, checked, outlined]
+    let rows = || (vec![0; nodes.len()], vec![0; nodes.len()], vec![0; nodes.len()]);
+    let (mut answers, mut values) = (rows(), rows());
+    let underlying = kinds::check(&file, &names).expect("kinds");
+    let [evaluated, answered] = best(
+        || {
+            let [answers, values] = [&mut answers, &mut values].map(lent);
+            evaluate_constants(black_box(text), columns, &column, &order, &mut row_of, answers, values)
+        },
+        || evaluation::answers(black_box(&file), &names, &underlying),
+    );
+    Kinds { proved: [declared, typed, evaluated], reference: [outlined, checked, answered] }
 }
 
-/// Nanoseconds for each byte of well-typed files of three sizes, and the proved time as a part of the reference's without its
+/// Nanoseconds for each byte of well-typed files of three sizes, and the proved time as a part of the reference's, without its
 /// outline and with it.
-fn print_typing() {
+fn print_kinds() {
     println!("\nnanoseconds for each byte");
-    println!("   bytes  declared    typing     check   outline   ratio    with outline");
+    println!("   bytes  declared    typing   answers |   outline     check   answers |   ratio  with outline");
     for size in [1_024, 16_384, LARGEST] {
         let sized = |file: &Vec<u8>| (size / 4 * 3..=size / 4 * 5).contains(&file.len());
         for file in (0..).map(|seed| well_typed(seed, size)).filter(sized).take(6) {
-            let [declared, typed, checked, outlined] = typing(&file).map(|time| time / file.len() as f64);
-            print!("{:8}{declared:10.3}{typed:10.3}{checked:10.3}{outlined:10.3}", file.len());
-            let proved = declared + typed;
-            println!("{:8.2}{:16.2}", proved / checked, proved / (checked + outlined));
+            let Kinds { proved, reference } = kinds_of(&file);
+            let print = |times: [f64; 3]| times.map(|time| print!("{:10.3}", time / file.len() as f64));
+            print!("{:8}", file.len());
+            print(proved);
+            print!(" |");
+            print(reference);
+            let [proved, whole] = [proved, reference].map(|times| times.iter().sum::<f64>());
+            println!(" |{:8.2}{:14.2}", proved / (whole - reference[0]), proved / whole);
         }
     }
 }
@@ -192,7 +221,7 @@ fn main() {
         }
     }
     if "kinds".contains(&only) {
-        print_typing();
+        print_kinds();
     }
     if "arithmetic".contains(&only) {
         print_arithmetic();

@@ -82,6 +82,42 @@ extern "C" {
         scratch_length: usize,
         node: &mut usize,
     ) -> u8;
+    fn woffulent_evaluate_constants(
+        src: *const u8,
+        src_length: usize,
+        starts: *const u32,
+        starts_length: usize,
+        lengths: *const u32,
+        lengths_length: usize,
+        terminals: *const u8,
+        terminals_length: usize,
+        kinds: *const u8,
+        kinds_length: usize,
+        tokens: *const u32,
+        tokens_length: usize,
+        sizes: *const u32,
+        sizes_length: usize,
+        bindings: *const u32,
+        bindings_length: usize,
+        declared: *const u32,
+        declared_length: usize,
+        order: *const u32,
+        order_length: usize,
+        row_of: *mut u32,
+        row_of_length: usize,
+        answer_kinds: *mut u8,
+        answer_kinds_length: usize,
+        answer_numbers: *mut i64,
+        answer_numbers_length: usize,
+        answer_lengths: *mut u8,
+        answer_lengths_length: usize,
+        value_kinds: *mut u8,
+        value_kinds_length: usize,
+        value_numbers: *mut i64,
+        value_numbers_length: usize,
+        value_lengths: *mut u8,
+        value_lengths_length: usize,
+    );
     fn woffulent_integer(s: *const u8, s_length: usize, start: usize, length: usize) -> u64;
     fn woffulent_binary(s: *const u8, s_length: usize, start: usize, length: usize) -> u64;
     fn woffulent_add(a: i64, b: i64, number: &mut i64, length: &mut u8) -> u8;
@@ -364,6 +400,74 @@ pub fn type_constants(nodes: Nodes, declared: &[u32], scratch: &mut [u32]) -> Re
         )
     };
     outcome(reply, node).map(|_| ())
+}
+
+/// The bytes of a file and where its tokens stand in them.
+#[derive(Clone, Copy, Debug)]
+pub struct Text<'a> {
+    pub bytes: &'a [u8],
+    pub starts: &'a [u32],
+    pub lengths: &'a [u32],
+}
+
+/// Three columns that hold an answer in each row.
+#[derive(Debug)]
+pub struct Rows<'a> {
+    pub kinds: &'a mut [u8],
+    pub numbers: &'a mut [i64],
+    pub lengths: &'a mut [u8],
+}
+
+/// Stores the answers of all constants in the order of the text, and for each node the number of constants before it in
+/// `row_of`. `order` has the nodes of the declarations, each constant after those that it names; `values` is scratch by node.
+pub fn evaluate_constants(
+    text: Text,
+    nodes: Nodes,
+    declared: &[u32],
+    order: &[u32],
+    row_of: &mut [u32],
+    answers: Rows,
+    values: Rows,
+) {
+    // SAFETY: see the head of this file.
+    unsafe {
+        woffulent_evaluate_constants(
+            text.bytes.as_ptr(),
+            text.bytes.len(),
+            text.starts.as_ptr(),
+            text.starts.len(),
+            text.lengths.as_ptr(),
+            text.lengths.len(),
+            nodes.terminals.as_ptr(),
+            nodes.terminals.len(),
+            nodes.kinds.as_ptr(),
+            nodes.kinds.len(),
+            nodes.tokens.as_ptr(),
+            nodes.tokens.len(),
+            nodes.sizes.as_ptr(),
+            nodes.sizes.len(),
+            nodes.bindings.as_ptr(),
+            nodes.bindings.len(),
+            declared.as_ptr(),
+            declared.len(),
+            order.as_ptr(),
+            order.len(),
+            row_of.as_mut_ptr(),
+            row_of.len(),
+            answers.kinds.as_mut_ptr(),
+            answers.kinds.len(),
+            answers.numbers.as_mut_ptr(),
+            answers.numbers.len(),
+            answers.lengths.as_mut_ptr(),
+            answers.lengths.len(),
+            values.kinds.as_mut_ptr(),
+            values.kinds.len(),
+            values.numbers.as_mut_ptr(),
+            values.numbers.len(),
+            values.lengths.as_mut_ptr(),
+            values.lengths.len(),
+        )
+    }
 }
 
 /// The value of the integer literal of `length` bytes at `start`, as far as 2 to the 63.

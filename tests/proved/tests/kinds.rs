@@ -1,17 +1,19 @@
-//! The proved declared types and the proved typing of constants, on files whose names the reference binds.
+//! The proved declared types, the proved typing of constants and their proved answers, on files whose names the reference
+//! binds.
 
 use compare::cases;
 use compare::random::{self, Rng};
-use proved::{declared_types, scan, terminals, type_constants, Nodes};
+use proved::{declared_types, evaluate_constants, scan, terminals, type_constants, Nodes, Rows, Text};
+use reference::evaluation::answers;
 use reference::kinds::{check, underlying_types, Underlying};
 use reference::outline::Outline;
 use reference::parser::{kind, read};
 use reference::terminals::classify;
-use reference::{names, symbols, tokens, Fault, File};
+use reference::{names, symbols, tokens, AnswerRow, Fault, File};
 
 const FILES: u64 = 50_000;
 
-/// What a column holds before a call, by entry; no number of a kind or a type of these files.
+/// What a column holds before a call, by entry; no number of a kind, a type or a row of these files.
 fn before(i: usize) -> u32 {
     0xdead_0000 ^ i as u32
 }
@@ -20,17 +22,69 @@ fn column(length: usize) -> Vec<u32> {
     (0..length).map(before).collect()
 }
 
+/// What a row holds before a call; no row of an answer.
+fn row_before(i: usize) -> AnswerRow {
+    AnswerRow { kind: 0x80 | i as u8, number: !(i as i64) << 32, length: 0x80 | i as u32 & 0x7f }
+}
+
+/// Three columns of rows.
+struct Columns {
+    kinds: Vec<u8>,
+    numbers: Vec<i64>,
+    lengths: Vec<u8>,
+}
+
+impl Columns {
+    fn new(length: usize) -> Columns {
+        let rows = (0..length).map(row_before);
+        Columns {
+            kinds: rows.clone().map(|row| row.kind).collect(),
+            numbers: rows.clone().map(|row| row.number).collect(),
+            lengths: rows.map(|row| row.length as u8).collect(),
+        }
+    }
+
+    /// All of them, as far as given for each.
+    fn lent(&mut self, lengths: [usize; 3]) -> Rows<'_> {
+        Rows {
+            kinds: &mut self.kinds[..lengths[0]],
+            numbers: &mut self.numbers[..lengths[1]],
+            lengths: &mut self.lengths[..lengths[2]],
+        }
+    }
+
+    fn row(&self, i: usize) -> AnswerRow {
+        AnswerRow { kind: self.kinds[i], number: self.numbers[i], length: self.lengths[i].into() }
+    }
+
+    fn rows(&self) -> Vec<AnswerRow> {
+        (0..self.kinds.len()).map(|i| self.row(i)).collect()
+    }
+
+    /// Whether nothing is changed from these entries on.
+    fn kept_from(&self, lengths: [usize; 3]) -> bool {
+        let kept = Columns::new(self.kinds.len());
+        self.kinds[lengths[0]..] == kept.kinds[lengths[0]..]
+            && self.numbers[lengths[1]..] == kept.numbers[lengths[1]..]
+            && self.lengths[lengths[2]..] == kept.lengths[lengths[2]..]
+    }
+}
+
 /// A file past its names: what the proved functions read, and what the reference makes of it.
 struct Named {
+    bytes: Vec<u8>,
+    starts: Vec<u32>,
+    lengths: Vec<u32>,
     terminals: Vec<u8>,
     kinds: Vec<u8>,
     tokens: Vec<u32>,
     sizes: Vec<u32>,
     bindings: Vec<u32>,
-    order: Vec<u32>,
+    type_order: Vec<u32>,
+    constant_order: Vec<u32>,
     /// Of constants, types and items the number of what they are declared with; of other nodes none.
     declared: Vec<Option<u32>>,
-    typing: Result<(), Fault>,
+    answers: Result<Vec<AnswerRow>, Fault>,
 }
 
 impl Named {
@@ -39,10 +93,25 @@ impl Named {
         Nodes { terminals, kinds, tokens, sizes, bindings }
     }
 
+    fn text(&self) -> Text<'_> {
+        Text { bytes: &self.bytes, starts: &self.starts, lengths: &self.lengths }
+    }
+
     /// The column of declared types as it is to be, from one of so many entries.
     fn declared_column(&self, length: usize) -> Vec<u32> {
         let entry = |i: usize| self.declared.get(i).copied().flatten().unwrap_or(before(i));
         (0..length).map(entry).collect()
+    }
+
+    /// The column of rows by node as it is to be.
+    fn row_column(&self, length: usize) -> Vec<u32> {
+        let mut constants = 0;
+        let mut entry = |i: usize| {
+            let Some(&kind) = self.kinds.get(i) else { return before(i) };
+            constants += u32::from(kind == kind::CONSTANT);
+            constants - u32::from(kind == kind::CONSTANT)
+        };
+        (0..length).map(&mut entry).collect()
     }
 }
 
@@ -82,43 +151,79 @@ fn named(bytes: &[u8]) -> Option<Named> {
     let file =
         File { bytes, tokens: &rows, terminals: &terminals, nodes: &nodes, symbols: &symbols, outline: &outline };
     let names = names::bind(&file).ok()?;
+    let node = |&declaration: &u32| outline.declarations[declaration as usize].node;
     Some(Named {
+        bytes: bytes.to_vec(),
+        starts: rows.iter().map(|row| row.start).collect(),
+        lengths: rows.iter().map(|row| row.length).collect(),
         terminals: codes(bytes, rows.len()),
         kinds: nodes.iter().map(|node| node.kind).collect(),
         tokens: nodes.iter().map(|node| node.token).collect(),
         sizes: nodes.iter().map(|node| node.size).collect(),
-        order: names.type_order.iter().map(|&number| outline.declarations[number as usize].node).collect(),
+        type_order: names.type_order.iter().map(node).collect(),
+        constant_order: names.constant_order.iter().map(node).collect(),
         declared: declared(&file, &names),
-        typing: check(&file, &names).map(|_| ()),
+        answers: check(&file, &names).map(|underlying| answers(&file, &names, &underlying)),
         bindings: names.bindings,
     })
 }
 
-/// Holds both functions to the reference, with columns that are just long enough or longer by so much.
-fn hold_with(file: &Named, spare: usize, text: &[u8]) {
+/// Holds the answers to the reference's, with columns that are just long enough or longer by so much.
+fn hold_answers(file: &Named, declared: &[u32], order: &[u32], spare: usize) {
+    let Ok(wanted) = &file.answers else { return };
+    let nodes = file.kinds.len() + spare;
+    let rows = wanted.len() + spare;
+    let (mut row_of, mut answers, mut values) = (column(nodes), Columns::new(rows), Columns::new(nodes));
+    let (lent, scratch) = (answers.lent([rows; 3]), values.lent([nodes; 3]));
+    evaluate_constants(file.text(), file.nodes(), declared, order, &mut row_of, lent, scratch);
+    let wanted: Vec<AnswerRow> = wanted.iter().copied().chain((wanted.len()..rows).map(row_before)).collect();
+    assert_eq!(answers.rows(), wanted, "{}", file.bytes.escape_ascii());
+    assert_eq!(row_of, file.row_column(nodes), "{}", file.bytes.escape_ascii());
+    assert!(values.kept_from([file.kinds.len(); 3]), "{}", file.bytes.escape_ascii());
+}
+
+/// Holds all three functions to the reference, with columns that are just long enough or longer by so much.
+fn hold_with(file: &Named, spare: usize) {
     let length = file.kinds.len() + spare;
     let mut declared = column(length);
-    declared_types(file.nodes(), &file.order, &mut declared);
-    assert_eq!(declared, file.declared_column(length), "{}", text.escape_ascii());
+    declared_types(file.nodes(), &file.type_order, &mut declared);
+    assert_eq!(declared, file.declared_column(length), "{}", file.bytes.escape_ascii());
     let mut scratch = column(length);
     let typing = type_constants(file.nodes(), &declared, &mut scratch)
         .map_err(|refusal| Fault { reply: refusal.reply, token: file.tokens[refusal.number as usize] });
-    assert_eq!(typing, file.typing, "{}", text.escape_ascii());
+    assert_eq!(typing.err(), file.answers.as_ref().err().copied(), "{}", file.bytes.escape_ascii());
     assert_eq!(scratch[file.kinds.len()..], column(length)[file.kinds.len()..]);
+    hold_answers(file, &declared, &file.constant_order, spare);
+}
+
+/// How many files had each reply, and how many constants each kind of answer.
+#[derive(Debug, Default)]
+struct Seen {
+    replies: [u32; 16],
+    answers: [u32; 20],
+}
+
+impl Seen {
+    /// Whether each kind of answer, `?` and the ends among them, was seen so often.
+    fn answers_of_all_kinds(&self, often: u32) -> bool {
+        [0, 1, 2, 3, 4, 16, 17, 18, 19].iter().all(|&kind: &usize| self.answers[kind] > often)
+    }
 }
 
 /// The reply of a file past its names.
-fn hold(text: &[u8]) -> Option<u32> {
+fn hold(text: &[u8], seen: &mut Seen) -> Option<u32> {
     let file = named(text)?;
-    [0, 3].into_iter().for_each(|spare| hold_with(&file, spare, text));
-    Some(file.typing.err().map_or(0, |fault| fault.reply))
+    [0, 3].into_iter().for_each(|spare| hold_with(&file, spare));
+    let reply = file.answers.as_ref().err().map_or(0, |fault| fault.reply);
+    seen.replies[reply as usize] += 1;
+    file.answers.iter().flatten().for_each(|row| seen.answers[usize::from(row.kind)] += 1);
+    Some(reply)
 }
 
-/// How many files had each reply.
-fn replies(files: impl Iterator<Item = Vec<u8>>) -> [u32; 16] {
-    let mut replies = [0; 16];
-    files.filter_map(|file| hold(&file)).for_each(|reply| replies[reply as usize] += 1);
-    replies
+fn hold_all(files: impl Iterator<Item = Vec<u8>>) -> Seen {
+    let mut seen = Seen::default();
+    files.for_each(|file| _ = hold(&file, &mut seen));
+    seen
 }
 
 /// Words of which each may stand where another of its line does.
@@ -154,43 +259,59 @@ fn exchanged(seed: u64) -> Vec<u8> {
     words.join(" ").into_bytes()
 }
 
+/// A well-typed file for two seeds of four, of a size as in `random::plan`.
+fn mostly_well_typed(seed: u64) -> Vec<u8> {
+    match seed % 4 {
+        0 => random::file(seed),
+        1 => exchanged(seed),
+        _ => random::well_typed(seed, random::plan(seed).1),
+    }
+}
+
 #[test]
 fn random_files() {
-    let seen = replies((0..FILES).map(random::file));
-    assert!(seen[0] > 20_000 && seen[14] > 900 && seen[15] > 1_400, "replies {seen:?}");
+    let seen = hold_all((0..FILES).map(mostly_well_typed));
+    assert!(seen.replies[0] > 30_000 && seen.replies[14] > 1_500 && seen.replies[15] > 2_000, "{seen:?}");
+    assert!(seen.answers_of_all_kinds(2_500), "{seen:?}");
 }
 
 #[test]
 fn files_with_words_exchanged() {
-    let seen = replies((0..FILES / 2).map(exchanged));
-    assert!(seen[0] > 5_000 && seen[14] > 3_000 && seen[15] > 4_000, "replies {seen:?}");
+    let seen = hold_all((0..FILES / 2).map(exchanged));
+    assert!(seen.replies[0] > 5_000 && seen.replies[14] > 3_000 && seen.replies[15] > 4_000, "{seen:?}");
+    assert!(seen.answers_of_all_kinds(500), "{seen:?}");
 }
 
 #[test]
 fn the_corpus() {
-    let seen = replies(cases::all().into_iter().map(|case| case.input));
-    assert!(seen[0] > 50 && seen[14] > 10 && seen[15] > 10, "replies {seen:?}");
+    let seen = hold_all(cases::all().into_iter().map(|case| case.input));
+    assert!(seen.replies[0] > 50 && seen.replies[14] > 10 && seen.replies[15] > 10, "{seen:?}");
+    assert!(seen.answers_of_all_kinds(0), "{seen:?}");
 }
 
 /// The kinds of operands: integer, logical, binary, items of two enumerations, and `?`.
 const OPERANDS: [&str; 6] = ["1", "TRUE", "%1", "low", "red", "?"];
-/// Constants of the same kinds but `?`; two of them are logical, and two are items of one enumeration.
-const CONSTANTS: [&str; 7] = ["i", "l", "t", "b", "e", "f", "g"];
+/// Constants of the same kinds, two of them logical and two items of one enumeration; and with the ends 16 to 19.
+const CONSTANTS: [&str; 12] = ["i", "l", "t", "b", "e", "f", "g", "range", "joined", "zero", "power", "unknown_one"];
 const TYPES: [&str; 10] =
     ["INTEGER", "BOOLEAN", "LOGICAL", "BINARY", "REAL", "level", "colour", "grade", "number_type", "any"];
 
 /// The replies of a constant with this expression, one for each type that it may be declared with.
 fn with_types(expression: &str) -> Vec<u32> {
+    let zeros = "0".repeat(62);
     let text = |declared: &str| {
         format!(
             "SCHEMA s; CONSTANT i : number_type := 1; l : LOGICAL := ?; t : BOOLEAN := TRUE; b : BINARY := %1; \
-             e : level := low; f : grade := level.high; g : colour := red; c : {declared} := {expression}; END_CONSTANT; \
+             e : level := low; f : grade := level.high; g : colour := red; range : INTEGER := 9223372036854775807 + i; \
+             joined : BINARY := %1{zeros} + b; zero : INTEGER := i MOD 0; power : INTEGER := 2 ** (-i); \
+             unknown_one : BOOLEAN := l; c : {declared} := {expression}; END_CONSTANT; \
              TYPE grade = level; END_TYPE; TYPE level = ENUMERATION OF (low, high); END_TYPE; \
              TYPE colour = ENUMERATION OF (red, green); END_TYPE; TYPE number_type = whole; END_TYPE; \
              TYPE whole = INTEGER; END_TYPE; TYPE any = SELECT (level, colour); END_TYPE; END_SCHEMA;"
         )
     };
-    TYPES.iter().map(|declared| hold(text(declared).as_bytes()).expect(expression)).collect()
+    let mut seen = Seen::default();
+    TYPES.iter().map(|declared| hold(text(declared).as_bytes(), &mut seen).expect(expression)).collect()
 }
 
 /// Whether the expression has a kind, and so fits a type.
@@ -252,19 +373,41 @@ fn operands_alone() {
     }
 }
 
-/// Calls both functions on any columns: they end, write no entry past what is lent, and the first none of other nodes than
-/// items, types and constants; the node of a fault is one of the nodes.
-fn call_on_any(nodes: Nodes, order: &[u32], lent: [usize; 2]) {
-    let mut declared = column(lent[0] + 2);
-    declared_types(nodes, order, &mut declared[..lent[0]]);
-    for (i, &entry) in declared.iter().enumerate() {
-        let written = i < lent[0] && matches!(nodes.kinds.get(i), Some(&(kind::ITEM | kind::TYPE | kind::CONSTANT)));
-        assert!(written || entry == before(i), "entry {i} of {lent:?}");
+/// So many entries or, half of the time, fewer.
+fn cut(rng: &mut Rng, length: usize) -> usize {
+    if rng.one_in(2) {
+        length
+    } else {
+        rng.below(length + 1)
     }
-    let mut scratch = column(lent[1] + 2);
-    let typing = type_constants(nodes, &declared[..lent[0]], &mut scratch[..lent[1]]);
+}
+
+/// Any lengths of three columns.
+fn lengths(rng: &mut Rng, most: usize) -> [usize; 3] {
+    [cut(rng, most), cut(rng, most), cut(rng, most)]
+}
+
+/// Calls the functions on any columns: they end and write no entry past what is lent, and the first none of other nodes than
+/// items, types and constants; the node of a fault is one of the nodes.
+fn call_on_any(rng: &mut Rng, text: Text, nodes: Nodes, order: &[u32], most: usize) {
+    let [typed, declares, numbered] = lengths(rng, most);
+    let mut declared = column(declares + 2);
+    declared_types(nodes, order, &mut declared[..declares]);
+    for (i, &entry) in declared.iter().enumerate() {
+        let written = i < declares && matches!(nodes.kinds.get(i), Some(&(kind::ITEM | kind::TYPE | kind::CONSTANT)));
+        assert!(written || entry == before(i), "entry {i} of {declares}");
+    }
+    let declared = &declared[..declares];
+    let mut scratch = column(typed + 2);
+    let typing = type_constants(nodes, declared, &mut scratch[..typed]);
     assert!(typing.is_ok() || typing.is_err_and(|fault| (fault.number as usize) < nodes.kinds.len()));
-    assert_eq!(scratch[lent[1]..], column(lent[1] + 2)[lent[1]..]);
+    assert_eq!(scratch[typed..], column(typed + 2)[typed..]);
+    let (mut row_of, [rows, room]) = (column(numbered + 2), [lengths(rng, most), lengths(rng, most)]);
+    let (mut answers, mut values) = (Columns::new(most + 2), Columns::new(most + 2));
+    let (lent, scratch) = (answers.lent(rows), values.lent(room));
+    evaluate_constants(text, nodes, declared, order, &mut row_of[..numbered], lent, scratch);
+    assert_eq!(row_of[numbered..], column(numbered + 2)[numbered..]);
+    assert!(answers.kept_from(rows) && values.kept_from(room));
 }
 
 #[test]
@@ -272,18 +415,24 @@ fn columns_that_are_too_short() {
     for seed in 0..FILES / 10 {
         let Some(file) = named(&exchanged(seed)) else { continue };
         let mut rng = Rng::new(seed);
-        let mut cut = |length: usize| if rng.one_in(2) { length } else { rng.below(length + 1) };
-        let nodes = Nodes {
-            terminals: &file.terminals[..cut(file.terminals.len())],
-            kinds: &file.kinds[..cut(file.kinds.len())],
-            tokens: &file.tokens[..cut(file.tokens.len())],
-            sizes: &file.sizes[..cut(file.sizes.len())],
-            bindings: &file.bindings[..cut(file.bindings.len())],
+        let text = Text {
+            bytes: &file.bytes[..cut(&mut rng, file.bytes.len())],
+            starts: &file.starts[..cut(&mut rng, file.starts.len())],
+            lengths: &file.lengths[..cut(&mut rng, file.lengths.len())],
         };
-        let order = &file.order[..cut(file.order.len())];
-        call_on_any(nodes, order, [cut(file.kinds.len()), cut(file.kinds.len())]);
+        let nodes = Nodes {
+            terminals: &file.terminals[..cut(&mut rng, file.terminals.len())],
+            kinds: &file.kinds[..cut(&mut rng, file.kinds.len())],
+            tokens: &file.tokens[..cut(&mut rng, file.tokens.len())],
+            sizes: &file.sizes[..cut(&mut rng, file.sizes.len())],
+            bindings: &file.bindings[..cut(&mut rng, file.bindings.len())],
+        };
+        let order = &file.constant_order[..cut(&mut rng, file.constant_order.len())];
+        call_on_any(&mut rng, text, nodes, order, file.kinds.len());
     }
-    call_on_any(Nodes { terminals: &[], kinds: &[], tokens: &[], sizes: &[], bindings: &[] }, &[], [0, 0]);
+    let text = Text { bytes: &[], starts: &[], lengths: &[] };
+    let nodes = Nodes { terminals: &[], kinds: &[], tokens: &[], sizes: &[], bindings: &[] };
+    call_on_any(&mut Rng::new(0), text, nodes, &[], 0);
 }
 
 #[test]
@@ -297,7 +446,48 @@ fn columns_of_any_numbers() {
         let kinds: Vec<u8> = (0..rng.below(60)).map(|_| rng.below(28) as u8).collect();
         let (terminals, tokens, sizes) = (bytes(&mut rng), words(&mut rng), words(&mut rng));
         let (bindings, order) = (words(&mut rng), words(&mut rng));
+        let (source, starts, lengths) = (bytes(&mut rng), words(&mut rng), words(&mut rng));
+        let text = Text { bytes: &source, starts: &starts, lengths: &lengths };
         let nodes = Nodes { terminals: &terminals, kinds: &kinds, tokens: &tokens, sizes: &sizes, bindings: &bindings };
-        call_on_any(nodes, &order, [rng.below(64), rng.below(64)]);
+        call_on_any(&mut rng, text, nodes, &order, 64);
     }
+}
+
+/// The declarations in another order in which each constant stands after those that it names, schemas mixed.
+fn mixed_order(file: &Named, rng: &mut Rng) -> Vec<u32> {
+    let mut left = file.constant_order.clone();
+    (1..left.len()).for_each(|i| left.swap(i, rng.below(i + 1)));
+    let (mut order, mut placed) = (Vec::new(), vec![false; file.kinds.len()]);
+    let mut stack: Vec<u32> = Vec::new();
+    while let Some(node) = stack.pop().or_else(|| left.pop()) {
+        let within = node + 1 - file.sizes[node as usize]..node;
+        let named = within.filter_map(|n| file.bindings[n as usize].checked_sub(1));
+        let open = |&d: &u32| file.kinds[d as usize] == kind::CONSTANT && !placed[d as usize];
+        let before: Vec<u32> = named.filter(|_| file.kinds[node as usize] == kind::CONSTANT).filter(open).collect();
+        if placed[node as usize] {
+            continue;
+        }
+        if before.is_empty() {
+            placed[node as usize] = true;
+            order.push(node);
+        } else {
+            stack.push(node);
+            stack.extend(before);
+        }
+    }
+    order
+}
+
+#[test]
+fn constants_in_other_orders() {
+    let mut moved = 0;
+    for seed in 0..FILES / 10 {
+        let Some(file) = named(&mostly_well_typed(seed * 4 + 2)) else { continue };
+        let order = mixed_order(&file, &mut Rng::new(seed));
+        moved += u32::from(order != file.constant_order);
+        let mut declared = column(file.kinds.len());
+        declared_types(file.nodes(), &file.type_order, &mut declared);
+        hold_answers(&file, &declared, &order, 0);
+    }
+    assert!(moved > 3_000, "{moved} of the orders are others");
 }

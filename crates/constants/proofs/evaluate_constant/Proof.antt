@@ -7,7 +7,6 @@ use Rattle.constants.proofs.evaluate_constant.Lts as lts
 use Rattle.columns.proofs.saturating_sub.Reads as saturating-sub-reads
 use Rattle.evaluate.proofs.answer_at.Reads as answer-at-reads
 use Rattle.evaluate.proofs.evaluate_expression.Reads as evaluate-expression-reads
-use Rattle.evaluate.proofs.index_at.Reads as index-at-reads
 use Rattle.evaluate.proofs.put_answer.Reads as put-answer-reads
 use Rattle.constants.proofs.OneConstant.{one-constant}
 use native.Mathlib.Omega.{arith}

@@ -5,7 +5,6 @@ use Rattle.constants.proofs.evaluate_schemas.Reads as reads
 use Rattle.constants.proofs.evaluate_schemas.Lts as lts
 use Rattle.columns.proofs.shorter.Reads as shorter-reads
 use Rattle.constants.proofs.evaluate_schema.Reads as evaluate-schema-reads
-use Rattle.evaluate.proofs.index_at.Reads as index-at-reads
 use borrow.Author.Needs.{needs}
 use Rattle.constants.proofs.Schemas.{Filling, filling-starts, filling-other, filling-schema, filling-ends}
 use Prim.Native.Nat.{_-_}

@@ -4,7 +4,6 @@ use Rattle.constants.proofs.is_due.Statement.{statement}
 use Rattle.constants.proofs.is_due.Tie as tie
 use Rattle.constants.proofs.is_due.Reads as reads
 use Rattle.constants.proofs.is_due.Lts as lts
-use Rattle.evaluate.proofs.at8.Reads as at8-reads
 use mathlib.Core.Path.{ap}
 use Prim.Native.Nat.{ℕ}
 use lib.Dec.{eqb}

@@ -6,17 +6,17 @@ use mathlib.Core.Path.{sym, _∙_}
 use borrow.Author.Tests.{eq-eqb, ne-eqb}
 use Rattle.declared_types.specs.Storing.{base-number}
 
-byte-at-requires : tie.Need-byte-at-requires
-byte-at-requires c κs = search needs
+at8-requires : tie.Need-at8-requires
+at8-requires c κs = search needs
 
-at-requires : tie.Need-at-requires
-at-requires c κs = search needs
+at32-requires : tie.Need-at32-requires
+at32-requires c κs = search needs
 
 index-requires : tie.Need-index-requires
 index-requires c κs = search needs
 
-byte-at-requires-2 : tie.Need-byte-at-requires-2
-byte-at-requires-2 c κs = search needs
+at8-requires-2 : tie.Need-at8-requires-2
+at8-requires-2 c κs = search needs
 
 simple-type-requires : tie.Need-simple-type-requires
 simple-type-requires c κs = search needs
@@ -26,14 +26,14 @@ unfolding base-number
 returns c =
     simp (
       c .simple-type .ensures,
-      c .before .byte-at2 .ensures,
+      c .before .at82 .ensures,
       c .before .before .index .ensures,
-      c .before .before .before .at .ensures,
-      eq-eqb _ _ (sym (c .before .before .before .before .before .byte-at .ensures) ∙ (c .before .before .before .before .if1 .taken)),
+      c .before .before .before .at32 .ensures,
+      eq-eqb _ _ (sym (c .before .before .before .before .before .at8 .ensures) ∙ (c .before .before .before .before .if1 .taken)),
     )
 
-at-requires-2 : tie.Need-at-requires-2
-at-requires-2 c κs = search needs
+at32-requires-2 : tie.Need-at32-requires-2
+at32-requires-2 c κs = search needs
 
 index-requires-2 : tie.Need-index-requires-2
 index-requires-2 c κs = search needs
@@ -42,45 +42,45 @@ returns-2 : tie.Need-returns-2
 unfolding base-number
 returns-2 c =
     simp (
-      ne-eqb _ _ (rw (c .before .before .before .before .byte-at .ensures) at (c .before .before .before .if1 .left)),
-      eq-eqb _ _ (rw (c .before .index2 .ensures, c .before .before .at2 .ensures) at (c .if2 .taken)),
+      ne-eqb _ _ (rw (c .before .before .before .before .at8 .ensures) at (c .before .before .before .if1 .left)),
+      eq-eqb _ _ (rw (c .before .index2 .ensures, c .before .before .at322 .ensures) at (c .if2 .taken)),
     )
 
-sub-byte-at : tie.Need-sub-byte-at
-sub-byte-at c = search needs
+sub-at8 : tie.Need-sub-at8
+sub-at8 c = search needs
 
-byte-at-requires-3 : tie.Need-byte-at-requires-3
-byte-at-requires-3 c κs = search needs
+at8-requires-3 : tie.Need-at8-requires-3
+at8-requires-3 c κs = search needs
 
 returns-3 : tie.Need-returns-3
 unfolding base-number
 returns-3 c =
     simp (
-      ne-eqb _ _ (rw (c .before .before .before .before .before .before .byte-at .ensures)
+      ne-eqb _ _ (rw (c .before .before .before .before .before .before .at8 .ensures)
           at (c .before .before .before .before .before .if1 .left)),
-      ne-eqb _ _ (rw (c .before .before .before .index2 .ensures, c .before .before .before .before .at2 .ensures) at (c .before .before .if2 .left)),
-      ne-eqb _ _ (rw (c .before .byte-at3 .ensures, c .before .before .before .index2 .ensures, c .before .before .before .before .at2 .ensures)
+      ne-eqb _ _ (rw (c .before .before .before .index2 .ensures, c .before .before .before .before .at322 .ensures) at (c .before .before .if2 .left)),
+      ne-eqb _ _ (rw (c .before .at83 .ensures, c .before .before .before .index2 .ensures, c .before .before .before .before .at322 .ensures)
           at (c .if3 .taken)),
     )
 
-sub-at : tie.Need-sub-at
-sub-at c = search needs
+sub-at32 : tie.Need-sub-at32
+sub-at32 c = search needs
 
-at-requires-3 : tie.Need-at-requires-3
-at-requires-3 c κs = search needs
+at32-requires-3 : tie.Need-at32-requires-3
+at32-requires-3 c κs = search needs
 
 returns-4 : tie.Need-returns-4
 unfolding base-number
 returns-4 c =
     simp (
-      c .at3 .ensures,
+      c .at323 .ensures,
       c .before .before .before .before .index2 .ensures,
-      c .before .before .before .before .before .at2 .ensures,
-      ne-eqb _ _ (rw (c .before .before .before .before .before .before .before .byte-at .ensures)
+      c .before .before .before .before .before .at322 .ensures,
+      ne-eqb _ _ (rw (c .before .before .before .before .before .before .before .at8 .ensures)
           at (c .before .before .before .before .before .before .if1 .left)),
-      ne-eqb _ _ (rw (c .before .before .before .before .index2 .ensures, c .before .before .before .before .before .at2 .ensures)
+      ne-eqb _ _ (rw (c .before .before .before .before .index2 .ensures, c .before .before .before .before .before .at322 .ensures)
           at (c .before .before .before .if2 .left)),
-      eq-eqb _ _ (rw (c .before .before .byte-at3 .ensures, c .before .before .before .before .index2 .ensures, c .before .before .before .before .before .at2 .ensures)
+      eq-eqb _ _ (rw (c .before .before .at83 .ensures, c .before .before .before .before .index2 .ensures, c .before .before .before .before .before .at322 .ensures)
           at (c .before .if3 .left)),
     )
 
@@ -88,18 +88,18 @@ pub base-spec : {M : Type 1} → statement M
 base-spec =
     tie.close
     (tie.spec
-    byte-at-requires
-    at-requires
+    at8-requires
+    at32-requires
     index-requires
-    byte-at-requires-2
+    at8-requires-2
     simple-type-requires
     returns
-    at-requires-2
+    at32-requires-2
     index-requires-2
     returns-2
-    sub-byte-at
-    byte-at-requires-3
+    sub-at8
+    at8-requires-3
     returns-3
-    sub-at
-    at-requires-3
+    sub-at32
+    at32-requires-3
     returns-4)

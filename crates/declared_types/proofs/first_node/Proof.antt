@@ -9,8 +9,8 @@ index-requires c κs = search needs
 add-saturating-sub : tie.Need-add-saturating-sub
 add-saturating-sub c = search needs
 
-at-requires : tie.Need-at-requires
-at-requires c κs = search needs
+at32-requires : tie.Need-at32-requires
+at32-requires c κs = search needs
 
 index-requires-2 : tie.Need-index-requires-2
 index-requires-2 c κs = search needs
@@ -19,7 +19,7 @@ saturating-sub-requires : tie.Need-saturating-sub-requires
 saturating-sub-requires c κs = search needs
 
 returns : tie.Need-returns
-returns c = simp (c .saturating-sub .ensures, c .before .index2 .ensures, c .before .before .at .ensures, c .before .before .before .index .ensures)
+returns c = simp (c .saturating-sub .ensures, c .before .index2 .ensures, c .before .before .at32 .ensures, c .before .before .before .index .ensures)
 
 pub first-node-spec : {M : Type 1} → statement M
 first-node-spec =
@@ -27,7 +27,7 @@ first-node-spec =
     (tie.spec
     index-requires
     add-saturating-sub
-    at-requires
+    at32-requires
     index-requires-2
     saturating-sub-requires
     returns)

@@ -3,8 +3,8 @@ use borrow.Author.Needs.{needs}
 use Rattle.declared_types.proofs.renames.Statement.{statement}
 use Rattle.declared_types.proofs.renames.Tie as tie
 
-at-requires : tie.Need-at-requires
-at-requires c κs = search needs
+at32-requires : tie.Need-at32-requires
+at32-requires c κs = search needs
 
 index-requires : tie.Need-index-requires
 index-requires c κs = search needs
@@ -12,8 +12,8 @@ index-requires c κs = search needs
 index-requires-2 : tie.Need-index-requires-2
 index-requires-2 c κs = search needs
 
-at-requires-2 : tie.Need-at-requires-2
-at-requires-2 c κs = search needs
+at32-requires-2 : tie.Need-at32-requires-2
+at32-requires-2 c κs = search needs
 
 index-requires-3 : tie.Need-index-requires-3
 index-requires-3 c κs = search needs
@@ -25,9 +25,9 @@ returns : tie.Need-returns
 returns c =
     simp (
       c .before .before .before .index .ensures,
-      c .before .before .before .before .at .ensures,
+      c .before .before .before .before .at32 .ensures,
       c .index3 .ensures,
-      c .before .at2 .ensures,
+      c .before .at322 .ensures,
       c .before .before .index2 .ensures,
     )
 
@@ -35,10 +35,10 @@ pub renames-spec : {M : Type 1} → statement M
 renames-spec =
     tie.close
     (tie.spec
-    at-requires
+    at32-requires
     index-requires
     index-requires-2
-    at-requires-2
+    at32-requires-2
     index-requires-3
     add-result
     returns)

@@ -5,12 +5,12 @@ use Rattle.declared_types.proofs.store_constant.Tie as tie
 use Rattle.declared_types.specs.Storing.{base-number, constant-stored}
 use borrow.Author.Tests.{eq-eqb, ne-eqb}
 
-byte-at-requires : tie.Need-byte-at-requires
-byte-at-requires c κs = search needs
+at8-requires : tie.Need-at8-requires
+at8-requires c κs = search needs
 
 returns : tie.Need-returns
 unfolding constant-stored
-returns c = simp (ne-eqb _ _ (rw (c .before .byte-at .ensures) at (c .if1 .taken)))
+returns c = simp (ne-eqb _ _ (rw (c .before .at8 .ensures) at (c .if1 .taken)))
 
 type-node-requires : tie.Need-type-node-requires
 type-node-requires c κs = search needs
@@ -31,7 +31,7 @@ returns-2 c =
       c .before .before .put32 .ensures,
       c .before .before .before .before .base .ensures,
       c .before .before .before .before .before .type-node .ensures,
-      eq-eqb _ _ (rw (c .before .before .before .before .before .before .before .before .byte-at .ensures)
+      eq-eqb _ _ (rw (c .before .before .before .before .before .before .before .before .at8 .ensures)
           at (c .before .before .before .before .before .before .before .if1 .left)),
     )
 
@@ -39,7 +39,7 @@ pub store-constant-spec : {M : Type 1} → statement M
 store-constant-spec =
     tie.close
     (tie.spec
-    byte-at-requires
+    at8-requires
     returns
     type-node-requires
     base-requires

@@ -8,12 +8,12 @@ use borrow.Author.Tests.{eq-eqb, ne-eqb}
 index-requires : tie.Need-index-requires
 index-requires c κs = search needs
 
-byte-at-requires : tie.Need-byte-at-requires
-byte-at-requires c κs = search needs
+at8-requires : tie.Need-at8-requires
+at8-requires c κs = search needs
 
 returns : tie.Need-returns
 unfolding type-stored
-returns c = simp (ne-eqb _ _ (rw (c .before .byte-at .ensures, c .before .before .index .ensures) at (c .if1 .taken)))
+returns c = simp (ne-eqb _ _ (rw (c .before .at8 .ensures, c .before .before .index .ensures) at (c .if1 .taken)))
 
 underlying-requires : tie.Need-underlying-requires
 underlying-requires c κs = search needs
@@ -34,7 +34,7 @@ returns-2 c =
       c .before .before .put32 .ensures,
       c .before .before .before .index2 .ensures,
       c .before .before .before .before .before .underlying .ensures,
-      eq-eqb _ _ (rw (c .before .before .before .before .before .before .before .before .byte-at .ensures, c .before .before .before .before .before .before .before .before .before .index .ensures)
+      eq-eqb _ _ (rw (c .before .before .before .before .before .before .before .before .at8 .ensures, c .before .before .before .before .before .before .before .before .before .index .ensures)
           at (c .before .before .before .before .before .before .before .if1 .left)),
     )
 
@@ -43,7 +43,7 @@ store-type-spec =
     tie.close
     (tie.spec
     index-requires
-    byte-at-requires
+    at8-requires
     returns
     underlying-requires
     index-requires-2

@@ -9,8 +9,8 @@ use Rattle.declared_types.specs.Storing.{base-number, type-number}
 first-node-requires : tie.Need-first-node-requires
 first-node-requires c κs = search needs
 
-byte-at-requires : tie.Need-byte-at-requires
-byte-at-requires c κs = search needs
+at8-requires : tie.Need-at8-requires
+at8-requires c κs = search needs
 
 index-requires : tie.Need-index-requires
 index-requires c κs = search needs
@@ -24,7 +24,7 @@ returns c =
     simp (
       c .enumeration .ensures,
       c .before .index .ensures,
-      rw (c .before .before .before .byte-at .ensures, c .before .before .before .before .first-node .ensures) at (c .before .before .if1 .taken),
+      rw (c .before .before .before .at8 .ensures, c .before .before .before .before .first-node .ensures) at (c .before .before .if1 .taken),
     )
 
 renames-requires : tie.Need-renames-requires
@@ -34,7 +34,7 @@ returns-2 : tie.Need-returns-2
 unfolding type-number
 returns-2 c =
     simp (
-      rw (c .before .before .before .byte-at .ensures, c .before .before .before .before .first-node .ensures) at (c .before .before .if1 .left),
+      rw (c .before .before .before .at8 .ensures, c .before .before .before .before .first-node .ensures) at (c .before .before .if1 .left),
       rw (c .before .before .before .before .first-node .ensures) at (sym (c .before .renames .ensures) ∙ not-true _ (c .if2 .taken)),
     )
 
@@ -47,7 +47,7 @@ returns-3 c =
     simp (
       c .base .ensures,
       c .before .before .before .before .before .first-node .ensures,
-      rw (c .before .before .before .before .byte-at .ensures, c .before .before .before .before .before .first-node .ensures) at (c .before .before .before .if1 .left),
+      rw (c .before .before .before .before .at8 .ensures, c .before .before .before .before .before .first-node .ensures) at (c .before .before .before .if1 .left),
       rw (c .before .before .before .before .before .first-node .ensures) at (sym (c .before .before .renames .ensures) ∙ not-false _ (c .before .if2 .left)),
     )
 
@@ -56,7 +56,7 @@ underlying-spec =
     tie.close
     (tie.spec
     first-node-requires
-    byte-at-requires
+    at8-requires
     index-requires
     enumeration-requires
     returns

@@ -4,9 +4,6 @@ use Rattle.evaluate.proofs.answered.Statement.{statement}
 use Rattle.evaluate.proofs.answered.Tie as tie
 use Rattle.evaluate.proofs.answered.Reads as reads
 use Rattle.evaluate.proofs.answered.Lts as lts
-use Rattle.evaluate.proofs.at32.Reads as at32-reads
-use Rattle.evaluate.proofs.at8.Reads as at8-reads
-use Rattle.evaluate.proofs.index_at.Reads as index-at-reads
 use Rattle.evaluate.proofs.is_name.Reads as is-name-reads
 use Rattle.evaluate.proofs.is_operation.Reads as is-operation-reads
 use Rattle.evaluate.proofs.named.Reads as named-reads

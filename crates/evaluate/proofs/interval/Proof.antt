@@ -5,11 +5,6 @@ use Rattle.evaluate.proofs.interval.Tie as tie
 use Rattle.evaluate.proofs.interval.Reads as reads
 use Rattle.evaluate.proofs.interval.Lts as lts
 use Rattle.evaluate.proofs.answer_at.Reads as answer-at-reads
-use Rattle.evaluate.proofs.last.Reads as last-reads
-use Rattle.evaluate.proofs.left.Reads as left-reads
-use Rattle.evaluate.proofs.low.Reads as low-reads
-use Rattle.evaluate.proofs.lower.Reads as lower-reads
-use Rattle.evaluate.proofs.middle.Reads as middle-reads
 use Rattle.evaluate.proofs.operators.bound.Reads as bound-reads
 use Rattle.evaluate.proofs.terminal_at.Reads as terminal-at-reads
 use Rattle.operations.proofs.between.Reads as between-reads

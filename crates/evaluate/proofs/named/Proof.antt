@@ -7,8 +7,6 @@ use Rattle.evaluate.proofs.named.Lts as lts
 use Rattle.columns.proofs.index.Reads as index-reads
 use Rattle.columns.proofs.saturating_sub.Reads as saturating-sub-reads
 use Rattle.evaluate.proofs.answer_at.Reads as answer-at-reads
-use Rattle.evaluate.proofs.at8.Reads as at8-reads
-use Rattle.evaluate.proofs.index_at.Reads as index-at-reads
 use Rattle.evaluate.proofs.Assembled.{named-unbound, named-item, named-constant, named-other}
 use native.Mathlib.Omega.{arith}
 

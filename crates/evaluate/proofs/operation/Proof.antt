@@ -6,8 +6,6 @@ use Rattle.evaluate.proofs.operation.Reads as reads
 use Rattle.evaluate.proofs.operation.Lts as lts
 use Rattle.evaluate.proofs.answer_at.Reads as answer-at-reads
 use Rattle.evaluate.proofs.interval.Reads as interval-reads
-use Rattle.evaluate.proofs.last.Reads as last-reads
-use Rattle.evaluate.proofs.left.Reads as left-reads
 use Rattle.evaluate.proofs.operators.sign.Reads as sign-reads
 use Rattle.evaluate.proofs.terminal_at.Reads as terminal-at-reads
 use Rattle.evaluate.proofs.two_operands.Reads as two-operands-reads

@@ -5,9 +5,6 @@ use Rattle.evaluate.proofs.other.Tie as tie
 use Rattle.evaluate.proofs.other.Reads as reads
 use Rattle.evaluate.proofs.other.Lts as lts
 use Rattle.evaluate.proofs.answer_at.Reads as answer-at-reads
-use Rattle.evaluate.proofs.at8.Reads as at8-reads
-use Rattle.evaluate.proofs.index_at.Reads as index-at-reads
-use Rattle.evaluate.proofs.last.Reads as last-reads
 use Rattle.evaluate.proofs.leaf.Reads as leaf-reads
 use Rattle.operations.proofs.held.Reads as held-reads
 use Rattle.evaluate.proofs.Assembled.{others-constant, others-leaf}

@@ -4,8 +4,6 @@ use Rattle.evaluate.proofs.terminal_at.Statement.{statement}
 use Rattle.evaluate.proofs.terminal_at.Tie as tie
 use Rattle.evaluate.proofs.terminal_at.Reads as reads
 use Rattle.evaluate.proofs.terminal_at.Lts as lts
-use Rattle.evaluate.proofs.at8.Reads as at8-reads
-use Rattle.evaluate.proofs.index_at.Reads as index-at-reads
 
 index-at-requires : tie.Need-index-at-requires
 index-at-requires c κs = search needs

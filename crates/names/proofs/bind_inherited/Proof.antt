@@ -56,7 +56,8 @@ mul-inherit-all c =
       c .before .before .before .before .before .before
           .before .before .before .before .before .before .before .before .before .before .before .before .collect-attributes .kept .1 .1 .1 .1 .1 .1 .0,
       c .before .before .before .before .before
-          .before .before .before .before .before .before .before .before .before .before .before .before .before .before .before .before .before .before .before .before .before .before .before
+          .before .before .before .before .before .before .before .before .before .before .before .before .before .before .before .before .before .before .before .before .before .before
+              .before
           .before .before .before .before .before .before .before .before .before .before .before .good,
     )
 
@@ -78,10 +79,12 @@ mul-inherit-all-2 c =
           .before .before .before .before .shorter2 .ensures,
       c .before .before .before .before .before .before .before .before .before .before .before .before .before .shorter .ensures,
       c
-          .before .before .before .before .before .before .before .before .before .before .before .before .before .before .before .before .before .before .before .before .collect-attributes .kept
+          .before .before .before .before .before .before .before .before .before .before .before .before .before .before .before .before .before .before .before .before .collect-attributes
+              .kept
           .1 .1 .1 .1 .1 .1 .1 .0,
       c .before .before .before .before .before .before .before .before .before .before .before .before .before .before .before .before .before .before .before
-          .before .before .before .before .before .before .before .before .before .before .before .before .before .before .before .before .before .before .before .before .before .before .good,
+          .before .before .before .before .before .before .before .before .before .before .before .before .before .before .before .before .before .before .before .before .before .before
+              .good,
     )
 
 sub-inherit-all-2 : tie.Need-sub-inherit-all-2
@@ -105,7 +108,8 @@ mul-inherit-all-3 c =
       c .before .before .before .before .before .before .before .before .before .before .before .before .before .before .before .before .before
           .before .before .before .before .before .collect-attributes .kept .1 .1 .1 .1 .1 .1 .1 .1 .0,
       c .before .before .before .before .before .before .before .before .before .before .before
-          .before .before .before .before .before .before .before .before .before .before .before .before .before .before .before .before .before .before .before .before .before .before .before
+          .before .before .before .before .before .before .before .before .before .before .before .before .before .before .before .before .before .before .before .before .before .before
+              .before
           .before .before .before .before .before .before .before .before .before .good,
     )
 

@@ -1,0 +1,84 @@
+// Reading the columns of a tree: an entry, a child of a node, the next node of a kind.
+ghost use mathlib.Core.Path.{_≡_};
+ghost use Prim.Native.Nat.{_-_};
+ghost use lib.Dec.{eqb};
+ghost use lib.ListN.{length, getD};
+ghost use Rattle.relations.specs.Select.{first-from};
+ghost use Rattle.express.specs.syntax.Tree as Tree;
+ghost use Rattle.tree.specs.Children.{Child};
+
+// The number at an index; past the end of the column 0.
+pub fn at8(column: &[u8], i: usize) -> u8
+    ensures { λ r. ⌜ r ≡ getD (now (column .entry)) i 0 ⌝ }
+{
+    if i < column.len() {
+        return column[i];
+    }
+    0
+}
+
+pub fn at32(column: &[u32], i: usize) -> u32
+    ensures { λ r. ⌜ r ≡ getD (now (column .entry)) i 0 ⌝ }
+{
+    if i < column.len() {
+        return column[i];
+    }
+    0
+}
+
+pub fn index_at(column: &[u32], i: usize) -> usize
+    ensures { λ r. ⌜ r ≡ getD (now (column .entry)) i 0 ⌝ }
+{
+    columns::index(at32(column, i))
+}
+
+// The last child of a node stands just before it, each other child just before the tree of the next.
+pub fn last(n: usize) -> usize
+    ensures { λ r. ⌜ r ≡ n - 1 ⌝ }
+{
+    columns::saturating_sub(n, 1)
+}
+
+pub fn before(sizes: &[u32], n: usize) -> usize
+    ensures { λ r. ⌜ Child Tree.before (now (sizes .entry)) n r ⌝ }
+{
+    columns::saturating_sub(n, index_at(sizes, n))
+}
+
+pub fn left(sizes: &[u32], n: usize) -> usize
+    ensures { λ r. ⌜ Child Tree.left (now (sizes .entry)) n r ⌝ }
+{
+    before(sizes, last(n))
+}
+
+pub fn middle(sizes: &[u32], n: usize) -> usize
+    ensures { λ r. ⌜ Child Tree.middle (now (sizes .entry)) n r ⌝ }
+{
+    before(sizes, left(sizes, n))
+}
+
+pub fn lower(sizes: &[u32], n: usize) -> usize
+    ensures { λ r. ⌜ Child Tree.lower (now (sizes .entry)) n r ⌝ }
+{
+    before(sizes, middle(sizes, n))
+}
+
+pub fn low(sizes: &[u32], n: usize) -> usize
+    ensures { λ r. ⌜ Child Tree.low (now (sizes .entry)) n r ⌝ }
+{
+    before(sizes, lower(sizes, n))
+}
+
+// The first node of a kind from a node on; where there is none, the number of nodes or, past it, the node itself.
+pub fn next_of_kind(kinds: &[u8], kind: u8, from: usize) -> usize
+    ensures { λ r. ⌜ r ≡ first-from (λ n. eqb (getD (now (kinds .entry)) n 0) kind) from (length (now (kinds .entry)) - from) ⌝ }
+{
+    let mut n = from;
+    while n < kinds.len() {
+        if kinds[n] == kind {
+            return n;
+        }
+        n += 1;
+    }
+    n
+}
