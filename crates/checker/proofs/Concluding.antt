@@ -3,25 +3,25 @@ use mathlib.Core.Path.{_≡_, refl, sym, ap, _∙_}
 use mathlib.Core.List.{List}
 use Prim.Native.Nat.{ℕ, _≤_, _<_}
 use native.Mathlib.Omega.{arith}
-use lib.IntN.{ℤ, pos}
+use lib.IntN.{pos}
 use lib.ListN.{length, take, replicate, length-map}
 use Rattle.columns.specs.Column.{cleared, padded}
 use Rattle.columns.proofs.Laws.{clear-all, clear-front}
 use Rattle.express.specs.tokens.Lexis.{most, lexed}
 use Rattle.express.specs.syntax.Tree.{count}
 use Rattle.express.specs.kinds.Kind.{constants}
-use Rattle.express.specs.whole.Reply.{Accepted, Checked, accepted, refused, report, Tables, column, checked, outcome, tables-after}
+use Rattle.express.specs.whole.Reply.{Accepted, report, Tables, column, outcome, tables-after}
 use Rattle.express.specs.whole.Reply as express
 use Rattle.constants.specs.Constants.{file-answers}
 use Rattle.stages.specs.declared.Stage.{Stage}
 use Rattle.stages.specs.declared.Stage.the-variants.{Done, Refused}
-use Rattle.stages.specs.Line.{count-of, kept-of, reported, table-of, accepted-with, outcome-by, token-stage, node-stage, constant-stage, kind-stage}
+use Rattle.stages.specs.Line.{count-of, kept-of, reported, table-of, accepted-with, outcome-by, token-stage, node-stage, kind-stage}
 use Rattle.stages.proofs.Bounds.{tokens-few}
 use Rattle.stages.proofs.Straight.{straight, token-done, node-done, constant-done, name-done, kind-done, nodes-few, constants-few}
 use Rattle.demands.specs.Checks.{Checks}
 use Rattle.demands.proofs.Theorem.{checks, tables-alike}
 use Rattle.checker.specs.declared.Report.{Report}
-use Rattle.checker.specs.Conclusion.{report-of, Reports, ClearsTokens, ClearsNodes, ClearsAnswers, Concludes, Begins, AsLong, token-rows, node-rows, answer-rows, Ran}
+use Rattle.checker.specs.Conclusion.{report-of, Reports, ClearsTokens, ClearsNodes, ClearsAnswers, Concludes, token-rows, node-rows, answer-rows, Ran}
 
 -- ---- the report
 

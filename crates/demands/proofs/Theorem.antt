@@ -1,6 +1,6 @@
 -- THE THREE DEMANDS follow from the report and the columns alone: `checks`. No code is spoken of.
-use mathlib.Core.Path.{_≡_, refl, sym, ap, subst, _∙_}
-use mathlib.Core.Logic.{_↔_, _≢_}
+use mathlib.Core.Path.{_≡_, refl, sym, ap, _∙_}
+use mathlib.Core.Logic.{_≢_}
 use mathlib.Core.List.{List, [], _∷_, map}
 use Prim.Native.Nat.{ℕ, zero, suc, _≤_, _<_}
 use native.Mathlib.Omega.{arith}
@@ -12,8 +12,7 @@ use Rattle.express.specs.kinds.Answer.{Answer, indeterminate}
 use Rattle.express.specs.kinds.AnswerRow.{AnswerRow, row-of, row-answer}
 use Rattle.express.specs.kinds.Kind.{constants}
 use Rattle.express.specs.kinds.Rule.{Exactly}
-use Rattle.express.specs.whole.Reply.{Accepted, Checked, accepted, refused, Report, report, Tables, token-entries, node-entries, answer-entries, outcome, tables-after}
-use Rattle.express.specs.whole.Acceptance.{Acceptable}
+use Rattle.express.specs.whole.Reply.{Accepted, Checked, accepted, refused, Report, report, Tables, outcome, tables-after}
 use Rattle.express.proofs.whole.Numbers.{numbered, reply-zero}
 use Rattle.express.proofs.whole.AnswerRow.{row-back}
 use Rattle.express.proofs.theorems.Acceptance.{accepted-iff}
@@ -27,7 +26,8 @@ map-at f (x ∷ xs) zero d = refl
 map-at f (x ∷ xs) (suc i) d = map-at f xs i d
 
 -- a part of each row, with zeros behind: what stands at i is that part of the row of the i-th answer, for any i
-part-at : {B : Type 0} (z : B) (f : AnswerRow → B) (xs : List Answer) (n i : ℕ) → f (row-of indeterminate) ≡ z → getD (padded z n (map f (map row-of xs))) i z ≡ f (row-of (getD xs i indeterminate))
+part-at : {B : Type 0} (z : B) (f : AnswerRow → B) (xs : List Answer) (n i : ℕ) → f (row-of indeterminate) ≡ z → getD (padded z n (map f (map row-of xs))) i z ≡ f (row-of (getD xs i
+    indeterminate))
 part-at z f xs n i e =
     getD-padded z n (map f (map row-of xs)) i
     ∙ ap (getD (map f (map row-of xs)) i) (sym e)

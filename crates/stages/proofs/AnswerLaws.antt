@@ -1,27 +1,21 @@
 -- The evaluation after the stage of kinds.
-use mathlib.Core.Path.{_≡_, refl, sym, ap, _∙_}
+use mathlib.Core.Path.{_≡_, sym}
 use mathlib.Core.List.{List}
-use Prim.Native.Nat.{ℕ, _≤_}
+use Prim.Native.Nat.{ℕ}
 use native.Mathlib.Omega.{arith}
 use lib.IntN.{ℤ}
 use lib.ListN.{length}
-use Rattle.express.specs.syntax.Tree.{Table, count}
+use Rattle.express.specs.syntax.Tree.{Table}
 use Rattle.express.specs.kinds.DeclaredColumn.{DeclaredColumn}
-use Rattle.constants.specs.Constants.{OfFile, EvaluatesConstants}
+use Rattle.constants.specs.Constants.{OfFile}
 use Rattle.stages.specs.declared.Stage.{Stage}
-use Rattle.stages.specs.declared.Stage.the-variants.{Done, Refused}
+use Rattle.stages.specs.declared.Stage.the-variants.{Refused}
 use Rattle.stages.specs.KindStage.{TypesFile}
 use Rattle.stages.specs.AnswerStage.{EvaluatesFile, BoundColumns, AnswersFile}
-
-clash : {A : Type 0} → _≡_ {A = ℕ} 0 1 → A
-clash z = absurd (omega arith)
+use Rattle.stages.proofs.Bounds.{clash}
 
 module _ {bytes starts lengths terminals kinds tokens sizes bindings : List ℕ} where
   module _ {before : Stage} {declared order was aks : List ℕ} {azs : List ℤ} {als vks : List ℕ} {vzs : List ℤ} {vls row-of′ aks′ : List ℕ} {azs′ : List ℤ} {als′ : List ℕ} where
-    pub evaluated : EvaluatesConstants bytes starts lengths terminals kinds tokens sizes bindings declared order was aks azs als vks vzs vls row-of′ aks′ azs′ als′ →
-        EvaluatesFile bytes starts lengths terminals kinds tokens sizes bindings before declared order was aks azs als vks vzs vls row-of′ aks′ azs′ als′
-    evaluated E = record { is = λ n e. E }
-
     pub not-evaluated : {k p : ℕ} → before ≡ Refused k p →
         EvaluatesFile bytes starts lengths terminals kinds tokens sizes bindings before declared order was aks azs als vks vzs vls row-of′ aks′ azs′ als′
     not-evaluated e = record { is = λ n q. clash (cc) }

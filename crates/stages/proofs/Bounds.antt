@@ -2,31 +2,31 @@
 use mathlib.Core.Path.{_≡_, refl, sym, ap, subst, _∙_}
 use mathlib.Core.Bool.{Bool, true, false, cond}
 use mathlib.Core.List.{List}
-use Prim.Native.Nat.{ℕ, _+_, _≤_, _<_}
+use Prim.Native.Nat.{ℕ, _≤_}
 use native.Mathlib.Omega.{arith}
-use borrow.Author.Tests.{eqb-true, leb-true}
+use borrow.Author.Tests.{leb-true}
 use lib.Dec.{eqb, leb}
 use lib.ListN.{length}
 use Rattle.ebnf.specs.Grammar.{Text}
 use Rattle.ebnf.specs.Rows.{Row, Rows, in-rows}
-use Rattle.ebnf.specs.Parse.{Result, at, refused, starved, bind, Verdict, accepted, verdict, parse}
+use Rattle.ebnf.specs.Parse.{Result, at, refused, starved, bind, Verdict, accepted, verdict}
 use Rattle.ebnf.specs.Depth.{good}
 use Rattle.ebnf.proofs.Descent as descent
 use Rattle.express.specs.tokens.Lexis as lexis
-use Rattle.express.specs.tokens.Lexis.{Lexed, Reading, counted, most, lexed-whole, lexed, tokens, stopped}
+use Rattle.express.specs.tokens.Lexis.{Lexed, Reading, counted, most, lexed, tokens, stopped}
 use Rattle.express.specs.tokens.Blank.{Stop, all-read, unfinished, too-large, too-long}
 use Rattle.express.specs.syntax.Grammar.{Nonterminal, rules}
-use Rattle.express.specs.syntax.Lookahead.{tables}
 use Rattle.express.specs.syntax.Syntax.{Parses, parsed, whole}
 use Rattle.express.proofs.tokens.Stops.{lexed-stops}
 use Rattle.express.proofs.tokens.TokenRows.{tokens-of}
 use Rattle.express.proofs.syntax.Syntax.{express, accepted-iff, parsed-iff, whole-value}
 use Rattle.express.proofs.syntax.Descent.{phrase, so, parse-is, phrase-placed}
-use Rattle.express.proofs.syntax.Count.{Counted, phrase-counted, gain}
+use Rattle.express.proofs.syntax.Count.{Counted, phrase-counted}
 use Rattle.stages.specs.declared.Stage.the-variants.{Done}
 use Rattle.stages.specs.Line.{of-reading, token-stage}
 
-clash : {A : Type 0} → _≡_ {A = ℕ} 0 1 → A
+-- 0 is not 1
+pub clash : {A : Type 0} → _≡_ {A = ℕ} 0 1 → A
 clash z = absurd (omega arith)
 
 -- ---- tokens

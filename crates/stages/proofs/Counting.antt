@@ -5,7 +5,7 @@ use Prim.Native.Nat.{ℕ, zero, suc, _+_, _≤_, _<_}
 use native.Mathlib.Omega.{arith}
 use lib.ListN.{length, getD}
 use lib.Dec.{eqb}
-use Rattle.relations.specs.Select.{span, keep}
+use Rattle.relations.specs.Select.{span}
 use Rattle.relations.proofs.Select.{keep-short}
 use Rattle.express.specs.syntax.NodeKind as node
 use Rattle.constants.specs.Constants.{row-in}

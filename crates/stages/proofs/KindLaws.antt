@@ -2,7 +2,6 @@
 use mathlib.Core.Path.{_≡_, refl, sym, ap, _∙_}
 use mathlib.Core.List.{List}
 use Prim.Native.Nat.{ℕ}
-use native.Mathlib.Omega.{arith}
 use lib.ListN.{getD}
 use Rattle.express.specs.syntax.Tree.{Table}
 use Rattle.express.specs.kinds.Kind as kind
@@ -13,10 +12,8 @@ use Rattle.typing.specs.Typings.{outcome, TypesConstants}
 use Rattle.stages.specs.declared.Stage.{Stage}
 use Rattle.stages.specs.declared.Stage.the-variants.{Done, Refused}
 use Rattle.stages.specs.Line.{of-kinds}
-use Rattle.stages.specs.KindStage.{of-typing, NamedColumns, TypesFile}
-
-clash : {A : Type 0} → _≡_ {A = ℕ} 0 1 → A
-clash z = absurd (omega arith)
+use Rattle.stages.specs.KindStage.{of-typing, TypesFile}
+use Rattle.stages.proofs.Bounds.{clash}
 
 typed-as : (t : Table) (starts tokens : List ℕ) → t .starts ≡ starts → t .tokens ≡ tokens → (y : kind.Typing) (n : ℕ) → of-typing starts tokens (outcome y) n ≡ of-kinds t y n
 typed-as t starts tokens s k (kind.typed ks) n = refl

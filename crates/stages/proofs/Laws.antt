@@ -1,17 +1,16 @@
 -- What the calls of each stage come to.
 use mathlib.Core.Path.{_≡_, refl, sym, ap, subst, _∙_}
 use mathlib.Core.Bool.{Bool, true, false, cond}
-use mathlib.Core.List.{List, [], _∷_, map}
-use Prim.Native.Nat.{ℕ, zero, suc, _+_, _≤_, _<_}
+use mathlib.Core.List.{List, [], _∷_}
+use Prim.Native.Nat.{ℕ, zero, suc, _≤_, _<_}
 use native.Mathlib.Omega.{arith}
 use borrow.Author.Tests.{le-leb, lt-leb, eq-eqb, ne-eqb}
 use lib.Dec.{leb}
 use lib.ListN.{length, getD}
-use lib.Seq.{sets}
-use Rattle.ebnf.specs.Rows.{Row, Rows}
+use Rattle.ebnf.specs.Rows.{Rows}
 use Rattle.ebnf.specs.Depth.{Outcome, good, unexpected, too-deep}
 use Rattle.express.specs.tokens.Lexis as lexis
-use Rattle.express.specs.tokens.Lexis.{most, lexed-to, lexed, tokens}
+use Rattle.express.specs.tokens.Lexis.{most, lexed, tokens}
 use Rattle.express.specs.syntax.Grammar.{file}
 use Rattle.express.specs.syntax.Syntax.{parsed}
 use Rattle.express.specs.names.Fault.{Fault}
@@ -22,16 +21,13 @@ use Rattle.blanks.specs.Step.{reading}
 use Rattle.scan.specs.Scan.{ScanResult}
 use Rattle.parsing.specs.declared.Parsed.{Parsed}
 use Rattle.parsing.specs.declared.Parsed.the-variants.{Accepted, Unexpected, TooDeep, Short, Scratch, Long}
-use Rattle.parsing.specs.Parsing.{answer, answer-to, Parsing}
+use Rattle.parsing.specs.Parsing.{answer, Parsing}
 use Rattle.stages.specs.declared.Stage.{Stage}
 use Rattle.stages.specs.declared.Stage.the-variants.{Done, Refused}
-use Rattle.stages.specs.Line.{then-stage, of-reading, of-syntax, of-constants, of-names, token-stage}
+use Rattle.stages.specs.Line.{then-stage, of-reading, of-syntax, of-names}
 use Rattle.stages.specs.Reading.{ScansTokens, of-parse, Few, OfParse, ParsesTokens, Constants, FitsConstants}
-use Rattle.stages.proofs.Bounds.{place-small, rows-few}
+use Rattle.stages.proofs.Bounds.{clash, place-small, rows-few}
 use Rattle.stages.proofs.Counting.{row-short}
-
-clash : {A : Type 0} → _≡_ {A = ℕ} 0 1 → A
-clash z = absurd (omega arith)
 
 -- ---- tokens
 

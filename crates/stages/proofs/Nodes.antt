@@ -1,23 +1,19 @@
 -- From the tokens of a file to its nodes.
-use mathlib.Core.Path.{_≡_, refl, sym, ap, subst, _∙_}
-use mathlib.Core.Bool.{Bool, true, false, cond}
-use mathlib.Core.List.{List, map}
-use Prim.Native.Nat.{ℕ, min, _≤_, _<_}
+use mathlib.Core.Path.{_≡_, refl, sym, ap, _∙_}
+use mathlib.Core.List.{List}
+use Prim.Native.Nat.{ℕ, min, _≤_}
 use native.Mathlib.Omega.{arith}
 use borrow.Author.Tests.{le-leb}
-use lib.Dec.{leb}
 use lib.ListN.{length, take, length-map}
-use lib.Seq.{sets, length-take-le}
+use lib.Seq.{sets}
 use Rattle.columns.proofs.Laws.{take-rows}
-use Rattle.ebnf.specs.Rows.{Row, Rows}
-use Rattle.ebnf.specs.Depth.{Outcome, good}
 use Rattle.express.specs.tokens.Lexis as lexis
 use Rattle.express.specs.tokens.Lexis.{most, lexed, tokens}
 use Rattle.express.specs.tokens.Terminal.{terminals}
-use Rattle.express.specs.tokens.Scanned.{token-table, row-terminals}
+use Rattle.express.specs.tokens.Scanned.{token-table}
 use Rattle.express.specs.syntax.Grammar.{file}
 use Rattle.express.specs.syntax.Syntax.{parsed}
-use Rattle.express.specs.syntax.Tree.{Table, count}
+use Rattle.express.specs.syntax.Tree.{count}
 use Rattle.express.specs.whole.Reply.{node-entries}
 use Rattle.express.proofs.tokens.TokenRows.{terminals-by-rows}
 use Rattle.parsing.specs.Parsing.{rows-of}
@@ -25,11 +21,8 @@ use Rattle.stages.specs.declared.Stage.{Stage}
 use Rattle.stages.specs.declared.Stage.the-variants.{Done, Refused}
 use Rattle.stages.specs.Line.{then-stage, of-syntax, table-of, token-stage, node-stage}
 use Rattle.stages.specs.Reading.{rows-after, ParsesTokens, TokenColumns, NodeColumns, NodesRead, ReadsNodes}
-use Rattle.stages.proofs.Bounds.{tokens-few, bytes-few}
+use Rattle.stages.proofs.Bounds.{clash, tokens-few, bytes-few}
 use Rattle.stages.proofs.Straight.{token-done, node-done}
-
-clash : {A : Type 0} → _≡_ {A = ℕ} 0 1 → A
-clash z = absurd (omega arith)
 
 -- a column that the values were stored in begins with them, where it is long enough
 front : (column values : List ℕ) (n : ℕ) → n ≡ length values → n ≤ length column → take n (sets column 0 values) ≡ values
@@ -92,7 +85,8 @@ module _ (s : List ℕ) (before : Stage) (token-kinds starts lengths terms scrat
 
     columns-read : (j : ℕ) → j ≡ count (table-of s) → count (table-of s) ≤ entries → NodeColumns (table-of s) j kinds′ tokens′ sizes′ roles′
     columns-read j c l =
-        let rows : rows-after before (take n terms′) scratch ≡ rows-of (parsed file (token-table s .terminals)) = rows-read (take n terms′) scratch q (rw (W .mine) (W .few)) (rw (W .mine) (W .room)) ∙ ap (λ (ts : List ℕ). rows-of (parsed file ts)) (W .mine) in
+        let rows : rows-after before (take n terms′) scratch ≡ rows-of (parsed file (token-table s .terminals)) = rows-read (take n terms′) scratch q (rw (W .mine) (W .few)) (rw (W .mine)
+            (W .room)) ∙ ap (λ (ts : List ℕ). rows-of (parsed file ts)) (W .mine) in
         let h = entries-le (length kinds) (length tokens) (length sizes) (length roles) (count (table-of s)) l in
         let many = rows-of (parsed file (token-table s .terminals)) in
         let ck : count (table-of s) ≡ length many = length-map many _ in

@@ -1,7 +1,7 @@
 -- THE STRAIGHT LINE: the last stage says what the whole check comes to (`straight`), and a stage that is done says that those before it are.
 use mathlib.Core.Path.{_≡_, refl, sym, ap, subst, _∙_}
 use mathlib.Core.Bool.{Bool, true, false, cond}
-use mathlib.Core.List.{List, map}
+use mathlib.Core.List.{List}
 use Prim.Native.Nat.{ℕ, _≤_}
 use native.Mathlib.Omega.{arith}
 use borrow.Author.Tests.{eqb-true, leb-true}
@@ -18,22 +18,18 @@ use Rattle.express.specs.syntax.Syntax.{parsed, with-rows, Read}
 use Rattle.express.specs.syntax.Tree.{Table, count}
 use Rattle.express.specs.names.Scope.{bindings}
 use Rattle.express.specs.names.Names.{WellNamed, names}
-use Rattle.express.specs.kinds.Operate.{Kind}
 use Rattle.express.specs.kinds.Kind.{Typing, typed, ill-typed, typing, constants}
-use Rattle.express.specs.whole.Reply.{Checked, accepted, refused, after-kinds, after-names, after-rows, after-syntax, after-tokens, checked}
+use Rattle.express.specs.whole.Reply.{Checked, accepted, refused, after-kinds, after-names, after-syntax, after-tokens, checked}
 use Rattle.express.proofs.names.Names.{names-passes}
 use Rattle.express.proofs.syntax.Syntax.{read-good}
 use Rattle.parsing.specs.Parsing.{rows-of}
 use Rattle.constants.specs.Constants.{file-answers}
 use Rattle.stages.specs.declared.Stage.{Stage}
 use Rattle.stages.specs.declared.Stage.the-variants.{Done, Refused}
-use Rattle.stages.specs.Line.{then-stage, count-of, of-reading, of-syntax, of-constants, of-names, of-kinds}
-use Rattle.stages.proofs.Bounds.{tokens-few, rows-few}
+use Rattle.stages.specs.Line.{then-stage, of-reading, of-syntax, of-constants, of-names, of-kinds}
+use Rattle.stages.proofs.Bounds.{clash, tokens-few, rows-few}
 use Rattle.stages.proofs.Counting.{row-short}
 use Rattle.stages.specs.Line.{table-of, token-stage, node-stage, constant-stage, name-stage, kind-stage, outcome-by}
-
-clash : {A : Type 0} → _≡_ {A = ℕ} 0 1 → A
-clash z = absurd (omega arith)
 
 -- ---- the outcome, from the stages, the last of them first
 
@@ -58,7 +54,8 @@ module _ (s : List ℕ) (t : Table) where
   by-constants false = refl
 
   by-rows : (entries ar : ℕ) (b : Bool) → cond b (cond (leb (length (constants t)) ar) (after-names (lexed s .rows) t (names t)) (refused 8 (length (constants t)))) (refused 7 entries) ≡
-      outcome-of s t (then-stage (then-stage (then-stage (cond b (Done entries) (Refused 7 entries)) (λ _. of-constants (t .kinds) ar)) (of-names (names t))) (of-kinds t (typing t (bindings t))))
+      outcome-of s t (then-stage (then-stage (then-stage (cond b (Done entries) (Refused 7 entries)) (λ _. of-constants (t .kinds) ar)) (of-names (names t))) (of-kinds t (typing t (bindings
+          t))))
   by-rows entries ar true = by-constants (leb (length (constants t)) ar)
   by-rows entries ar false = refl
 

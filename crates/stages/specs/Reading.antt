@@ -18,7 +18,7 @@ use Rattle.parsing.specs.Parsing.{rows-to, scratch-after}
 use Rattle.constants.specs.Constants.{row-in}
 use Rattle.stages.specs.declared.Stage.{Stage}
 use Rattle.stages.specs.declared.Stage.the-variants.{Done, Refused}
-use Rattle.stages.specs.Line.{then-stage, count-of, of-syntax, of-constants, table-of, token-stage, node-stage, constant-stage}
+use Rattle.stages.specs.Line.{then-stage, of-syntax, of-constants, table-of, token-stage, node-stage}
 
 -- ---- tokens
 

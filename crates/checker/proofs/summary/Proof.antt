@@ -1,36 +1,27 @@
+-- `checker::summary` meets its contract: counts of a file fit into 32 bits. Assumes nothing.
 use borrow.Author.Needs.{needs}
 use Rattle.checker.proofs.summary.Statement.{statement}
 use Rattle.checker.proofs.summary.Tie as tie
-use Rattle.checker.proofs.summary.Reads as reads
-use Rattle.checker.proofs.summary.Lts as lts
-use Rattle.columns.proofs.number.Reads as number-reads
 use Rattle.checker.proofs.Concluding.{done-report, refused-report}
 
--- src/lib.rt:36:21
 enum-known-last : tie.Need-enum-known-last
 enum-known-last c = search needs
 
--- src/lib.rt:39:21
 number-requires : tie.Need-number-requires
 number-requires c κs = search needs
 
--- src/lib.rt:40:20
 number-requires-2 : tie.Need-number-requires-2
 number-requires-2 c κs = search needs
 
--- src/lib.rt:41:24
 number-requires-3 : tie.Need-number-requires-3
 number-requires-3 c κs = search needs
 
--- src/lib.rt:43:24
 enum-known-last-2 : tie.Need-enum-known-last-2
 enum-known-last-2 c = search needs
 
--- src/lib.rt:32:1
 returns : tie.Need-returns
 returns c = done-report (c .before .before .before .before .last .given .1) (c .before .before .number .ensures) (c .before .number2 .ensures) (c .number3 .ensures)
 
--- src/lib.rt:32:1
 returns-2 : tie.Need-returns-2
 returns-2 c = refused-report (c .before .last2 .given .1)
 

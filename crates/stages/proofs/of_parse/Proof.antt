@@ -1,69 +1,51 @@
+-- `stages::of_parse` meets its contract: one arm for each answer of a parse. Assumes nothing.
 use borrow.Author.Needs.{needs}
 use Rattle.stages.proofs.of_parse.Statement.{statement}
 use Rattle.stages.proofs.of_parse.Tie as tie
-use Rattle.stages.proofs.of_parse.Reads as reads
-use Rattle.stages.proofs.of_parse.Lts as lts
-use Rattle.columns.proofs.number.Reads as number-reads
-use Rattle.stages.proofs.place_or_end.Reads as place-or-end-reads
 use Rattle.stages.proofs.Laws.{of-accepted, of-unexpected, of-too-deep, of-short, of-scratch, of-long}
 
--- src/lib.rt:58:26
 enum-known-parsed : tie.Need-enum-known-parsed
 enum-known-parsed c = search needs
 
--- src/lib.rt:59:28
 enum-known-parsed-2 : tie.Need-enum-known-parsed-2
 enum-known-parsed-2 c = search needs
 
--- src/lib.rt:60:56
 place-or-end-requires : tie.Need-place-or-end-requires
 place-or-end-requires c κs = search needs
 
--- src/lib.rt:62:25
 enum-known-parsed-3 : tie.Need-enum-known-parsed-3
 enum-known-parsed-3 c = search needs
 
--- src/lib.rt:63:54
 place-or-end-requires-2 : tie.Need-place-or-end-requires-2
 place-or-end-requires-2 c κs = search needs
 
--- src/lib.rt:65:23
 enum-known-parsed-4 : tie.Need-enum-known-parsed-4
 enum-known-parsed-4 c = search needs
 
--- src/lib.rt:65:73
 number-requires : tie.Need-number-requires
 number-requires c κs = search needs
 
--- src/lib.rt:66:31
 enum-told : tie.Need-enum-told
 enum-told c = search needs
 
--- src/lib.rt:67:25
 enum-told-2 : tie.Need-enum-told-2
 enum-told-2 c = search needs
 
--- src/lib.rt:54:1
 returns : tie.Need-returns
 returns c = of-accepted (c .before .parsed .given .1)
 
--- src/lib.rt:54:1
 returns-2 : tie.Need-returns-2
 returns-2 c = of-unexpected (c .before .before .parsed2 .given .1) (c .place-or-end .ensures)
 
--- src/lib.rt:54:1
 returns-3 : tie.Need-returns-3
 returns-3 c = of-too-deep (c .before .before .parsed3 .given .1) (c .place-or-end2 .ensures)
 
--- src/lib.rt:54:1
 returns-4 : tie.Need-returns-4
 returns-4 c = of-short (c .before .before .parsed4 .given .1) (c .number .ensures)
 
--- src/lib.rt:54:1
 returns-5 : tie.Need-returns-5
 returns-5 c = of-scratch (c .enum-told .given .1)
 
--- src/lib.rt:54:1
 returns-6 : tie.Need-returns-6
 returns-6 c = of-long (c .enum-told2 .given .1)
 

@@ -1,53 +1,40 @@
+-- `stages::parse_tokens` meets its contract: the parse, or a refusal passed on. Assumes nothing.
 use borrow.Author.Needs.{needs}
 use Rattle.stages.proofs.parse_tokens.Statement.{statement}
 use Rattle.stages.proofs.parse_tokens.Tie as tie
-use Rattle.stages.proofs.parse_tokens.Reads as reads
-use Rattle.stages.proofs.parse_tokens.Lts as lts
-use Rattle.declarations.proofs.parse.Reads as parse-reads
-use Rattle.stages.proofs.of_parse.Reads as of-parse-reads
 use Rattle.stages.proofs.Laws.{parsed-tokens, passed-tokens}
 
--- src/lib.rt:89:57
 enum-told : tie.Need-enum-told
 enum-told c = search needs
 
--- src/lib.rt:89:17
 parse-requires : tie.Need-parse-requires
 parse-requires c κs = search needs
 
--- src/lib.rt:90:13
 of-parse-requires : tie.Need-of-parse-requires
 of-parse-requires c κs = search needs
 
--- src/lib.rt:92:24
 enum-known-before : tie.Need-enum-known-before
 enum-known-before c = search needs
 
--- src/lib.rt:72:1
 same-length : tie.Need-same-length
 same-length c = search needs
 
--- src/lib.rt:72:1
 same-length-2 : tie.Need-same-length-2
 same-length-2 c = search needs
 
--- src/lib.rt:72:1
 same-length-3 : tie.Need-same-length-3
 same-length-3 c = search needs
 
--- src/lib.rt:72:1
 same-length-4 : tie.Need-same-length-4
 same-length-4 c = search needs
 
--- src/lib.rt:72:1
 same-length-5 : tie.Need-same-length-5
 same-length-5 c = search needs
 
--- src/lib.rt:72:1
 returns : tie.Need-returns
-returns c = parsed-tokens (c .before .before .before .before .before .before .before .before .before .before .before .before .before .before .before .before .before .enum-told .given .1) (c .before .before .before .before .before .before .before .before .before .before .before .parse .ensures) (c .of-parse .ensures)
+returns c = parsed-tokens (c .before .before .before .before .before .before .before .before .before .before .before .before .before .before .before .before .before .enum-told .given .1) (c
+    .before .before .before .before .before .before .before .before .before .before .before .parse .ensures) (c .of-parse .ensures)
 
--- src/lib.rt:72:1
 returns-2 : tie.Need-returns-2
 returns-2 c = passed-tokens (c .before .before2 .given .1)
 
