@@ -24,7 +24,7 @@ use Rattle.operations.specs.Meaning as operations
 use Rattle.operations.specs.declared.Answer as code
 use Rattle.operations.specs.declared.Answer.the-variants.{Indeterminate, Item}
 use Rattle.operations.specs.declared.Operator as operator-type
-use Rattle.operations.proofs.Stored.{Storable, combined-storable, applied-storable, between-storable, held-storable}
+use Rattle.answer_rows.proofs.Stored.{Storable, combined-storable, applied-storable, between-storable, held-storable}
 use Rattle.evaluate.specs.declared.operators.Reading.{Reading}
 use Rattle.evaluate.specs.declared.operators.Reading.the-variants.{Evaluated, Unevaluated}
 use Rattle.evaluate.specs.Operators.{reading-of, combined-by}

@@ -11,7 +11,7 @@ use Rattle.express.specs.kinds.Answer.{Answer}
 use Rattle.express.specs.kinds.Shape.{shape-in}
 use Rattle.express.specs.kinds.Evaluate.{answer-in, answer-at, run-in}
 use Rattle.operations.specs.Meaning.{answer-of}
-use Rattle.operations.specs.Stored.{stored}
+use Rattle.answer_rows.specs.Stored.{stored}
 use Rattle.operations.specs.declared.Answer as code
 use Rattle.evaluate.specs.Answers.{answers-in, Stores}
 use Rattle.evaluate.specs.Evaluation.{known-in, Against, Answered, EvaluatesNodes}
