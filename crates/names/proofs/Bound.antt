@@ -21,9 +21,9 @@ use Rattle.faults.specs.Meaning.{fault-of}
 use Rattle.faults.specs.declared.Fault as code
 use Rattle.inheritance.specs.Inheritance.{asks, inherited-code}
 use Rattle.type_names.specs.TypeName.{is-type-name}
-use Rattle.names.specs.Stages.{DeclarationsBound, BindsDeclarations, BindsInherited, ExpressionsBound, BindsExpressions}
+use Rattle.name_stages.specs.Stages.{DeclarationsBound, BindsDeclarations, BindsInherited, ExpressionsBound, BindsExpressions}
 use Rattle.names.specs.Binding.{BindingRoom, NamesBound, BindsNames}
-use Rattle.names.proofs.Staged.{hides, gives-way, no-first, no-later, same-later}
+use Rattle.name_stages.proofs.Staged.{hides, gives-way, no-first, no-later, same-later}
 
 -- ---- the first fault
 

@@ -1,4 +1,3 @@
-pub mod Staged
 pub mod Preparing
 pub mod Bound
 pub mod Copying

@@ -35,7 +35,7 @@ use Rattle.faults.specs.declared.Fault.{Fault}
 use Rattle.faults.specs.Meaning.{fault-of}
 use Rattle.type_names.specs.TypeName.{FileColumns}
 use Rattle.names.proofs.Preparing.{as-many, length-span}
-use Rattle.names.specs.Stages.{FilePrepared, PreparesFile}
+use Rattle.names.specs.Prepared.{FilePrepared, PreparesFile}
 use Rattle.names.specs.Binding.{NamesBound}
 use Rattle.names.specs.Resolution.{FileRead, StageRoom, NamesRoom, Resolved, Resolves, BindsPrepared, done-with, answer-to, Finishes}
 use Rattle.names.specs.declared.resolution.Resolution.{Resolution}

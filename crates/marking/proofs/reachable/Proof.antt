@@ -1,11 +1,11 @@
--- `graph::reachable` meets its contract: what is no graph with a source and room is refused, else the first entries are lent on to `spread`. Assumes nothing.
+-- `marking::reachable` meets its contract: what is no graph with a source and room is refused, else the first entries are lent on to `spread`. Assumes nothing.
 use borrow.Author.Needs.{needs}
-use Rattle.graph.proofs.reachable.Statement.{statement}
-use Rattle.graph.proofs.reachable.Tie as tie
+use Rattle.marking.proofs.reachable.Statement.{statement}
+use Rattle.marking.proofs.reachable.Tie as tie
 use Rattle.graph.proofs.Test.{tells-fail, tells-pass}
 use Rattle.graph.proofs.Mark.{markable-front, marked-all}
 use Rattle.graph.specs.Graph.{vertices}
 use Rattle.graph.specs.Mark.{Markable}
 use Prim.Native.Nat.{_-_}
 use mathlib.Core.Path.{refl, sym}
 use lib.Seq.{length-take-le}

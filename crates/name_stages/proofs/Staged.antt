@@ -36,7 +36,7 @@ use Rattle.inheritance.specs.Attributes as attribute
 use Rattle.inheritance.specs.Inheritance.{Inherits}
 use Rattle.inheritance.proofs.Collecting.{collected-end, attribute-dictionary}
 use Rattle.inheritance.proofs.TypeGraphs.{type-graph}
-use Rattle.names.specs.Stages.{OrderRoom, ChainRoom, DeclarationsBound, BindsDeclarations, BindsInherited, ExpressionsBound, BindsExpressions}
+use Rattle.name_stages.specs.Stages.{OrderRoom, ChainRoom, DeclarationsBound, BindsDeclarations, BindsInherited, ExpressionsBound, BindsExpressions}
 
 -- a fault hides all later ones, and where there is none the later one stands
 pub hides : (f g : Fault) → (f .number ≡ 0 → ⊥) → or-later f g ≡ f

@@ -1,5 +1,5 @@
--- Numbers: the exponent of a real, by what its bytes are; the bound on integers.
-use mathlib.Core.Path.{_≡_, refl, sym, subst}
+-- Literals: the exponent of a real, by what its bytes are; the bound on integers; a binary past the end.
+use mathlib.Core.Path.{_≡_, refl, sym, ap, subst, _∙_}
 use mathlib.Core.Bool.{Bool, true, false, cond, _&&_}
 use mathlib.Core.List.{List, [], _∷_}
 use Prim.Native.Nat.{ℕ, zero, suc, _+_, _*_, _≤_, _<_, _-_}
@@ -8,10 +8,11 @@ use native.Mathlib.Nat.{le-trans}
 use lib.Dec.{T, leb, leb→le}
 use borrow.Author.Tests.{le-leb, lt-leb}
 use lib.ListN.{length, getD, take, drop}
-use Rattle.express.specs.tokens.Bytes.{digit}
-use Rattle.express.specs.tokens.Lexis.{at, refused, end-of-run, run, numeral, exponent-mark, digits-of-exponent, end-of-exponent, greatest, end-of-integer, integer-value}
+use Rattle.express.specs.tokens.Bytes.{digit, bit}
+use Rattle.express.specs.tokens.Lexis.{at, refused, end-of-run, run, numeral, exponent-mark, digits-of-exponent, end-of-exponent, greatest, end-of-integer, integer-value, end-of-binary}
 use Rattle.literals.specs.Literal.{capped}
 use Rattle.express.proofs.tokens.Places.{past, run-low-of}
+use Rattle.blanks.proofs.Turns.{run-over}
 
 module _ (s : List ℕ) (p : ℕ) where
   pub exponent-over : length s ≤ p → end-of-exponent s p ≡ p
@@ -70,20 +71,32 @@ digits-few v p (b ∷ t) = go (end-of-run digit (p + 1) t) (run-low-of digit (p 
         rw one (le-trans more (nines-more (v * 10 + (b - 48)) (v * 10 + 9) (e - (p + 1)) (omega (arith, few))))
     go e low false is more = let none : p - p ≡ 0 = omega arith in rw none (omega arith)
 
-pub integer-short : (s : List ℕ) (p e : ℕ) → e ≡ run digit s p → e - p < 19 → at e ≡ end-of-integer s p
+-- so many digits after a place: d, where the integer ends at e
+pub integer-short : (s : List ℕ) (p e : ℕ) {d : ℕ} → d ≡ e - p → d < 19 → e ≡ run digit s p → at e ≡ end-of-integer s p
 unfolding end-of-integer
-integer-short s p e ends h =
-    let few : nines 0 (e - p) ≤ nines 0 18 = nines-few 0 (e - p) 18 (omega (arith, h)) in
+integer-short s p e w h ends =
+    let few : nines 0 (e - p) ≤ nines 0 18 = nines-few 0 (e - p) 18 (omega (arith, w, h)) in
     let here : numeral 10 0 (take (e - p) (drop p s)) ≤ nines 0 (e - p) = rw ends (digits-few 0 p (drop p s)) in
     let l : numeral 10 0 (take (e - p) (drop p s)) ≤ greatest = omega (arith, here, few) in
     rw (← ends, le-leb _ _ l)
 
--- an integer that ends at e
-module _ (s : List ℕ) (p e n : ℕ) (ends : e ≡ run digit s p) (is : n ≡ capped (integer-value (take (e - p) (drop p s)))) where
-  pub integer-fits : n ≤ greatest → at e ≡ end-of-integer s p
-  unfolding end-of-integer integer-value
-  integer-fits h = let l : integer-value (take (e - p) (drop p s)) ≤ greatest = omega (arith, is, h) in rw (← ends, le-leb _ _ l)
+module _ (s : List ℕ) (p e n : ℕ) {d : ℕ} (w : d ≡ e - p) (is : n ≡ capped (integer-value (take d (drop p s)))) where
+  read : n ≡ capped (integer-value (take (e - p) (drop p s)))
+  read = is ∙ ap (λ (x : ℕ). capped (integer-value (take x (drop p s)))) w
 
-  pub integer-large : greatest < n → refused 3 p ≡ end-of-integer s p
+  pub integer-fits : n ≤ greatest → e ≡ run digit s p → at e ≡ end-of-integer s p
   unfolding end-of-integer integer-value
-  integer-large h = let l : greatest < integer-value (take (e - p) (drop p s)) = omega (arith, is, h) in rw (← ends, lt-leb _ _ l)
+  integer-fits h ends = let l : integer-value (take (e - p) (drop p s)) ≤ greatest = omega (arith, read, h) in rw (← ends, le-leb _ _ l)
+
+  pub integer-large : greatest < n → e ≡ run digit s p → refused 3 p ≡ end-of-integer s p
+  unfolding end-of-integer integer-value
+  integer-large h ends = let l : greatest < integer-value (take (e - p) (drop p s)) = omega (arith, read, h) in rw (← ends, lt-leb _ _ l)
+
+-- ---- binaries
+
+pub binary-over : (s : List ℕ) (p : ℕ) → length s ≤ p → refused 2 p ≡ end-of-binary s p
+unfolding end-of-binary
+binary-over s p h =
+    let e : run bit s (p + 1) ≡ p + 1 = run-over bit s (p + 1) (omega (arith, h)) in
+    let z : p + 1 - (p + 1) ≡ 0 = omega arith in
+    rw (e, z)

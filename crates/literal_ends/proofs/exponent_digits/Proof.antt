@@ -1,8 +1,8 @@
 use borrow.Author.Needs.{needs}
-use Rattle.scan.proofs.exponent_digits.Statement.{statement}
-use Rattle.scan.proofs.exponent_digits.Tie as tie
-use Rattle.scan.proofs.exponent_digits.Reads as reads
-use Rattle.scan.proofs.exponent_digits.Lts as lts
+use Rattle.literal_ends.proofs.exponent_digits.Statement.{statement}
+use Rattle.literal_ends.proofs.exponent_digits.Tie as tie
+use Rattle.literal_ends.proofs.exponent_digits.Reads as reads
+use Rattle.literal_ends.proofs.exponent_digits.Lts as lts
 use Rattle.blanks.proofs.byte.Reads as byte-reads
 use Rattle.blanks.proofs.is_either.Reads as is-either-reads
 use mathlib.Core.Path.{sym, _∙_, ap}

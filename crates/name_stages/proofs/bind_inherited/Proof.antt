@@ -1,9 +1,9 @@
--- `names::bind_inherited` meets its contract: the attributes are collected and indexed, then what is inherited is stored. Assumes nothing.
+-- `name_stages::bind_inherited` meets its contract: the attributes are collected and indexed, then what is inherited is stored. Assumes nothing.
 use borrow.Author.Needs.{needs}
 use native.Mathlib.Omega.{arith}
-use Rattle.names.proofs.Staged.{inherited-bound}
-use Rattle.names.proofs.bind_inherited.Statement.{statement}
-use Rattle.names.proofs.bind_inherited.Tie as tie
+use Rattle.name_stages.proofs.Staged.{inherited-bound}
+use Rattle.name_stages.proofs.bind_inherited.Statement.{statement}
+use Rattle.name_stages.proofs.bind_inherited.Tie as tie
 
 saturating-sub-requires : tie.Need-saturating-sub-requires
 saturating-sub-requires c κs = search needs

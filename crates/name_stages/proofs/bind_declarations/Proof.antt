@@ -1,8 +1,8 @@
--- `names::bind_declarations` meets its contract: one stage after another. Assumes nothing.
+-- `name_stages::bind_declarations` meets its contract: one stage after another. Assumes nothing.
 use borrow.Author.Needs.{needs}
-use Rattle.names.proofs.Staged.{declarations-bound}
-use Rattle.names.proofs.bind_declarations.Statement.{statement}
-use Rattle.names.proofs.bind_declarations.Tie as tie
+use Rattle.name_stages.proofs.Staged.{declarations-bound}
+use Rattle.name_stages.proofs.bind_declarations.Statement.{statement}
+use Rattle.name_stages.proofs.bind_declarations.Tie as tie
 
 least-duplicate-requires : tie.Need-least-duplicate-requires
 least-duplicate-requires c κs = search needs

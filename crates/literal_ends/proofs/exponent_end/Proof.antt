@@ -1,10 +1,10 @@
 use borrow.Author.Needs.{needs}
-use Rattle.scan.proofs.exponent_end.Statement.{statement}
-use Rattle.scan.proofs.exponent_end.Tie as tie
-use Rattle.scan.proofs.exponent_end.Reads as reads
-use Rattle.scan.proofs.exponent_end.Lts as lts
+use Rattle.literal_ends.proofs.exponent_end.Statement.{statement}
+use Rattle.literal_ends.proofs.exponent_end.Tie as tie
+use Rattle.literal_ends.proofs.exponent_end.Reads as reads
+use Rattle.literal_ends.proofs.exponent_end.Lts as lts
 use Rattle.blanks.proofs.byte.Reads as byte-reads
-use Rattle.scan.proofs.exponent_digits.Reads as exponent-digits-reads
+use Rattle.literal_ends.proofs.exponent_digits.Reads as exponent-digits-reads
 use Rattle.blanks.proofs.is_either.Reads as is-either-reads
 use Rattle.blanks.proofs.is_within.Reads as is-within-reads
 use Rattle.blanks.proofs.run_end.Reads as run-end-reads
@@ -13,7 +13,7 @@ use lib.ListN.{getD}
 use borrow.Author.Tests.{not-true, not-false}
 use Rattle.express.specs.tokens.Bytes.{within}
 use Rattle.express.specs.tokens.Lexis.{end-of-exponent, digits-of-exponent, run}
-use Rattle.scan.proofs.Numbers.{exponent-over, exponent-none, exponent-bare, exponent-is}
+use Rattle.literal_ends.proofs.Numbers.{exponent-over, exponent-none, exponent-bare, exponent-is}
 use Rattle.blanks.specs.Step.{member}
 use Rattle.blanks.specs.declared.Class.the-variants.{Digit}
 

@@ -1,9 +1,9 @@
--- `graph::spread` meets its contract. Assumes nothing.
+-- `marking::spread` meets its contract. Assumes nothing.
 use borrow.Author.Needs.{needs}
-use Rattle.graph.proofs.spread.Statement.{statement}
-use Rattle.graph.proofs.spread.Tie as tie
+use Rattle.marking.proofs.spread.Statement.{statement}
+use Rattle.marking.proofs.spread.Tie as tie
 use Rattle.graph.proofs.Store.{zeros, all-zeros}
 use Rattle.graph.proofs.Mark.{markable-set, ones}
 use mathlib.Core.Path.{refl}
 
 clear32-requires : tie.Need-clear32-requires

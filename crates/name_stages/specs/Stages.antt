@@ -1,6 +1,6 @@
 -- The stages of names (N19) over the columns of a file.
 use mathlib.Core.Path.{_≡_}
-use mathlib.Core.Bool.{true, cond}
+use mathlib.Core.Bool.{cond}
 use mathlib.Core.List.{List}
 use Prim.Native.Nat.{ℕ, _≤_, _<_}
 use lib.ListN.{length, getD, take}
@@ -15,12 +15,7 @@ use Rattle.express.specs.names.Fault.{or-later, repeated, type-name-fault, cycl
 use Rattle.express.specs.names.Names.{least, Passes}
 use Rattle.express.specs.syntax.Grammar.{file}
 use Rattle.express.specs.syntax.Syntax.{Read}
-use Rattle.scopes.specs.Entries.{entries}
-use Rattle.scopes.specs.Preparation.{Consistent, Room, Prepared}
-use Rattle.scopes.specs.declared.dictionary.Preparation.{Preparation}
-use Rattle.scopes.specs.declared.dictionary.Preparation.the-variants.{Done, Unfit}
-use Rattle.express.specs.tokens.Spelling.{symbols-of}
-use Rattle.index.specs.Room.{enough}
+use Rattle.scopes.specs.Preparation.{Prepared}
 use Rattle.inheritance.specs.Attributes.{attributes, AttributeRoom}
 use Rattle.inheritance.specs.Inheritance.{asks, inherited-code, ColumnsOf, InheritanceRoom}
 use Rattle.cycles.specs.State.{needed}
@@ -32,23 +27,6 @@ use Rattle.dependencies.specs.Graph.{GraphOf}
 use Rattle.type_names.specs.TypeName.{is-type-name, FileColumns}
 use Rattle.type_names.specs.Binding as types
 use Rattle.uses.specs.Binding as uses
-
--- ---- the dictionary
-
--- The symbols of the file's tokens stand at the front of their column, and its dictionary at the front of its columns.
-pub record FilePrepared (t : Table) (symbols keys nodes heads next : List ℕ) : Type 0 where
-  pub symbols-are : take (length (t .symbols)) symbols ≡ t .symbols
-  pub prepared : Prepared t (take (length (entries t)) keys) (take (length (entries t)) nodes) heads next
-
--- `prepare`: of any file with these columns; refused exactly where room is lacking, and then keys and nodes are as they were
-pub record PreparesFile (src starts lengths terminals kinds tokens roles symbols keys nodes heads next : List ℕ) (r : Preparation) (symbols′ keys′ nodes′ heads′ next′ : List ℕ) : Type 0 where
-  pub done :
-      r ≡ Done → (t : Table) → kinds ≡ t .kinds → tokens ≡ t .tokens → roles ≡ t .roles → t .symbols ≡ symbols-of src starts lengths terminals →
-      FilePrepared t symbols′ keys′ nodes′ heads′ next′
-  pub unfit :
-      r ≡ Unfit → (t : Table) → kinds ≡ t .kinds → tokens ≡ t .tokens → roles ≡ t .roles → t .symbols ≡ symbols-of src starts lengths terminals →
-      enough (length starts) (length lengths) (length symbols) (length heads) (length next) ≡ true → Consistent t →
-      Room (length (entries t)) (length keys) (length nodes) (length heads) (length next) → ⊥
 
 -- room for an order of the declarations, and for what the search for one needs
 pub record OrderRoom (t : Table) (order scratch : List ℕ) : Type 0 where

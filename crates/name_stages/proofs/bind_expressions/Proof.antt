@@ -1,8 +1,8 @@
--- `names::bind_expressions` meets its contract: one stage after another. Assumes nothing.
+-- `name_stages::bind_expressions` meets its contract: one stage after another. Assumes nothing.
 use borrow.Author.Needs.{needs}
-use Rattle.names.proofs.Staged.{expressions-bound}
-use Rattle.names.proofs.bind_expressions.Statement.{statement}
-use Rattle.names.proofs.bind_expressions.Tie as tie
+use Rattle.name_stages.proofs.Staged.{expressions-bound}
+use Rattle.name_stages.proofs.bind_expressions.Statement.{statement}
+use Rattle.name_stages.proofs.bind_expressions.Tie as tie
 
 bind-uses-requires : tie.Need-bind-uses-requires
 bind-uses-requires c κs = search needs
