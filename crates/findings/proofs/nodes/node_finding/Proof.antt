@@ -1,9 +1,9 @@
--- `meanings::nodes::node_finding` meets its contract: one law for each kind of node. Assumes nothing.
+-- `findings::nodes::node_finding` meets its contract: one law for each kind of node. Assumes nothing.
 use mathlib.Core.Path.{_∙_}
 use borrow.Author.Needs.{needs}
 use Rattle.meanings.proofs.NodeLaws.{Seen, name-node, item-node, self-node, member-node}
-use Rattle.meanings.proofs.nodes.node_finding.Statement.{statement}
-use Rattle.meanings.proofs.nodes.node_finding.Tie as tie
+use Rattle.findings.proofs.nodes.node_finding.Statement.{statement}
+use Rattle.findings.proofs.nodes.node_finding.Tie as tie
 
 at-requires : tie.Need-at-requires
 at-requires c κs = search needs

@@ -1,6 +1,6 @@
--- `meanings::findings::is_value` meets its contract: the tests are the definition's. Assumes nothing.
-use Rattle.meanings.proofs.findings.is_value.Statement.{statement}
-use Rattle.meanings.proofs.findings.is_value.Tie as tie
+-- `findings::is_value` meets its contract: the tests are the definition's. Assumes nothing.
+use Rattle.findings.proofs.is_value.Statement.{statement}
+use Rattle.findings.proofs.is_value.Tie as tie
 use borrow.Author.Tests.{eq-eqb, ne-eqb}
 
 returns : tie.Need-returns

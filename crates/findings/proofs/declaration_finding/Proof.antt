@@ -1,8 +1,8 @@
--- `meanings::findings::declaration_finding` meets its contract: the number of a constant is its target. Assumes nothing.
+-- `findings::declaration_finding` meets its contract: the number of a constant is its target. Assumes nothing.
 use borrow.Author.Needs.{needs}
-use Rattle.meanings.proofs.FoundNames.{names-found}
-use Rattle.meanings.proofs.findings.declaration_finding.Statement.{statement}
-use Rattle.meanings.proofs.findings.declaration_finding.Tie as tie
+use Rattle.findings.proofs.FoundNames.{names-found}
+use Rattle.findings.proofs.declaration_finding.Statement.{statement}
+use Rattle.findings.proofs.declaration_finding.Tie as tie
 
 at-requires : tie.Need-at-requires
 at-requires c κs = search needs

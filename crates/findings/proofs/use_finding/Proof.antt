@@ -1,8 +1,8 @@
--- `meanings::findings::use_finding` meets its contract: one law for each meaning. Assumes nothing.
+-- `findings::use_finding` meets its contract: one law for each meaning. Assumes nothing.
 use borrow.Author.Needs.{needs}
-use Rattle.meanings.proofs.FoundNames.{names-found}
-use Rattle.meanings.proofs.findings.use_finding.Statement.{statement}
-use Rattle.meanings.proofs.findings.use_finding.Tie as tie
+use Rattle.findings.proofs.FoundNames.{names-found}
+use Rattle.findings.proofs.use_finding.Statement.{statement}
+use Rattle.findings.proofs.use_finding.Tie as tie
 
 enum-told : tie.Need-enum-told
 enum-told c = search needs

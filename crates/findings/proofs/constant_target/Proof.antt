@@ -1,8 +1,8 @@
--- `meanings::findings::constant_target` meets its contract: constants alone have a target. Assumes nothing.
+-- `findings::constant_target` meets its contract: constants alone have a target. Assumes nothing.
 use borrow.Author.Needs.{needs}
 use borrow.Author.Tests.{eq-eqb, ne-eqb}
-use Rattle.meanings.proofs.findings.constant_target.Statement.{statement}
-use Rattle.meanings.proofs.findings.constant_target.Tie as tie
+use Rattle.findings.proofs.constant_target.Statement.{statement}
+use Rattle.findings.proofs.constant_target.Tie as tie
 
 one-more-requires : tie.Need-one-more-requires
 one-more-requires c κs = search needs

@@ -1,14 +1,16 @@
 // What is found of a name in an expression, of `type.item`, and of other nodes that can be at fault: the fault, the binding, and
 // the constant that is named.
+pub mod nodes;
+
 ghost use mathlib.Core.Path.{_≡_};
 ghost use Rattle.meanings.specs.Finding.{value-kind, Made, OneMore, TargetOf, NodeFinding, DeclarationFinding, UseFinding, TellsEnumeration, ItemFinding, TypeFinding, QualifiedFinding};
-use crate::Use;
 use columns::index;
 use columns::number;
 use columns::saturating_sub;
 use faults::Fault;
-use scopes::at;
+use meanings::Use;
 use scopes::at8;
+use scopes::at;
 use scopes::look_ups::Meaning;
 use scopes::look_ups::declaration_meant;
 use scopes::look_ups::item_meant;

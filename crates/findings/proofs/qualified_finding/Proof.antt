@@ -1,8 +1,8 @@
--- `meanings::findings::qualified_finding` meets its contract: the type is looked up in the schema. Assumes nothing.
+-- `findings::qualified_finding` meets its contract: the type is looked up in the schema. Assumes nothing.
 use borrow.Author.Needs.{needs}
-use Rattle.meanings.proofs.FoundNames.{names-found}
-use Rattle.meanings.proofs.findings.qualified_finding.Statement.{statement}
-use Rattle.meanings.proofs.findings.qualified_finding.Tie as tie
+use Rattle.findings.proofs.FoundNames.{names-found}
+use Rattle.findings.proofs.qualified_finding.Statement.{statement}
+use Rattle.findings.proofs.qualified_finding.Tie as tie
 
 declaration-meant-requires : tie.Need-declaration-meant-requires
 declaration-meant-requires c κs = search needs

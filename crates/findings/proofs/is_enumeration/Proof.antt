@@ -1,8 +1,8 @@
--- `meanings::findings::is_enumeration` meets its contract: the first node of the type is an item. Assumes nothing.
+-- `findings::is_enumeration` meets its contract: the first node of the type is an item. Assumes nothing.
 use borrow.Author.Needs.{needs}
-use Rattle.meanings.proofs.FoundNames.{names-found}
-use Rattle.meanings.proofs.findings.is_enumeration.Statement.{statement}
-use Rattle.meanings.proofs.findings.is_enumeration.Tie as tie
+use Rattle.findings.proofs.FoundNames.{names-found}
+use Rattle.findings.proofs.is_enumeration.Statement.{statement}
+use Rattle.findings.proofs.is_enumeration.Tie as tie
 
 at8-requires : tie.Need-at8-requires
 at8-requires c κs = search needs

@@ -1,8 +1,8 @@
--- `meanings::nodes::member_fault` meets its contract: at fault exactly where something is inherited. Assumes nothing.
+-- `findings::nodes::member_fault` meets its contract: at fault exactly where something is inherited. Assumes nothing.
 use borrow.Author.Needs.{needs}
 use Rattle.meanings.proofs.NodeLaws.{members-found}
-use Rattle.meanings.proofs.nodes.member_fault.Statement.{statement}
-use Rattle.meanings.proofs.nodes.member_fault.Tie as tie
+use Rattle.findings.proofs.nodes.member_fault.Statement.{statement}
+use Rattle.findings.proofs.nodes.member_fault.Tie as tie
 
 enum-told : tie.Need-enum-told
 enum-told c = search needs

@@ -1,8 +1,8 @@
--- `meanings::findings::item_finding` meets its contract: the item is looked up in its type. Assumes nothing.
+-- `findings::item_finding` meets its contract: the item is looked up in its type. Assumes nothing.
 use borrow.Author.Needs.{needs}
-use Rattle.meanings.proofs.FoundNames.{names-found}
-use Rattle.meanings.proofs.findings.item_finding.Statement.{statement}
-use Rattle.meanings.proofs.findings.item_finding.Tie as tie
+use Rattle.findings.proofs.FoundNames.{names-found}
+use Rattle.findings.proofs.item_finding.Statement.{statement}
+use Rattle.findings.proofs.item_finding.Tie as tie
 
 item-meant-requires : tie.Need-item-meant-requires
 item-meant-requires c κs = search needs

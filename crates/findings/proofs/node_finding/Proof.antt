@@ -1,8 +1,8 @@
--- `meanings::findings::node_finding` meets its contract: a node that is no declaration has no target. Assumes nothing.
+-- `findings::node_finding` meets its contract: a node that is no declaration has no target. Assumes nothing.
 use borrow.Author.Needs.{needs}
-use Rattle.meanings.proofs.FoundNames.{names-found}
-use Rattle.meanings.proofs.findings.node_finding.Statement.{statement}
-use Rattle.meanings.proofs.findings.node_finding.Tie as tie
+use Rattle.findings.proofs.FoundNames.{names-found}
+use Rattle.findings.proofs.node_finding.Statement.{statement}
+use Rattle.findings.proofs.node_finding.Tie as tie
 
 at8-requires : tie.Need-at8-requires
 at8-requires c κs = search needs

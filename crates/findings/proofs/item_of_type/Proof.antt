@@ -1,8 +1,8 @@
--- `meanings::findings::item_of_type` meets its contract: the fault of the type goes before that of the item. Assumes nothing.
+-- `findings::item_of_type` meets its contract: the fault of the type goes before that of the item. Assumes nothing.
 use borrow.Author.Needs.{needs}
-use Rattle.meanings.proofs.FoundNames.{names-found}
-use Rattle.meanings.proofs.findings.item_of_type.Statement.{statement}
-use Rattle.meanings.proofs.findings.item_of_type.Tie as tie
+use Rattle.findings.proofs.FoundNames.{names-found}
+use Rattle.findings.proofs.item_of_type.Statement.{statement}
+use Rattle.findings.proofs.item_of_type.Tie as tie
 
 at-requires : tie.Need-at-requires
 at-requires c κs = search needs
