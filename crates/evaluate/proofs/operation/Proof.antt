@@ -9,7 +9,7 @@ use Rattle.evaluate.proofs.interval.Reads as interval-reads
 use Rattle.evaluate.proofs.operators.sign.Reads as sign-reads
 use Rattle.evaluate.proofs.terminal_at.Reads as terminal-at-reads
 use Rattle.evaluate.proofs.two_operands.Reads as two-operands-reads
-use Rattle.operations.proofs.applied.Reads as applied-reads
+use Rattle.combinations.proofs.applied.Reads as applied-reads
 use Rattle.evaluate.proofs.Assembled.{operates-interval, operates-sign, operates-two, operates-none}
 
 interval-requires : tie.Need-interval-requires

@@ -6,7 +6,7 @@ use Rattle.evaluate.proofs.other.Reads as reads
 use Rattle.evaluate.proofs.other.Lts as lts
 use Rattle.evaluate.proofs.answer_at.Reads as answer-at-reads
 use Rattle.evaluate.proofs.leaf.Reads as leaf-reads
-use Rattle.operations.proofs.held.Reads as held-reads
+use Rattle.combinations.proofs.held.Reads as held-reads
 use Rattle.evaluate.proofs.Assembled.{others-constant, others-leaf}
 
 last-requires : tie.Need-last-requires
