@@ -26,11 +26,11 @@ use Rattle.operations.specs.declared.Answer as code
 use Rattle.operations.specs.declared.Answer.the-variants.{Indeterminate}
 use Rattle.operations.specs.declared.Answer.the-variants as variants
 use Rattle.operations.specs.declared.Operator as operator-type
-use Rattle.operations.proofs.Stored.{Storable, combined-storable, applied-storable, between-storable, held-storable}
+use Rattle.answer_rows.proofs.Stored.{Storable, combined-storable, applied-storable, between-storable, held-storable}
 use Rattle.evaluate.specs.declared.operators.Reading.{Reading}
 use Rattle.evaluate.specs.declared.operators.Reading.the-variants.{Evaluated, Unevaluated}
 use Rattle.evaluate.specs.Operators.{reading-of, combined-by}
-use Rattle.operations.specs.Stored.{stored}
+use Rattle.answer_rows.specs.Stored.{stored}
 use Rattle.evaluate.specs.Answers.{answers-in, Gives, Stores, Keeps}
 use Rattle.tree.specs.Children.{Child}
 use Rattle.evaluate.specs.Evaluation.{part, known-in, LiteralBytes, Leaf, Named, Combines, Intervals, Operation, Operates, Plain, Others, Item, Answered, EvaluatesNode}

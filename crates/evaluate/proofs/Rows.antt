@@ -11,11 +11,11 @@ use Rattle.express.specs.kinds.Answer.{Answer, indeterminate}
 use Rattle.express.specs.kinds.AnswerRow.{row, row-of, row-answer}
 use Rattle.express.specs.kinds.Evaluate.{answer-at}
 use Rattle.operations.specs.Meaning.{answer-of}
-use Rattle.operations.specs.Stored.{storable, stored, row-in}
+use Rattle.answer_rows.specs.Stored.{storable, stored, row-in}
 use Rattle.operations.specs.declared.Answer as operations
 use Rattle.operations.specs.declared.Answer.the-variants.{Indeterminate}
-use Rattle.operations.specs.declared.rows.Row.{Row}
-use Rattle.operations.proofs.Stored.{Storable, kept, row-back}
+use Rattle.answer_rows.specs.declared.Row.{Row}
+use Rattle.answer_rows.proofs.Stored.{Storable, kept, row-back}
 use Rattle.evaluate.specs.Answers.{answers-in, Gives, Stores, Keeps}
 use Rattle.relations.proofs.Select.{le-or}
 

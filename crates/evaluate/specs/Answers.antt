@@ -8,7 +8,7 @@ use lib.ListN.{set}
 use Rattle.express.specs.kinds.Answer.{Answer}
 use Rattle.express.specs.kinds.AnswerRow.{row, row-of, row-answer}
 use Rattle.operations.specs.Meaning.{answer-of}
-use Rattle.operations.specs.Stored.{storable, stored}
+use Rattle.answer_rows.specs.Stored.{storable, stored}
 use Rattle.operations.specs.declared.Answer as operations
 
 -- the answers that three columns hold, as many as the shortest has rows

@@ -14,7 +14,7 @@ use Rattle.express.specs.kinds.Relation.{Relation}
 use Rattle.express.specs.kinds.Shape.{Operator, Sign}
 use Rattle.integers.proofs.Calls.{own-one}
 use Rattle.operations.specs.Meaning.{is-boolean}
-use Rattle.operations.specs.Stored.{stored}
+use Rattle.answer_rows.specs.Stored.{stored}
 use Rattle.exports.specs.Operands.{answer-at, HoldsRow}
 
 -- the number of a row is read back from its bits

@@ -4,6 +4,8 @@ use mathlib.Core.Path.{_≡_}
 use mathlib.Core.Bool.{Bool, true, false}
 use Rattle.index.specs.declared.dictionary.Found.{Found}
 use Rattle.index.specs.declared.dictionary.Found.the-variants.{At, Nothing}
+use Rattle.names.specs.declared.resolution.Resolution.{Resolution}
+use Rattle.names.specs.declared.resolution.Resolution.the-variants as resolution
 use Rattle.graph.specs.declared.Marking.{Marking}
 use Rattle.graph.specs.declared.Marking.the-variants as marking
 use Rattle.cycles.specs.declared.Dependencies.{Dependencies}
@@ -16,6 +18,24 @@ pub record Encoded {A R : Type 0} (code : A → R) (Promise : A → Type 0) (r :
   pub answer : A
   pub promise : Promise answer
   pub encodes : r ≡ code answer
+
+-- r and n stand for an answer that keeps the promise
+pub record Encodes {A : Type 0} (code beside : A → ℕ) (Promise : A → Type 0) (r n : ℕ) : Type 0 where
+  pub answer : A
+  pub promise : Promise answer
+  pub encodes : r ≡ code answer
+  pub number-is : n ≡ beside answer
+
+-- 0 where all names are bound, else the reply and its place; 255, which is no reply, where room is lacking
+abbrev pub resolution-reply : Resolution → ℕ
+resolution-reply resolution.Bound = 0
+resolution-reply (resolution.Faulty k p) = k
+resolution-reply resolution.Unfit = 255
+
+abbrev pub resolution-place : Resolution → ℕ
+resolution-place resolution.Bound = 0
+resolution-place (resolution.Faulty k p) = p
+resolution-place resolution.Unfit = 0
 
 -- an index; the greatest number of 64 bits, which is none
 abbrev pub entry : Found → ℕ

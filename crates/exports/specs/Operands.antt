@@ -11,7 +11,7 @@ use Rattle.express.specs.kinds.Evaluate.{held}
 use Rattle.express.specs.kinds.Shape.{Arithmetic, minus, times, divide, modulo, power, Connective, and, or, xor}
 use Rattle.express.specs.kinds.Shape.{Operator, plus, arithmetic, relation, connective, Sign, positive, negative, not}
 use Rattle.operations.specs.Meaning.{is-boolean}
-use Rattle.operations.specs.Stored.{stored}
+use Rattle.answer_rows.specs.Stored.{stored}
 use Rattle.exports.specs.Places.{relation-at}
 
 -- the answer of a row, `?` where the code has none for it

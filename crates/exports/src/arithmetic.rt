@@ -24,28 +24,28 @@ pub extern "C" fn woffulent_subtract(a: i64, b: i64, number: &mut i64, length: &
 pub extern "C" fn woffulent_multiply(a: i64, b: i64, number: &mut i64, length: &mut u8) -> u8
     ensures { λ r. ⌜ row r (now (number .exit)) (now (length .exit)) ≡ row-of (product a b) ⌝ }
 {
-    answer_row(integers::multiply(a, b), number, length)
+    answer_row(products::multiply(a, b), number, length)
 }
 
 #[no_mangle]
 pub extern "C" fn woffulent_div(a: i64, b: i64, number: &mut i64, length: &mut u8) -> u8
     ensures { λ r. ⌜ row r (now (number .exit)) (now (length .exit)) ≡ row-of (DIV a b) ⌝ }
 {
-    answer_row(integers::div(a, b), number, length)
+    answer_row(products::div(a, b), number, length)
 }
 
 #[no_mangle]
 pub extern "C" fn woffulent_modulo(a: i64, b: i64, number: &mut i64, length: &mut u8) -> u8
     ensures { λ r. ⌜ row r (now (number .exit)) (now (length .exit)) ≡ row-of (MOD a b) ⌝ }
 {
-    answer_row(integers::modulo(a, b), number, length)
+    answer_row(products::modulo(a, b), number, length)
 }
 
 #[no_mangle]
 pub extern "C" fn woffulent_power(a: i64, b: i64, number: &mut i64, length: &mut u8) -> u8
     ensures { λ r. ⌜ row r (now (number .exit)) (now (length .exit)) ≡ row-of (power a b) ⌝ }
 {
-    answer_row(integers::power(a, b), number, length)
+    answer_row(products::power(a, b), number, length)
 }
 
 #[no_mangle]

@@ -59,7 +59,7 @@ pub extern "C" fn woffulent_reachable(
     ensures { λ r. ⌜ Encoded marked (Answers (now (first .entry)) (now (to .entry)) from
         (graph-marks.lent (now (mark .entry)) (now (queue .entry))) (graph-marks.lent (now (mark .exit)) (now (queue .exit)))) r ⌝ }
 {
-    is_marked(graph::reachable(first, to, from, mark, queue))
+    is_marked(marking::reachable(first, to, from, mark, queue))
 }
 
 #[no_mangle]

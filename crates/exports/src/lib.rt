@@ -6,7 +6,7 @@ pub mod binaries;
 pub mod graphs;
 pub mod kinds;
 pub mod logicals;
-pub mod names;
+pub mod naming;
 pub mod operators;
 
 ghost use mathlib.Core.Path.{_≡_};

@@ -4,17 +4,17 @@ ghost use mathlib.Core.Path.{_≡_};
 ghost use Rattle.express.specs.kinds.AnswerRow.{row, row-of};
 ghost use Rattle.express.specs.kinds.Operate.{combined, applied, between};
 ghost use Rattle.operations.specs.Meaning.{answer-of, arithmetic-of, connective-of, operator-of, sign-of};
-ghost use Rattle.operations.specs.Stored.{stored};
+ghost use Rattle.answer_rows.specs.Stored.{stored};
 ghost use Rattle.exports.specs.Places.{relation-at};
 ghost use Rattle.exports.specs.Operands.{answer-at, arithmetic-at, connective-at, operator-at, sign-at, HoldsRow};
+use answer_rows::answer_of_row;
+use answer_rows::row_of;
 use crate::logicals;
 use operations::Answer;
 use operations::Arithmetic;
 use operations::Connective;
 use operations::Operator;
 use operations::Sign;
-use operations::rows::answer_of_row;
-use operations::rows::row_of;
 
 fn arithmetic(n: u8) -> Arithmetic
     ensures { λ r. ⌜ arithmetic-of r ≡ arithmetic-at n ⌝ }
@@ -89,7 +89,7 @@ pub extern "C" fn woffulent_combined(
     let a = answer_of_row(kind_a, number_a, length_a);
     let b = answer_of_row(kind_b, number_b, length_b);
     store(
-        operations::combined(operator(class, place), a, b),
+        combinations::combined(operator(class, place), a, b),
         number,
         length,
     )
@@ -108,7 +108,7 @@ pub extern "C" fn woffulent_applied(
         (applied (sign-at place) (answer-at «kind_a» «number_a» «length_a»))) ⌝ }
 {
     store(
-        operations::applied(sign(place), answer_of_row(kind_a, number_a, length_a)),
+        combinations::applied(sign(place), answer_of_row(kind_a, number_a, length_a)),
         number,
         length,
     )
@@ -137,7 +137,7 @@ pub extern "C" fn woffulent_between(
     let low = answer_of_row(kind_a, number_a, length_a);
     let item = answer_of_row(kind_b, number_b, length_b);
     let high = answer_of_row(kind_c, number_c, length_c);
-    let answer = operations::between(
+    let answer = combinations::between(
         logicals::relation(first),
         logicals::relation(second),
         low,
@@ -159,7 +159,7 @@ pub extern "C" fn woffulent_held(
     ensures { λ r. ⌜ HoldsRow boolean (answer-at «kind_a» «number_a» «length_a») (row r (now (number .exit)) (now (length .exit))) ⌝ }
 {
     store(
-        operations::held(boolean, answer_of_row(kind_a, number_a, length_a)),
+        combinations::held(boolean, answer_of_row(kind_a, number_a, length_a)),
         number,
         length,
     )

@@ -9,7 +9,6 @@ pub mod KindNumbers
 pub mod Logic
 pub mod Operations
 pub mod Order
-pub mod OrderTest
 pub mod Scratch
 pub mod Shapes
 pub mod Spans

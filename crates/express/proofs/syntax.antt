@@ -1,11 +1,9 @@
 pub mod Count
-pub mod DeclarationSpan
 pub mod Descent
 pub mod Formed
 pub mod FormedRows
 pub mod KindSets
 pub mod Nodes
-pub mod Renaming
 pub mod Syntax
 pub mod TokenOrder
 pub mod Within

@@ -2,7 +2,6 @@ pub mod Acceptance
 pub mod Divide
 pub mod Exactness
 pub mod File
-pub mod KindCases
 pub mod NameCases
 pub mod NameReplies
 pub mod SpelledKinds

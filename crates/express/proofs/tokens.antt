@@ -1,8 +1,4 @@
-pub mod Agree
-pub mod Boundary
-pub mod Cut
 pub mod Fast
-pub mod Join
 pub mod Literals
 pub mod Longest
 pub mod Places
@@ -11,4 +7,3 @@ pub mod Stops
 pub mod Symbols
 pub mod Terminal
 pub mod TokenRows
-pub mod Turns

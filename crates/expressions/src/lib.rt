@@ -1,25 +1,17 @@
-// Expressions by recursive descent: terminals to rows of nodes, and one whole expression to node columns.
+// Expressions by recursive descent: terminals to rows of nodes.
 ghost use mathlib.Core.Bool.{true, _&&_};
 ghost use mathlib.Core.Path.{_≡_};
 ghost use Prim.Native.Nat.{_+_, _≤_};
-ghost use lib.ListN.{length, getD};
+ghost use lib.ListN.{getD};
 ghost use Rattle.ebnf.specs.Set.{mem};
 ghost use Rattle.express.specs.tokens.Terminal.{identifier, dot};
 ghost use Rattle.express.specs.syntax.Grammar.{expression, sum, term, factor, operand, atom, interval, relations, additions, multiplications, signs, comparisons};
-ghost use Rattle.parsing.specs.Reading.{atom-label, is-place, Ready, Reads, ReadsAnywhere, Compares, Combines};
-ghost use Rattle.parsing.specs.Parsing.{Parsing};
-ghost use Rattle.parsing.specs.Outcome.{Judging, Parses};
+ghost use Rattle.parsing.specs.Reading.{atom-label, Ready, Reads, ReadsAnywhere, Compares, Combines};
 use codes::labels;
-use parsing::Judgement;
-use parsing::MOST;
 use parsing::NO_LABEL;
-use parsing::Parsed;
 use parsing::Read;
-use parsing::end_of;
 use parsing::expect;
-use parsing::first_deep;
-use parsing::judged;
-use parsing::lay_out;
+use parsing::is_place;
 use parsing::put_row;
 use parsing::token;
 
@@ -300,18 +292,6 @@ fn compared(terminals: &[u8], rows: &mut [u64], p: usize, n: usize) -> Read
     Read::Refused(p)
 }
 
-// A place that a reader may be given: within a list that is not too long, with no more rows before it than tokens.
-fn is_place(terminals: &[u8], p: usize, n: usize) -> bool
-    ensures { λ r. ⌜ r ≡ is-place (now (terminals .entry)) p n ⌝ }
-{
-    if terminals.len() <= MOST {
-        if p <= terminals.len() {
-            return n <= p;
-        }
-    }
-    false
-}
-
 // An expression from a place on; where that is no place, nothing is read.
 pub fn expression_at(terminals: &[u8], rows: &mut [u64], p: usize, n: usize) -> Read
     ensures { λ r. ⌜ ReadsAnywhere expression (now (terminals .entry)) p n r (now (rows .entry)) (now (rows .exit)) ⌝ }
@@ -320,54 +300,4 @@ pub fn expression_at(terminals: &[u8], rows: &mut [u64], p: usize, n: usize) -> 
         return expression(terminals, rows, p, n);
     }
     Read::Refused(p)
-}
-
-// One whole expression, its rows in words.
-fn whole(terminals: &[u8], rows: &mut [u64]) -> Judgement
-    requires { ⌜ length (now terminals) ≤ 65536 ⌝ }
-    ensures { λ r. ⌜ Judging expression (now (terminals .entry)) r (now (rows .entry)) (now (rows .exit)) ⌝ }
-{
-    let deep = first_deep(terminals);
-    let end = end_of(deep, terminals.len());
-    let read = expression(&terminals[..end], rows, 0, 0);
-    judged(read, deep, end)
-}
-
-// The answer, by way of a word for each terminal: rows never outnumber tokens.
-fn parse_in(
-    terminals: &[u8],
-    words: &mut [u64],
-    kinds: &mut [u8],
-    tokens: &mut [u32],
-    sizes: &mut [u32],
-    roles: &mut [u32],
-) -> Parsed
-    requires { ⌜ (length (now terminals) ≤ 65536) × (length (now words) ≡ length (now terminals)) ⌝ }
-    ensures { λ r. ⌜ Parses expression (now (terminals .entry)) r (now (words .entry)) (now (kinds .entry)) (now (tokens .entry)) (now (sizes .entry)) (now (roles .entry))
-        (now (words .exit)) (now (kinds .exit)) (now (tokens .exit)) (now (sizes .exit)) (now (roles .exit)) ⌝ }
-{
-    let judgement = whole(terminals, words);
-    lay_out(judgement, words, kinds, tokens, sizes, roles)
-}
-
-// One whole expression by itself: replies 4, 5 and 7, and the node table. The scratch that is used is zeros then.
-pub fn parse_expression(
-    terminals: &[u8],
-    scratch: &mut [u64],
-    kinds: &mut [u8],
-    tokens: &mut [u32],
-    sizes: &mut [u32],
-    roles: &mut [u32],
-) -> Parsed
-    ensures { λ r. ⌜ Parsing expression (now (terminals .entry)) r (now (scratch .entry)) (now (kinds .entry)) (now (tokens .entry)) (now (sizes .entry)) (now (roles .entry))
-        (now (scratch .exit)) (now (kinds .exit)) (now (tokens .exit)) (now (sizes .exit)) (now (roles .exit)) ⌝ }
-{
-    let n = terminals.len();
-    if n > MOST {
-        return Parsed::Long;
-    }
-    if scratch.len() < n {
-        return Parsed::Scratch(n);
-    }
-    parse_in(terminals, &mut scratch[..n], kinds, tokens, sizes, roles)
 }

@@ -1,5 +1,4 @@
+pub mod Buckets
 pub mod Search
 pub mod Entries
-pub mod Spellings
-pub mod Interning
 pub mod Examples

@@ -10,7 +10,7 @@ use native.Mathlib.Decide.{ℕ-discrete}
 use lib.ListN.{length, getD, set}
 use lib.Seq.{getD-set-same, getD-set-other}
 use Rattle.relations.specs.Select.{first-from}
-use Rattle.index.specs.Interning.{last-index-below}
+use Rattle.index.specs.Link.{last-index-below}
 
 module _ (p q : ℕ → Bool) (sub : (j : ℕ) → p j ≡ true → q j ≡ true) where
   -- what fails the wider test fails the narrower

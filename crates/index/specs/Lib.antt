@@ -1,4 +1,4 @@
 pub mod Room
 pub mod Bucket
 pub mod Dictionary
-pub mod Interning
+pub mod Link

@@ -1,8 +1,7 @@
-// Names as numbers, in expected linear time: interning of spellings, and a dictionary over keys. Both keep chains in
-// lent scratch: a number falls into one of the buckets, as many as `heads` is long; `heads` holds where a bucket's chain
-// begins, `next` how it goes on; a link is an entry plus one, and 0 ends a chain.
+// A dictionary over keys, in expected linear time. Chains stand in lent scratch: a number falls into one of the buckets, as
+// many as `heads` is long; `heads` holds where a bucket's chain begins, `next` how it goes on; a link is an entry plus one, and
+// 0 ends a chain.
 pub mod dictionary;
-pub mod symbols;
 
 ghost use mathlib.Core.Path.{_≡_};
 ghost use Prim.Native.Nat.{_<_};
@@ -11,11 +10,11 @@ ghost use Rattle.index.specs.Room.{fits};
 
 // Numbers of 32 bits are below this one, which stands here twice, the second as a count; two large odd numbers to multiply by (the first is 2 ^ 32 over the golden ratio), and
 // the bits that are folded between them.
-const WORD: u64 = 4294967296;
+pub const WORD: u64 = 4294967296;
 
-const RANGE: usize = 4294967296;
+pub const RANGE: usize = 4294967296;
 
-const FIRST_FACTOR: u64 = 2654435761;
+pub const FIRST_FACTOR: u64 = 2654435761;
 
 const SECOND_FACTOR: u64 = 2246822519;
 
@@ -31,7 +30,7 @@ pub enum Outcome {
 }
 
 // Does the scratch have room for chains of so many entries?
-fn scratch(count: usize, heads: usize, next: usize) -> bool
+pub fn scratch(count: usize, heads: usize, next: usize) -> bool
     ensures { λ r. ⌜ r ≡ fits count heads next ⌝ }
 {
     if heads == 0 {
@@ -51,10 +50,13 @@ fn mix(x: u64) -> u64
     (once + once / FOLD) % WORD * SECOND_FACTOR % WORD
 }
 
-// The bucket that a number falls into.
+// The bucket that a number falls into: small numbers, as symbols are, have buckets of their own.
 fn bucket(x: u64, buckets: usize) -> usize
     requires { ⌜ 0 < buckets ⌝ }
     ensures { λ r. ⌜ InBucket buckets x r ⌝ }
 {
-    (mix(x) % (buckets as u64)) as usize
+    if x < buckets as u64 {
+        return x as usize;
+    }
+    (mix(x) * (columns::shorter(buckets, RANGE) as u64) / WORD) as usize
 }

@@ -9,9 +9,13 @@ use lib.Dec.{ltb}
 use lib.ListN.{length, getD, set, take, drop, length-append}
 use lib.Seq.{take-all, take-suc, set-at, length-take-le, drop-at}
 use Rattle.relations.specs.Select.{span, keep}
-use Rattle.relations.proofs.Select.{span-append, keep-append, keep-nothing, span-mem}
-use Rattle.express.specs.syntax.Tree.{Table, count, is-attribute, owner}
+use Rattle.relations.proofs.Select.{span-append, keep-append, keep-nothing, span-mem, untrue, or-left}
+use Rattle.express.specs.syntax.NodeKind.{constant}
+use Rattle.express.specs.syntax.Grammar.{file}
+use Rattle.express.specs.syntax.Syntax.{Read}
+use Rattle.express.specs.syntax.Tree.{Table, count, kind, is-attribute, owner}
 use Rattle.express.proofs.kinds.Backward.{keep-step}
+use Rattle.express.proofs.names.Owned.{member-owner}
 use Rattle.index.specs.Dictionary.{Indexed}
 use Rattle.scopes.specs.Entries.{vertex}
 use Rattle.scopes.specs.Preparation.{Prepared}
@@ -38,6 +42,16 @@ module _ (t : Table) where
       let e : attributes t ≡ keep p (span 0 i) ++ keep p (span i (count t - i)) =
       ap (λ (d : ℕ). keep p (span 0 d)) q ∙ ap (keep p) (span-append 0 i (count t - i)) ∙ keep-append p (span 0 i) (span (0 + i) (count t - i)) ∙ rw z in
       rw e (omega (arith, length-append (keep p (span 0 i)) (keep p (span i (count t - i)))))
+
+  -- none where no node of some is one
+  attributes-between : (i j : ℕ) → i ≤ j → j ≤ count t → ((n : ℕ) → i ≤ n → n < j → owned-attribute t n ≡ false) → attributes-from t i ≡ attributes-from t j
+  unfolding attributes-from
+  attributes-between i j a b h =
+      let p = owned-attribute t in
+      let q : count t - i ≡ (j - i) + (count t - j) = omega arith in
+      let z : i + (j - i) ≡ j = omega arith in
+      let none : keep p (span i (j - i)) ≡ [] = keep-nothing p (span i (j - i)) (λ n m. let m′ = span-mem i (j - i) n m in h n (m′ .0) (omega (arith, m′ .1))) in
+      ap (λ (d : ℕ). keep p (span i d)) q ∙ ap (keep p) (span-append i (j - i) (count t - j)) ∙ keep-append p (span i (j - i)) (span (i + (j - i)) (count t - j)) ∙ rw (z, none)
 
   -- none behind the last declaration
   attributes-none : (i : ℕ) → i ≤ count t → range-start t (vertex-count t) ≤ i → attributes-from t i ≡ []
@@ -71,6 +85,14 @@ module _ (t : Table) where
 
   vertex-few : vertex-count t ≤ count t
   vertex-few = vertex-small t (count t)
+
+-- none in a constant
+constant-without : {t : Table} → Read file t → (v : ℕ) → v < vertex-count t → kind t (node-of t v) ≡ constant
+    → attributes-from t (range-start t v) ≡ attributes-from t (node-of t v + 1)
+constant-without {t} R v l e =
+    attributes-between t (range-start t v) (node-of t v + 1) (omega (arith, range-rises t v l)) (omega (arith, node-below t v l))
+    (λ n a b. owned-is t v n l a (omega arith) ∙ untrue (is-attribute t n) (λ h. member-owner R n (omega (arith, node-below t v l)) (or-left (is-attribute t n) _ h) (ap
+    (kind t) (range-owner t v n l a (omega arith)) ∙ e)))
 
 -- ---- a store before what is stored
 
@@ -215,8 +237,8 @@ pub record CollectingAll (kinds tokens symbols entry-keys entry-nodes : List ℕ
   pub keys-long : length keys ≡ length keys₁
   pub nodes-long : length nodes ≡ length nodes₁
   pub owners-long : length owners ≡ length owners₁
-  pub is : (t : Table) (heads next : List ℕ) → t .kinds ≡ kinds → t .tokens ≡ tokens → t .symbols ≡ symbols → Prepared t entry-keys entry-nodes heads next
-      → vertices ≡ vertex-count t → AttributeRoom t keys₁ nodes₁ owners₁ → Collected t (range-start t v) keys₁ nodes₁ owners₁ from keys nodes owners
+  pub is : (t : Table) (heads next : List ℕ) → t .kinds ≡ kinds → t .tokens ≡ tokens → t .symbols ≡ symbols → Read file t
+      → Prepared t entry-keys entry-nodes heads next → vertices ≡ vertex-count t → AttributeRoom t keys₁ nodes₁ owners₁ → Collected t (range-start t v) keys₁ nodes₁ owners₁ from keys nodes owners
 
 pub collecting-all-starts : {kinds tokens symbols entry-keys entry-nodes keys nodes owners : List ℕ} {vertices from : ℕ} → from ≡ length keys
     → CollectingAll kinds tokens symbols entry-keys entry-nodes vertices keys nodes owners keys nodes owners from vertices
@@ -226,7 +248,7 @@ collecting-all-starts e =
       keys-long = refl;
       nodes-long = refl;
       owners-long = refl;
-      is = λ t h x a b d P q m. rw (e, q) (collected-starts m);
+      is = λ t h x a b d R P q m. rw (e, q) (collected-starts m);
     }
 
 module _ {kinds tokens symbols entry-keys entry-nodes keys₁ nodes₁ owners₁ keys nodes owners : List ℕ} {vertices from v : ℕ}
@@ -242,7 +264,7 @@ module _ {kinds tokens symbols entry-keys entry-nodes keys₁ nodes₁ owners₁
         nodes-long = b ∙ s .nodes-long;
         owners-long = g ∙ s .owners-long;
         is =
-            λ t h x ka ta sa P q m.
+            λ t h x ka ta sa R P q m.
             let k : v - 1 < vertex-count t = omega (arith, s .upto) in
             let lo = D .from-is t h x P k in
             let hi = D .node-is t h x P k in
@@ -252,12 +274,33 @@ module _ {kinds tokens symbols entry-keys entry-nodes keys₁ nodes₁ owners₁
             record { kinds-are = ka; tokens-are = ta; symbols-are = sa; few = omega (arith, P .consistent .few); known = k; lo-is = lo; hi-is = hi } in
             let o : owned-attribute t (node-of t (v - 1)) ≡ false =
             ap (λ (b : Bool). b && ltb (owner t (node-of t (v - 1))) (count t)) (declaration-other t (node-of t (v - 1)) (node-declares t (v - 1) k)) in
-            let before = collected-skip m (node-of t (v - 1)) (node-below t (v - 1) k) (rw nx at (s .is t h x ka ta sa P q m)) o in
+            let before = collected-skip m (node-of t (v - 1)) (node-below t (v - 1) k) (rw nx at (s .is t h x ka ta sa R P q m)) o in
             rw lo at (c .is t keys₁ nodes₁ owners₁ r m (rw hi before));
       }
 
+  -- a constant has no attribute
+  pub collecting-all-skip : {d : Extent} → 0 < v → DeclarationAt entry-keys entry-nodes (v - 1) d → getD kinds (d .node) 0 ≡ constant
+      → CollectingAll kinds tokens symbols entry-keys entry-nodes vertices keys₁ nodes₁ owners₁ keys nodes owners from (v - 1)
+  collecting-all-skip {d} l D c =
+      record {
+        upto = omega (arith, s .upto);
+        keys-long = s .keys-long;
+        nodes-long = s .nodes-long;
+        owners-long = s .owners-long;
+        is =
+            λ t h x ka ta sa R P q m.
+            let k : v - 1 < vertex-count t = omega (arith, s .upto) in
+            let hi = D .node-is t h x P k in
+            let back : v - 1 + 1 ≡ v = omega arith in
+            let nx : range-start t v ≡ node-of t (v - 1) + 1 = rw back at (range-next t (v - 1)) in
+            let e = constant-without R (v - 1) k (ap (λ (ks : List ℕ). getD ks (node-of t (v - 1)) 0) ka ∙ (rw hi at c)) in
+            let same : attributes-from t (range-start t (v - 1)) ≡ attributes-from t (range-start t v) = e ∙ ap (attributes-from t) (sym nx) in
+            let C = s .is t h x ka ta sa R P q m in
+            record { begins = rw same (C .begins); keys-are = rw same (C .keys-are); nodes-are = rw same (C .nodes-are); owners-are = rw same (C .owners-are) };
+      }
+
   pub collecting-all-ends : v ≤ 0 → Collects kinds tokens symbols entry-keys entry-nodes vertices keys₁ nodes₁ owners₁ from keys nodes owners
-  collecting-all-ends l = record { is = λ t h x ka ta sa P q m. let z : v ≡ 0 = omega arith in rw z at (s .is t h x ka ta sa P q m) }
+  collecting-all-ends l = record { is = λ t h x ka ta sa R P q m. let z : v ≡ 0 = omega arith in rw z at (s .is t h x ka ta sa R P q m) }
 
 -- what the columns hold from there on
 pub collected-end : {t : Table} {keys nodes owners keys′ nodes′ owners′ : List ℕ} {from : ℕ} → AttributeRoom t keys nodes owners

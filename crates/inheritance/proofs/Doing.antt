@@ -20,7 +20,7 @@ use Rattle.scopes.specs.Range.{vertex-count, node-of, range-start, DeclarationA
 use Rattle.scopes.specs.declared.Extent.{Extent}
 use Rattle.scopes.proofs.Ranges.{node-declares, range-next, range-rises, range-owner, range-end}
 use Rattle.inheritance.specs.Inheritance.{code, asks, inherited-code, ColumnsOf, Inheriting, InheritanceRoom, Inherits}
-use Rattle.inheritance.specs.Steps.{asks-by, inherits-by, Stores, Done, InheritsIn}
+use Rattle.inheritance.specs.Steps.{asks-by, inherits-by, Recalls, Stores, Done, InheritsIn}
 use Rattle.inheritance.proofs.Asking.{declaration-silent}
 use Rattle.inheritance.proofs.Reaching.{inherits-nothing, gathers-inherited}
 
@@ -67,9 +67,11 @@ module _ {kinds tokens roles symbols entry-keys entry-nodes first to keys nodes 
   spelling n = sym (ap₂ (λ (ss ts : List ℕ). getD ss (getD ts n 0) 0) (C .symbols-are) (C .tokens-are))
 
   -- all vertices are to come
-  done-starts : {was mark : List ℕ} → ((k : ℕ) → getD mark k 0 ≡ 0) → ((n : ℕ) → n < count t → asks t n ≡ true → getD was n 0 ≡ 0) → Done t was (vertex-count t) mark was
-  done-starts {was} z empty =
+  done-starts : {was stamps mark : List ℕ} → ((k : ℕ) → getD stamps k 0 ≡ 0) → ((k : ℕ) → getD mark k 0 ≡ 0)
+      → ((n : ℕ) → n < count t → asks t n ≡ true → getD was n 0 ≡ 0) → Done t was (vertex-count t) stamps mark was
+  done-starts {was} y z empty =
       record {
+        unasked = λ k s a b e. omega (arith, y k);
         fresh = λ k s a b e. omega (arith, z k);
         stored =
             λ n l f.
@@ -83,16 +85,17 @@ module _ {kinds tokens roles symbols entry-keys entry-nodes first to keys nodes 
         before = λ n l. refl;
       }
 
-  module _ (v : ℕ) (l : v < vertex-count t) {was mark bound : List ℕ} (empty : (n : ℕ) → n < count t → asks t n ≡ true → getD was n 0 ≡ 0)
-      (D : Done t was (v + 1) mark bound) where
+  module _ (v : ℕ) (l : v < vertex-count t) {was stamps mark bound : List ℕ} (empty : (n : ℕ) → n < count t → asks t n ≡ true → getD was n 0 ≡ 0)
+      (D : Done t was (v + 1) stamps mark bound) where
     -- what lies before the next range is as it was
     untouched : (n : ℕ) → n ≤ node-of t v → getD bound n 0 ≡ getD was n 0
     untouched n h = D .before n (omega (arith, range-next t v))
 
     -- a vertex that inherits nothing
-    done-skip : inherits-by kinds first (node-of t v) v ≡ false → Done t was v mark bound
+    done-skip : inherits-by kinds first (node-of t v) v ≡ false → Done t was v stamps mark bound
     done-skip e =
         record {
+          unasked = λ k s a b. D .unasked k s a (omega arith);
           fresh = λ k s a b. D .fresh k s a (omega arith);
           stored = λ n ln f. by n ln f (standing t v n f);
           before = λ n h. untouched n (omega (arith, range-rises t v l));
@@ -113,10 +116,10 @@ module _ {kinds tokens roles symbols entry-keys entry-nodes first to keys nodes 
         by n ln f (behind g) = D .stored n ln g
 
     -- an entity with supertypes
-    module _ (queue : List ℕ) (mark-room : vertex-count t ≤ length mark) (queue-room : vertex-count t ≤ length queue) (bound-room : count t ≤ length bound)
-        {stamp r : ℕ} {mark′ queue′ bound′ : List ℕ} (e : inherits-by kinds first (node-of t v) v ≡ true) (st : stamp ≡ v + 1)
+    module _ (queue meanings : List ℕ) (mark-room : vertex-count t ≤ length mark) (queue-room : vertex-count t ≤ length queue) (bound-room : count t ≤ length bound)
+        {stamp r : ℕ} {stamps′ mark′ queue′ bound′ : List ℕ} (e : inherits-by kinds first (node-of t v) v ≡ true) (st : stamp ≡ v + 1)
         (S : Searches first to v stamp mark queue mark′ queue′ r)
-        (W : Stores kinds tokens roles symbols keys nodes owners heads next mark′ stamp (range-start t v) (node-of t v) bound bound′) where
+        (W : Stores kinds tokens roles symbols keys nodes owners heads next mark′ stamp (range-start t v) (node-of t v) stamps meanings bound stamps′ bound′) where
       an-entity : kind t (node-of t v) ≡ entity
       an-entity =
           ap (λ (ks : List ℕ). getD ks (node-of t v) 0) (C .kinds-are)
@@ -130,16 +133,24 @@ module _ {kinds tokens roles symbols entry-keys entry-nodes first to keys nodes 
             fresh = λ k lk q. D .fresh k (v + 1) (omega arith) (omega arith) (q ∙ st);
           }
 
-      stamps : Stamps first to v stamp mark mark′
-      stamps = S .stamps searchable
+      stamped : Stamps first to v stamp mark mark′
+      stamped = S .stamps searchable
 
-      done-more : Done t was v mark′ bound′
+      -- the table holds nothing under the stamp yet
+      unasked-yet : Recalls keys nodes owners heads next mark′ stamp stamps meanings
+      unasked-yet = record { holds = λ s q. absurd (D .unasked s (v + 1) (omega arith) (omega arith) (q ∙ st)) }
+
+      done-more : Done t was v stamps′ mark′ bound′
       done-more =
           record {
+            unasked =
+                λ k s a b q.
+                by-cases (ℕ-discrete (getD stamps′ k 0) stamp) (λ z. omega arith)
+                (λ z. D .unasked k s a (omega arith) (sym (W .only k z) ∙ q));
             fresh =
                 λ k s a b q.
                 by-cases (ℕ-discrete (getD mark′ k 0) stamp) (λ z. omega arith)
-                (λ z. D .fresh k s a (omega arith) (sym (stamps .others k z) ∙ q));
+                (λ z. D .fresh k s a (omega arith) (sym (stamped .others k z) ∙ q));
             stored = λ n ln f. by n ln f (standing t v n f) (asks t n) refl;
             before = λ n h. W .before n h ∙ untouched n (omega (arith, range-rises t v l));
           }
@@ -147,8 +158,8 @@ module _ {kinds tokens roles symbols entry-keys entry-nodes first to keys nodes 
           by : (n : ℕ) → n < count t → range-start t v ≤ n → Standing t v n → (b : Bool) → asks t n ≡ b
               → getD bound′ n 0 ≡ cond (asks t n) (inherited-code t n) (getD was n 0)
           by n ln f (inside _ u) true a =
-              let g = W .stored n f u (omega arith) (sym (asked n) ∙ a) in
-              gathers-inherited (I .graph) (I .read) (I .right) (I .prepared .consistent .few) (I .attributes) l an-entity stamps g
+              let g = W .stored unasked-yet n f u (omega arith) (sym (asked n) ∙ a) in
+              gathers-inherited (I .graph) (I .read) (I .right) (I .prepared .consistent .few) (I .attributes) l an-entity stamped g
               ∙ ap (λ (s : ℕ). code (meaning (inherited t (node-of t v) s))) (spelling n)
               ∙ sym (owned-code t n (node-of t v) (range-owner t v n l f (omega arith)))
               ∙ ap (λ (b : Bool). cond b (inherited-code t n) (getD was n 0)) (sym a)
@@ -159,10 +170,10 @@ module _ {kinds tokens roles symbols entry-keys entry-nodes first to keys nodes 
           by n ln f (behind g) b a = W .behind n (omega (arith, range-next t v)) ∙ D .stored n ln g
 
 -- ---- the calls of `inherit_in`
-module _ {kinds tokens roles symbols entry-keys entry-nodes first to keys nodes owners heads next mark queue bound : List ℕ} {v : ℕ} {d : Extent}
+module _ {kinds tokens roles symbols entry-keys entry-nodes first to keys nodes owners heads next stamps mark queue bound : List ℕ} {v : ℕ} {d : Extent}
     (X : DeclarationAt entry-keys entry-nodes v d) where
   pub inherits-in-none : inherits-by kinds first (d .node) v ≡ false
-      → InheritsIn kinds tokens roles symbols entry-keys entry-nodes first to keys nodes owners heads next v mark queue bound mark bound
+      → InheritsIn kinds tokens roles symbols entry-keys entry-nodes first to keys nodes owners heads next v stamps mark queue bound stamps mark bound
   inherits-in-none e =
       record {
         is =
@@ -171,57 +182,64 @@ module _ {kinds tokens roles symbols entry-keys entry-nodes first to keys nodes 
             done-skip C I v l z D (rw n at e);
       }
 
-  pub inherits-in-more : {stamp r : ℕ} {mark′ queue′ bound′ : List ℕ} → inherits-by kinds first (d .node) v ≡ true → (v + 1 < 4294967296 → stamp ≡ v + 1)
+  pub inherits-in-more : {stamp r : ℕ} {meanings stamps′ mark′ queue′ bound′ : List ℕ} → inherits-by kinds first (d .node) v ≡ true → (v + 1 < 4294967296 → stamp ≡ v + 1)
       → Searches first to v stamp mark queue mark′ queue′ r
-      → Stores kinds tokens roles symbols keys nodes owners heads next mark′ stamp (d .from) (d .node) bound bound′
-      → InheritsIn kinds tokens roles symbols entry-keys entry-nodes first to keys nodes owners heads next v mark queue bound mark′ bound′
-  inherits-in-more {stamp} {r} {mark′} {queue′} {bound′} e st S W =
+      → Stores kinds tokens roles symbols keys nodes owners heads next mark′ stamp (d .from) (d .node) stamps meanings bound stamps′ bound′
+      → InheritsIn kinds tokens roles symbols entry-keys entry-nodes first to keys nodes owners heads next v stamps mark queue bound stamps′ mark′ bound′
+  inherits-in-more {stamp} {r} {meanings} {stamps′} {mark′} {queue′} {bound′} e st S W =
       record {
         is =
             λ t was C I l m q b z D.
             let n = X .node-is t (I .entry-heads) (I .entry-next) (I .prepared) l in
             let f = X .from-is t (I .entry-heads) (I .entry-next) (I .prepared) l in
-            let W′ : Stores kinds tokens roles symbols keys nodes owners heads next mark′ stamp (range-start t v) (node-of t v) bound bound′ = rw (n, f) at W in
-            done-more C I v l z D queue m q b (rw n at e) (st (omega (arith, I .graph .graph .small, I .graph .long))) S W′;
+            let W′ : Stores kinds tokens roles symbols keys nodes owners heads next mark′ stamp (range-start t v) (node-of t v) stamps meanings bound stamps′ bound′ = rw (n, f) at W in
+            done-more C I v l z D queue meanings m q b (rw n at e) (st (omega (arith, I .graph .graph .small, I .graph .long))) S W′;
       }
 
 -- ---- the loop of `inherit_all`
-pub record Doing (kinds tokens roles symbols entry-keys entry-nodes first to keys nodes owners heads next mark₁ queue₁ bound₁ mark queue bound : List ℕ) (v : ℕ) : Type 0 where
+pub record Doing (kinds tokens roles symbols entry-keys entry-nodes first to keys nodes owners heads next stamps₁ meanings₁ mark₁ queue₁ bound₁ stamps meanings mark queue
+    bound : List ℕ) (v : ℕ) : Type 0 where
   pub within : v ≤ vertices first
+  pub stamps-long : length stamps ≡ length stamps₁
+  pub meanings-long : length meanings ≡ length meanings₁
   pub mark-long : length mark ≡ length mark₁
   pub queue-long : length queue ≡ length queue₁
   pub bound-long : length bound ≡ length bound₁
   pub is : (t : Table) → ColumnsOf t kinds tokens roles symbols → Inheriting t entry-keys entry-nodes first to keys nodes owners heads next
-      → InheritanceRoom t mark₁ queue₁ bound₁ → Done t bound₁ v mark bound
+      → InheritanceRoom t mark₁ queue₁ bound₁ → Done t bound₁ v stamps mark bound
 
-module _ {kinds tokens roles symbols entry-keys entry-nodes first to keys nodes owners heads next queue₁ bound₁ : List ℕ} where
-  pub doing-starts : {mark : List ℕ} {v : ℕ} → v ≡ length first - 1 → ((k : ℕ) → getD mark k 0 ≡ 0)
-      → Doing kinds tokens roles symbols entry-keys entry-nodes first to keys nodes owners heads next mark queue₁ bound₁ mark queue₁ bound₁ v
-  doing-starts {mark} {v} e z =
+module _ {kinds tokens roles symbols entry-keys entry-nodes first to keys nodes owners heads next meanings₁ queue₁ bound₁ : List ℕ} where
+  pub doing-starts : {stamps mark : List ℕ} {v : ℕ} → v ≡ length first - 1 → ((k : ℕ) → getD stamps k 0 ≡ 0) → ((k : ℕ) → getD mark k 0 ≡ 0)
+      → Doing kinds tokens roles symbols entry-keys entry-nodes first to keys nodes owners heads next stamps meanings₁ mark queue₁ bound₁ stamps meanings₁ mark queue₁ bound₁ v
+  doing-starts {stamps} {mark} {v} e y z =
       record {
         within = omega arith;
+        stamps-long = refl;
+        meanings-long = refl;
         mark-long = refl;
         queue-long = refl;
         bound-long = refl;
-        is = λ t C I R. let n : v ≡ vertex-count t = omega (arith, I .graph .long) in rw n (done-starts C I z (R .empty));
+        is = λ t C I R. let n : v ≡ vertex-count t = omega (arith, I .graph .long) in rw n (done-starts C I y z (R .empty));
       }
 
-  module _ {mark₁ mark queue bound : List ℕ} {v : ℕ}
-      (s : Doing kinds tokens roles symbols entry-keys entry-nodes first to keys nodes owners heads next mark₁ queue₁ bound₁ mark queue bound v) where
-    pub doing-goes : {mark′ queue′ bound′ : List ℕ} → 0 < v
-        → InheritsIn kinds tokens roles symbols entry-keys entry-nodes first to keys nodes owners heads next (v - 1) mark queue bound mark′ bound′
-        → length mark′ ≡ length mark → length queue′ ≡ length queue → length bound′ ≡ length bound
-        → Doing kinds tokens roles symbols entry-keys entry-nodes first to keys nodes owners heads next mark₁ queue₁ bound₁ mark′ queue′ bound′ (v - 1)
-    doing-goes l x a b c =
+  module _ {stamps₁ mark₁ stamps meanings mark queue bound : List ℕ} {v : ℕ}
+      (s : Doing kinds tokens roles symbols entry-keys entry-nodes first to keys nodes owners heads next stamps₁ meanings₁ mark₁ queue₁ bound₁ stamps meanings mark queue bound v) where
+    pub doing-goes : {stamps′ meanings′ mark′ queue′ bound′ : List ℕ} → 0 < v
+        → InheritsIn kinds tokens roles symbols entry-keys entry-nodes first to keys nodes owners heads next (v - 1) stamps mark queue bound stamps′ mark′ bound′
+        → length stamps′ ≡ length stamps → length meanings′ ≡ length meanings → length mark′ ≡ length mark → length queue′ ≡ length queue → length bound′ ≡ length bound
+        → Doing kinds tokens roles symbols entry-keys entry-nodes first to keys nodes owners heads next stamps₁ meanings₁ mark₁ queue₁ bound₁ stamps′ meanings′ mark′ queue′ bound′ (v - 1)
+    doing-goes l x p q a b c =
         record {
           within = omega (arith, s .within);
+          stamps-long = p ∙ s .stamps-long;
+          meanings-long = q ∙ s .meanings-long;
           mark-long = a ∙ s .mark-long;
           queue-long = b ∙ s .queue-long;
           bound-long = c ∙ s .bound-long;
           is =
               λ t C I R.
               let back : v - 1 + 1 ≡ v = omega arith in
-              let D : Done t bound₁ (v - 1 + 1) mark bound = rw back (s .is t C I R) in
+              let D : Done t bound₁ (v - 1 + 1) stamps mark bound = rw back (s .is t C I R) in
               x .is t bound₁ C I (omega (arith, s .within, I .graph .long)) (omega (arith, R .mark-room, s .mark-long)) (omega (arith, R .queue-room, s .queue-long))
               (omega (arith, R .bound-room, s .bound-long)) (R .empty) D;
         }
@@ -235,6 +253,6 @@ module _ {kinds tokens roles symbols entry-keys entry-nodes first to keys nodes 
               let z : v ≡ 0 = omega arith in
               let R′ : InheritanceRoom t mark₁ queue₁ bound₁ =
               record { mark-room = omega (arith, R .mark-room); queue-room = R .queue-room; bound-room = R .bound-room; empty = R .empty } in
-              let D : Done t bound₁ 0 mark bound = rw z at (s .is t C I R′) in
+              let D : Done t bound₁ 0 stamps mark bound = rw z at (s .is t C I R′) in
               D .stored n k (omega arith);
         }

@@ -6,6 +6,8 @@ use Prim.Native.Nat.{ℕ, _+_, _-_, _≤_}
 use lib.Dec.{ltb}
 use lib.ListN.{length, take}
 use Rattle.relations.specs.Select.{span, keep}
+use Rattle.express.specs.syntax.Grammar.{file}
+use Rattle.express.specs.syntax.Syntax.{Read}
 use Rattle.express.specs.syntax.Tree.{Table, count, symbol, is-attribute, owner}
 use Rattle.index.specs.Dictionary.{Indexed}
 use Rattle.scopes.specs.Entries.{vertex}
@@ -52,5 +54,5 @@ pub record AttributeRoom (t : Table) (keys nodes owners : List ℕ) : Type 0 whe
 
 -- all attributes of any file of which these are columns and the front of its dictionary
 pub record Collects (kinds tokens symbols entry-keys entry-nodes : List ℕ) (vertices : ℕ) (keys nodes owners : List ℕ) (from : ℕ) (keys′ nodes′ owners′ : List ℕ) : Type 0 where
-  pub is : (t : Table) (heads next : List ℕ) → t .kinds ≡ kinds → t .tokens ≡ tokens → t .symbols ≡ symbols → Prepared t entry-keys entry-nodes heads next
-      → vertices ≡ vertex-count t → AttributeRoom t keys nodes owners → Collected t 0 keys nodes owners from keys′ nodes′ owners′
+  pub is : (t : Table) (heads next : List ℕ) → t .kinds ≡ kinds → t .tokens ≡ tokens → t .symbols ≡ symbols → Read file t
+      → Prepared t entry-keys entry-nodes heads next → vertices ≡ vertex-count t → AttributeRoom t keys nodes owners → Collected t 0 keys nodes owners from keys′ nodes′ owners′

@@ -65,9 +65,20 @@ inherited-from keys nodes owners mark stamp key i =
 pub record Gathers (keys nodes owners heads next mark : List ℕ) (stamp symbol r : ℕ) : Type 0 where
   pub is : Indexed keys heads next → ((a : ℕ) → getD nodes a 0 < several-code) → r ≡ code (meaning (inherited-from keys nodes owners mark stamp (symbol + 1) 0))
 
+-- a table of what was asked for: beside each symbol that has the stamp stands what it means
+pub record Recalls (keys nodes owners heads next mark : List ℕ) (stamp : ℕ) (stamps meanings : List ℕ) : Type 0 where
+  pub holds : (s : ℕ) → getD stamps s 0 ≡ stamp → Gathers keys nodes owners heads next mark stamp s (getD meanings s 0)
+
+-- what a symbol means; afterwards the table is one still, and no stamp is new but this one
+pub record Recalled (keys nodes owners heads next mark : List ℕ) (stamp symbol : ℕ) (stamps meanings : List ℕ) (r : ℕ) (stamps′ meanings′ : List ℕ) : Type 0 where
+  pub is : Recalls keys nodes owners heads next mark stamp stamps meanings → Gathers keys nodes owners heads next mark stamp symbol r
+  pub table : Recalls keys nodes owners heads next mark stamp stamps meanings → Recalls keys nodes owners heads next mark stamp stamps′ meanings′
+  pub only : (s : ℕ) → (getD stamps′ s 0 ≡ stamp → ⊥) → getD stamps′ s 0 ≡ getD stamps s 0
+
 -- at each node from lo up to hi that asks; all else is as it was
-pub record Stores (kinds tokens roles symbols keys nodes owners heads next mark : List ℕ) (stamp lo hi : ℕ) (bound bound′ : List ℕ) : Type 0 where
-  pub stored : (n : ℕ) → lo ≤ n → n < hi → n < length bound → asks-by (getD kinds n 0) (getD roles n 0) ≡ true
+pub record Stores (kinds tokens roles symbols keys nodes owners heads next mark : List ℕ) (stamp lo hi : ℕ) (stamps meanings bound stamps′ bound′ : List ℕ) : Type 0 where
+  pub only : (s : ℕ) → (getD stamps′ s 0 ≡ stamp → ⊥) → getD stamps′ s 0 ≡ getD stamps s 0
+  pub stored : Recalls keys nodes owners heads next mark stamp stamps meanings → (n : ℕ) → lo ≤ n → n < hi → n < length bound → asks-by (getD kinds n 0) (getD roles n 0) ≡ true
       → Gathers keys nodes owners heads next mark stamp (getD symbols (getD tokens n 0) 0) (getD bound′ n 0)
   pub other : (n : ℕ) → asks-by (getD kinds n 0) (getD roles n 0) ≡ false → getD bound′ n 0 ≡ getD bound n 0
   pub before : (n : ℕ) → n < lo → getD bound′ n 0 ≡ getD bound n 0
@@ -79,14 +90,16 @@ inherits-by kinds first node vertex = eqb (getD kinds node 0) entity && ltb (get
 
 -- ---- vertex by vertex, from the last to the first
 
--- Done from a vertex on: its nodes and those behind them have what they inherit, and no mark is a stamp that comes later.
-pub record Done (t : Table) (was : List ℕ) (v : ℕ) (mark bound : List ℕ) : Type 0 where
+-- Done from a vertex on: its nodes and those behind them have what they inherit, and no mark, and no entry of the table, is a stamp that comes later.
+pub record Done (t : Table) (was : List ℕ) (v : ℕ) (stamps mark bound : List ℕ) : Type 0 where
+  pub unasked : (k s : ℕ) → 0 < s → s ≤ v → getD stamps k 0 ≡ s → ⊥
   pub fresh : (k s : ℕ) → 0 < s → s ≤ v → getD mark k 0 ≡ s → ⊥
   pub stored : (n : ℕ) → n < count t → range-start t v ≤ n → getD bound n 0 ≡ cond (asks t n) (inherited-code t n) (getD was n 0)
   pub before : (n : ℕ) → n < range-start t v → getD bound n 0 ≡ getD was n 0
 
 -- one vertex more
-pub record InheritsIn (kinds tokens roles symbols entry-keys entry-nodes first to keys nodes owners heads next : List ℕ) (v : ℕ) (mark queue bound mark′ bound′ : List ℕ) : Type 0 where
+pub record InheritsIn (kinds tokens roles symbols entry-keys entry-nodes first to keys nodes owners heads next : List ℕ) (v : ℕ) (stamps mark queue bound stamps′ mark′
+    bound′ : List ℕ) : Type 0 where
   pub is : (t : Table) (was : List ℕ) → ColumnsOf t kinds tokens roles symbols → Inheriting t entry-keys entry-nodes first to keys nodes owners heads next
       → v < vertex-count t → vertex-count t ≤ length mark → vertex-count t ≤ length queue → count t ≤ length bound
-      → ((n : ℕ) → n < count t → asks t n ≡ true → getD was n 0 ≡ 0) → Done t was (v + 1) mark bound → Done t was v mark′ bound′
+      → ((n : ℕ) → n < count t → asks t n ≡ true → getD was n 0 ≡ 0) → Done t was (v + 1) stamps mark bound → Done t was v stamps′ mark′ bound′

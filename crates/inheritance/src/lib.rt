@@ -1,12 +1,12 @@
 // Inherited attributes: for each use, attribute and label of an entity that has supertypes, what its symbol means among the
 // attributes of all that the entity reaches over supertypes. One search for each such entity; the attributes of a file stand
-// in a dictionary of their own, by their symbols.
+// in a dictionary of their own, by their symbols; and a symbol's are gone through once for an entity, however often it is asked for.
 ghost use mathlib.Core.Path.{_≡_};
 ghost use Prim.Native.Nat.{_+_, _<_};
 ghost use lib.ListN.{length, getD};
 ghost use Rattle.inheritance.specs.Attributes.{Collects};
 ghost use Rattle.inheritance.specs.Inheritance.{several-code, Inherits};
-ghost use Rattle.inheritance.specs.Steps.{attribute-kind, asks-by, Entered, CollectsRange, joined, Gathers, Stores, inherits-by, InheritsIn};
+ghost use Rattle.inheritance.specs.Steps.{attribute-kind, asks-by, Entered, CollectsRange, joined, Gathers, Recalled, Stores, inherits-by, InheritsIn};
 use columns::index;
 use columns::number;
 use columns::put32;
@@ -99,7 +99,7 @@ fn collect_range(
 }
 
 // Stores the attributes of a file at the end of three columns: the keys of their symbols, their nodes, and the vertices of their owners;
-// answers where they begin.
+// answers where they begin. A constant has none.
 pub fn collect_attributes(
     kinds: &[u8],
     tokens: &[u32],
@@ -120,18 +120,20 @@ pub fn collect_attributes(
     while 0 < v {
         v -= 1;
         let d = scopes::declaration(entry_keys, entry_nodes, v);
-        from = collect_range(
-            kinds,
-            tokens,
-            symbols,
-            v,
-            d.from,
-            d.node,
-            from,
-            keys,
-            nodes,
-            owners,
-        );
+        if at8(kinds, d.node) != codes::nodes::CONSTANT {
+            from = collect_range(
+                kinds,
+                tokens,
+                symbols,
+                v,
+                d.from,
+                d.node,
+                from,
+                keys,
+                nodes,
+                owners,
+            );
+        }
     }
     from
 }
@@ -174,6 +176,35 @@ fn inherited(
     }
 }
 
+// The same, by a table of those that were asked for under the stamp; where it is not there yet, it is gathered and put there.
+fn recalled(
+    keys: &[u64],
+    nodes: &[u32],
+    owners: &[u32],
+    heads: &[u32],
+    next: &[u32],
+    mark: &[u32],
+    stamp: u32,
+    symbol: u32,
+    stamps: &mut [u32],
+    meanings: &mut [u32],
+) -> u32
+    ensures { λ r. ⌜ Recalled (now (keys .entry)) (now (nodes .entry)) (now (owners .entry)) (now (heads .entry)) (now (next .entry)) (now (mark .entry)) stamp symbol
+        (now (stamps .entry)) (now (meanings .entry)) r (now (stamps .exit)) (now (meanings .exit)) ⌝ }
+{
+    let s = index(symbol);
+    if at(stamps, s) == stamp {
+        return at(meanings, s);
+    }
+    let meaning = inherited(keys, nodes, owners, heads, next, mark, stamp, symbol);
+    if meanings.len() <= s {
+        return meaning;
+    }
+    put32(stamps, s, stamp);
+    put32(meanings, s, meaning);
+    meaning
+}
+
 // Is it a name in an expression, or an attribute or label?
 fn asks(kind: u8, role: u32) -> bool
     ensures { λ r. ⌜ r ≡ asks-by kind role ⌝ }
@@ -199,18 +230,31 @@ fn store_inherited(
     stamp: u32,
     lo: usize,
     hi: usize,
+    stamps: &mut [u32],
+    meanings: &mut [u32],
     bound: &mut [u32],
 )
     ensures { λ _. ⌜ Stores (now (kinds .entry)) (now (tokens .entry)) (now (roles .entry)) (now (symbols .entry)) (now (keys .entry))
-        (now (nodes .entry)) (now (owners .entry)) (now (heads .entry)) (now (next .entry)) (now (mark .entry)) stamp lo hi (now (bound .entry))
-        (now (bound .exit)) ⌝ }
+        (now (nodes .entry)) (now (owners .entry)) (now (heads .entry)) (now (next .entry)) (now (mark .entry)) stamp lo hi (now (stamps .entry))
+        (now (meanings .entry)) (now (bound .entry)) (now (stamps .exit)) (now (bound .exit)) ⌝ }
 {
     let mut i = hi;
     while lo < i {
         i -= 1;
         if asks(at8(kinds, i), at(roles, i)) {
             let name = symbol(tokens, symbols, i);
-            let meaning = inherited(keys, nodes, owners, heads, next, mark, stamp, name);
+            let meaning = recalled(
+                keys,
+                nodes,
+                owners,
+                heads,
+                next,
+                mark,
+                stamp,
+                name,
+                stamps,
+                meanings,
+            );
             put32(bound, i, meaning);
         }
     }
@@ -244,6 +288,8 @@ fn inherit_in(
     heads: &[u32],
     next: &[u32],
     v: usize,
+    stamps: &mut [u32],
+    meanings: &mut [u32],
     mark: &mut [u32],
     queue: &mut [u32],
     bound: &mut [u32],
@@ -251,8 +297,8 @@ fn inherit_in(
     requires { ⌜ v < length (now first) ⌝ }
     ensures { λ _. ⌜ InheritsIn (now (kinds .entry)) (now (tokens .entry)) (now (roles .entry)) (now (symbols .entry)) (now («entry_keys» .entry))
         (now («entry_nodes» .entry)) (now (first .entry)) (now (to .entry)) (now (keys .entry)) (now (nodes .entry)) (now (owners .entry))
-        (now (heads .entry)) (now (next .entry)) v (now (mark .entry)) (now (queue .entry)) (now (bound .entry)) (now (mark .exit))
-        (now (bound .exit)) ⌝ }
+        (now (heads .entry)) (now (next .entry)) v (now (stamps .entry)) (now (mark .entry)) (now (queue .entry)) (now (bound .entry)) (now (stamps .exit))
+        (now (mark .exit)) (now (bound .exit)) ⌝ }
 {
     let extent = scopes::declaration(entry_keys, entry_nodes, v);
     if inherits(kinds, first, extent.node, v) {
@@ -272,6 +318,8 @@ fn inherit_in(
             stamp,
             extent.from,
             extent.node,
+            stamps,
+            meanings,
             bound,
         );
     }
@@ -292,6 +340,8 @@ pub fn inherit_all(
     owners: &[u32],
     heads: &[u32],
     next: &[u32],
+    stamps: &mut [u32],
+    meanings: &mut [u32],
     mark: &mut [u32],
     queue: &mut [u32],
     bound: &mut [u32],
@@ -300,6 +350,7 @@ pub fn inherit_all(
         (now («entry_nodes» .entry)) (now (first .entry)) (now (to .entry)) (now (keys .entry)) (now (nodes .entry)) (now (owners .entry))
         (now (heads .entry)) (now (next .entry)) (now (mark .entry)) (now (queue .entry)) (now (bound .entry)) (now (bound .exit)) ⌝ }
 {
+    columns::clear32(stamps, 0);
     columns::clear32(mark, 0);
     let mut v = saturating_sub(first.len(), 1);
     while 0 < v {
@@ -319,6 +370,8 @@ pub fn inherit_all(
             heads,
             next,
             v,
+            stamps,
+            meanings,
             mark,
             queue,
             bound,

@@ -1,3 +1,2 @@
 pub mod Nearest
-pub mod FoundNames
 pub mod NodeLaws

@@ -55,6 +55,12 @@ inherited-sort t o s k e =
     let C = inherited-iff t o s k .0 (O .member) in
     (C .within, attribute-sort t k (C .suits .0))
 
+-- the only entry, by the node that is read
+pub by-one : {nodes : List ℕ} {m : entries.Meaning} {e a k : ℕ} → m ≡ entry.One e → a ≡ getD nodes e 0 → k ≡ a → ByNode nodes m (Node k)
+by-one {nodes} {m} {e} {a} {k} q p r =
+    let w : one k ≡ node-meant nodes m = ap one (r ∙ p) ∙ sym (ap (node-meant nodes) q) in
+    record { meant = w; sorted = λ t h. h k (sym w) }
+
 -- a nearer list without candidates, and one with a meaning
 passed-over : (xs ys : List ℕ) (m : Meaning) → meaning xs ≡ none → meaning ys ≡ m → meaning (nearest xs ys) ≡ m
 passed-over xs ys m e f = meaning-nearest xs ys ∙ ap (λ (k : Meaning). or-else k (meaning ys)) e ∙ f

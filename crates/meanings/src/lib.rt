@@ -1,8 +1,4 @@
-// What a name in an expression means, by the dictionary of a file and by what its owner inherits; and what is found of it: its
-// fault, its binding, and the constant that it names.
-pub mod findings;
-pub mod nodes;
-
+// What a name in an expression means, by the dictionary of a file and by what its owner inherits.
 ghost use Rattle.meanings.specs.Use.{ValueMeans, ByNode, InheritedOrValue, InDeclaration};
 use columns::index;
 use scopes::at;

@@ -1,1 +1,3 @@
-pub mod Stages
+pub mod Prepared
+pub mod Binding
+pub mod Resolution

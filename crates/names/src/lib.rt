@@ -1,117 +1,53 @@
-// The stages of names, one after the other: what is declared twice, the names of types with their graph and its order, what is
-// inherited, and the names in expressions with the graph of the constants and its order. A stage computes on where an earlier
-// one has found a fault; the faults are put together at the end.
-ghost use Rattle.names.specs.Stages.{BindsDeclarations, BindsInherited, BindsExpressions};
-use columns::saturating_sub;
-use columns::shorter;
+// The names of a file: its dictionary, and all stages over it, from the first to the last.
+pub mod resolution;
+
+ghost use Rattle.names.specs.Binding.{BindsNames};
+ghost use Rattle.names.specs.Prepared.{PreparesFile};
 use faults::Fault;
+use index::Outcome;
+use name_stages::bind_declarations;
+use name_stages::bind_expressions;
+use name_stages::bind_inherited;
+use scopes::dictionary::Preparation;
 
-// Stages 9, 10 and 11 of types, and 13 of types: the bindings of the names of types, the graph of the declarations and an order of
-// them.
-pub fn bind_declarations(
-    kinds: &[u8],
-    tokens: &[u32],
-    roles: &[u32],
-    symbols: &[u32],
+// Interns the identifiers of a file, and enters what it declares into its dictionary.
+pub fn prepare(
+    src: &[u8],
     starts: &[u32],
-    keys: &[u64],
-    nodes: &[u32],
-    heads: &[u32],
-    next: &[u32],
-    bound: &mut [u32],
-    first: &mut [u32],
-    to: &mut [u32],
-    order: &mut [u32],
-    scratch: &mut [u32],
-) -> Fault
-    ensures { λ r. ⌜ BindsDeclarations (now (kinds .entry)) (now (tokens .entry)) (now (roles .entry)) (now (symbols .entry)) (now (starts .entry))
-        (now (keys .entry)) (now (nodes .entry)) (now (heads .entry)) (now (next .entry))
-        (now (bound .entry)) (now (first .entry)) (now (to .entry)) (now (order .entry)) (now (scratch .entry)) r
-        (now (bound .exit)) (now (first .exit)) (now (to .exit)) (now (order .exit)) ⌝ }
-{
-    let repeated = duplicates::least_duplicate(tokens, starts, keys, nodes, next);
-    let unbound = type_names::bind_type_names(
-        kinds,
-        tokens,
-        roles,
-        symbols,
-        starts,
-        keys,
-        nodes,
-        heads,
-        next,
-        bound,
-        first,
-        to,
-    );
-    let cyclic = dependencies::arrange(tokens, starts, nodes, first, to, order, scratch);
-    faults::or_later(repeated, faults::or_later(unbound, cyclic))
-}
-
-// Stores at each use, attribute and label what its symbol means among the attributes that its owner inherits. The attributes of the
-// file stand at the ends of three columns, with chains of their own.
-pub fn bind_inherited(
+    lengths: &[u32],
+    terminals: &[u8],
     kinds: &[u8],
     tokens: &[u32],
     roles: &[u32],
-    symbols: &[u32],
-    keys: &[u64],
-    nodes: &[u32],
-    first: &[u32],
-    to: &[u32],
-    spellings: &mut [u64],
-    attributes: &mut [u32],
-    owners: &mut [u32],
+    symbols: &mut [u32],
+    keys: &mut [u64],
+    nodes: &mut [u32],
     heads: &mut [u32],
     next: &mut [u32],
-    mark: &mut [u32],
-    queue: &mut [u32],
-    bound: &mut [u32],
-)
-    ensures { λ _. ⌜ BindsInherited (now (kinds .entry)) (now (tokens .entry)) (now (roles .entry)) (now (symbols .entry)) (now (keys .entry)) (now (nodes .entry))
-        (now (first .entry)) (now (to .entry)) (now (spellings .entry)) (now (attributes .entry)) (now (owners .entry)) (now (heads .entry)) (now (next .entry))
-        (now (mark .entry)) (now (queue .entry)) (now (bound .entry)) (now (bound .exit)) ⌝ }
+) -> Preparation
+    ensures { λ r. ⌜ PreparesFile (now (src .entry)) (now (starts .entry)) (now (lengths .entry)) (now (terminals .entry)) (now (kinds .entry)) (now (tokens .entry))
+        (now (roles .entry)) (now (symbols .entry)) (now (keys .entry)) (now (nodes .entry)) (now (heads .entry)) (now (next .entry)) r
+        (now (symbols .exit)) (now (keys .exit)) (now (nodes .exit)) (now (heads .exit)) (now (next .exit)) ⌝ }
 {
-    let vertices = saturating_sub(first.len(), 1);
-    let found = inheritance::collect_attributes(
-        kinds,
-        tokens,
-        symbols,
-        keys,
-        nodes,
-        vertices,
-        spellings,
-        attributes,
-        owners,
-    );
-    let from = shorter(
-        found,
-        shorter(spellings.len(), shorter(attributes.len(), owners.len())),
-    );
-    index::dictionary::build(&spellings[from..], heads, next);
-    inheritance::inherit_all(
-        kinds,
-        tokens,
-        roles,
-        symbols,
-        keys,
-        nodes,
-        first,
-        to,
-        &spellings[from..],
-        &attributes[from..],
-        &owners[from..],
-        heads,
-        next,
-        mark,
-        queue,
-        bound,
-    );
+    let interned = symbols::intern(src, starts, lengths, terminals, symbols, heads, next);
+    match interned {
+        Outcome::Done => preparation::prepare(
+            kinds,
+            tokens,
+            roles,
+            &symbols[..starts.len()],
+            keys,
+            nodes,
+            heads,
+            next,
+        ),
+        Outcome::Short => Preparation::Unfit,
+    }
 }
 
-// Stages 10 to 12 of expressions, and 13 of constants: the bindings of all names, the graph of the constants and an order of the
-// declarations.
-pub fn bind_expressions(
+// All stages, over a dictionary that is prepared: the first fault, and where there is none the bindings of all nodes, and an order of
+// the declarations by their types and one by their constants. The columns of the second order, which comes last, serve what is inherited.
+pub fn bind_names(
     kinds: &[u8],
     tokens: &[u32],
     sizes: &[u32],
@@ -125,15 +61,60 @@ pub fn bind_expressions(
     bound: &mut [u32],
     first: &mut [u32],
     to: &mut [u32],
-    order: &mut [u32],
+    types: &mut [u32],
+    constants: &mut [u32],
     scratch: &mut [u32],
+    spellings: &mut [u64],
+    attributes: &mut [u32],
+    owners: &mut [u32],
+    attribute_heads: &mut [u32],
+    attribute_next: &mut [u32],
+    mark: &mut [u32],
+    queue: &mut [u32],
 ) -> Fault
-    ensures { λ r. ⌜ BindsExpressions (now (kinds .entry)) (now (tokens .entry)) (now (sizes .entry)) (now (roles .entry)) (now (symbols .entry)) (now (starts .entry))
+    ensures { λ r. ⌜ BindsNames (now (kinds .entry)) (now (tokens .entry)) (now (sizes .entry)) (now (roles .entry)) (now (symbols .entry)) (now (starts .entry))
         (now (keys .entry)) (now (nodes .entry)) (now (heads .entry)) (now (next .entry))
-        (now (bound .entry)) (now (first .entry)) (now (to .entry)) (now (order .entry)) (now (scratch .entry)) r
-        (now (bound .exit)) (now (first .exit)) (now (to .exit)) (now (order .exit)) ⌝ }
+        (now (bound .entry)) (now (first .entry)) (now (to .entry)) (now (types .entry)) (now (constants .entry)) (now (scratch .entry))
+        (now (spellings .entry)) (now (attributes .entry)) (now (owners .entry)) (now («attribute_heads» .entry)) (now («attribute_next» .entry)) (now (mark .entry)) (now (queue .entry))
+        r (now (bound .exit)) (now (types .exit)) (now (constants .exit)) ⌝ }
 {
-    let unbound = uses::bind_uses(
+    let declared = bind_declarations(
+        kinds,
+        tokens,
+        roles,
+        symbols,
+        starts,
+        keys,
+        nodes,
+        heads,
+        next,
+        bound,
+        first,
+        to,
+        types,
+        scratch,
+    );
+    bind_inherited(
+        kinds,
+        tokens,
+        roles,
+        symbols,
+        keys,
+        nodes,
+        first,
+        to,
+        spellings,
+        attributes,
+        owners,
+        attribute_heads,
+        attribute_next,
+        constants,
+        scratch,
+        mark,
+        queue,
+        bound,
+    );
+    let used = bind_expressions(
         kinds,
         tokens,
         sizes,
@@ -147,7 +128,8 @@ pub fn bind_expressions(
         bound,
         first,
         to,
+        constants,
+        scratch,
     );
-    let cyclic = dependencies::arrange(tokens, starts, nodes, first, to, order, scratch);
-    faults::or_later(unbound, cyclic)
+    faults::or_later(declared, used)
 }

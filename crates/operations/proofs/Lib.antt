@@ -1,4 +1,2 @@
 pub mod Cases
 pub mod Operands
-pub mod Reading
-pub mod Stored

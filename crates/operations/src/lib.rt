@@ -1,15 +1,13 @@
-// What operators make of the answers of their operands.
-pub mod rows;
+// What operators make of the answers of their operands where none is an end.
 
 ghost use mathlib.Core.Path.{_≡_};
 ghost use Prim.Native.Nat.{compare};
-ghost use Rattle.express.specs.kinds.Evaluate.{boolean-answer};
-ghost use Rattle.express.specs.kinds.Operate.{computed, combined-logicals, compared, counted, operated, combined, applied, between};
-ghost use Rattle.express.specs.kinds.Shape.{plus, arithmetic, relation, negative, not};
+ghost use Rattle.express.specs.kinds.Operate.{computed, combined-logicals, compared, counted, operated};
+ghost use Rattle.express.specs.kinds.Shape.{plus, arithmetic, relation};
 ghost use Rattle.values.specs.Meaning.{logical-of, ordering-of, relation-of};
 ghost use Rattle.integers.specs.Meaning.{integer-answer};
 ghost use Rattle.bits.specs.Meaning.{binary-answer};
-ghost use Rattle.operations.specs.Meaning.{answer-of, arithmetic-of, connective-of, operator-of, sign-of, comparison-of, Holds};
+ghost use Rattle.operations.specs.Meaning.{answer-of, arithmetic-of, connective-of, comparison-of};
 use bits::Binary;
 use bits::Joined;
 use integers::Outcome;
@@ -65,7 +63,7 @@ enum Comparison {
     Unordered,
 }
 
-fn from_outcome(outcome: Outcome) -> Answer
+pub fn from_outcome(outcome: Outcome) -> Answer
     ensures { λ r. ⌜ answer-of r ≡ integer-answer outcome ⌝ }
 {
     match outcome {
@@ -84,7 +82,7 @@ fn from_joined(joined: Joined) -> Answer
 }
 
 // `+` where no operand is an end.
-fn sum(x: Answer, y: Answer) -> Answer
+pub fn sum(x: Answer, y: Answer) -> Answer
     ensures { λ r. ⌜ answer-of r ≡ operated plus (answer-of x) (answer-of y) ⌝ }
 {
     match x {
@@ -105,15 +103,15 @@ fn computed(o: Arithmetic, a: i64, b: i64) -> Outcome
 {
     match o {
         Arithmetic::Minus => integers::subtract(a, b),
-        Arithmetic::Times => integers::multiply(a, b),
-        Arithmetic::Divide => integers::div(a, b),
-        Arithmetic::Modulo => integers::modulo(a, b),
-        Arithmetic::Power => integers::power(a, b),
+        Arithmetic::Times => products::multiply(a, b),
+        Arithmetic::Divide => products::div(a, b),
+        Arithmetic::Modulo => products::modulo(a, b),
+        Arithmetic::Power => products::power(a, b),
     }
 }
 
 // Arithmetic where no operand is an end.
-fn calculated(o: Arithmetic, x: Answer, y: Answer) -> Answer
+pub fn calculated(o: Arithmetic, x: Answer, y: Answer) -> Answer
     ensures { λ r. ⌜ answer-of r ≡ operated (arithmetic (arithmetic-of o)) (answer-of x) (answer-of y) ⌝ }
 {
     match x {
@@ -163,7 +161,7 @@ fn compared(x: Answer, y: Answer) -> Comparison
 }
 
 // A relation of what has no order is UNKNOWN.
-fn related(o: Relation, x: Answer, y: Answer) -> Answer
+pub fn related(o: Relation, x: Answer, y: Answer) -> Answer
     ensures { λ r. ⌜ answer-of r ≡ operated (relation (relation-of o)) (answer-of x) (answer-of y) ⌝ }
 {
     match compared(x, y) {
@@ -173,7 +171,7 @@ fn related(o: Relation, x: Answer, y: Answer) -> Answer
 }
 
 // To a logical operator `?` is UNKNOWN.
-fn counted(x: Answer) -> Logical
+pub fn counted(x: Answer) -> Logical
     ensures { λ r. ⌜ logical-of r ≡ counted (answer-of x) ⌝ }
 {
     match x {
@@ -182,7 +180,7 @@ fn counted(x: Answer) -> Logical
     }
 }
 
-fn connected(o: Connective, l: Logical, m: Logical) -> Logical
+pub fn connected(o: Connective, l: Logical, m: Logical) -> Logical
     ensures { λ r. ⌜ logical-of r ≡ combined-logicals (connective-of o) (logical-of l) (logical-of m) ⌝ }
 {
     match o {
@@ -190,93 +188,4 @@ fn connected(o: Connective, l: Logical, m: Logical) -> Logical
         Connective::Or => l.or(m),
         Connective::Xor => l.xor(m),
     }
-}
-
-// What is computed where no operand is an end.
-fn operated(o: Operator, x: Answer, y: Answer) -> Answer
-    ensures { λ r. ⌜ answer-of r ≡ operated (operator-of o) (answer-of x) (answer-of y) ⌝ }
-{
-    match o {
-        Operator::Plus => sum(x, y),
-        Operator::Arithmetic(p) => calculated(p, x, y),
-        Operator::Relation(p) => related(p, x, y),
-        Operator::Connective(p) => Answer::Logical(connected(p, counted(x), counted(y))),
-    }
-}
-
-// THE COMBINATION OF TWO ANSWERS: the first end, from left to right; else what is computed.
-pub fn combined(o: Operator, x: Answer, y: Answer) -> Answer
-    ensures { λ r. ⌜ answer-of r ≡ combined (operator-of o) (answer-of x) (answer-of y) ⌝ }
-{
-    if let Answer::Ended(e) = x {
-        return Answer::Ended(e);
-    }
-    if let Answer::Ended(f) = y {
-        return Answer::Ended(f);
-    }
-    operated(o, x, y)
-}
-
-// The sign `-`.
-fn minus_of(x: Answer) -> Answer
-    ensures { λ r. ⌜ answer-of r ≡ applied negative (answer-of x) ⌝ }
-{
-    match x {
-        Answer::Integer(a) => from_outcome(integers::negate(a)),
-        Answer::Ended(e) => Answer::Ended(e),
-        _ => Answer::Indeterminate,
-    }
-}
-
-// NOT.
-fn not_of(x: Answer) -> Answer
-    ensures { λ r. ⌜ answer-of r ≡ applied not (answer-of x) ⌝ }
-{
-    match x {
-        Answer::Ended(e) => Answer::Ended(e),
-        _ => Answer::Logical(counted(x).not()),
-    }
-}
-
-// The sign `+` leaves its operand as it is.
-pub fn applied(s: Sign, x: Answer) -> Answer
-    ensures { λ r. ⌜ answer-of r ≡ applied (sign-of s) (answer-of x) ⌝ }
-{
-    match s {
-        Sign::Positive => x,
-        Sign::Negative => minus_of(x),
-        Sign::Not => not_of(x),
-    }
-}
-
-// Both relations of an interval, joined by AND; the item stands in each.
-pub fn between(o: Relation, p: Relation, low: Answer, item: Answer, high: Answer) -> Answer
-    ensures { λ r. ⌜ answer-of r ≡ between (relation-of o) (relation-of p) (answer-of low) (answer-of item) (answer-of high) ⌝ }
-{
-    let first = combined(Operator::Relation(o), low, item);
-    let second = combined(Operator::Relation(p), item, high);
-    combined(Operator::Connective(Connective::And), first, second)
-}
-
-// UNKNOWN is no member of BOOLEAN.
-fn in_boolean(l: Logical) -> Answer
-    ensures { λ r. ⌜ answer-of r ≡ boolean-answer (logical-of l) ⌝ }
-{
-    match l {
-        Logical::False => Answer::Logical(l),
-        Logical::Unknown => Answer::Ended(End::UnknownBoolean),
-        Logical::True => Answer::Logical(l),
-    }
-}
-
-// What a constant holds, from the answer of its expression and whether its type is BOOLEAN.
-pub fn held(boolean: bool, x: Answer) -> Answer
-    ensures { λ r. ⌜ Holds boolean x r ⌝ }
-{
-    if boolean {
-        if let Answer::Logical(l) = x {
-            return in_boolean(l);
-        }
-    }
-    x
 }

@@ -1,5 +1,4 @@
 pub mod ByteSets
-pub mod Numbers
 pub mod Rows
 pub mod Strings
 pub mod Symbols

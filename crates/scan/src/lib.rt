@@ -4,8 +4,8 @@ ghost use mathlib.Core.Bool.{true, false};
 ghost use Prim.Native.Nat.{_+_, _≤_, _<_};
 ghost use lib.ListN.{length, drop, getD, set};
 ghost use Rattle.express.specs.tokens.Bytes.{digit, letter, word-byte};
-ghost use Rattle.express.specs.tokens.Lexis.{run, end-of-integer, digits-of-exponent, end-of-exponent};
-ghost use Rattle.express.specs.tokens.Lexis.{end-of-string, end-of-binary, lone, size-of-symbol, end-of-symbol, lexed-to};
+ghost use Rattle.express.specs.tokens.Lexis.{run, end-of-exponent};
+ghost use Rattle.express.specs.tokens.Lexis.{end-of-string, lone, size-of-symbol, end-of-symbol, lexed-to};
 ghost use Rattle.blanks.specs.Step.{reading};
 ghost use Rattle.scan.specs.Scan.{mark, word-table, lone-table, colon, TokenRead, Filled, ScanResult};
 use blanks::Class;
@@ -16,6 +16,9 @@ use blanks::is_pair;
 use blanks::is_within;
 use blanks::run_end;
 use blanks::skip;
+use literal_ends::binary_end;
+use literal_ends::exponent_end;
+use literal_ends::integer_end;
 
 // By its byte: `1` for what a word goes on with, `0` for the others. A line has 32 bytes: the digits are in the second, the
 // capital letters and the underscore in the third, the small letters in the fourth.
@@ -83,47 +86,6 @@ fn word_end(s: &[u8], at: usize, table: &[u8; 256]) -> usize
     i
 }
 
-// The end of the integer whose digits end at a place, unless it is too large.
-fn integer_end(s: &[u8], at: usize, end: usize) -> Step
-    requires { ⌜ end ≡ run digit (now s) at ⌝ }
-    ensures { λ r. ⌜ reading r ≡ end-of-integer (now (s .entry)) at ⌝ }
-{
-    if end - at < codes::limits::INTEGER_DIGITS {
-        return Step::At(end);
-    }
-    if literals::integer(s, at, end - at) > codes::limits::INTEGER {
-        return Step::Refused(codes::replies::TOO_LARGE, at);
-    }
-    Step::At(end)
-}
-
-fn exponent_digits(s: &[u8], at: usize) -> usize
-    requires { ⌜ at < length (now s) ⌝ }
-    ensures { λ r. ⌜ r ≡ digits-of-exponent (now (s .entry)) at ⌝ }
-{
-    if is_either(b'+', b'-', byte(s, at + 1)) {
-        return at + 2;
-    }
-    at + 1
-}
-
-// The end of the exponent at a place, which is that place if there is none.
-fn exponent_end(s: &[u8], at: usize) -> usize
-    ensures { λ r. ⌜ r ≡ end-of-exponent (now (s .entry)) at ⌝ }
-{
-    if at >= s.len() {
-        return at;
-    }
-    if !is_either(b'e', b'E', s[at]) {
-        return at;
-    }
-    let digits = exponent_digits(s, at);
-    if !is_within(b'0', b'9', byte(s, digits)) {
-        return at;
-    }
-    run_end(s, digits, Class::Digit)
-}
-
 // The end of the real whose point is at a place.
 fn real_end(s: &[u8], point: usize) -> usize
     requires { ⌜ point ≤ length (now s) ⌝ }
@@ -160,21 +122,6 @@ fn string_end(s: &[u8], at: usize) -> Step
         return Step::At(i);
     }
     Step::Refused(codes::replies::NO_TOKEN, at)
-}
-
-fn binary_end(s: &[u8], at: usize) -> Step
-    requires { ⌜ at < length (now s) ⌝ }
-    ensures { λ r. ⌜ reading r ≡ end-of-binary (now (s .entry)) at ⌝ }
-{
-    let end = run_end(s, at + 1, Class::Bit);
-    let bits = end - (at + 1);
-    if bits == 0 {
-        return Step::Refused(codes::replies::NO_TOKEN, at);
-    }
-    if bits > codes::limits::BITS {
-        return Step::Refused(codes::replies::TOO_LARGE, at);
-    }
-    Step::At(end)
 }
 
 // Whether a byte is a symbol that begins no longer one.

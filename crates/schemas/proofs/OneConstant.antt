@@ -12,7 +12,7 @@ use Rattle.express.specs.kinds.Answer.{Answer}
 use Rattle.express.specs.kinds.Evaluate.{answer-at, value}
 use Rattle.express.proofs.syntax.FormedRows.{formed-rows}
 use Rattle.operations.specs.Meaning.{answer-of}
-use Rattle.operations.specs.Stored.{stored}
+use Rattle.answer_rows.specs.Stored.{stored}
 use Rattle.operations.specs.declared.Answer as code
 use Rattle.evaluate.specs.Answers.{answers-in, Gives, Stores}
 use Rattle.evaluate.specs.Evaluation.{known-in, Against, EvaluatesNodes}

@@ -23,7 +23,7 @@ use Rattle.express.specs.kinds.AnswerRow.{AnswerRow}
 use Rattle.express.specs.kinds.AnswerRow as answer-row
 use Rattle.express.specs.kinds.Evaluate.{answer-at, value}
 use Rattle.express.proofs.names.Edges.{constant-edge-schema, constant-edge-iff}
-use Rattle.operations.proofs.Stored.{Storable, row-back}
+use Rattle.answer_rows.proofs.Stored.{Storable, row-back}
 use Rattle.evaluate.specs.Answers.{answers-in}
 use Rattle.evaluate.specs.Evaluation.{known-in}
 use Rattle.evaluate.proofs.Rows.{row-there}

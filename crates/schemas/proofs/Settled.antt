@@ -31,7 +31,7 @@ use Rattle.express.proofs.kinds.Spans.{constant-owner}
 use Rattle.express.proofs.kinds.ConstantOrder.{named-edge, arranged}
 use Rattle.express.proofs.kinds.Bounds.{fit-?, evaluate-fits}
 use Rattle.express.proofs.tokens.Literals.{literals}
-use Rattle.operations.proofs.Stored.{Storable, fitting-storable}
+use Rattle.answer_rows.proofs.Stored.{Storable, fitting-storable}
 use Rattle.schemas.specs.Rows.{answer-of-constant}
 
 -- ---- what an evaluation asks of the constants: the answers of those that its nodes name

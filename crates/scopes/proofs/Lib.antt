@@ -1,13 +1,9 @@
 pub mod Sorting
-pub mod Classes
 pub mod WithKey
 pub mod Passing
-pub mod Filling
 pub mod Numbering
 pub mod Ranges
 pub mod Repeated
-pub mod Checking
 pub mod Looking
-pub mod Preparing
 pub mod Tables
 pub mod Examples

@@ -3,7 +3,7 @@ use mathlib.Core.Path.{_≡_, refl, sym, ap, _∙_}
 use mathlib.Core.Logic.{_⊎_, ⊎-elim}
 use mathlib.Core.Bool.{Bool, true, false, cond, _&&_}
 use mathlib.Core.List.{List, []}
-use Prim.Native.Nat.{ℕ, zero, suc, _+_, _-_, _≤_, _<_}
+use Prim.Native.Nat.{ℕ, zero, suc, _+_, _-_, _≤_, _<_, _%_}
 use native.Mathlib.Omega.{arith}
 use borrow.Author.Tests.{ne-eqb}
 use lib.Dec.{eqb, ltb}
@@ -23,7 +23,7 @@ use Rattle.scopes.specs.Preparation.{Consistent, Prepared}
 use Rattle.scopes.specs.LookUp.{numbers, entry-meant, node-meant, Within, Meant, Means, UnderKey}
 use Rattle.scopes.specs.declared.look_ups.Meaning.{Meaning}
 use Rattle.scopes.specs.declared.look_ups.Meaning.the-variants.{Nothing, One, Several}
-use Rattle.scopes.proofs.Sorting.{key-some, owner-below, schema-below}
+use Rattle.scopes.proofs.Sorting.{key-some, key-within, owner-below, schema-below}
 use Rattle.scopes.proofs.WithKey.{keep-none, by-declaration, by-type, by-owner, by-schema}
 use Rattle.scopes.proofs.Numbering.{meant-nodes}
 
@@ -88,9 +88,14 @@ module _ {keys heads next : List ℕ} {a g s : ℕ} where
   pub high-symbol : radix ≤ s → UnderKey keys heads next a g s Nothing
   high-symbol l = record { within = omega arith; is = λ h k I. absurd (omega arith); high-scope = λ h. refl; high-symbol = λ h. refl }
 
-  pub under-key : {k : ℕ} {r : Meaning} → g < radix → s < radix → k ≡ key-of a g s → Meant keys heads next k r → UnderKey keys heads next a g s r
-  under-key gs ss e M =
-      record { within = M .within; is = λ h k I. M .is I ∙ ap (λ (x : ℕ). express.meaning (numbers keys x)) e; high-scope = λ h. absurd (omega arith); high-symbol = λ h. absurd (omega arith) }
+  pub under-key : {k : ℕ} {r : Meaning} → a ≤ 6 → g < radix → s < radix → k ≡ key-of (a % 8) (g % radix) s → Meant keys heads next k r → UnderKey keys heads next a g s r
+  under-key sorted gs ss e M =
+      record {
+        within = M .within;
+        is = λ h k I. M .is I ∙ ap (λ (x : ℕ). express.meaning (numbers keys x)) (key-within a g s e sorted gs);
+        high-scope = λ h. absurd (omega arith);
+        high-symbol = λ h. absurd (omega arith);
+      }
 
 module _ (t : Table) (ok : Consistent t) where
   -- no node has such a scope, or such a symbol

@@ -6,7 +6,7 @@ use mathlib.Core.List.{List}
 use Prim.Native.Nat.{ℕ, zero, suc, _+_, _*_, _-_, _/_, _%_, _≤_, _<_}
 use native.Mathlib.Omega.{arith}
 use native.Mathlib.Numerals.{add-one}
-use borrow.Author.Tests.{eqb-true, eqb-false, ne-eqb}
+use borrow.Author.Tests.{eqb-true, eqb-false, eq-eqb, ne-eqb}
 use lib.Dec.{eqb}
 use lib.ListN.{length, getD}
 use Rattle.relations.specs.Select.{first-from}
@@ -166,7 +166,7 @@ module _ {t : Table} {keys nodes heads next : List ℕ} (P : Prepared t keys nod
       by true e = refl
       by false e = ap (λ (k : ℕ). k + 1) (column-node (v - 1) (omega (arith, eqb-false v 0 e)))
 
-pub declaration-at :
+declaration-at :
     {keys nodes : List ℕ} {v : ℕ} {d : Extent} → d .node ≡ getD nodes v 0 → d .from ≡ cond (eqb v 0) 0 (getD nodes (v - 1) 0 + 1) →
     d .schema ≡ getD keys v 0 / radix % radix → DeclarationAt keys nodes v d
 declaration-at {v = v} n f s =
@@ -175,6 +175,17 @@ declaration-at {v = v} n f s =
       from-is = λ t h x P l. f ∙ column-start P v l;
       schema-is = λ t h x P l. s ∙ column-schema P v l;
     }
+
+-- by what was read: of the first number, and of a later one
+module _ {keys nodes : List ℕ} {v key node : ℕ} {d : Extent} (k : key ≡ getD keys v 0) (s : d .schema ≡ key / radix % radix) (n : node ≡ getD nodes v 0) (e : d .node ≡ node) where
+  pub declaration-first : v ≡ 0 → d .from ≡ 0 → DeclarationAt keys nodes v d
+  declaration-first z f = declaration-at (e ∙ n) (f ∙ ap (λ (b : Bool). cond b 0 (getD nodes (v - 1) 0 + 1)) (sym (eq-eqb v 0 z))) (s ∙ ap (λ (x : ℕ). x / radix % radix) k)
+
+  pub declaration-later : (v ≡ 0 → ⊥) → {before : ℕ} → before ≡ getD nodes (v - 1) 0 → {b : ℕ} → b ≡ before → d .from ≡ b + 1 → DeclarationAt keys nodes v d
+  declaration-later z q p f =
+      declaration-at (e ∙ n)
+      (f ∙ ap (λ (x : ℕ). x + 1) (p ∙ q) ∙ ap (λ (b : Bool). cond b 0 (getD nodes (v - 1) 0 + 1)) (sym (ne-eqb v 0 z)))
+      (s ∙ ap (λ (x : ℕ). x / radix % radix) k)
 
 -- A LOOK-UP OF A DECLARATION that gives one entry gives its number
 pub record Numbered (t : Table) (nodes : List ℕ) (h s e : ℕ) : Type 0 where

@@ -2,7 +2,7 @@
 use mathlib.Core.Path.{_≡_, refl, sym, ap, _∙_}
 use mathlib.Core.Logic.{_⊎_, inl, inr, ⊎-elim}
 use mathlib.Core.Bool.{Bool, true, false, cond, _&&_, _||_, not, false≢true}
-use Prim.Native.Nat.{ℕ, zero, suc, _+_, _*_, _-_, _≤_, _<_}
+use Prim.Native.Nat.{ℕ, zero, suc, _+_, _*_, _-_, _%_, _≤_, _<_}
 use native.Mathlib.Omega.{arith}
 use borrow.Author.Tests.{eqb-true, eqb-false, eq-eqb, ne-eqb}
 use lib.Dec.{eqb, leb}
@@ -40,6 +40,13 @@ module _ (a h s b g r : ℕ) (hs : h < radix) (ss : s < radix) (gs : g < radix) 
   key-differs n = ne-eqb _ _ (λ e. n (key-parts e .0))
 
 -- the key of a sort is not 0
+-- within the bounds nothing is cut off
+pub key-within : (a h s : ℕ) {k : ℕ} → k ≡ key-of (a % 8) (h % radix) s → a ≤ 6 → h < radix → k ≡ key-of a h s
+key-within a h s e low small =
+    let p : a % 8 ≡ a = omega arith in
+    let q : h % radix ≡ h = omega arith in
+    e ∙ ap (λ (x : ℕ). key-of x (h % radix) s) p ∙ ap (λ (x : ℕ). key-of a x s) q
+
 pub key-some : (a h s : ℕ) → 0 < a → 0 < key-of a h s
 unfolding key-of
 key-some a h s l = omega arith

@@ -1,16 +1,13 @@
-// What a file declares and where, as one dictionary over (sort, scope, symbol), and the look-ups in it.
+// What a file declares and where, as one dictionary over (sort, scope, symbol): its keys, and the look-ups in it.
 pub mod dictionary;
 pub mod look_ups;
 
 ghost use mathlib.Core.Path.{_≡_};
-ghost use mathlib.Core.Bool.{cond};
-ghost use Prim.Native.Nat.{_*_, _/_, _%_, _<_};
 ghost use lib.ListN.{getD};
-ghost use Rattle.scopes.specs.Standing.{declares, is-member, sort-by, class-of, class-table, PassedBy, Ended, MoreBy, Counting};
-ghost use Rattle.scopes.specs.Entries.{radix};
+ghost use Rattle.scopes.specs.Standing.{declares, is-member};
 ghost use Rattle.scopes.specs.Range.{DeclarationAt};
 
-// The sorts of keys.
+// The sorts of keys, and a number above them all.
 pub const NO_SORT: u64 = 0;
 
 pub const SCHEMAS: u64 = 1;
@@ -24,6 +21,8 @@ pub const MEMBERS: u64 = 4;
 pub const SUPERTYPES: u64 = 5;
 
 pub const ITEMS_OF_SCHEMAS: u64 = 6;
+
+pub const SORTS: u64 = 8;
 
 // Nodes and symbols are below this number.
 pub const RADIX: u64 = 131072;
@@ -70,114 +69,6 @@ pub fn is_scope_member(kind: u8, role: u32) -> bool
         return role == codes::roles::LABELLED;
     }
     false
-}
-
-// What a node declares: a row for each kind of node, a column for each role, the last one for all roles from 7 on. A class is a sort,
-// and 8 for each entry behind the declarations; it stands here as a letter, that of class 0 being @. So @ is nothing, B a constant, type or
-// entity, I a schema, L an attribute or a rule with a label, M a supertype in a list, and S an item: one entry in its type, one in its schema.
-pub(crate) const CLASSES: [u8; 256] = *b"\
-    @@@@@@@@\
-    @@@@@@@@\
-    @@@@@@@@\
-    @@@@@@@@\
-    @@@@@@@@\
-    @@@@@@@@\
-    @@@@@M@@\
-    @@@@@@@@\
-    @@@@@@@@\
-    @@@@@@@@\
-    @@@@@@@@\
-    @@@@@@@@\
-    @@@@@@@@\
-    @@@@@@@@\
-    SSSSSSSS\
-    @@@@@@@@\
-    @@@@@@@@\
-    BBBBBBBB\
-    BBBBBBBB\
-    LLLLLLLL\
-    @@@@@@@@\
-    @@@@@@@@\
-    LLLLLLLL\
-    @L@@@@@@\
-    BBBBBBBB\
-    IIIIIIII\
-    @@@@@@@@\
-    @@@@@@@@\
-    @@@@@@@@\
-    @@@@@@@@\
-    @@@@@@@@\
-    @@@@@@@@";
-
-// The kinds that have a row, and the columns of a row.
-const ROWS: u8 = 32;
-
-const COLUMNS: usize = 8;
-
-// In a class, the sort is what is below this number.
-const SORTS: u8 = 8;
-
-// The sort of a node and how many entries it has behind the declarations, as one number.
-pub(crate) fn class(classes: &[u8; 256], kind: u8, role: u32) -> u8
-    requires { ⌜ now classes ≡ class-table ⌝ }
-    ensures { λ r. ⌜ r ≡ class-of (sort-by kind role) ⌝ }
-{
-    if ROWS <= kind {
-        return 0;
-    }
-    let column = columns::shorter(columns::index(role), COLUMNS - 1);
-    classes[columns::byte_index(kind) * COLUMNS + column] - b'@'
-}
-
-// The sort in a class.
-pub(crate) fn sort_in(class: u8) -> u64
-    ensures { λ r. ⌜ r ≡ class % 8 ⌝ }
-{
-    (class % SORTS) as u64
-}
-
-fn entries_in(class: u8) -> usize
-    ensures { λ r. ⌜ r ≡ class / 8 ⌝ }
-{
-    (class / SORTS) as usize
-}
-
-fn choose(test: bool, yes: usize, no: usize) -> usize
-    ensures { λ r. ⌜ r ≡ cond test yes no ⌝ }
-{
-    if test {
-        return yes;
-    }
-    no
-}
-
-// What is known past the last node.
-pub(crate) fn ended(nodes: usize, counts: Counts) -> Here
-    ensures { λ r. ⌜ Ended nodes counts r ⌝ }
-{
-    Here {
-        owner: nodes,
-        schema: nodes,
-        vertex: counts.declarations,
-        other: counts.others,
-    }
-}
-
-// What is known at node i, from its class and from what is known at the next node.
-pub(crate) fn passed(class: u8, i: usize, after: Here) -> Here
-    ensures { λ r. ⌜ PassedBy class i after r ⌝ }
-{
-    let sort = sort_in(class);
-    let owner = choose(sort == DECLARATIONS, i, after.owner);
-    let schema = choose(sort == SCHEMAS, i, after.schema);
-    let vertex = columns::saturating_sub(after.vertex, choose(sort == DECLARATIONS, 1, 0));
-    let other = columns::saturating_sub(after.other, entries_in(class));
-    Here {
-        owner,
-        schema,
-        vertex,
-        other,
-    }
 }
 
 // The number at an index; past the end of the column 0.
@@ -231,37 +122,4 @@ pub fn declaration(keys: &[u64], nodes: &[u32], vertex: usize) -> Extent
     }
     let from = columns::index(at(nodes, vertex - 1)) + 1;
     Extent { schema, from, node }
-}
-
-// One more node, before which there are so many entries.
-fn more(class: u8, before: Counts) -> Counts
-    requires { ⌜ (before .declarations < 8 * radix) × (before .others < 8 * radix) ⌝ }
-    ensures { λ r. ⌜ MoreBy class before r ⌝ }
-{
-    let declarations = before.declarations + choose(sort_in(class) == DECLARATIONS, 1, 0);
-    let others = before.others + entries_in(class);
-    Counts {
-        declarations,
-        others,
-    }
-}
-
-// How many entries the nodes have: none where there are too many nodes.
-pub fn count_entries(kinds: &[u8], roles: &[u32]) -> Counts
-    ensures { λ r. ⌜ Counting (now (kinds .entry)) (now (roles .entry)) r ⌝ }
-{
-    let mut so_far = Counts {
-        declarations: 0,
-        others: 0,
-    };
-    if RADIX <= kinds.len() as u64 {
-        return so_far;
-    }
-    let classes = CLASSES;
-    let mut i = 0;
-    while i < kinds.len() {
-        so_far = more(class(&classes, kinds[i], at(roles, i)), so_far);
-        i += 1;
-    }
-    so_far
 }

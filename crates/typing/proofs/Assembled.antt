@@ -12,13 +12,13 @@ use Rattle.express.specs.kinds.DeclaredColumn.{declared-number}
 use Rattle.express.specs.kinds.Shape.{operator-of, sign-of}
 use Rattle.express.specs.kinds.Operate.{logicals, comparable}
 use Rattle.express.specs.kinds.Kind.{kind-number, of-number, common, of-kind, if-fits, if-evaluated, kind-at}
-use Rattle.typing.specs.declared.kinds.Class.{Class}
-use Rattle.typing.specs.declared.kinds.Finding.{Finding}
-use Rattle.typing.specs.declared.kinds.Finding.the-variants.{OfKind, Fault}
-use Rattle.typing.specs.Findings.{finding-of, class-of, class-of-sign, applied, leaf-found, KindOfType, Evaluated, Held}
+use Rattle.kind_rules.specs.declared.Class.{Class}
+use Rattle.kind_rules.specs.declared.Finding.{Finding}
+use Rattle.kind_rules.specs.declared.Finding.the-variants.{OfKind, Fault}
+use Rattle.kind_rules.specs.Findings.{finding-of, class-of, class-of-sign, applied, leaf-found, KindOfType, Evaluated, Held}
 use Rattle.typing.specs.Typings.{kinds-of, Against, Named, Operates, Finds}
 use Rattle.tree.specs.Children.{Child}
-use Rattle.typing.proofs.Numbered.{common-kind}
+use Rattle.kind_rules.proofs.Numbered.{common-kind}
 use Rattle.typing.proofs.Nodes.{known, kind-held, at-sign, at-operator, at-interval, at-simple-type, at-leaf, at-constant, at-name, at-item}
 use Rattle.typing.proofs.Nodes.{unbound, bound-item, bound-constant, bound-type, bound-other}
 

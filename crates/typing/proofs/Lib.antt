@@ -1,4 +1,3 @@
-pub mod Numbered
 pub mod Nodes
 pub mod Assembled
 pub mod Walking

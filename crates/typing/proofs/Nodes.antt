@@ -22,7 +22,7 @@ use Rattle.express.specs.kinds.Operate.{Kind, integers, logicals, binaries, ite
 use Rattle.express.specs.kinds.Kind.{of-number, common, kind-of-type, Finding, of-kind, fault, if-fits, if-evaluated, finding-in, kind-at}
 use Rattle.express.proofs.kinds.KindNumbers.{number-back}
 use Rattle.relations.proofs.Select.{le-or}
-use Rattle.typing.specs.Findings.{class-of, class-of-sign, applied, leaf-found}
+use Rattle.kind_rules.specs.Findings.{class-of, class-of-sign, applied, leaf-found}
 use Rattle.typing.specs.Typings.{kinds-of, Names, Plain}
 
 -- a node of some kind is one of the table

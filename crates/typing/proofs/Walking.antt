@@ -9,11 +9,11 @@ use Rattle.express.specs.syntax.Tree.{Table}
 use Rattle.express.specs.kinds.Shape.{shape-in}
 use Rattle.express.specs.kinds.Kind.{of-number, Finding, of-kind, finding-in, kind-at, typed, if-found, type-nodes-in}
 use Rattle.express.specs.kinds.Kind as express
-use Rattle.typing.specs.declared.kinds.Finding as found
-use Rattle.typing.specs.declared.kinds.Finding.the-variants.{OfKind}
-use Rattle.typing.specs.declared.kinds.Finding.the-variants as variants
+use Rattle.kind_rules.specs.declared.Finding as found
+use Rattle.kind_rules.specs.declared.Finding.the-variants.{OfKind}
+use Rattle.kind_rules.specs.declared.Finding.the-variants as variants
 use Rattle.typing.specs.declared.Typing.the-variants.{Typed, Fault}
-use Rattle.typing.specs.Findings.{finding-of}
+use Rattle.kind_rules.specs.Findings.{finding-of}
 use Rattle.typing.specs.Typings.{kinds-of, Against, Finds, TypesNodes}
 
 pub map-set : {A B : Type 0} (f : A → B) (xs : List A) (n : ℕ) (y : A) → map f (set xs n y) ≡ set (map f xs) n (f y)

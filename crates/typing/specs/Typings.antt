@@ -13,10 +13,10 @@ use Rattle.express.specs.kinds.Shape.{name-shape-in, shape-in}
 use Rattle.express.specs.kinds.Operate.{Kind}
 use Rattle.express.specs.kinds.Kind.{of-number, finding-in, kind-at, typed, ill-typed, type-nodes-in, typing}
 use Rattle.express.specs.kinds.Kind as express
-use Rattle.typing.specs.declared.kinds.Finding.{Finding}
+use Rattle.kind_rules.specs.declared.Finding.{Finding}
 use Rattle.typing.specs.declared.Typing.{Typing}
 use Rattle.typing.specs.declared.Typing.the-variants.{Typed, Fault}
-use Rattle.typing.specs.Findings.{finding-of}
+use Rattle.kind_rules.specs.Findings.{finding-of}
 
 -- the kinds that a lent column holds by number
 abbrev pub kinds-of : List ℕ → List Kind

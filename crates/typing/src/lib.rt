@@ -1,21 +1,19 @@
 // The typing of constants: a kind for each node of an expression, or the first fault, 14 or 15.
 // An expression's own columns and the file's are apart, so that an expression that is read by itself is typed against a file.
-pub mod kinds;
-
 ghost use mathlib.Core.Path.{_≡_};
 ghost use Rattle.typing.specs.Typings.{Named, Operates, Finds, TypesNodes, TypesConstants};
-use crate::kinds::Finding;
-use crate::kinds::UNTYPED;
-use crate::kinds::apply;
-use crate::kinds::common;
-use crate::kinds::constant;
-use crate::kinds::evaluated;
-use crate::kinds::interval;
-use crate::kinds::kind_of_type;
-use crate::kinds::leaf;
-use crate::kinds::operator_class;
-use crate::kinds::sign_class;
-use crate::kinds::simple;
+use kind_rules::Finding;
+use kind_rules::UNTYPED;
+use kind_rules::apply;
+use kind_rules::common;
+use kind_rules::constant;
+use kind_rules::evaluated;
+use kind_rules::interval;
+use kind_rules::kind_of_type;
+use kind_rules::leaf;
+use kind_rules::operator_class;
+use kind_rules::sign_class;
+use kind_rules::simple;
 use tree::at8;
 use tree::at32;
 use tree::index_at;

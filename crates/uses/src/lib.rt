@@ -63,7 +63,7 @@ fn finding_at(
 {
     let kind = at8(kinds, node);
     let inherited = decoded(code);
-    meanings::nodes::node_finding(
+    findings::nodes::node_finding(
         kinds,
         tokens,
         sizes,

@@ -4,7 +4,8 @@
 //! The reference allocates its rows anew in each run, which is part of its time.
 
 use compare::random::{well_typed, Rng, LARGEST};
-use proved::{declared_types, evaluate_constants, intern, parse, scan, terminals, type_constants, Nodes, Rows, Text};
+use proved::{declared_types, evaluate_constants, intern, parse, resolve, scan, terminals, type_constants};
+use proved::{NameColumns, Nodes, Rows, Text};
 use reference::outline::Outline;
 use reference::terminals::classify;
 use reference::{evaluation, kinds, names, parser};
@@ -167,6 +168,119 @@ fn print_kinds() {
     }
 }
 
+/// Columns for the names of a file with so many tokens.
+fn name_columns(tokens: usize) -> NameColumns {
+    let [narrow, wide] = [(); 2].map(|()| vec![0u32; tokens + 1]);
+    let column = || narrow.clone();
+    NameColumns {
+        symbols: column(),
+        keys: vec![0; wide.len()],
+        nodes: column(),
+        heads: vec![0; BUCKETS.min(tokens.next_power_of_two() / 2).max(1)],
+        next: column(),
+        bound: column(),
+        first: column(),
+        to: column(),
+        types: column(),
+        constants: column(),
+        scratch: vec![0; 6 * narrow.len()],
+        spellings: vec![0; wide.len()],
+        attributes: column(),
+        owners: column(),
+        attribute_heads: vec![0; BUCKETS.min(tokens.next_power_of_two() / 4).max(1)],
+        attribute_next: column(),
+        mark: column(),
+        queue: column(),
+    }
+}
+
+/// The names of a file, and what the reference does in their place: its symbols and bindings, and its outline.
+fn names_of(bytes: &[u8]) -> [f64; 3] {
+    let tokens = tokens::read(bytes).expect("tokens");
+    let terminals = classify(bytes, &tokens);
+    let nodes = parser::read(&terminals).expect("nodes");
+    let kinds: Vec<u8> = nodes.iter().map(|node| node.kind).collect();
+    let node_tokens: Vec<u32> = nodes.iter().map(|node| node.token).collect();
+    let sizes: Vec<u32> = nodes.iter().map(|node| node.size).collect();
+    let roles: Vec<u32> = nodes.iter().map(|node| node.role.into()).collect();
+    let starts: Vec<u32> = tokens.iter().map(|token| token.start).collect();
+    let lengths: Vec<u32> = tokens.iter().map(|token| token.length).collect();
+    let codes = codes(bytes, &tokens);
+    let text = Text { bytes, starts: &starts, lengths: &lengths };
+    let columns = Nodes { terminals: &codes, kinds: &kinds, tokens: &node_tokens, sizes: &sizes, bindings: &[] };
+    let (mut bindings, mut lent) = (roles.clone(), name_columns(tokens.len()));
+    let [resolved, bound] = best(
+        || {
+            bindings.copy_from_slice(&roles);
+            resolve(black_box(text), columns, &mut bindings, &mut lent).expect("room").is_ok()
+        },
+        || {
+            let symbols = symbols::intern(bytes, &tokens, &terminals);
+            let outline = Outline::new(&nodes);
+            let file = File { bytes, tokens: &tokens, terminals: &terminals, nodes: &nodes, symbols: &symbols, outline: &outline };
+            names::bind(black_box(&file)).is_ok()
+        },
+    );
+    let [_, outlined] = best(|| (), || Outline::new(black_box(&nodes)));
+    [resolved, bound - outlined, bound]
+}
+
+/// Well-typed files of three sizes, in nanoseconds for each byte, with the ratio to the reference's symbols and bindings, and to
+/// these with the outline, by which it finds declarations.
+fn print_names() {
+    println!("\nnames, nanoseconds for each byte");
+    println!("   bytes    proved | reference  with outline |   ratio  with outline");
+    for size in [1_024, 16_384, LARGEST] {
+        let sized = |file: &Vec<u8>| (size / 4 * 3..=size / 4 * 5).contains(&file.len());
+        for file in (0..).map(|seed| well_typed(seed, size)).filter(sized).take(6) {
+            let [proved, bound, whole] = names_of(&file).map(|time| time / file.len() as f64);
+            println!("{:8}{proved:10.3} |{bound:10.3}{whole:14.3} |{:8.2}{:14.2}", file.len(), proved / bound, proved / whole);
+        }
+    }
+}
+
+/// Files of the largest size that are bad for names, in microseconds.
+fn print_hostile_names() {
+    println!("\nnames of files built to be bad, microseconds\n{:44}{:>10}{:>12}", "", "proved", "reference");
+    for (name, text) in hostile() {
+        let [proved, _, reference] = names_of(&text).map(|time| time / 1e3);
+        println!("{name:44}{proved:10.0}{reference:12.0}");
+    }
+}
+
+/// As many pieces between a head and a foot as a file holds.
+fn pieces(head: &str, piece: impl Fn(usize) -> String, foot: &str) -> Vec<u8> {
+    let mut text = head.to_string();
+    for i in 0.. {
+        let more = piece(i);
+        if text.len() + more.len() + foot.len() > LARGEST {
+            break;
+        }
+        text += &more;
+    }
+    (text + foot).into_bytes()
+}
+
+fn hostile() -> Vec<(&'static str, Vec<u8>)> {
+    let above = |i: usize| if i == 0 { String::new() } else { format!("SUBTYPE OF(e{})", i - 1) };
+    let chain = |i: usize| format!("ENTITY e{i} {};a:REAL;END_ENTITY;", above(i));
+    let distinct = |i: usize| format!("ENTITY e{i} {};a{i}:REAL;WHERE a0>a{i};END_ENTITY;", above(i));
+    let half: String = (0..700).map(|i| format!("ENTITY e{i} {};a{i}:REAL;END_ENTITY;", above(i))).collect();
+    let wide = format!("SCHEMA s;{half}ENTITY z SUBTYPE OF(e699);");
+    let count = (LARGEST - 40) / 12;
+    let constant = |i: usize| format!("c{i}:REAL:=c{};", (i + 1) % count);
+    vec![
+        ("a chain of entities, attributes of one name", pieces("SCHEMA s;", chain, "END_SCHEMA;")),
+        ("a chain of entities, each with a rule", pieces("SCHEMA s;", distinct, "END_SCHEMA;")),
+        ("a chain, and many attributes below it", pieces(&wide, |i| format!("b{i}:REAL;"), "END_ENTITY;END_SCHEMA;")),
+        ("constants in one chain", pieces("SCHEMA s;CONSTANT ", constant, "END_CONSTANT;END_SCHEMA;")),
+        ("renamings in one chain", pieces("SCHEMA s;", |i| format!("TYPE t{i}=t{};END_TYPE;", i + 1), "END_SCHEMA;")),
+        ("items of one name", pieces("SCHEMA s;TYPE t=ENUMERATION OF(a", |_| ",a".to_string(), ");END_TYPE;END_SCHEMA;")),
+        ("items, all different", pieces("SCHEMA s;TYPE t=ENUMERATION OF(a", |i| format!(",a{i}"), ");END_TYPE;END_SCHEMA;")),
+        ("entities with a thousand supertypes", pieces("SCHEMA s;", |i| format!("ENTITY e{i};END_ENTITY;"), "END_SCHEMA;")),
+    ]
+}
+
 type Operation = fn(i64, i64) -> AnswerRow;
 
 /// A value, or what has none: a zero divisor, a negative power, or a result outside 64 bits.
@@ -219,6 +333,10 @@ fn main() {
             let [a, b] = [proved, reference].map(|time| time / file.len() as f64);
             println!("{name:24}{:8}{:8}  {step:12}{a:8.3}{b:10.3}{:8.2}", file.len(), rows.len(), a / b);
         }
+    }
+    if "names".contains(&only) {
+        print_names();
+        print_hostile_names();
     }
     if "kinds".contains(&only) {
         print_kinds();

@@ -8,4 +8,4 @@ pub use calls::{and, not, or, relate, xor};
 pub use calls::{applied, between, combined, held, Operator};
 pub use calls::{binary, build, components, find, integer, intern, next_of, order, parse, reachable, scan, scan_to, symbol_of, terminals, Sorted};
 pub use calls::{compare_binaries, join, Binary};
-pub use calls::{declared_types, evaluate_constants, type_constants, Nodes, Rows, Text};
+pub use calls::{declared_types, evaluate_constants, resolve, type_constants, NameColumns, Nodes, Rows, Text};

@@ -4,8 +4,8 @@ use Rattle.declarations.proofs.file.Statement.{statement}
 use Rattle.declarations.proofs.file.Tie as tie
 use native.Mathlib.Omega.{arith}
 use Rattle.parsing.proofs.Laws.{rows-few}
-use Rattle.declarations.proofs.Laws.{sound-ready}
-use Rattle.declarations.proofs.Clauses.{file-refused, file-reads}
+use Rattle.clauses.proofs.Laws.{sound-ready}
+use Rattle.clauses.proofs.Clauses.{file-refused, file-reads}
 
 schemas-requires : tie.Need-schemas-requires
 schemas-requires c κs = search needs

@@ -4,6 +4,7 @@ use Rattle.inheritance.proofs.inherit_in.Statement.{statement}
 use Rattle.inheritance.proofs.inherit_in.Tie as tie
 use Rattle.inheritance.proofs.Doing.{inherits-in-none, inherits-in-more}
 use mathlib.Core.Path.{sym, _∙_}
+use native.Mathlib.Omega.{arith}
 
 declaration-requires : tie.Need-declaration-requires
 declaration-requires c κs = search needs
@@ -12,7 +13,13 @@ inherits-requires : tie.Need-inherits-requires
 inherits-requires c κs = search needs
 
 add-number : tie.Need-add-number
-add-number c = search needs
+add-number c = omega (
+  arith,
+  c .before .before .before .before .before .before .before .before .before .before .before .before .before .before .before .before .before
+      .before .before .before .before .pre,
+  c .before .before .before .before .before .before .before .before .before .before .before .before .before .before .before
+      .before .before .before .before .before .before .good,
+)
 
 number-requires : tie.Need-number-requires
 number-requires c κs = search needs
@@ -24,20 +31,27 @@ store-inherited-requires : tie.Need-store-inherited-requires
 store-inherited-requires c κs = search needs
 
 same-length : tie.Need-same-length
-same-length c = search needs
+same-length c = c .before .before .before .before .before .before .store-inherited .kept .1 .1 .1 .1 .1 .1 .1 .1 .1 .1 .1 .1 .1 .0
 
 same-length-2 : tie.Need-same-length-2
-same-length-2 c = search needs
+same-length-2 c = c .before .before .before .before .before .before .store-inherited .kept .1 .1 .1 .1 .1 .1 .1 .1 .1 .1 .1 .1 .1 .1 .0
 
 same-length-3 : tie.Need-same-length-3
-same-length-3 c = search needs
+same-length-3 c = c .before .before .before .before .before .before .before .before .before .before .before .before .before .before .before .search .kept .1 .1 .1 .1 .0
+
+same-length-4 : tie.Need-same-length-4
+same-length-4 c = c .before .before .before .before .before .before .before .before .before .before .before .before .before .before .before .search .kept .1 .1 .1 .1 .1 .0
+
+same-length-5 : tie.Need-same-length-5
+same-length-5 c = c .before .before .before .before .before .before .store-inherited .kept .1 .1 .1 .1 .1 .1 .1 .1 .1 .1 .1 .1 .1 .1 .1 .0
 
 returns : tie.Need-returns
-returns c = inherits-in-more (c .before .before .before .before .before .before .before .before .before .before .before .before .before .before .before
-    .declaration .ensures) (sym (c .before .before .before .before .before .before .before .before .before .before .before .before .before .before .inherits
-    .ensures) ∙ c .before .before .before .before .before .before .before .before .before .before .before .before .before .if1 .taken) (c .before .before
-    .before .before .before .before .before .before .before .before .before .before .number .ensures) (c .before .before .before .before .before .before .before
-    .before .before .search .ensures) (c .before .before .store-inherited .ensures)
+returns c = inherits-in-more (c .before .before .before .before .before .before .before .before .before .before .before .before .before .before .before .before .before
+    .before .before .before .before .declaration .ensures) (sym (c .before .before .before .before .before .before .before .before .before .before .before .before .before
+    .before .before .before .before .before .before .before .inherits .ensures) ∙ c .before .before .before .before .before .before .before .before .before .before
+    .before .before .before .before .before .before .before .before .before .if1 .taken) (c .before .before .before .before .before .before .before .before .before
+    .before .before .before .before .before .before .before .before .before .number .ensures) (c .before .before .before .before .before .before .before .before .before
+    .before .before .before .before .before .before .search .ensures) (c .before .before .before .before .before .before .store-inherited .ensures)
 
 returns-2 : tie.Need-returns-2
 returns-2 c = inherits-in-none (c .before .before .declaration .ensures) (sym (c .before .inherits .ensures) ∙ c .if1 .left)
@@ -55,5 +69,7 @@ inherit-in-spec =
     same-length
     same-length-2
     same-length-3
+    same-length-4
+    same-length-5
     returns
     returns-2)

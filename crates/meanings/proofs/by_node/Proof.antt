@@ -6,6 +6,7 @@ use Rattle.meanings.proofs.by_node.Reads as reads
 use Rattle.meanings.proofs.by_node.Lts as lts
 use Rattle.columns.proofs.index.Reads as index-reads
 use Rattle.scopes.proofs.at.Reads as at-reads
+use Rattle.meanings.proofs.Nearest.{by-one}
 
 enum-told : tie.Need-enum-told
 enum-told c = search needs
@@ -26,7 +27,7 @@ returns : tie.Need-returns
 returns c = search needs
 
 returns-2 : tie.Need-returns-2
-returns-2 c = record { meant = cc; sorted = λ t h. h _ (cc) }
+returns-2 c = by-one (c .before .before .before .meaning .given .1) (c .before .at .ensures) (c .index .ensures)
 
 returns-3 : tie.Need-returns-3
 returns-3 c = search needs

@@ -4,7 +4,7 @@ use Rattle.scan.proofs.number.Tie as tie
 use Rattle.scan.proofs.number.Reads as reads
 use Rattle.scan.proofs.number.Lts as lts
 use Rattle.blanks.proofs.byte.Reads as byte-reads
-use Rattle.scan.proofs.integer_end.Reads as integer-end-reads
+use Rattle.literal_ends.proofs.integer_end.Reads as integer-end-reads
 use Rattle.scan.proofs.real_end.Reads as real-end-reads
 use Rattle.blanks.proofs.run_end.Reads as run-end-reads
 use mathlib.Core.Path.{_≡_, sym, ap, _∙_}
@@ -45,7 +45,7 @@ returns-2 : tie.Need-returns-2
 returns-2 c =
     let c2 = c .before .before in
     let c5 = c2 .before .before .before in
-    integer-token _ _ (c5 .pre .1) (c5 .pre .2) (λ e. c .before .if1 .left (byte-is (c2) ∙ e)) (c .integer-end .ensures)
+    integer-token _ _ (c5 .pre .1) (c5 .pre .2) (λ e. c .before .if1 .left (byte-is (c2) ∙ e)) (c .integer-end .ensures (c2 .before .run-end .ensures))
 
 pub number-spec : {M : Type 1} → statement M
 number-spec =

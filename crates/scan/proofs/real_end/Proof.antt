@@ -3,7 +3,7 @@ use Rattle.scan.proofs.real_end.Statement.{statement}
 use Rattle.scan.proofs.real_end.Tie as tie
 use Rattle.scan.proofs.real_end.Reads as reads
 use Rattle.scan.proofs.real_end.Lts as lts
-use Rattle.scan.proofs.exponent_end.Reads as exponent-end-reads
+use Rattle.literal_ends.proofs.exponent_end.Reads as exponent-end-reads
 use Rattle.blanks.proofs.run_end.Reads as run-end-reads
 use mathlib.Core.Path.{_∙_, ap}
 use Rattle.express.specs.tokens.Lexis.{end-of-exponent}

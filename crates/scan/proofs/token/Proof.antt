@@ -4,7 +4,7 @@ use Rattle.scan.proofs.token.Statement.{statement}
 use Rattle.scan.proofs.token.Tie as tie
 use Rattle.scan.proofs.token.Reads as reads
 use Rattle.scan.proofs.token.Lts as lts
-use Rattle.scan.proofs.binary_end.Reads as binary-end-reads
+use Rattle.literal_ends.proofs.binary_end.Reads as binary-end-reads
 use Rattle.scan.proofs.is_letter.Reads as is-letter-reads
 use Rattle.scan.proofs.is_lone.Reads as is-lone-reads
 use Rattle.blanks.proofs.is_within.Reads as is-within-reads

@@ -2,8 +2,8 @@
 use borrow.Author.Needs.{needs}
 use Rattle.scopes.proofs.declaration.Statement.{statement}
 use Rattle.scopes.proofs.declaration.Tie as tie
-use borrow.Author.Tests.{eq-eqb, ne-eqb}
-use Rattle.scopes.proofs.Ranges.{declaration-at}
+use mathlib.Core.Path.{refl}
+use Rattle.scopes.proofs.Ranges.{declaration-first, declaration-later}
 
 at64-requires : tie.Need-at64-requires
 at64-requires c κs = search needs
@@ -16,8 +16,7 @@ index-requires c κs = search needs
 
 returns : tie.Need-returns
 returns c =
-    declaration-at (cc (c .before .index .ensures, c .before .before .at .ensures)) (simp (eq-eqb _ _ (c .if1 .taken)))
-    (cc (c .before .before .before .at64 .ensures))
+    declaration-first (c .before .before .before .at64 .ensures) refl (c .before .before .at .ensures) (c .before .index .ensures) (c .if1 .taken) refl
 
 sub-at : tie.Need-sub-at
 sub-at c = search needs
@@ -33,9 +32,15 @@ add-from c = search needs
 
 returns-2 : tie.Need-returns-2
 returns-2 c =
-    declaration-at (cc (c .before .before .before .index .ensures, c .before .before .before .before .at .ensures)) (rw (ne-eqb _ _ (c .before .before .if1 .left))
-    (cc (c .index2 .ensures, c .before .at2 .ensures)))
-    (cc (c .before .before .before .before .before .at64 .ensures))
+    declaration-later
+    (c .before .before .before .before .before .at64 .ensures)
+    refl
+    (c .before .before .before .before .at .ensures)
+    (c .before .before .before .index .ensures)
+    (c .before .before .if1 .left)
+    (c .before .at2 .ensures)
+    (c .index2 .ensures)
+    refl
 
 pub declaration-spec : {M : Type 1} → statement M
 declaration-spec =

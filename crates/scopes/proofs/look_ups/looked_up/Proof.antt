@@ -17,7 +17,8 @@ meant-requires : tie.Need-meant-requires
 meant-requires c κs = search needs
 
 returns-3 : tie.Need-returns-3
-returns-3 c = under-key (c .before .before .before .if1 .left) (c .before .before .if2 .left) (c .before .key .ensures) (c .meant .ensures)
+returns-3 c = under-key (c .before .before .before .before .before .before .before .pre) (c .before .before .before .if1 .left) (c .before .before .if2 .left)
+    (c .before .key .ensures) (c .meant .ensures)
 
 pub looked-up-spec : {M : Type 1} → statement M
 looked-up-spec = tie.close (tie.spec returns returns-2 key-requires meant-requires returns-3)

@@ -1,0 +1,93 @@
+-- What all stages leave, and the end of a check: zeros behind what stands, and the report (R6, R7).
+use mathlib.Core.Path.{_≡_}
+use mathlib.Core.List.{List}
+use Prim.Native.Nat.{ℕ, _≤_}
+use lib.IntN.{ℤ, pos}
+use lib.ListN.{length, take}
+use Rattle.columns.specs.Column.{cleared}
+use Rattle.express.specs.tokens.Lexis.{most}
+use Rattle.express.specs.whole.Reply.{Accepted, Tables, token-entries, node-entries, answer-entries}
+use Rattle.express.specs.whole.Reply as express
+use Rattle.stages.specs.declared.Stage.{Stage}
+use Rattle.stages.specs.declared.Stage.the-variants.{Done}
+use Rattle.stages.specs.Line.{count-of, kept-of, reported, accepted-with, token-stage, node-stage, kind-stage}
+use Rattle.checker.specs.declared.Report.{Report}
+
+-- R10: a report of the code
+abbrev pub report-of : Report → express.Report
+report-of r = record { reply = r .reply; number = r .number; tokens = r .tokens; nodes = r .nodes; constants = r .constants }
+
+-- `summary`, of counts that a file may have
+pub record Reports (tokens nodes : ℕ) (last : Stage) (r : Report) : Type 0 where
+  pub is : tokens ≤ most → nodes ≤ most → count-of last ≤ most → report-of r ≡ reported tokens nodes last
+
+-- ---- zeros
+
+pub record ClearsTokens (from : ℕ) (kinds starts lengths kinds′ starts′ lengths′ : List ℕ) : Type 0 where
+  pub kinds-are : kinds′ ≡ cleared 0 from kinds
+  pub starts-are : starts′ ≡ cleared 0 from starts
+  pub lengths-are : lengths′ ≡ cleared 0 from lengths
+
+pub record ClearsNodes (from : ℕ) (kinds tokens sizes bindings kinds′ tokens′ sizes′ bindings′ : List ℕ) : Type 0 where
+  pub kinds-are : kinds′ ≡ cleared 0 from kinds
+  pub tokens-are : tokens′ ≡ cleared 0 from tokens
+  pub sizes-are : sizes′ ≡ cleared 0 from sizes
+  pub bindings-are : bindings′ ≡ cleared 0 from bindings
+
+pub record ClearsAnswers (from : ℕ) (kinds : List ℕ) (numbers : List ℤ) (lengths kinds′ : List ℕ) (numbers′ : List ℤ) (lengths′ : List ℕ) : Type 0 where
+  pub kinds-are : kinds′ ≡ cleared 0 from kinds
+  pub numbers-are : numbers′ ≡ cleared (pos 0) from numbers
+  pub lengths-are : lengths′ ≡ cleared 0 from lengths
+
+-- `conclude`: the report, and zeros in each table from its count on, all of it after a refusal
+pub record Concludes (tokens nodes : ℕ) (last : Stage) (l m : Tables) (r : Report) : Type 0 where
+  pub reports : Reports tokens nodes last r
+  pub of-tokens : ClearsTokens (kept-of last tokens) (l .token-kinds) (l .token-starts) (l .token-lengths) (m .token-kinds) (m .token-starts) (m .token-lengths)
+  pub of-nodes : ClearsNodes (kept-of last nodes) (l .node-kinds) (l .node-tokens) (l .node-sizes) (l .node-bindings) (m .node-kinds) (m .node-tokens) (m .node-sizes) (m .node-bindings)
+  pub of-answers : ClearsAnswers (count-of last) (l .answer-kinds) (l .answer-numbers) (l .answer-lengths) (m .answer-kinds) (m .answer-numbers) (m .answer-lengths)
+
+-- ---- what the stages leave
+
+-- tables begin with the rows of what is accepted
+pub record Begins (a : Accepted) (tokens nodes answers : ℕ) (m : Tables) : Type 0 where
+  pub token-kinds : take tokens (m .token-kinds) ≡ express.token-kinds a
+  pub token-starts : take tokens (m .token-starts) ≡ express.token-starts a
+  pub token-lengths : take tokens (m .token-lengths) ≡ express.token-lengths a
+  pub node-kinds : take nodes (m .node-kinds) ≡ express.node-kinds a
+  pub node-tokens : take nodes (m .node-tokens) ≡ express.node-tokens a
+  pub node-sizes : take nodes (m .node-sizes) ≡ express.node-sizes a
+  pub node-bindings : take nodes (m .node-bindings) ≡ express.node-bindings a
+  pub answer-kinds : take answers (m .answer-kinds) ≡ express.answer-kinds a
+  pub answer-numbers : take answers (m .answer-numbers) ≡ express.answer-numbers a
+  pub answer-lengths : take answers (m .answer-lengths) ≡ express.answer-lengths a
+
+-- columns are as long as they were
+pub record AsLong (l m : Tables) : Type 0 where
+  pub token-kinds : length (m .token-kinds) ≡ length (l .token-kinds)
+  pub token-starts : length (m .token-starts) ≡ length (l .token-starts)
+  pub token-lengths : length (m .token-lengths) ≡ length (l .token-lengths)
+  pub node-kinds : length (m .node-kinds) ≡ length (l .node-kinds)
+  pub node-tokens : length (m .node-tokens) ≡ length (l .node-tokens)
+  pub node-sizes : length (m .node-sizes) ≡ length (l .node-sizes)
+  pub node-bindings : length (m .node-bindings) ≡ length (l .node-bindings)
+  pub answer-kinds : length (m .answer-kinds) ≡ length (l .answer-kinds)
+  pub answer-numbers : length (m .answer-numbers) ≡ length (l .answer-numbers)
+  pub answer-lengths : length (m .answer-lengths) ≡ length (l .answer-lengths)
+
+-- R9: the entries of the three tables
+abbrev pub token-rows : Tables → ℕ
+token-rows l = token-entries (l .token-kinds) (l .token-starts) (l .token-lengths)
+
+abbrev pub node-rows : Tables → ℕ
+node-rows l = node-entries (l .node-kinds) (l .node-tokens) (l .node-sizes) (l .node-bindings)
+
+abbrev pub answer-rows : Tables → ℕ
+answer-rows l = answer-entries (l .answer-kinds) (l .answer-numbers) (l .answer-lengths)
+
+-- ALL STAGES OF A FILE, from the tables l to m: how many tokens and nodes there are, how the last stage ended, and where it is done the rows
+pub record Ran (s : List ℕ) (l m : Tables) (tokens nodes : ℕ) (last : Stage) : Type 0 where
+  pub tokens-are : tokens ≡ count-of (token-stage s (token-rows l))
+  pub nodes-are : nodes ≡ count-of (node-stage s (token-rows l) (node-rows l))
+  pub last-is : last ≡ kind-stage s (token-rows l) (node-rows l) (answer-rows l)
+  pub begins : (n : ℕ) → last ≡ Done n → Begins (accepted-with s) tokens nodes n m
+  pub as-long : AsLong l m

@@ -1,0 +1,37 @@
+-- One column is copied to the front of another.
+use mathlib.Core.Path.{_≡_, refl, sym, ap, _∙_}
+use mathlib.Core.List.{List, [], _∷_, _++_}
+use Prim.Native.Nat.{ℕ, zero, suc, _+_, _≤_, _<_, min}
+use native.Mathlib.Omega.{arith}
+use native.Mathlib.Numerals.{add-one}
+use lib.ListN.{length, getD, set, take, length-set}
+use lib.Seq.{sets, take-suc, length-take-le}
+use Rattle.columns.proofs.Laws.{sets-snoc}
+
+-- so many entries are copied
+pub record Copying (from into₀ into : List ℕ) (i : ℕ) : Type 0 where
+  pub low : i ≤ min (length from) (length into₀)
+  pub is : into ≡ sets into₀ 0 (take i from)
+  pub len : length into ≡ length into₀
+
+pub copying-starts : {from into : List ℕ} → Copying from into into 0
+copying-starts {from} {into} = record { low = omega arith; is = refl; len = refl }
+
+pub copying-goes-on : {from into₀ into : List ℕ} {i end : ℕ} → end ≡ min (length from) (length into₀) → i < end → Copying from into₀ into i →
+    Copying from into₀ (set into i (getD from i 0)) (i + 1)
+copying-goes-on {from} {into₀} {into} {i} e l C =
+    let n : 0 + length (take i from) ≡ i = omega (arith, length-take-le i from (omega arith)) in
+    let w : i < length from = omega arith in
+    record {
+      low = omega arith;
+      is =
+          ap (λ (x : List ℕ). set x i (getD from i 0)) (C .is) ∙ ap (λ (j : ℕ). set (sets into₀ 0 (take i from)) j (getD from i 0)) (sym n)
+          ∙ sym (sets-snoc into₀ 0 (take i from) (getD from i 0)) ∙ ap (sets into₀ 0) (sym (take-suc from i 0 w)) ∙ ap (λ (j : ℕ). sets into₀ 0 (take j from)) (sym (add-one i));
+      len = omega (arith, length-set into i (getD from i 0), C .len);
+    }
+
+pub copying-ends : {from into₀ into : List ℕ} {i end : ℕ} → end ≡ min (length from) (length into₀) → end ≤ i → Copying from into₀ into i →
+    into ≡ sets into₀ 0 (take (min (length from) (length into₀)) from)
+copying-ends {from} {into₀} {into} {i} e l C =
+    let same : i ≡ min (length from) (length into₀) = omega (arith, C .low) in
+    C .is ∙ ap (λ (j : ℕ). sets into₀ 0 (take j from)) same

@@ -1,0 +1,20 @@
+-- `names::resolution::finish` meets its contract. Assumes nothing.
+use borrow.Author.Needs.{needs}
+use Rattle.names.proofs.resolution.finish.Statement.{statement}
+use Rattle.names.proofs.resolution.finish.Tie as tie
+use Rattle.names.proofs.Resolving.{finishes-faulty, finishes-bound}
+
+returns : tie.Need-returns
+returns c = finishes-faulty (c .if1 .taken)
+
+copy-requires : tie.Need-copy-requires
+copy-requires c κs = search needs
+
+same-length : tie.Need-same-length
+same-length c = search needs
+
+returns-2 : tie.Need-returns-2
+returns-2 c = finishes-bound (c .before .before .before .before .if1 .left) (c .before .before .copy .ensures)
+
+pub finish-spec : {M : Type 1} → statement M
+finish-spec = tie.close (tie.spec returns copy-requires same-length returns-2)

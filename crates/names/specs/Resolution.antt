@@ -1,0 +1,106 @@
+-- The names of a file, from its bytes, its tokens and its nodes (N1 to N19).
+use mathlib.Core.Path.{_≡_}
+use mathlib.Core.Logic.{_≢_}
+use mathlib.Core.Bool.{Bool, true, false, cond}
+use mathlib.Core.List.{List}
+use Prim.Native.Nat.{ℕ, _*_, _≤_, _<_, min}
+use lib.Dec.{eqb}
+use lib.ListN.{length, take}
+use lib.Seq.{sets}
+use Rattle.relations.specs.Reach.{Joins}
+use Rattle.relations.specs.Sorted.{Arranged}
+use Rattle.express.specs.syntax.Grammar.{file}
+use Rattle.express.specs.syntax.Syntax.{Read}
+use Rattle.express.specs.syntax.Tree.{Table, count}
+use Rattle.express.specs.tokens.Scanned.{Scanned}
+use Rattle.express.specs.names.Scope.{type-edges, bindings}
+use Rattle.express.specs.names.Fault.{fault, constant-edges}
+use Rattle.express.specs.names.Names.{names}
+use Rattle.index.specs.Room.{enough}
+use Rattle.scopes.specs.Entries.{entries}
+use Rattle.scopes.specs.Preparation.{Consistent, Room, Prepared}
+use Rattle.scopes.specs.Range.{vertex-count, declared-nodes}
+use Rattle.scopes.specs.declared.dictionary.Preparation.{Preparation}
+use Rattle.scopes.specs.declared.dictionary.Preparation.the-variants as preparation
+use Rattle.faults.specs.declared.Fault.{Fault}
+use Rattle.type_names.specs.TypeName.{FileColumns}
+use Rattle.names.specs.Binding.{NamesBound}
+use Rattle.names.specs.declared.resolution.Resolution.{Resolution}
+use Rattle.names.specs.declared.resolution.Resolution.the-variants.{Bound, Faulty, Unfit}
+
+-- the columns of a file that is read
+pub record FileRead (src starts lengths terminals kinds tokens sizes roles : List ℕ) (t : Table) : Type 0 where
+  pub scanned : Scanned t
+  pub read : Read file t
+  pub bytes-are : src ≡ t .bytes
+  pub starts-are : starts ≡ t .starts
+  pub lengths-are : lengths ≡ t .lengths
+  pub terminals-are : terminals ≡ t .terminals
+  pub kinds-are : kinds ≡ t .kinds
+  pub tokens-are : tokens ≡ t .tokens
+  pub sizes-are : sizes ≡ t .sizes
+  pub roles-are : roles ≡ t .roles
+
+-- lengths of the columns that the stages write, for so many nodes and declarations
+pub record StageRoom (count vertices bound first to types constants scratch spellings attributes owners heads next mark queue : ℕ) : Type 0 where
+  pub few : vertices ≤ 65536
+  pub bound-room : count ≤ bound
+  pub first-room : vertices < first
+  pub to-room : count ≤ to
+  pub to-small : to < 4294967296
+  pub types-room : vertices ≤ types
+  pub constants-room : vertices ≤ constants
+  pub scratch-room : 6 * vertices ≤ scratch
+  pub spellings-room : count ≤ spellings
+  pub attributes-room : count ≤ attributes
+  pub owners-room : count ≤ owners
+  pub heads-room : 0 < heads
+  pub next-room : count ≤ next
+  pub mark-room : vertices ≤ mark
+  pub queue-room : vertices ≤ queue
+
+-- and of all columns: a symbol and a link for each token, a key, a node and a link for each entry of the dictionary
+pub record NamesRoom (t : Table) (symbols keys nodes heads next bound first to types constants scratch spellings attributes owners attribute-heads attribute-next mark queue : ℕ) : Type 0 where
+  pub symbol-room : enough (length (t .starts)) (length (t .lengths)) symbols heads next ≡ true
+  pub consistent : Consistent t
+  pub entry-room : Room (length (entries t)) keys nodes heads next
+  pub stage-room : StageRoom (count t) (vertex-count t) bound first to types constants scratch spellings attributes owners attribute-heads attribute-next mark queue
+
+-- THE ANSWER: no fault, each node bound as the scope rules say, and two orders of the declarations; or the fault; or no room
+abbrev pub Resolved : Table → Resolution → List ℕ → List ℕ → List ℕ → Type 0
+Resolved t Bound bindings′ types constants =
+    (names t .number ≡ 0) × (bindings′ ≡ bindings t)
+    × Arranged (Joins (type-edges t)) (declared-nodes t) (take (vertex-count t) types)
+    × Arranged (Joins (constant-edges t)) (declared-nodes t) (take (vertex-count t) constants)
+Resolved t (Faulty number place) bindings′ types constants = (names t ≡ fault number place) × (number ≢ 0)
+Resolved t Unfit bindings′ types constants = Unit {0}
+
+-- `resolve`: of every file that is read. Whatever the columns hold, the column of bindings is as it was unless all names are bound.
+pub record Resolves (src starts lengths terminals kinds tokens sizes roles symbols keys nodes heads next bound first to types constants scratch spellings attributes owners
+    attribute-heads attribute-next mark queue : List ℕ) (r : Resolution) (bindings′ types′ constants′ : List ℕ) : Type 0 where
+  pub kept : r ≢ Bound → bindings′ ≡ roles
+  pub is : (t : Table) → FileRead src starts lengths terminals kinds tokens sizes roles t → Resolved t r bindings′ types′ constants′
+  pub unfit :
+      r ≡ Unfit → (t : Table) → FileRead src starts lengths terminals kinds tokens sizes roles t →
+      NamesRoom t (length symbols) (length keys) (length nodes) (length heads) (length next) (length bound) (length first) (length to) (length types) (length constants) (length scratch)
+      (length spellings) (length attributes) (length owners) (length attribute-heads) (length attribute-next) (length mark) (length queue) → ⊥
+
+-- ---- what the inner functions go by
+
+-- `bind_prepared`: the dictionary stands at the front of its columns
+pub record BindsPrepared (kinds tokens sizes roles symbols starts keys nodes heads next : List ℕ) (vertices entries : ℕ) (r : Fault) (bound′ types′ constants′ : List ℕ) : Type 0 where
+  pub is :
+      (t : Table) → Scanned t → FileColumns t kinds tokens roles symbols starts (take entries keys) (take entries nodes) heads next → sizes ≡ t .sizes → vertices ≡ vertex-count t →
+      NamesBound t r bound′ types′ constants′
+
+abbrev pub done-with : Preparation → Bool → Bool
+done-with preparation.Done b = b
+done-with preparation.Unfit b = false
+
+-- `finish`: the answer to a fault, and the bindings in their column where there is none
+abbrev pub answer-to : Fault → Resolution
+answer-to f = cond (eqb (f .number) 0) Bound (Faulty (f .number) (f .place))
+
+pub record Finishes (f : Fault) (bound bindings : List ℕ) (r : Resolution) (bindings′ : List ℕ) : Type 0 where
+  pub answer : r ≡ answer-to f
+  pub bindings-are : bindings′ ≡ cond (eqb (f .number) 0) (sets bindings 0 (take (min (length bound) (length bindings)) bound)) bindings

@@ -1,6 +1,0 @@
-use Rattle.operations.proofs.Operands.{interval}
-use Rattle.operations.proofs.between.Statement.{statement}
-use Rattle.operations.proofs.between.Tie as tie
-
-pub between-spec : {M : Type 1} → statement M
-between-spec = tie.close (tie.spec (λ c κs. tt) (λ c κs. tt) (λ c κs. tt) (λ c. search interval))

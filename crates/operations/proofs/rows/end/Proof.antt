@@ -1,8 +1,0 @@
-use Rattle.operations.proofs.Reading.{no-end}
-use Rattle.operations.proofs.rows.end.Statement.{statement}
-use Rattle.operations.proofs.rows.end.Tie as tie
-
-pub end-spec : {M : Type 1} → statement M
-end-spec =
-    tie.close
-    (tie.spec (λ c. rw (c .match .keys1)) (λ c. rw (c .match .keys2)) (λ c. rw (c .match .keys3)) (λ c. rw (c .match .keys4)) (λ c. search no-end))

@@ -1,0 +1,310 @@
+// The dictionary of what a file declares is made: its nodes are classed and counted, and their entries stored.
+ghost use mathlib.Core.Path.{_≡_};
+ghost use mathlib.Core.Bool.{cond};
+ghost use Prim.Native.Nat.{_*_, _/_, _%_, _<_};
+ghost use lib.ListN.{length, set};
+ghost use Rattle.scopes.specs.Entries.{Entry, radix};
+ghost use Rattle.scopes.specs.Standing.{table-of, sort-by, class-of, class-table, PassedBy, Ended, MoreBy, Counted, Counting};
+ghost use Rattle.scopes.specs.Preparation.{Consistent, Room, Answers, Decides, Enterable, Entered, Filled};
+use columns::index;
+use columns::shorter;
+use scopes::Counts;
+use scopes::DECLARATIONS;
+use scopes::Here;
+use scopes::ITEMS_OF_SCHEMAS;
+use scopes::ITEMS_OF_TYPES;
+use scopes::NO_SORT;
+use scopes::RADIX;
+use scopes::SCHEMAS;
+use scopes::at;
+use scopes::dictionary::Preparation;
+use scopes::dictionary::key;
+use scopes::dictionary::put;
+use scopes::dictionary::scope;
+
+// What a node declares: a row for each kind of node, a column for each role, the last one for all roles from 7 on. A class is a sort,
+// and 8 for each entry behind the declarations; it stands here as a letter, that of class 0 being @. So @ is nothing, B a constant, type or
+// entity, I a schema, L an attribute or a rule with a label, M a supertype in a list, and S an item: one entry in its type, one in its schema.
+const CLASSES: [u8; 256] = *b"\
+    @@@@@@@@\
+    @@@@@@@@\
+    @@@@@@@@\
+    @@@@@@@@\
+    @@@@@@@@\
+    @@@@@@@@\
+    @@@@@M@@\
+    @@@@@@@@\
+    @@@@@@@@\
+    @@@@@@@@\
+    @@@@@@@@\
+    @@@@@@@@\
+    @@@@@@@@\
+    @@@@@@@@\
+    SSSSSSSS\
+    @@@@@@@@\
+    @@@@@@@@\
+    BBBBBBBB\
+    BBBBBBBB\
+    LLLLLLLL\
+    @@@@@@@@\
+    @@@@@@@@\
+    LLLLLLLL\
+    @L@@@@@@\
+    BBBBBBBB\
+    IIIIIIII\
+    @@@@@@@@\
+    @@@@@@@@\
+    @@@@@@@@\
+    @@@@@@@@\
+    @@@@@@@@\
+    @@@@@@@@";
+
+// The kinds that have a row, and the columns of a row.
+const ROWS: u8 = 32;
+
+const COLUMNS: usize = 8;
+
+// The class of what declares nothing.
+const NOTHING: u8 = 0;
+
+// In a class, the sort is what is below this number.
+const SORTS: u8 = 8;
+
+// The sort of a node and how many entries it has behind the declarations, as one number.
+fn class(classes: &[u8; 256], kind: u8, role: u32) -> u8
+    requires { ⌜ now classes ≡ class-table ⌝ }
+    ensures { λ r. ⌜ r ≡ class-of (sort-by kind role) ⌝ }
+{
+    if ROWS <= kind {
+        return 0;
+    }
+    let column = columns::shorter(columns::index(role), COLUMNS - 1);
+    classes[columns::byte_index(kind) * COLUMNS + column] - b'@'
+}
+
+// The sort in a class.
+fn sort_in(class: u8) -> u64
+    ensures { λ r. ⌜ r ≡ class % 8 ⌝ }
+{
+    (class % SORTS) as u64
+}
+
+fn entries_in(class: u8) -> usize
+    ensures { λ r. ⌜ r ≡ class / 8 ⌝ }
+{
+    (class / SORTS) as usize
+}
+
+fn choose(test: bool, yes: usize, no: usize) -> usize
+    ensures { λ r. ⌜ r ≡ cond test yes no ⌝ }
+{
+    if test {
+        return yes;
+    }
+    no
+}
+
+// What is known past the last node.
+fn ended(nodes: usize, counts: Counts) -> Here
+    ensures { λ r. ⌜ Ended nodes counts r ⌝ }
+{
+    Here {
+        owner: nodes,
+        schema: nodes,
+        vertex: counts.declarations,
+        other: counts.others,
+    }
+}
+
+// What is known at node i, from its class and from what is known at the next node.
+fn passed(class: u8, i: usize, after: Here) -> Here
+    ensures { λ r. ⌜ PassedBy class i after r ⌝ }
+{
+    let sort = sort_in(class);
+    let owner = choose(sort == DECLARATIONS, i, after.owner);
+    let schema = choose(sort == SCHEMAS, i, after.schema);
+    let vertex = columns::saturating_sub(after.vertex, choose(sort == DECLARATIONS, 1, 0));
+    let other = columns::saturating_sub(after.other, entries_in(class));
+    Here {
+        owner,
+        schema,
+        vertex,
+        other,
+    }
+}
+
+// One more node, before which there are so many entries.
+fn more(class: u8, before: Counts) -> Counts
+    requires { ⌜ (before .declarations < 8 * radix) × (before .others < 8 * radix) ⌝ }
+    ensures { λ r. ⌜ MoreBy class before r ⌝ }
+{
+    let declarations = before.declarations + choose(sort_in(class) == DECLARATIONS, 1, 0);
+    let others = before.others + entries_in(class);
+    Counts {
+        declarations,
+        others,
+    }
+}
+
+// How many entries the nodes have: none where there are too many nodes.
+pub fn count_entries(kinds: &[u8], roles: &[u32]) -> Counts
+    ensures { λ r. ⌜ Counting (now (kinds .entry)) (now (roles .entry)) r ⌝ }
+{
+    let mut so_far = Counts {
+        declarations: 0,
+        others: 0,
+    };
+    if RADIX <= kinds.len() as u64 {
+        return so_far;
+    }
+    let classes = CLASSES;
+    let mut i = 0;
+    while i < kinds.len() {
+        so_far = more(class(&classes, kinds[i], at(roles, i)), so_far);
+        i += 1;
+    }
+    so_far
+}
+
+// Do the columns of nodes and tokens fit each other?
+fn consistent(kinds: &[u8], tokens: &[u32], roles: &[u32], symbols: &[u32]) -> bool
+    ensures { λ r. ⌜ Decides (Consistent (table-of (now (kinds .entry)) (now (tokens .entry)) (now (roles .entry)) (now (symbols .entry)))) r ⌝ }
+{
+    if RADIX <= kinds.len() as u64 {
+        return false;
+    }
+    if shorter(tokens.len(), roles.len()) < kinds.len() {
+        return false;
+    }
+    let mut i = 0;
+    while i < kinds.len() {
+        let k = index(tokens[i]);
+        if symbols.len() <= k {
+            return false;
+        }
+        if RADIX <= symbols[k] as u64 {
+            return false;
+        }
+        i += 1;
+    }
+    true
+}
+
+// Is there room for so many entries?
+fn room(entries: usize, keys: usize, nodes: usize, heads: usize, next: usize) -> bool
+    ensures { λ r. ⌜ Decides (Room entries keys nodes heads next) r ⌝ }
+{
+    if heads == 0 {
+        return false;
+    }
+    entries <= shorter(shorter(keys, nodes), next)
+}
+
+fn enter(keys: &mut [u64], nodes: &mut [u32], at: usize, key: u64, node: usize)
+    requires { ⌜ node < radix ⌝ }
+    ensures { λ _. ⌜ (now (keys .exit) ≡ set (now (keys .entry)) at key) × (now (nodes .exit) ≡ set (now (nodes .entry)) at node) ⌝ }
+{
+    put(keys, at, key);
+    columns::put32(nodes, at, node as u32);
+}
+
+// Enters what a node declares: a declaration at its vertex, all else from an entry on.
+fn enter_node(
+    keys: &mut [u64],
+    nodes: &mut [u32],
+    other: usize,
+    here: Here,
+    sort: u64,
+    symbol: u32,
+    node: usize,
+)
+    requires { ⌜ Enterable sort (here .schema) (here .owner) (here .vertex) other symbol node ⌝ }
+    ensures { λ _. ⌜ Entered (λ (e : Entry). e .key) sort (here .schema) (here .owner) (here .vertex) other symbol node (now (keys .entry)) (now (keys .exit)) ⌝ }
+    ensures { λ _. ⌜ Entered (λ (e : Entry). e .node) sort (here .schema) (here .owner) (here .vertex) other symbol node (now (nodes .entry)) (now (nodes .exit)) ⌝ }
+{
+    if sort == NO_SORT {
+        return;
+    }
+    let own = key(sort, scope(sort, here), symbol);
+    if sort == DECLARATIONS {
+        enter(keys, nodes, here.vertex, own, node);
+        return;
+    }
+    enter(keys, nodes, other, own, node);
+    if sort != ITEMS_OF_TYPES {
+        return;
+    }
+    enter(
+        keys,
+        nodes,
+        other + 1,
+        key(ITEMS_OF_SCHEMAS, here.schema, symbol),
+        node,
+    );
+}
+
+// Enters all nodes, from the last to the first.
+fn fill(
+    kinds: &[u8],
+    tokens: &[u32],
+    roles: &[u32],
+    symbols: &[u32],
+    counts: Counts,
+    keys: &mut [u64],
+    nodes: &mut [u32],
+)
+    requires { ⌜ Consistent (table-of (now kinds) (now tokens) (now roles) (now symbols)) ⌝ }
+    requires { ⌜ Counted (table-of (now kinds) (now tokens) (now roles) (now symbols)) (length (now kinds)) counts ⌝ }
+    ensures { λ _. ⌜ Filled (λ (e : Entry). e .key) (table-of (now (kinds .entry)) (now (tokens .entry)) (now (roles .entry)) (now (symbols .entry))) (now (keys .entry)) (now (keys .exit)) ⌝ }
+    ensures { λ _. ⌜ Filled (λ (e : Entry). e .node) (table-of (now (kinds .entry)) (now (tokens .entry)) (now (roles .entry)) (now (symbols .entry))) (now (nodes .entry)) (now (nodes .exit)) ⌝ }
+{
+    let classes = CLASSES;
+    let declarations = counts.declarations;
+    let mut here = ended(kinds.len(), counts);
+    let mut i = kinds.len();
+    while 0 < i {
+        i -= 1;
+        let class = class(&classes, kinds[i], roles[i]);
+        if class != NOTHING {
+            let k = index(tokens[i]);
+            here = passed(class, i, here);
+            enter_node(
+                keys,
+                nodes,
+                declarations + here.other,
+                here,
+                sort_in(class),
+                symbols[k],
+                i,
+            );
+        }
+    }
+}
+
+// Fills the front of the columns with the dictionary of a file.
+pub fn prepare(
+    kinds: &[u8],
+    tokens: &[u32],
+    roles: &[u32],
+    symbols: &[u32],
+    keys: &mut [u64],
+    nodes: &mut [u32],
+    heads: &mut [u32],
+    next: &mut [u32],
+) -> Preparation
+    ensures { λ r. ⌜ Answers (table-of (now (kinds .entry)) (now (tokens .entry)) (now (roles .entry)) (now (symbols .entry)))
+        (now (keys .entry)) (now (nodes .entry)) (now (heads .entry)) (now (next .entry)) r
+        (now (keys .exit)) (now (nodes .exit)) (now (heads .exit)) (now (next .exit)) ⌝ }
+{
+    if !consistent(kinds, tokens, roles, symbols) {
+        return Preparation::Unfit;
+    }
+    let counts = count_entries(kinds, roles);
+    let entries = counts.declarations + counts.others;
+    if !room(entries, keys.len(), nodes.len(), heads.len(), next.len()) {
+        return Preparation::Unfit;
+    }
+    fill(kinds, tokens, roles, symbols, counts, keys, nodes);
+    index::dictionary::build(&keys[..entries], heads, next);
+    Preparation::Done
+}

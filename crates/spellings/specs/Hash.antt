@@ -1,0 +1,44 @@
+-- The hash of a spelling, a number of 32 bits by which it falls into a bucket.
+use mathlib.Core.Path.{_≡_}
+use mathlib.Core.List.{List, map}
+use Prim.Native.Nat.{ℕ, zero, suc, _+_, _-_, _*_, _/_, _%_, _<_}
+use lib.ListN.{length, getD}
+use Rattle.express.specs.tokens.Bytes.{lower}
+use Rattle.index.specs.Bucket.{word, first-factor, spread}
+
+-- four bytes of a word from a place on, as one number; of each byte the low five bits, which the two cases of a letter share
+abbrev pub block : List ℕ → ℕ → ℕ
+block xs k = getD xs k 0 % 32 + getD xs (k + 1) 0 % 32 * 256 + getD xs (k + 2) 0 % 32 * 65536 + getD xs (k + 3) 0 % 32 * 16777216
+
+-- a number in which another one has its say
+abbrev pub joined : ℕ → ℕ → ℕ
+joined h x = spread (h + x) first-factor
+
+-- so many blocks from a place on, one after the other
+unfoldable pub hash-blocks : ℕ → ℕ → ℕ → List ℕ → ℕ
+hash-blocks zero h k xs = h
+hash-blocks (suc n) h k xs = hash-blocks n (joined h (block xs k)) (k + 4) xs
+
+-- a number of 32 bits for a word: its blocks, the last one being its last four bytes
+unfoldable pub hash-of : List ℕ → ℕ
+hash-of xs = joined (hash-blocks ((length xs - 1) / 4) 0 0 xs) (block xs (length xs - 4))
+
+-- ---- what inner functions give
+
+-- of two numbers taken up into one
+pub record Joins (h x r : ℕ) : Type 0 where
+  pub is : r ≡ joined h x
+  pub small : r < word
+
+-- four bytes as they stand, and the block that they make without case
+pub record Four (xs : List ℕ) (k r : ℕ) : Type 0 where
+  pub is : r ≡ getD xs k 0 + getD xs (k + 1) 0 * 256 + getD xs (k + 2) 0 * 65536 + getD xs (k + 3) 0 * 16777216
+  pub small : r < word
+
+pub record IsBlock (xs : List ℕ) (k r : ℕ) : Type 0 where
+  pub is : r ≡ block (map lower xs) k
+  pub small : r < word
+
+pub record Hashes (xs : List ℕ) (r : ℕ) : Type 0 where
+  pub is : r ≡ hash-of (map lower xs)
+  pub small : r < word

@@ -1,0 +1,7 @@
+pub mod Bounds
+pub mod Counting
+pub mod Laws
+pub mod Straight
+pub mod Nodes
+pub mod KindLaws
+pub mod AnswerLaws

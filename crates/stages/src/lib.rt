@@ -1,0 +1,338 @@
+// The stages of a check in a straight line: each is handed how the ones before it ended, and passes a refusal on.
+ghost use mathlib.Core.Path.{_≡_};
+ghost use lib.ListN.{getD};
+ghost use Prim.Native.Nat.{_≤_};
+ghost use Rattle.express.specs.tokens.Lexis.{most};
+ghost use Rattle.faults.specs.Meaning.{fault-of};
+ghost use Rattle.stages.specs.AnswerStage.{EvaluatesFile, AnswersFile};
+ghost use Rattle.stages.specs.KindStage.{of-typing, TypesFile};
+ghost use Rattle.stages.specs.Line.{count-of, then-stage, of-names};
+ghost use Rattle.stages.specs.Reading.{ScansTokens, OfParse, ParsesTokens, ReadsNodes, Constants, FitsConstants};
+use blanks::Step;
+use constants::evaluate_constants;
+use declared_types::declared_types;
+use faults::Fault;
+use parsing::Parsed;
+use scopes::at;
+use typing::Typing;
+use typing::type_constants;
+
+// A stage that is done, with a count, or the refusal of it or of one before it: the reply and the number beside it.
+pub enum Stage {
+    Done(usize),
+    Refused(u8, u32),
+}
+
+pub fn count(stage: Stage) -> usize
+    ensures { λ r. ⌜ r ≡ count-of stage ⌝ }
+{
+    match stage {
+        Stage::Done(n) => n,
+        Stage::Refused(_, _) => 0,
+    }
+}
+
+// The tokens of a file: replies 1, 2, 3 and 6.
+pub fn scan_tokens(
+    src: &[u8],
+    kinds: &mut [u8],
+    starts: &mut [u32],
+    lengths: &mut [u32],
+) -> Stage
+    ensures { λ r. ⌜ ScansTokens (now (src .entry)) (now (kinds .entry)) (now (starts .entry)) (now (lengths .entry)) r
+        (now (kinds .exit)) (now (starts .exit)) (now (lengths .exit)) ⌝ }
+{
+    let step = scan::scan(src, codes::limits::BYTES, kinds, starts, lengths);
+    match step {
+        Step::At(n) => Stage::Done(n),
+        Step::Refused(k, p) => Stage::Refused(k, columns::number(p)),
+    }
+}
+
+// Where a token starts; past the last one the end of the bytes.
+fn place_or_end(starts: &[u32], token: usize, size: usize) -> u32
+    ensures { λ r. ⌜ (size ≤ most → r ≡ getD (now (starts .entry)) token size) ⌝ }
+{
+    if token < starts.len() {
+        return starts[token];
+    }
+    columns::number(size)
+}
+
+// What a parse comes to. A list longer than any file, or than the scratch lent, is no file's.
+fn of_parse(parsed: Parsed, starts: &[u32], size: usize) -> Stage
+    ensures { λ r. ⌜ OfParse (now (starts .entry)) size parsed r ⌝ }
+{
+    match parsed {
+        Parsed::Accepted(n) => Stage::Done(n),
+        Parsed::Unexpected(j) => {
+            Stage::Refused(codes::replies::UNEXPECTED, place_or_end(starts, j, size))
+        }
+        Parsed::TooDeep(k) => {
+            Stage::Refused(codes::replies::TOO_DEEP, place_or_end(starts, k, size))
+        }
+        Parsed::Short(n) => Stage::Refused(codes::replies::NODES_SHORT, columns::number(n)),
+        Parsed::Scratch(_) => Stage::Refused(codes::replies::TOO_LONG, codes::limits::BYTES),
+        Parsed::Long => Stage::Refused(codes::replies::TOO_LONG, codes::limits::BYTES),
+    }
+}
+
+// The nodes of a file: replies 4, 5 and 7. The roles stand in the last column.
+pub fn parse_tokens(
+    before: Stage,
+    size: usize,
+    starts: &[u32],
+    terminals: &[u8],
+    scratch: &mut [u64],
+    kinds: &mut [u8],
+    tokens: &mut [u32],
+    sizes: &mut [u32],
+    roles: &mut [u32],
+) -> Stage
+    ensures { λ r. ⌜ ParsesTokens before size (now (starts .entry)) (now (terminals .entry)) (now (scratch .entry))
+        (now (kinds .entry)) (now (tokens .entry)) (now (sizes .entry)) (now (roles .entry)) r
+        (now (scratch .exit)) (now (kinds .exit)) (now (tokens .exit)) (now (sizes .exit)) (now (roles .exit)) ⌝ }
+{
+    match before {
+        Stage::Done(_) => {
+            let parsed = declarations::parse(terminals, scratch, kinds, tokens, sizes, roles);
+            of_parse(parsed, starts, size)
+        }
+        Stage::Refused(k, p) => Stage::Refused(k, p),
+    }
+}
+
+// From the tokens of a file to its nodes: the terminals of the tokens, and the parse of these.
+pub fn read_nodes(
+    before: Stage,
+    src: &[u8],
+    token_kinds: &[u8],
+    starts: &[u32],
+    lengths: &[u32],
+    terminals: &mut [u8],
+    scratch: &mut [u64],
+    kinds: &mut [u8],
+    tokens: &mut [u32],
+    sizes: &mut [u32],
+    roles: &mut [u32],
+) -> Stage
+    ensures { λ r. ⌜ ReadsNodes (now (src .entry)) before (now («token_kinds» .entry)) (now (starts .entry)) (now (lengths .entry)) (now (terminals .entry))
+        (now (scratch .entry)) (now (kinds .entry)) (now (tokens .entry)) (now (sizes .entry)) (now (roles .entry)) r
+        (now (terminals .exit)) (now (kinds .exit)) (now (tokens .exit)) (now (sizes .exit)) (now (roles .exit)) ⌝ }
+{
+    terminals::terminals(src, token_kinds, starts, lengths, terminals);
+    let n = columns::shorter(token_kinds.len(), terminals.len());
+    parse_tokens(
+        before,
+        src.len(),
+        starts,
+        &terminals[..n],
+        scratch,
+        kinds,
+        tokens,
+        sizes,
+        roles,
+    )
+}
+
+// How many constants there are.
+fn count_constants(kinds: &[u8]) -> usize
+    ensures { λ r. ⌜ Constants (now (kinds .entry)) r ⌝ }
+{
+    let mut rows: usize = 0;
+    let mut n: usize = 0;
+    while n < kinds.len() {
+        if kinds[n] == codes::nodes::CONSTANT {
+            rows += 1;
+            n += 1;
+        } else {
+            n += 1;
+        }
+    }
+    rows
+}
+
+// Room for a row for each constant: reply 8.
+pub fn fit_constants(before: Stage, kinds: &[u8], entries: usize) -> Stage
+    ensures { λ r. ⌜ FitsConstants before (now (kinds .entry)) entries r ⌝ }
+{
+    match before {
+        Stage::Done(_) => {
+            let n = count_constants(kinds);
+            if n <= entries {
+                return Stage::Done(n);
+            }
+            Stage::Refused(codes::replies::ANSWERS_SHORT, columns::number(n))
+        }
+        Stage::Refused(k, p) => Stage::Refused(k, p),
+    }
+}
+
+// No fault of names, or the least of the first stage that has one: replies 9 to 13.
+pub fn of_names(before: Stage, fault: Fault) -> Stage
+    ensures { λ r. ⌜ r ≡ then-stage before (of-names (fault-of fault)) ⌝ }
+{
+    match before {
+        Stage::Done(n) => {
+            if fault.number == codes::replies::ACCEPTED {
+                return Stage::Done(n);
+            }
+            Stage::Refused(fault.number, fault.place)
+        }
+        Stage::Refused(k, p) => Stage::Refused(k, p),
+    }
+}
+
+// What a typing comes to, of a file with n constants.
+fn of_typing(typing: Typing, starts: &[u32], tokens: &[u32], n: usize) -> Stage
+    ensures { λ r. ⌜ r ≡ of-typing (now (starts .entry)) (now (tokens .entry)) typing n ⌝ }
+{
+    match typing {
+        Typing::Typed => Stage::Done(n),
+        Typing::Fault(f, node) => {
+            let token = columns::index(at(tokens, node));
+            Stage::Refused(f, at(starts, token))
+        }
+    }
+}
+
+// The kinds of the constants: replies 14 and 15. What is declared stands in a column by node.
+pub fn type_file(
+    before: Stage,
+    starts: &[u32],
+    terminals: &[u8],
+    kinds: &[u8],
+    tokens: &[u32],
+    sizes: &[u32],
+    bindings: &[u32],
+    order: &[u32],
+    declared: &mut [u32],
+    scratch: &mut [u32],
+) -> Stage
+    ensures { λ r. ⌜ TypesFile before (now (starts .entry)) (now (terminals .entry)) (now (kinds .entry)) (now (tokens .entry)) (now (sizes .entry))
+        (now (bindings .entry)) (now (order .entry)) (now (declared .entry)) (now (scratch .entry)) r (now (declared .exit)) ⌝ }
+{
+    match before {
+        Stage::Done(n) => {
+            declared_types(terminals, kinds, tokens, sizes, bindings, order, declared);
+            let typing =
+                type_constants(terminals, kinds, tokens, sizes, bindings, declared, scratch);
+            of_typing(typing, starts, tokens, n)
+        }
+        Stage::Refused(k, p) => Stage::Refused(k, p),
+    }
+}
+
+// The answers of the constants, where all stages are done.
+fn evaluate_file(
+    before: Stage,
+    src: &[u8],
+    starts: &[u32],
+    lengths: &[u32],
+    terminals: &[u8],
+    kinds: &[u8],
+    tokens: &[u32],
+    sizes: &[u32],
+    bindings: &[u32],
+    declared: &[u32],
+    order: &[u32],
+    row_of: &mut [u32],
+    answer_kinds: &mut [u8],
+    answer_numbers: &mut [i64],
+    answer_lengths: &mut [u8],
+    value_kinds: &mut [u8],
+    value_numbers: &mut [i64],
+    value_lengths: &mut [u8],
+)
+    ensures { λ _. ⌜ EvaluatesFile (now (src .entry)) (now (starts .entry)) (now (lengths .entry)) (now (terminals .entry)) (now (kinds .entry))
+        (now (tokens .entry)) (now (sizes .entry)) (now (bindings .entry)) before (now (declared .entry)) (now (order .entry)) (now («row_of» .entry))
+        (now («answer_kinds» .entry)) (now («answer_numbers» .entry)) (now («answer_lengths» .entry))
+        (now («value_kinds» .entry)) (now («value_numbers» .entry)) (now («value_lengths» .entry))
+        (now («row_of» .exit)) (now («answer_kinds» .exit)) (now («answer_numbers» .exit)) (now («answer_lengths» .exit)) ⌝ }
+{
+    match before {
+        Stage::Done(_) => evaluate_constants(
+            src,
+            starts,
+            lengths,
+            terminals,
+            kinds,
+            tokens,
+            sizes,
+            bindings,
+            declared,
+            order,
+            row_of,
+            answer_kinds,
+            answer_numbers,
+            answer_lengths,
+            value_kinds,
+            value_numbers,
+            value_lengths,
+        ),
+        Stage::Refused(_, _) => {}
+    }
+}
+
+// From names to answers: replies 14 and 15, and the answer columns. One column serves the typing, and then the rows by node.
+pub fn answer_file(
+    before: Stage,
+    src: &[u8],
+    starts: &[u32],
+    lengths: &[u32],
+    terminals: &[u8],
+    kinds: &[u8],
+    tokens: &[u32],
+    sizes: &[u32],
+    bindings: &[u32],
+    type_order: &[u32],
+    constant_order: &[u32],
+    declared: &mut [u32],
+    row_of: &mut [u32],
+    answer_kinds: &mut [u8],
+    answer_numbers: &mut [i64],
+    answer_lengths: &mut [u8],
+    value_kinds: &mut [u8],
+    value_numbers: &mut [i64],
+    value_lengths: &mut [u8],
+) -> Stage
+    ensures { λ r. ⌜ AnswersFile (now (src .entry)) (now (starts .entry)) (now (lengths .entry)) (now (terminals .entry)) (now (kinds .entry))
+        (now (tokens .entry)) (now (sizes .entry)) (now (bindings .entry)) before (now («type_order» .entry)) (now («constant_order» .entry))
+        (now (declared .entry)) (now («row_of» .entry)) (now («answer_kinds» .entry)) (now («answer_numbers» .entry)) (now («answer_lengths» .entry))
+        (now («value_kinds» .entry)) (now («value_numbers» .entry)) (now («value_lengths» .entry)) r
+        (now («answer_kinds» .exit)) (now («answer_numbers» .exit)) (now («answer_lengths» .exit)) ⌝ }
+{
+    let typed = type_file(
+        before,
+        starts,
+        terminals,
+        kinds,
+        tokens,
+        sizes,
+        bindings,
+        type_order,
+        declared,
+        row_of,
+    );
+    evaluate_file(
+        typed,
+        src,
+        starts,
+        lengths,
+        terminals,
+        kinds,
+        tokens,
+        sizes,
+        bindings,
+        declared,
+        constant_order,
+        row_of,
+        answer_kinds,
+        answer_numbers,
+        answer_lengths,
+        value_kinds,
+        value_numbers,
+        value_lengths,
+    );
+    typed
+}

@@ -1,0 +1,2 @@
+pub mod OrderTest
+pub mod KindCases

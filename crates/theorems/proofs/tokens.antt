@@ -1,0 +1,5 @@
+pub mod Turns
+pub mod Cut
+pub mod Boundary
+pub mod Agree
+pub mod Join
