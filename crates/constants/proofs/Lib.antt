@@ -1,3 +1,4 @@
+pub mod Numbering
 pub mod Schemas
 pub mod Written
 pub mod Known

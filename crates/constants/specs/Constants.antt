@@ -9,7 +9,9 @@ use Rattle.express.specs.syntax.Tree.{Table, count}
 use Rattle.express.specs.kinds.Answer.{Answer}
 use Rattle.express.specs.kinds.AnswerRow.{row-of}
 use Rattle.express.specs.kinds.Kind.{constants}
-use Rattle.schemas.specs.Rows.{answer-of-constant, OfFile, Rows, Room, Holds, FilledRows}
+use Rattle.schemas.specs.Rows.{FilledRows}
+-- what the promise is made of, for those who cite it
+pub use Rattle.schemas.specs.Rows.{row-in, row, answer-of-constant, OfFile, Rows, Room, Holds}
 
 -- the answers of a file's constants in the order of the text
 abbrev pub file-answers : Table → List Answer

@@ -1,5 +1,4 @@
 // The evaluation of the constants of a file into its answer columns, one schema after the other.
-ghost use mathlib.Core.Path.{_≡_};
 ghost use Rattle.constants.specs.Constants.{FillsSchemas, EvaluatesConstants};
 use schemas::evaluate_schema;
 use schemas::number_rows;

@@ -2,10 +2,6 @@
 use borrow.Author.Needs.{needs}
 use Rattle.constants.proofs.evaluate_constants.Statement.{statement}
 use Rattle.constants.proofs.evaluate_constants.Tie as tie
-use Rattle.constants.proofs.evaluate_constants.Reads as reads
-use Rattle.constants.proofs.evaluate_constants.Lts as lts
-use Rattle.constants.proofs.evaluate_schemas.Reads as evaluate-schemas-reads
-use Rattle.schemas.proofs.number_rows.Reads as number-rows-reads
 use Rattle.constants.proofs.Written.{file-evaluated}
 
 number-rows-requires : tie.Need-number-rows-requires

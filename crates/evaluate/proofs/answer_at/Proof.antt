@@ -2,9 +2,6 @@
 use borrow.Author.Needs.{needs}
 use Rattle.evaluate.proofs.answer_at.Statement.{statement}
 use Rattle.evaluate.proofs.answer_at.Tie as tie
-use Rattle.evaluate.proofs.answer_at.Reads as reads
-use Rattle.evaluate.proofs.answer_at.Lts as lts
-use Rattle.answer_rows.proofs.answer_of_row.Reads as answer-of-row-reads
 use Rattle.evaluate.proofs.Rows.{no-kind, no-number, no-length, read-row}
 use mir.Syntax.{w64}
 use mir.ValLaws.{toZ-ofZ}

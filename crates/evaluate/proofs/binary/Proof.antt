@@ -2,11 +2,6 @@
 use borrow.Author.Needs.{needs}
 use Rattle.evaluate.proofs.binary.Statement.{statement}
 use Rattle.evaluate.proofs.binary.Tie as tie
-use Rattle.evaluate.proofs.binary.Reads as reads
-use Rattle.evaluate.proofs.binary.Lts as lts
-use Rattle.columns.proofs.saturating_sub.Reads as saturating-sub-reads
-use Rattle.columns.proofs.shorter.Reads as shorter-reads
-use Rattle.literals.proofs.binary.Reads as binary-reads
 use Rattle.evaluate.proofs.Literals.{binary-long, binary-short}
 use mathlib.Core.Path.{refl}
 use native.Mathlib.Omega.{arith}

@@ -2,9 +2,6 @@
 use borrow.Author.Needs.{needs}
 use Rattle.evaluate.proofs.integer.Statement.{statement}
 use Rattle.evaluate.proofs.integer.Tie as tie
-use Rattle.evaluate.proofs.integer.Reads as reads
-use Rattle.evaluate.proofs.integer.Lts as lts
-use Rattle.literals.proofs.integer.Reads as integer-reads
 use Rattle.evaluate.proofs.Literals.{integer-fits, integer-large, integer-small}
 use Rattle.evaluate.specs.Evaluation.{part}
 

@@ -2,12 +2,6 @@
 use borrow.Author.Needs.{needs}
 use Rattle.evaluate.proofs.interval.Statement.{statement}
 use Rattle.evaluate.proofs.interval.Tie as tie
-use Rattle.evaluate.proofs.interval.Reads as reads
-use Rattle.evaluate.proofs.interval.Lts as lts
-use Rattle.evaluate.proofs.answer_at.Reads as answer-at-reads
-use Rattle.evaluate.proofs.operators.bound.Reads as bound-reads
-use Rattle.evaluate.proofs.terminal_at.Reads as terminal-at-reads
-use Rattle.combinations.proofs.between.Reads as between-reads
 use Rattle.evaluate.proofs.Assembled.{intervals}
 
 low-requires : tie.Need-low-requires

@@ -1,8 +1,6 @@
 -- `evaluate::is_name` meets its contract: test by test. Assumes nothing.
 use Rattle.evaluate.proofs.is_name.Statement.{statement}
 use Rattle.evaluate.proofs.is_name.Tie as tie
-use Rattle.evaluate.proofs.is_name.Reads as reads
-use Rattle.evaluate.proofs.is_name.Lts as lts
 use borrow.Author.Tests.{ne-eqb}
 
 returns : tie.Need-returns

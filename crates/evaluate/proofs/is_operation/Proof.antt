@@ -1,8 +1,6 @@
 -- `evaluate::is_operation` meets its contract: test by test. Assumes nothing.
 use Rattle.evaluate.proofs.is_operation.Statement.{statement}
 use Rattle.evaluate.proofs.is_operation.Tie as tie
-use Rattle.evaluate.proofs.is_operation.Reads as reads
-use Rattle.evaluate.proofs.is_operation.Lts as lts
 use borrow.Author.Tests.{ne-eqb}
 
 returns : tie.Need-returns

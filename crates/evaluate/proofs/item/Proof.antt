@@ -1,7 +1,6 @@
 -- `evaluate::item` meets its contract: the test is that of the definition. Assumes nothing.
 use Rattle.evaluate.proofs.item.Statement.{statement}
 use Rattle.evaluate.proofs.item.Tie as tie
-use borrow.Author.Needs.{needs}
 use native.Mathlib.Omega.{arith}
 use Rattle.evaluate.proofs.Assembled.{an-item, no-item}
 

@@ -2,11 +2,6 @@
 use borrow.Author.Needs.{needs}
 use Rattle.evaluate.proofs.leaf.Statement.{statement}
 use Rattle.evaluate.proofs.leaf.Tie as tie
-use Rattle.evaluate.proofs.leaf.Reads as reads
-use Rattle.evaluate.proofs.leaf.Lts as lts
-use Rattle.evaluate.proofs.binary.Reads as binary-reads
-use Rattle.evaluate.proofs.integer.Reads as integer-reads
-use Rattle.evaluate.proofs.operators.logical.Reads as logical-reads
 use Rattle.evaluate.proofs.Literals.{leaf-integer, leaf-binary, leaf-logical, leaf-other}
 
 integer-requires : tie.Need-integer-requires

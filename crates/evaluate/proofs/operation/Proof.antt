@@ -2,14 +2,6 @@
 use borrow.Author.Needs.{needs}
 use Rattle.evaluate.proofs.operation.Statement.{statement}
 use Rattle.evaluate.proofs.operation.Tie as tie
-use Rattle.evaluate.proofs.operation.Reads as reads
-use Rattle.evaluate.proofs.operation.Lts as lts
-use Rattle.evaluate.proofs.answer_at.Reads as answer-at-reads
-use Rattle.evaluate.proofs.interval.Reads as interval-reads
-use Rattle.evaluate.proofs.operators.sign.Reads as sign-reads
-use Rattle.evaluate.proofs.terminal_at.Reads as terminal-at-reads
-use Rattle.evaluate.proofs.two_operands.Reads as two-operands-reads
-use Rattle.combinations.proofs.applied.Reads as applied-reads
 use Rattle.evaluate.proofs.Assembled.{operates-interval, operates-sign, operates-two, operates-none}
 
 interval-requires : tie.Need-interval-requires

@@ -2,11 +2,6 @@
 use borrow.Author.Needs.{needs}
 use Rattle.evaluate.proofs.put_answer.Statement.{statement}
 use Rattle.evaluate.proofs.put_answer.Tie as tie
-use Rattle.evaluate.proofs.put_answer.Reads as reads
-use Rattle.evaluate.proofs.put_answer.Lts as lts
-use Rattle.columns.proofs.put64.Reads as put64-reads
-use Rattle.columns.proofs.put8.Reads as put8-reads
-use Rattle.answer_rows.proofs.row_of.Reads as row-of-reads
 use Rattle.evaluate.proofs.Rows.{stores}
 use mir.Syntax.{w64}
 use mir.ValLaws.{toZ-ofZ}

@@ -2,8 +2,6 @@
 use borrow.Author.Needs.{needs}
 use Rattle.evaluate.proofs.terminal_at.Statement.{statement}
 use Rattle.evaluate.proofs.terminal_at.Tie as tie
-use Rattle.evaluate.proofs.terminal_at.Reads as reads
-use Rattle.evaluate.proofs.terminal_at.Lts as lts
 
 index-at-requires : tie.Need-index-at-requires
 index-at-requires c κs = search needs

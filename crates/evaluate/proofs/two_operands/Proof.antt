@@ -2,10 +2,6 @@
 use borrow.Author.Needs.{needs}
 use Rattle.evaluate.proofs.two_operands.Statement.{statement}
 use Rattle.evaluate.proofs.two_operands.Tie as tie
-use Rattle.evaluate.proofs.two_operands.Reads as reads
-use Rattle.evaluate.proofs.two_operands.Lts as lts
-use Rattle.evaluate.proofs.operators.operator.Reads as operator-reads
-use Rattle.combinations.proofs.combined.Reads as combined-reads
 use Rattle.evaluate.proofs.Assembled.{combines, combines-none}
 
 operator-requires : tie.Need-operator-requires

@@ -2,12 +2,6 @@
 use borrow.Author.Needs.{needs}
 use Rattle.schemas.proofs.evaluate_constant.Statement.{statement}
 use Rattle.schemas.proofs.evaluate_constant.Tie as tie
-use Rattle.schemas.proofs.evaluate_constant.Reads as reads
-use Rattle.schemas.proofs.evaluate_constant.Lts as lts
-use Rattle.columns.proofs.saturating_sub.Reads as saturating-sub-reads
-use Rattle.evaluate.proofs.answer_at.Reads as answer-at-reads
-use Rattle.evaluate.proofs.evaluate_expression.Reads as evaluate-expression-reads
-use Rattle.evaluate.proofs.put_answer.Reads as put-answer-reads
 use Rattle.schemas.proofs.OneConstant.{one-constant}
 use native.Mathlib.Omega.{arith}
 

@@ -1,11 +1,6 @@
 -- `schemas::evaluate_schema` meets its contract: what each constant names has passed before it. Assumes nothing.
 use Rattle.schemas.proofs.evaluate_schema.Statement.{statement}
 use Rattle.schemas.proofs.evaluate_schema.Tie as tie
-use Rattle.schemas.proofs.evaluate_schema.Reads as reads
-use Rattle.schemas.proofs.evaluate_schema.Lts as lts
-use Rattle.columns.proofs.index.Reads as index-reads
-use Rattle.schemas.proofs.evaluate_constant.Reads as evaluate-constant-reads
-use Rattle.schemas.proofs.is_due.Reads as is-due-reads
 use borrow.Author.Needs.{needs}
 use Rattle.schemas.proofs.Passing.{Passing, passing-starts, passing-other, passing-due, passing-ends, due-below}
 use Prim.Native.Nat.{_-_}

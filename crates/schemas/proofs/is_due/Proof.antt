@@ -2,8 +2,6 @@
 use borrow.Author.Needs.{needs}
 use Rattle.schemas.proofs.is_due.Statement.{statement}
 use Rattle.schemas.proofs.is_due.Tie as tie
-use Rattle.schemas.proofs.is_due.Reads as reads
-use Rattle.schemas.proofs.is_due.Lts as lts
 use mathlib.Core.Path.{ap}
 use Prim.Native.Nat.{ℕ}
 use lib.Dec.{eqb}

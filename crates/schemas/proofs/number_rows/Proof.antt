@@ -1,10 +1,6 @@
 -- `schemas::number_rows` meets its contract: a count that goes with the nodes. Assumes nothing.
 use Rattle.schemas.proofs.number_rows.Statement.{statement}
 use Rattle.schemas.proofs.number_rows.Tie as tie
-use Rattle.schemas.proofs.number_rows.Reads as reads
-use Rattle.schemas.proofs.number_rows.Lts as lts
-use Rattle.columns.proofs.number.Reads as number-reads
-use Rattle.columns.proofs.put32.Reads as put32-reads
 use borrow.Author.Needs.{needs}
 use Rattle.schemas.proofs.Numbering.{Numbering, numbering-starts, numbering-constant, numbering-other, numbering-ends}
 use Prim.Native.Nat.{_-_}

@@ -1,8 +1,6 @@
 -- `evaluate::operators::bound` meets its contract: test by test. Assumes nothing.
 use Rattle.evaluate.proofs.operators.bound.Statement.{statement}
 use Rattle.evaluate.proofs.operators.bound.Tie as tie
-use Rattle.evaluate.proofs.operators.bound.Reads as reads
-use Rattle.evaluate.proofs.operators.bound.Lts as lts
 use borrow.Author.Tests.{ne-eqb}
 
 returns : tie.Need-returns

@@ -1,8 +1,6 @@
 -- `evaluate::operators::logical` meets its contract: test by test. Assumes nothing.
 use Rattle.evaluate.proofs.operators.logical.Statement.{statement}
 use Rattle.evaluate.proofs.operators.logical.Tie as tie
-use Rattle.evaluate.proofs.operators.logical.Reads as reads
-use Rattle.evaluate.proofs.operators.logical.Lts as lts
 use borrow.Author.Tests.{ne-eqb}
 
 returns : tie.Need-returns

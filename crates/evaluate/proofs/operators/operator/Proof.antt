@@ -1,8 +1,6 @@
 -- `evaluate::operators::operator` meets its contract: arm by arm, and none of them. Assumes nothing.
 use Rattle.evaluate.proofs.operators.operator.Statement.{statement}
 use Rattle.evaluate.proofs.operators.operator.Tie as tie
-use Rattle.evaluate.proofs.operators.operator.Reads as reads
-use Rattle.evaluate.proofs.operators.operator.Lts as lts
 use borrow.Author.Tests.{ne-eqb}
 use Rattle.express.specs.kinds.Shape.{operator-of}
 

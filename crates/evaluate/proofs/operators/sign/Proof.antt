@@ -1,8 +1,6 @@
 -- `evaluate::operators::sign` meets its contract: test by test. Assumes nothing.
 use Rattle.evaluate.proofs.operators.sign.Statement.{statement}
 use Rattle.evaluate.proofs.operators.sign.Tie as tie
-use Rattle.evaluate.proofs.operators.sign.Reads as reads
-use Rattle.evaluate.proofs.operators.sign.Lts as lts
 use borrow.Author.Tests.{ne-eqb}
 
 returns : tie.Need-returns
