@@ -1,1 +1,2 @@
 pub mod Concluding
+pub mod Running

@@ -1,1 +1,2 @@
 pub mod NameStage
+pub mod Binding

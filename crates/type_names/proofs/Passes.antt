@@ -139,14 +139,22 @@ entry-ahead {i = i} P n h l = P .entries n l ∙ rw (lt-leb i n h)
 
 pub record PassingRange (Asked : Table → ℕ → Type 0) (pass : Table → Pass) (lo hi : ℕ) (before : Progress) (bound to : List ℕ) (i : ℕ) (after : Progress) (bound′ to′ : List ℕ) : Type 0 where
   pub upto : i ≤ hi
-  pub from : lo ≤ hi → lo ≤ i
+  pub from : (t : Table) (v : ℕ) → RangeOf t v lo hi → Asked t v → lo ≤ i
   pub bound-long : length bound′ ≡ length bound
   pub to-long : length to′ ≡ length to
   pub passes : PassesRange Asked pass lo hi before bound to i after bound′ to′
 
 module _ {Asked : Table → ℕ → Type 0} {pass : Table → Pass} {lo hi : ℕ} {before : Progress} {bound to : List ℕ} where
-  pub range-starts : PassingRange Asked pass lo hi before bound to hi before bound to
-  range-starts = record { upto = omega arith; from = λ h. h; bound-long = refl; to-long = refl; passes = record { is = λ t was v R A P. P } }
+  -- from an index that is the range's end, where it is asked of a file
+  pub range-starts : {i : ℕ} → i ≤ hi → ((t : Table) (v : ℕ) → RangeOf t v lo hi → Asked t v → hi ≤ i) → PassingRange Asked pass lo hi before bound to i before bound to
+  range-starts {i} u h =
+      record {
+        upto = u;
+        from = λ t v R A. omega (arith, R .from-is, R .upto-is, range-rises t v (R .number), h t v R A);
+        bound-long = refl;
+        to-long = refl;
+        passes = record { is = λ t was v R A P. let q : i ≡ hi = omega (arith, h t v R A) in rw q P };
+      }
 
   module _ {i : ℕ} {so-far : Progress} {bound′ to′ : List ℕ} (G : PassingRange Asked pass lo hi before bound to i so-far bound′ to′) where
     module _ (more : lo < i) where
@@ -159,7 +167,7 @@ module _ {Asked : Table → ℕ → Type 0} {pass : Table → Pass} {lo hi : ℕ
       range-skips K =
           record {
             upto = omega (arith, G .upto);
-            from = λ h. omega arith;
+            from = λ t v R A. omega arith;
             bound-long = G .bound-long;
             to-long = G .to-long;
             passes = record { is = λ t was v R A P. passing-skips (G .passes .is t was v R A P) (omega arith) v (R .number) (upto-node R) (K t v R A) };
@@ -173,7 +181,7 @@ module _ {Asked : Table → ℕ → Type 0} {pass : Table → Pass} {lo hi : ℕ
       range-stores F S =
           record {
             upto = omega (arith, G .upto);
-            from = λ h. omega arith;
+            from = λ t v R A. omega arith;
             bound-long = stored-bound S ∙ G .bound-long;
             to-long = stored-to S ∙ G .to-long;
             passes = record {
@@ -188,8 +196,7 @@ module _ {Asked : Table → ℕ → Type 0} {pass : Table → Pass} {lo hi : ℕ
     range-ends d =
         record {
           is = λ t was v R A P.
-              let h : lo ≤ hi = omega (arith, R .from-is, R .upto-is, range-rises t v (R .number)) in
-              let q : i ≡ lo = omega (arith, G .from h, d) in
+              let q : i ≡ lo = omega (arith, G .from t v R A, d) in
               rw q at (G .passes .is t was v R A P);
         }
 

@@ -2,7 +2,7 @@
 use mathlib.Core.Path.{_≡_, refl, sym, ap, _∙_}
 use mathlib.Core.Bool.{Bool, true, false, cond, not, _&&_}
 use mathlib.Core.List.{List}
-use Prim.Native.Nat.{ℕ, _+_, _-_, _≤_, _<_}
+use Prim.Native.Nat.{ℕ, _+_, _-_, _≤_, _<_, min}
 use native.Mathlib.Omega.{arith}
 use borrow.Author.Tests.{eqb-true, not-true}
 use lib.Dec.{eqb}
@@ -210,6 +210,14 @@ module _ {kinds tokens roles symbols starts keys nodes heads next : List ℕ} {s
   range-name l u e F t v R A =
       let h = tested A ∙ e in
       F .is t (A .columns) (A .schema-is ∙ range-schema (A .columns .read) R (omega arith) (omega arith) h) h
+
+-- the columns of a file are as long as its range needs
+pub range-reached :
+    {kinds tokens roles symbols starts keys nodes heads next : List ℕ} {schema lo hi i j : ℕ} → j ≡ min (length kinds) (length roles) → i ≡ min hi j → (t : Table) (v : ℕ) →
+    RangeOf t v lo hi → RangeAsked kinds tokens roles symbols starts keys nodes heads next schema t v → hi ≤ i
+range-reached a b t v R A =
+    let C = A .columns in
+    omega (arith, R .upto-is, node-below t v (R .number), ap length (C .kinds-are), ap length (C .roles-are), C .prepared .consistent .roles)
 
 -- ---- in the loop over the declarations
 

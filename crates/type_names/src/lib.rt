@@ -8,6 +8,7 @@ ghost use Rattle.type_names.specs.Binding.{BindsRange, BindsTypeNames};
 use columns::index;
 use columns::number;
 use columns::put32;
+use columns::shorter;
 use faults::Fault;
 use scopes::at;
 use scopes::at8;
@@ -197,10 +198,10 @@ fn bind_range(
         before (now (bound .entry)) (now (to .entry)) lo r (now (bound .exit)) (now (to .exit)) ⌝ }
 {
     let mut so_far = before;
-    let mut i = hi;
+    let mut i = shorter(hi, shorter(kinds.len(), roles.len()));
     while lo < i {
         i -= 1;
-        if is_type_name(at8(kinds, i), at(roles, i)) {
+        if is_type_name(kinds[i], roles[i]) {
             let found = node_finding(
                 kinds,
                 tokens,

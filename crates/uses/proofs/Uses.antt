@@ -3,7 +3,7 @@ use mathlib.Core.Path.{_≡_, refl, sym, ap, ap₂, _∙_}
 use mathlib.Core.Logic.{⊎-elim}
 use mathlib.Core.Bool.{Bool, true, false, cond, not, _&&_, _||_, false≢true}
 use mathlib.Core.List.{List, [], _∷_}
-use Prim.Native.Nat.{ℕ, _+_, _-_, _≤_, _<_}
+use Prim.Native.Nat.{ℕ, _+_, _-_, _≤_, _<_, min}
 use native.Mathlib.Omega.{arith}
 use borrow.Author.Tests.{eqb-true, eq-eqb, lt-leb}
 use lib.Dec.{eqb, leb}
@@ -214,6 +214,14 @@ module _ {kinds tokens sizes roles symbols starts keys nodes heads next : List �
       let l : n < count t = omega (arith, R .upto-is, node-below t v (R .number)) in
       let s : _ ≡ schema-of t n = A .schema-is ∙ ap (schema-of t) (sym o) ∙ owner-schema (A .of-file .read) n l (asked-below t n a) in
       F .is t (A .of-file) l a (R .upto-is ∙ sym o) s (λ h. C ∙ w ∙ chosen (inherits t n) _ _ h)
+
+-- the columns of a file are as long as its range needs
+pub range-reached :
+    {kinds tokens sizes roles symbols starts keys nodes heads next : List ℕ} {schema lo hi i j : ℕ} → j ≡ min (length kinds) (length roles) → i ≡ min hi j → (t : Table) (v : ℕ) →
+    RangeOf t v lo hi → RangeAsked kinds tokens sizes roles symbols starts keys nodes heads next schema t v → hi ≤ i
+range-reached a b t v R A =
+    let F = A .of-file in
+    omega (arith, R .upto-is, node-below t v (R .number), ap length (F .columns .kinds-are), ap length (A .roles-are), F .prepared .consistent .roles)
 
 -- ---- in the loop over the declarations
 

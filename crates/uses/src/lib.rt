@@ -5,6 +5,7 @@ ghost use Rattle.uses.specs.Binding.{asks-by, Decodes, FindingAt, BindsR
 use columns::index;
 use columns::number;
 use columns::put32;
+use columns::shorter;
 use faults::Fault;
 use meanings::Use;
 use scopes::at;
@@ -105,10 +106,10 @@ fn bind_range(
         before (now (bound .entry)) (now (to .entry)) lo r (now (bound .exit)) (now (to .exit)) ⌝ }
 {
     let mut so_far = before;
-    let mut i = hi;
+    let mut i = shorter(hi, shorter(kinds.len(), roles.len()));
     while lo < i {
         i -= 1;
-        if asks(at8(kinds, i), at(roles, i)) {
+        if asks(kinds[i], roles[i]) {
             let code = at(bound, i);
             let found = finding_at(
                 kinds,
