@@ -17,6 +17,7 @@ use crate::operators::bound;
 use crate::operators::logical;
 use crate::operators::operator;
 use crate::operators::sign;
+use bits::Binary;
 use operations::Answer;
 use combinations::applied;
 use combinations::between;
