@@ -12,12 +12,7 @@ use Rattle.express.specs.syntax.Tree as tree
 use Rattle.express.specs.tokens.Scanned.{Scanned}
 use Rattle.express.specs.names.Scope.{type-edges, binding}
 use Rattle.express.specs.names.Fault.{or-later, repeated, type-name-fault, cyclic, expression, constant-edges}
-use Rattle.express.specs.names.Names.{least, Passes}
-use Rattle.express.specs.syntax.Grammar.{file}
-use Rattle.express.specs.syntax.Syntax.{Read}
-use Rattle.scopes.specs.Preparation.{Prepared}
-use Rattle.inheritance.specs.Attributes.{attributes, AttributeRoom}
-use Rattle.inheritance.specs.Inheritance.{asks, inherited-code, ColumnsOf, InheritanceRoom}
+use Rattle.express.specs.names.Names.{least}
 use Rattle.cycles.specs.State.{needed}
 use Rattle.scopes.specs.Range.{vertex-count, declared-nodes}
 use Rattle.faults.specs.Meaning.{fault-of}
@@ -49,30 +44,6 @@ pub record BindsDeclarations (kinds tokens roles symbols starts keys nodes heads
   pub is :
       (t : Table) → Scanned t → types.FileAsked kinds tokens roles symbols starts keys nodes heads next (length bound) (length first) (length to) t → OrderRoom t order scratch →
       DeclarationsBound t r bound′ first′ to′ order′
-
--- ---- what is inherited
-
--- chains for all attributes of a file
-pub record ChainRoom (t : Table) (heads next : List ℕ) : Type 0 where
-  pub some : 0 < length heads
-  pub links : length (attributes t) ≤ length next
-  pub few : length (attributes t) < 4294967295
-
--- a file whose names of types are right, with the graph of N7
-pub record InheritingFile (t : Table) (kinds tokens roles symbols keys nodes first to : List ℕ) : Type 0 where
-  pub columns : ColumnsOf t kinds tokens roles symbols
-  pub read : Read file t
-  pub right : Passes (tree.nodes t) (type-name-fault t)
-  pub entry-heads : List ℕ
-  pub entry-next : List ℕ
-  pub prepared : Prepared t keys nodes entry-heads entry-next
-  pub graph : GraphOf t (type-target t) first to
-
--- `bind_inherited`
-pub record BindsInherited (kinds tokens roles symbols keys nodes first to spellings attributes owners heads next mark queue bound bound′ : List ℕ) : Type 0 where
-  pub is :
-      (t : Table) → InheritingFile t kinds tokens roles symbols keys nodes first to → AttributeRoom t spellings attributes owners → ChainRoom t heads next →
-      InheritanceRoom t mark queue bound → (n : ℕ) → n < count t → getD bound′ n 0 ≡ cond (asks t n) (inherited-code t n) (getD bound n 0)
 
 -- ---- the stages 4 and 5: names in expressions, cycles of constants
 

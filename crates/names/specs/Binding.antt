@@ -17,7 +17,8 @@ use Rattle.dependencies.specs.Target.{type-target, constant-target}
 use Rattle.dependencies.specs.Graph.{Room}
 use Rattle.inheritance.specs.Attributes.{AttributeRoom}
 use Rattle.type_names.specs.TypeName.{FileColumns}
-use Rattle.name_stages.specs.Stages.{OrderRoom, ChainRoom}
+use Rattle.name_stages.specs.Stages.{OrderRoom}
+use Rattle.inheritance_stage.specs.Inheriting.{ChainRoom}
 
 -- room for what each stage writes: bindings, two graphs, two orders, and what is inherited
 pub record BindingRoom (t : Table) (bound first to types constants scratch spellings attributes owners heads next mark queue : List ℕ) : Type 0 where

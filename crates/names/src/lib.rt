@@ -5,9 +5,9 @@ ghost use Rattle.names.specs.Binding.{BindsNames};
 ghost use Rattle.names.specs.Prepared.{PreparesFile};
 use faults::Fault;
 use index::Outcome;
+use inheritance_stage::bind_inherited;
 use name_stages::bind_declarations;
 use name_stages::bind_expressions;
-use name_stages::bind_inherited;
 use scopes::dictionary::Preparation;
 
 // Interns the identifiers of a file, and enters what it declares into its dictionary.

@@ -1,9 +1,9 @@
--- `name_stages::bind_inherited` meets its contract: the attributes are collected and indexed, then what is inherited is stored. Assumes nothing.
+-- `inheritance_stage::bind_inherited` meets its contract: the attributes are collected and indexed, then what is inherited is stored. Assumes nothing.
 use borrow.Author.Needs.{needs}
 use native.Mathlib.Omega.{arith}
-use Rattle.name_stages.proofs.Staged.{inherited-bound}
-use Rattle.name_stages.proofs.bind_inherited.Statement.{statement}
-use Rattle.name_stages.proofs.bind_inherited.Tie as tie
+use Rattle.inheritance_stage.proofs.Inheriting.{inherited-bound}
+use Rattle.inheritance_stage.proofs.bind_inherited.Statement.{statement}
+use Rattle.inheritance_stage.proofs.bind_inherited.Tie as tie
 
 saturating-sub-requires : tie.Need-saturating-sub-requires
 saturating-sub-requires c κs = search needs
