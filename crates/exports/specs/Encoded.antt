@@ -4,8 +4,8 @@ use mathlib.Core.Path.{_≡_}
 use mathlib.Core.Bool.{Bool, true, false}
 use Rattle.index.specs.declared.dictionary.Found.{Found}
 use Rattle.index.specs.declared.dictionary.Found.the-variants.{At, Nothing}
-use Rattle.names.specs.declared.resolution.Resolution.{Resolution}
-use Rattle.names.specs.declared.resolution.Resolution.the-variants as resolution
+use Rattle.resolutions.specs.declared.Resolution.{Resolution}
+use Rattle.resolutions.specs.declared.Resolution.the-variants as resolution
 use Rattle.graph.specs.declared.Marking.{Marking}
 use Rattle.graph.specs.declared.Marking.the-variants as marking
 use Rattle.cycles.specs.declared.Dependencies.{Dependencies}

@@ -7,7 +7,7 @@ ghost use Rattle.names.specs.Resolution.{Resolves};
 ghost use Rattle.exports.specs.Encoded.{Encoded, Encodes, entry, resolution-reply, resolution-place};
 use index::Outcome;
 use index::dictionary::Found;
-use names::resolution::Resolution;
+use resolutions::Resolution;
 
 fn is_done(outcome: Outcome) -> bool
     ensures { λ r. ⌜ r ≡ done outcome ⌝ }
@@ -141,7 +141,7 @@ pub extern "C" fn woffulent_resolve(
         (now («attribute_heads» .entry)) (now («attribute_next» .entry)) (now (mark .entry)) (now (queue .entry))
         o (now (bindings .exit)) (now (types .exit)) (now (constants .exit))) r (now (place .exit)) ⌝ }
 {
-    let resolution = names::resolution::resolve(
+    let resolution = names::resolve(
         src,
         starts,
         lengths,

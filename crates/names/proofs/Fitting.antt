@@ -19,9 +19,10 @@ use Rattle.inheritance.specs.Attributes.{owned-attribute, attributes-from}
 use Rattle.inheritance.specs.Attributes as attribute
 use Rattle.faults.specs.declared.Fault.{Fault}
 use Rattle.type_names.specs.TypeName.{FileColumns}
-use Rattle.names.specs.Binding.{BindingRoom, BindsNames}
-use Rattle.names.specs.Resolution.{StageRoom, BindsPrepared}
-use Rattle.names.proofs.Preparing.{length-span}
+use Rattle.name_binding.specs.Binding.{BindingRoom, BindsNames}
+use Rattle.resolutions.specs.Answer.{StageRoom}
+use Rattle.names.specs.Resolution.{BindsPrepared}
+use Rattle.name_binding.proofs.Preparing.{length-span}
 
 -- no more arcs than nodes
 few-arcs : (t : Table) (target : ℕ → ℕ) → length (led-to-from t target 0) ≤ count t

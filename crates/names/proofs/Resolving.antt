@@ -34,12 +34,13 @@ use Rattle.scopes.proofs.Tables.{columns-of, same-entries, counted-for}
 use Rattle.faults.specs.declared.Fault.{Fault}
 use Rattle.faults.specs.Meaning.{fault-of}
 use Rattle.type_names.specs.TypeName.{FileColumns}
-use Rattle.names.proofs.Preparing.{as-many, length-span}
-use Rattle.names.specs.Prepared.{FilePrepared, PreparesFile}
-use Rattle.names.specs.Binding.{NamesBound}
-use Rattle.names.specs.Resolution.{FileRead, StageRoom, NamesRoom, Resolved, Resolves, BindsPrepared, done-with, answer-to, Finishes}
-use Rattle.names.specs.declared.resolution.Resolution.{Resolution}
-use Rattle.names.specs.declared.resolution.Resolution.the-variants.{Bound, Faulty, Unfit}
+use Rattle.name_binding.proofs.Preparing.{as-many, length-span}
+use Rattle.name_binding.specs.Prepared.{FilePrepared, PreparesFile}
+use Rattle.name_binding.specs.Binding.{NamesBound}
+use Rattle.resolutions.specs.Answer.{StageRoom, done-with, answer-to, Finishes}
+use Rattle.names.specs.Resolution.{FileRead, NamesRoom, Resolved, Resolves, BindsPrepared}
+use Rattle.resolutions.specs.declared.Resolution.{Resolution}
+use Rattle.resolutions.specs.declared.Resolution.the-variants.{Bound, Faulty, Unfit}
 
 -- ---- the tests
 
@@ -146,19 +147,6 @@ module _ {src starts lengths terminals kinds tokens roles symbols keys nodes hea
       counted-file = counted t (F .kinds-are) (F .roles-are) few
 
 -- ---- the answer
-
-module _ {f : Fault} {bound bindings : List ℕ} where
-  pub finishes-faulty : (f .number ≡ 0 → ⊥) → Finishes f bound bindings (Faulty (f .number) (f .place)) bindings
-  finishes-faulty d = record {
-    answer = sym (ap (λ (b : Bool). cond b Bound (Faulty (f .number) (f .place))) (ne-eqb (f .number) 0 d));
-    bindings-are = sym (ap (λ (b : Bool). cond b (sets bindings 0 (take (min (length bound) (length bindings)) bound)) bindings) (ne-eqb (f .number) 0 d));
-  }
-
-  pub finishes-bound : {bindings′ : List ℕ} → f .number ≡ 0 → bindings′ ≡ sets bindings 0 (take (min (length bound) (length bindings)) bound) → Finishes f bound bindings Bound bindings′
-  finishes-bound e w = record {
-    answer = sym (ap (λ (b : Bool). cond b Bound (Faulty (f .number) (f .place))) (eq-eqb (f .number) 0 e));
-    bindings-are = w ∙ sym (ap (λ (b : Bool). cond b (sets bindings 0 (take (min (length bound) (length bindings)) bound)) bindings) (eq-eqb (f .number) 0 e));
-  }
 
 -- one column over another of its length
 sets-over : (l vs : List ℕ) → length vs ≡ length l → sets l 0 vs ≡ vs

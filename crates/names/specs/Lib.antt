@@ -1,3 +1,1 @@
-pub mod Prepared
-pub mod Binding
 pub mod Resolution

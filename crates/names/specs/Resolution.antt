@@ -1,12 +1,10 @@
 -- The names of a file, from its bytes, its tokens and its nodes (N1 to N19).
 use mathlib.Core.Path.{_≡_}
 use mathlib.Core.Logic.{_≢_}
-use mathlib.Core.Bool.{Bool, true, false, cond}
+use mathlib.Core.Bool.{true}
 use mathlib.Core.List.{List}
-use Prim.Native.Nat.{ℕ, _*_, _≤_, _<_, min}
-use lib.Dec.{eqb}
+use Prim.Native.Nat.{ℕ}
 use lib.ListN.{length, take}
-use lib.Seq.{sets}
 use Rattle.relations.specs.Reach.{Joins}
 use Rattle.relations.specs.Sorted.{Arranged}
 use Rattle.express.specs.syntax.Grammar.{file}
@@ -20,13 +18,12 @@ use Rattle.index.specs.Room.{enough}
 use Rattle.scopes.specs.Entries.{entries}
 use Rattle.scopes.specs.Preparation.{Consistent, Room, Prepared}
 use Rattle.scopes.specs.Range.{vertex-count, declared-nodes}
-use Rattle.scopes.specs.declared.dictionary.Preparation.{Preparation}
-use Rattle.scopes.specs.declared.dictionary.Preparation.the-variants as preparation
 use Rattle.faults.specs.declared.Fault.{Fault}
 use Rattle.type_names.specs.TypeName.{FileColumns}
-use Rattle.names.specs.Binding.{NamesBound}
-use Rattle.names.specs.declared.resolution.Resolution.{Resolution}
-use Rattle.names.specs.declared.resolution.Resolution.the-variants.{Bound, Faulty, Unfit}
+use Rattle.name_binding.specs.Binding.{NamesBound}
+use Rattle.resolutions.specs.Answer.{StageRoom}
+use Rattle.resolutions.specs.declared.Resolution.{Resolution}
+use Rattle.resolutions.specs.declared.Resolution.the-variants.{Bound, Faulty, Unfit}
 
 -- the columns of a file that is read
 pub record FileRead (src starts lengths terminals kinds tokens sizes roles : List ℕ) (t : Table) : Type 0 where
@@ -40,24 +37,6 @@ pub record FileRead (src starts lengths terminals kinds tokens sizes roles : Lis
   pub tokens-are : tokens ≡ t .tokens
   pub sizes-are : sizes ≡ t .sizes
   pub roles-are : roles ≡ t .roles
-
--- lengths of the columns that the stages write, for so many nodes and declarations
-pub record StageRoom (count vertices bound first to types constants scratch spellings attributes owners heads next mark queue : ℕ) : Type 0 where
-  pub few : vertices ≤ 65536
-  pub bound-room : count ≤ bound
-  pub first-room : vertices < first
-  pub to-room : count ≤ to
-  pub to-small : to < 4294967296
-  pub types-room : vertices ≤ types
-  pub constants-room : vertices ≤ constants
-  pub scratch-room : 6 * vertices ≤ scratch
-  pub spellings-room : count ≤ spellings
-  pub attributes-room : count ≤ attributes
-  pub owners-room : count ≤ owners
-  pub heads-room : 0 < heads
-  pub next-room : count ≤ next
-  pub mark-room : vertices ≤ mark
-  pub queue-room : vertices ≤ queue
 
 -- and of all columns: a symbol and a link for each token, a key, a node and a link for each entry of the dictionary
 pub record NamesRoom (t : Table) (symbols keys nodes heads next bound first to types constants scratch spellings attributes owners attribute-heads attribute-next mark queue : ℕ) : Type 0 where
@@ -92,15 +71,3 @@ pub record BindsPrepared (kinds tokens sizes roles symbols starts keys nodes hea
   pub is :
       (t : Table) → Scanned t → FileColumns t kinds tokens roles symbols starts (take entries keys) (take entries nodes) heads next → sizes ≡ t .sizes → vertices ≡ vertex-count t →
       NamesBound t r bound′ types′ constants′
-
-abbrev pub done-with : Preparation → Bool → Bool
-done-with preparation.Done b = b
-done-with preparation.Unfit b = false
-
--- `finish`: the answer to a fault, and the bindings in their column where there is none
-abbrev pub answer-to : Fault → Resolution
-answer-to f = cond (eqb (f .number) 0) Bound (Faulty (f .number) (f .place))
-
-pub record Finishes (f : Fault) (bound bindings : List ℕ) (r : Resolution) (bindings′ : List ℕ) : Type 0 where
-  pub answer : r ≡ answer-to f
-  pub bindings-are : bindings′ ≡ cond (eqb (f .number) 0) (sets bindings 0 (take (min (length bound) (length bindings)) bound)) bindings

@@ -1,53 +1,18 @@
-// The names of a file: its dictionary, and all stages over it, from the first to the last.
-pub mod resolution;
-
-ghost use Rattle.names.specs.Binding.{BindsNames};
-ghost use Rattle.names.specs.Prepared.{PreparesFile};
+// The names of a file, from its bytes, its tokens and its nodes.
+ghost use Prim.Native.Nat.{_≤_};
+ghost use lib.ListN.{length};
+ghost use Rattle.names.specs.Resolution.{BindsPrepared, Resolves};
+ghost use Rattle.resolutions.specs.Answer.{StageRoom};
 use faults::Fault;
-use index::Outcome;
-use inheritance_stage::bind_inherited;
-use name_stages::bind_declarations;
-use name_stages::bind_expressions;
-use scopes::dictionary::Preparation;
+use name_binding::bind_names;
+use name_binding::prepare;
+use resolutions::Resolution;
+use resolutions::finish;
+use resolutions::fits;
+use resolutions::room;
 
-// Interns the identifiers of a file, and enters what it declares into its dictionary.
-pub fn prepare(
-    src: &[u8],
-    starts: &[u32],
-    lengths: &[u32],
-    terminals: &[u8],
-    kinds: &[u8],
-    tokens: &[u32],
-    roles: &[u32],
-    symbols: &mut [u32],
-    keys: &mut [u64],
-    nodes: &mut [u32],
-    heads: &mut [u32],
-    next: &mut [u32],
-) -> Preparation
-    ensures { λ r. ⌜ PreparesFile (now (src .entry)) (now (starts .entry)) (now (lengths .entry)) (now (terminals .entry)) (now (kinds .entry)) (now (tokens .entry))
-        (now (roles .entry)) (now (symbols .entry)) (now (keys .entry)) (now (nodes .entry)) (now (heads .entry)) (now (next .entry)) r
-        (now (symbols .exit)) (now (keys .exit)) (now (nodes .exit)) (now (heads .exit)) (now (next .exit)) ⌝ }
-{
-    let interned = symbols::intern(src, starts, lengths, terminals, symbols, heads, next);
-    match interned {
-        Outcome::Done => preparation::prepare(
-            kinds,
-            tokens,
-            roles,
-            &symbols[..starts.len()],
-            keys,
-            nodes,
-            heads,
-            next,
-        ),
-        Outcome::Short => Preparation::Unfit,
-    }
-}
-
-// All stages, over a dictionary that is prepared: the first fault, and where there is none the bindings of all nodes, and an order of
-// the declarations by their types and one by their constants. The columns of the second order, which comes last, serve what is inherited.
-pub fn bind_names(
+// Binds all names, with the dictionary of so many entries at the front of its columns.
+fn bind_prepared(
     kinds: &[u8],
     tokens: &[u32],
     sizes: &[u32],
@@ -58,6 +23,8 @@ pub fn bind_names(
     nodes: &[u32],
     heads: &[u32],
     next: &[u32],
+    vertices: usize,
+    entries: usize,
     bound: &mut [u32],
     first: &mut [u32],
     to: &mut [u32],
@@ -72,64 +39,138 @@ pub fn bind_names(
     mark: &mut [u32],
     queue: &mut [u32],
 ) -> Fault
-    ensures { λ r. ⌜ BindsNames (now (kinds .entry)) (now (tokens .entry)) (now (sizes .entry)) (now (roles .entry)) (now (symbols .entry)) (now (starts .entry))
-        (now (keys .entry)) (now (nodes .entry)) (now (heads .entry)) (now (next .entry))
-        (now (bound .entry)) (now (first .entry)) (now (to .entry)) (now (types .entry)) (now (constants .entry)) (now (scratch .entry))
-        (now (spellings .entry)) (now (attributes .entry)) (now (owners .entry)) (now («attribute_heads» .entry)) (now («attribute_next» .entry)) (now (mark .entry)) (now (queue .entry))
-        r (now (bound .exit)) (now (types .exit)) (now (constants .exit)) ⌝ }
+    requires { ⌜ StageRoom (length (now kinds)) vertices
+        (length (now bound)) (length (now first)) (length (now to)) (length (now types)) (length (now constants)) (length (now scratch)) (length (now spellings)) (length (now attributes))
+        (length (now owners)) (length (now «attribute_heads»)) (length (now «attribute_next»)) (length (now mark)) (length (now queue))
+        × (entries ≤ length (now keys)) × (entries ≤ length (now nodes)) ⌝ }
+    ensures { λ r. ⌜ BindsPrepared (now (kinds .entry)) (now (tokens .entry)) (now (sizes .entry)) (now (roles .entry)) (now (symbols .entry)) (now (starts .entry)) (now (keys .entry))
+        (now (nodes .entry)) (now (heads .entry)) (now (next .entry))
+        vertices entries r (now (bound .exit)) (now (types .exit)) (now (constants .exit)) ⌝ }
 {
-    let declared = bind_declarations(
-        kinds,
-        tokens,
-        roles,
-        symbols,
-        starts,
-        keys,
-        nodes,
-        heads,
-        next,
-        bound,
-        first,
-        to,
-        types,
-        scratch,
-    );
-    bind_inherited(
-        kinds,
-        tokens,
-        roles,
-        symbols,
-        keys,
-        nodes,
-        first,
-        to,
-        spellings,
-        attributes,
-        owners,
-        attribute_heads,
-        attribute_next,
-        constants,
-        scratch,
-        mark,
-        queue,
-        bound,
-    );
-    let used = bind_expressions(
+    let count = kinds.len();
+    bind_names(
         kinds,
         tokens,
         sizes,
         roles,
         symbols,
         starts,
+        &keys[..entries],
+        &nodes[..entries],
+        heads,
+        next,
+        bound,
+        &mut first[..vertices + 1],
+        to,
+        types,
+        constants,
+        scratch,
+        &mut spellings[..count],
+        &mut attributes[..count],
+        &mut owners[..count],
+        attribute_heads,
+        attribute_next,
+        mark,
+        queue,
+    )
+}
+
+// Binds the names of a file: the column of bindings holds the roles of the nodes, and where no name is at fault the bindings afterwards.
+pub fn resolve(
+    src: &[u8],
+    starts: &[u32],
+    lengths: &[u32],
+    terminals: &[u8],
+    kinds: &[u8],
+    tokens: &[u32],
+    sizes: &[u32],
+    bindings: &mut [u32],
+    symbols: &mut [u32],
+    keys: &mut [u64],
+    nodes: &mut [u32],
+    heads: &mut [u32],
+    next: &mut [u32],
+    bound: &mut [u32],
+    first: &mut [u32],
+    to: &mut [u32],
+    types: &mut [u32],
+    constants: &mut [u32],
+    scratch: &mut [u32],
+    spellings: &mut [u64],
+    attributes: &mut [u32],
+    owners: &mut [u32],
+    attribute_heads: &mut [u32],
+    attribute_next: &mut [u32],
+    mark: &mut [u32],
+    queue: &mut [u32],
+) -> Resolution
+    ensures { λ r. ⌜ Resolves (now (src .entry)) (now (starts .entry)) (now (lengths .entry)) (now (terminals .entry)) (now (kinds .entry)) (now (tokens .entry)) (now (sizes .entry)) (now
+        (bindings .entry)) (now (symbols .entry)) (now (keys .entry)) (now (nodes .entry)) (now (heads .entry)) (now (next .entry))
+        (now (bound .entry)) (now (first .entry)) (now (to .entry)) (now (types .entry)) (now (constants .entry)) (now (scratch .entry)) (now (spellings .entry)) (now (attributes .entry))
+        (now (owners .entry)) (now («attribute_heads» .entry)) (now («attribute_next» .entry)) (now (mark .entry)) (now (queue .entry))
+        r (now (bindings .exit)) (now (types .exit)) (now (constants .exit)) ⌝ }
+{
+    let prepared = prepare(
+        src,
+        starts,
+        lengths,
+        terminals,
+        kinds,
+        tokens,
+        bindings,
+        symbols,
         keys,
         nodes,
         heads,
         next,
+    );
+    let counts = preparation::count_entries(kinds, bindings);
+    let enough = room(
+        kinds.len(),
+        counts.declarations,
+        bound.len(),
+        first.len(),
+        to.len(),
+        types.len(),
+        constants.len(),
+        scratch.len(),
+        spellings.len(),
+        attributes.len(),
+        owners.len(),
+        attribute_heads.len(),
+        attribute_next.len(),
+        mark.len(),
+        queue.len(),
+    );
+    if !fits(prepared, enough) {
+        return Resolution::Unfit;
+    }
+    let fault = bind_prepared(
+        kinds,
+        tokens,
+        sizes,
+        bindings,
+        &symbols[..starts.len()],
+        starts,
+        keys,
+        nodes,
+        heads,
+        next,
+        counts.declarations,
+        counts.declarations + counts.others,
         bound,
         first,
         to,
+        types,
         constants,
         scratch,
+        spellings,
+        attributes,
+        owners,
+        attribute_heads,
+        attribute_next,
+        mark,
+        queue,
     );
-    faults::or_later(declared, used)
+    finish(fault, bound, bindings)
 }

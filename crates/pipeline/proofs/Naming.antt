@@ -7,8 +7,8 @@ use Rattle.express.specs.tokens.Lexis.{most}
 use Rattle.express.specs.syntax.Tree.{Table}
 use Rattle.express.specs.names.Fault.{Fault}
 use Rattle.express.specs.names.Names.{names}
-use Rattle.names.specs.declared.resolution.Resolution.{Resolution}
-use Rattle.names.specs.declared.resolution.Resolution.the-variants.{Bound, Faulty, Unfit}
+use Rattle.resolutions.specs.declared.Resolution.{Resolution}
+use Rattle.resolutions.specs.declared.Resolution.the-variants.{Bound, Faulty, Unfit}
 use Rattle.names.specs.Resolution.{Resolved, Resolves}
 use Rattle.stages.specs.declared.Stage.{Stage}
 use Rattle.stages.specs.declared.Stage.the-variants.{Done, Refused}

@@ -12,8 +12,8 @@ use Rattle.express.specs.names.Scope as scope
 use Rattle.express.specs.names.Fault.{constant-edges}
 use Rattle.express.specs.names.Names.{names}
 use Rattle.scopes.specs.Range.{vertex-count, declared-nodes}
-use Rattle.names.specs.declared.resolution.Resolution.{Resolution}
-use Rattle.names.specs.declared.resolution.Resolution.the-variants.{Bound, Faulty, Unfit}
+use Rattle.resolutions.specs.declared.Resolution.{Resolution}
+use Rattle.resolutions.specs.declared.Resolution.the-variants.{Bound, Faulty, Unfit}
 use Rattle.names.specs.Resolution.{FileRead, NamesRoom}
 use Rattle.stages.specs.declared.Stage.{Stage}
 use Rattle.stages.specs.declared.Stage.the-variants.{Done, Refused}

@@ -1,8 +1,8 @@
--- `names::bind_names` meets its contract: one stage after another. Assumes nothing.
+-- `name_binding::bind_names` meets its contract: one stage after another. Assumes nothing.
 use borrow.Author.Needs.{needs}
-use Rattle.names.proofs.bind_names.Statement.{statement}
-use Rattle.names.proofs.bind_names.Tie as tie
-use Rattle.names.proofs.Bound.{names-bound}
+use Rattle.name_binding.proofs.bind_names.Statement.{statement}
+use Rattle.name_binding.proofs.bind_names.Tie as tie
+use Rattle.name_binding.proofs.Bound.{names-bound}
 use native.Mathlib.Omega.{arith}
 use mathlib.Core.Path.{_∙_}
 

@@ -23,7 +23,7 @@ use Rattle.inheritance.specs.Inheritance.{asks, inherited-code}
 use Rattle.type_names.specs.TypeName.{is-type-name}
 use Rattle.name_stages.specs.Stages.{DeclarationsBound, BindsDeclarations, ExpressionsBound, BindsExpressions}
 use Rattle.inheritance_stage.specs.Inheriting.{BindsInherited}
-use Rattle.names.specs.Binding.{BindingRoom, NamesBound, BindsNames}
+use Rattle.name_binding.specs.Binding.{BindingRoom, NamesBound, BindsNames}
 use Rattle.name_stages.proofs.Staged.{hides, gives-way, no-first, no-later, same-later}
 
 -- ---- the first fault

@@ -1,10 +1,10 @@
--- `names::resolution::room` meets its contract: each length is compared, those for nodes and for declarations by the shortest. Assumes nothing.
+-- `resolutions::room` meets its contract: each length is compared, those for nodes and for declarations by the shortest. Assumes nothing.
 use borrow.Author.Needs.{needs}
-use Rattle.names.proofs.resolution.room.Statement.{statement}
-use Rattle.names.proofs.resolution.room.Tie as tie
+use Rattle.resolutions.proofs.room.Statement.{statement}
+use Rattle.resolutions.proofs.room.Tie as tie
 use native.Mathlib.Omega.{arith}
 use Rattle.preparation.proofs.Checking.{refutes}
-use Rattle.names.proofs.Rooms.{stage-room-decided}
+use Rattle.resolutions.proofs.Rooms.{stage-room-decided}
 
 returns : tie.Need-returns
 returns c = refutes (λ r. omega (arith, c .if1 .taken, r .few))

@@ -1,7 +1,7 @@
--- `names::resolution::bind_prepared` meets its contract: each stage has room in the parts that are lent. Assumes nothing.
+-- `names::bind_prepared` meets its contract: each stage has room in the parts that are lent. Assumes nothing.
 use borrow.Author.Needs.{needs}
-use Rattle.names.proofs.resolution.bind_prepared.Statement.{statement}
-use Rattle.names.proofs.resolution.bind_prepared.Tie as tie
+use Rattle.names.proofs.bind_prepared.Statement.{statement}
+use Rattle.names.proofs.bind_prepared.Tie as tie
 use native.Mathlib.Omega.{arith}
 use Rattle.names.proofs.Fitting.{part-long, prepared-bound, joined-long}
 use Prim.Native.Nat.{_+_}

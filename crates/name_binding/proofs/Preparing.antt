@@ -22,7 +22,7 @@ use Rattle.scopes.specs.Preparation.{Prepares, Refused, Answers}
 use Rattle.scopes.specs.declared.dictionary.Preparation.{Preparation}
 use Rattle.scopes.specs.declared.dictionary.Preparation.the-variants.{Done, Unfit}
 use Rattle.scopes.proofs.Tables.{columns-of, same-entries, prepared-for}
-use Rattle.names.specs.Prepared.{FilePrepared, PreparesFile}
+use Rattle.name_binding.specs.Prepared.{FilePrepared, PreparesFile}
 
 pub length-span : (i d : ℕ) → length (span i d) ≡ d
 unfolding span

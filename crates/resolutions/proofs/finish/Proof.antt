@@ -1,8 +1,8 @@
--- `names::resolution::finish` meets its contract. Assumes nothing.
+-- `resolutions::finish` meets its contract. Assumes nothing.
 use borrow.Author.Needs.{needs}
-use Rattle.names.proofs.resolution.finish.Statement.{statement}
-use Rattle.names.proofs.resolution.finish.Tie as tie
-use Rattle.names.proofs.Resolving.{finishes-faulty, finishes-bound}
+use Rattle.resolutions.proofs.finish.Statement.{statement}
+use Rattle.resolutions.proofs.finish.Tie as tie
+use Rattle.resolutions.proofs.Finishing.{finishes-faulty, finishes-bound}
 
 returns : tie.Need-returns
 returns c = finishes-faulty (c .if1 .taken)

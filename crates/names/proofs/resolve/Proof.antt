@@ -1,7 +1,7 @@
--- `names::resolution::resolve` meets its contract, by the laws of `Resolving`. Assumes nothing.
+-- `names::resolve` meets its contract, by the laws of `Resolving`. Assumes nothing.
 use borrow.Author.Needs.{needs}
-use Rattle.names.proofs.resolution.resolve.Statement.{statement}
-use Rattle.names.proofs.resolution.resolve.Tie as tie
+use Rattle.names.proofs.resolve.Statement.{statement}
+use Rattle.names.proofs.resolve.Tie as tie
 use native.Mathlib.Omega.{arith}
 use Rattle.names.proofs.Resolving.{fits-done, fits-room, keys-fit, nodes-fit, sum-small, symbols-within, symbols-cut, unfit-resolved, file-resolved}
 

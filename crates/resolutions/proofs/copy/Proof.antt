@@ -1,10 +1,10 @@
--- `names::resolution::copy` meets its contract, by the laws of `Copying`. Assumes nothing.
-use Rattle.names.proofs.resolution.copy.Statement.{statement}
-use Rattle.names.proofs.resolution.copy.Tie as tie
+-- `resolutions::copy` meets its contract, by the laws of `Copying`. Assumes nothing.
+use Rattle.resolutions.proofs.copy.Statement.{statement}
+use Rattle.resolutions.proofs.copy.Tie as tie
 use borrow.Author.Needs.{needs}
 use Prim.Native.Nat.{_-_}
 use native.Mathlib.Omega.{arith}
-use Rattle.names.proofs.Copying.{Copying, copying-starts, copying-goes-on, copying-ends}
+use Rattle.resolutions.proofs.Copying.{Copying, copying-starts, copying-goes-on, copying-ends}
 
 abbrev Inv-loop : tie.InvT-loop
 Inv-loop from into₀ end i₀ into i = Copying from into₀ into i

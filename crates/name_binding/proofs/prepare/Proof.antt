@@ -1,8 +1,8 @@
--- `names::prepare` meets its contract: the symbols are at the front of their column, and the dictionary is built over them. Assumes nothing.
+-- `name_binding::prepare` meets its contract: the symbols are at the front of their column, and the dictionary is built over them. Assumes nothing.
 use borrow.Author.Needs.{needs}
-use Rattle.names.proofs.prepare.Statement.{statement}
-use Rattle.names.proofs.prepare.Tie as tie
-use Rattle.names.proofs.Preparing.{symbols-fit, symbols-long, short-prepared, file-prepared}
+use Rattle.name_binding.proofs.prepare.Statement.{statement}
+use Rattle.name_binding.proofs.prepare.Tie as tie
+use Rattle.name_binding.proofs.Preparing.{symbols-fit, symbols-long, short-prepared, file-prepared}
 
 intern-requires : tie.Need-intern-requires
 intern-requires c κs = search needs

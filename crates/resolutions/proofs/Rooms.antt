@@ -5,7 +5,7 @@ use native.Mathlib.Omega.{arith}
 use borrow.Author.Tests.{leb-true, leb-false}
 use lib.Dec.{leb}
 use Rattle.scopes.specs.Preparation.{Decides}
-use Rattle.names.specs.Resolution.{StageRoom}
+use Rattle.resolutions.specs.Answer.{StageRoom}
 
 -- the smallest of the columns with an entry for each declaration is compared last
 pub stage-room-decided :
