@@ -4,7 +4,7 @@ use mathlib.Core.Bool.{Bool, true, false, cond}
 use mathlib.Core.List.{List, [], _∷_}
 use Prim.Native.Nat.{ℕ, zero, suc, _≤_, _<_}
 use native.Mathlib.Omega.{arith}
-use borrow.Author.Tests.{le-leb, lt-leb, eq-eqb, ne-eqb}
+use borrow.Author.Tests.{le-leb, lt-leb}
 use lib.Dec.{leb}
 use lib.ListN.{length, getD}
 use Rattle.ebnf.specs.Rows.{Rows}
@@ -13,7 +13,6 @@ use Rattle.express.specs.tokens.Lexis as lexis
 use Rattle.express.specs.tokens.Lexis.{most, lexed, tokens}
 use Rattle.express.specs.syntax.Grammar.{file}
 use Rattle.express.specs.syntax.Syntax.{parsed}
-use Rattle.express.specs.names.Fault.{Fault}
 use Rattle.express.specs.whole.Reply.{token-entries, node-entries}
 use Rattle.blanks.specs.declared.Step.{Step}
 use Rattle.blanks.specs.declared.Step.the-variants as step
@@ -24,7 +23,7 @@ use Rattle.parsing.specs.declared.Parsed.the-variants.{Accepted, Unexpected, To
 use Rattle.parsing.specs.Parsing.{answer, Parsing}
 use Rattle.stages.specs.declared.Stage.{Stage}
 use Rattle.stages.specs.declared.Stage.the-variants.{Done, Refused}
-use Rattle.stages.specs.Line.{then-stage, of-reading, of-syntax, of-names}
+use Rattle.stages.specs.Line.{of-reading, of-syntax}
 use Rattle.stages.specs.Reading.{ScansTokens, of-parse, Few, OfParse, ParsesTokens, Constants, FitsConstants}
 use Rattle.stages.proofs.Bounds.{clash, place-small, rows-few}
 use Rattle.stages.proofs.Counting.{row-short}
@@ -131,15 +130,3 @@ module _ {before : Stage} {kinds : List ℕ} {entries : ℕ} where
 
   pub constants-passed : {k p : ℕ} → before ≡ Refused k p → FitsConstants before kinds entries (Refused k p)
   constants-passed e = record { is = λ h. rw e }
-
--- ---- names
-
-module _ (f : Fault) {before : Stage} where
-  pub no-fault : {n : ℕ} → before ≡ Done n → f .number ≡ 0 → Done n ≡ then-stage before (of-names f)
-  no-fault e z = rw (e, eq-eqb (f .number) 0 z)
-
-  pub a-fault : {n : ℕ} → before ≡ Done n → (f .number ≡ 0 → ⊥) → Refused (f .number) (f .place) ≡ then-stage before (of-names f)
-  a-fault e z = rw (e, ne-eqb (f .number) 0 z)
-
-  pub a-refusal : {k p : ℕ} → before ≡ Refused k p → Refused k p ≡ then-stage before (of-names f)
-  a-refusal e = rw e

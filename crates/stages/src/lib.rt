@@ -3,15 +3,13 @@ ghost use mathlib.Core.Path.{_≡_};
 ghost use lib.ListN.{getD};
 ghost use Prim.Native.Nat.{_≤_};
 ghost use Rattle.express.specs.tokens.Lexis.{most};
-ghost use Rattle.faults.specs.Meaning.{fault-of};
 ghost use Rattle.stages.specs.AnswerStage.{EvaluatesFile, AnswersFile};
 ghost use Rattle.stages.specs.KindStage.{of-typing, TypesFile};
-ghost use Rattle.stages.specs.Line.{count-of, then-stage, of-names};
+ghost use Rattle.stages.specs.Line.{count-of};
 ghost use Rattle.stages.specs.Reading.{ScansTokens, OfParse, ParsesTokens, ReadsNodes, Constants, FitsConstants};
 use blanks::Step;
 use constants::evaluate_constants;
 use declared_types::declared_types;
-use faults::Fault;
 use parsing::Parsed;
 use scopes::at;
 use typing::Typing;
@@ -163,21 +161,6 @@ pub fn fit_constants(before: Stage, kinds: &[u8], entries: usize) -> Stage
                 return Stage::Done(n);
             }
             Stage::Refused(codes::replies::ANSWERS_SHORT, columns::number(n))
-        }
-        Stage::Refused(k, p) => Stage::Refused(k, p),
-    }
-}
-
-// No fault of names, or the least of the first stage that has one: replies 9 to 13.
-pub fn of_names(before: Stage, fault: Fault) -> Stage
-    ensures { λ r. ⌜ r ≡ then-stage before (of-names (fault-of fault)) ⌝ }
-{
-    match before {
-        Stage::Done(n) => {
-            if fault.number == codes::replies::ACCEPTED {
-                return Stage::Done(n);
-            }
-            Stage::Refused(fault.number, fault.place)
         }
         Stage::Refused(k, p) => Stage::Refused(k, p),
     }
