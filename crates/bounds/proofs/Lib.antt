@@ -1,3 +1,4 @@
 pub mod Weight
 pub mod Total
 pub mod Bounds
+pub mod Consistent
