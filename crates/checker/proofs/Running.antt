@@ -128,15 +128,15 @@ module _ {A : Type 0} (f : AnswerRow → A) where
       rw e (front column (map (λ a. f (row-of a)) xs) n (c ∙ sym k) l) ∙ map-map row-of f xs
 
 module _ {aks : List ℕ} {azs : List ℤ} {als aks′ : List ℕ} {azs′ : List ℤ} {als′ : List ℕ} {xs : List Answer} (W : WrittenRows aks azs als xs aks′ azs′ als′) (n : ℕ) (c : n ≡ length xs)
-    where
-  pub answer-kinds-front : n ≤ length aks → take n aks′ ≡ map (λ (r : AnswerRow). r .kind) (map row-of xs)
-  answer-kinds-front l = answer-front (λ (r : AnswerRow). r .kind) xs aks aks′ n c l (W .kinds-are)
+  where
+    pub answer-kinds-front : n ≤ length aks → take n aks′ ≡ map (λ (r : AnswerRow). r .kind) (map row-of xs)
+    answer-kinds-front l = answer-front (λ (r : AnswerRow). r .kind) xs aks aks′ n c l (W .kinds-are)
 
-  pub answer-numbers-front : n ≤ length azs → take n azs′ ≡ map (λ (r : AnswerRow). r .number) (map row-of xs)
-  answer-numbers-front l = answer-front (λ (r : AnswerRow). r .number) xs azs azs′ n c l (W .numbers-are)
+    pub answer-numbers-front : n ≤ length azs → take n azs′ ≡ map (λ (r : AnswerRow). r .number) (map row-of xs)
+    answer-numbers-front l = answer-front (λ (r : AnswerRow). r .number) xs azs azs′ n c l (W .numbers-are)
 
-  pub answer-lengths-front : n ≤ length als → take n als′ ≡ map (λ (r : AnswerRow). r .length) (map row-of xs)
-  answer-lengths-front l = answer-front (λ (r : AnswerRow). r .length) xs als als′ n c l (W .lengths-are)
+    pub answer-lengths-front : n ≤ length als → take n als′ ≡ map (λ (r : AnswerRow). r .length) (map row-of xs)
+    answer-lengths-front l = answer-front (λ (r : AnswerRow). r .length) xs als als′ n c l (W .lengths-are)
 
 -- ---- the line
 

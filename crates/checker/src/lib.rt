@@ -108,12 +108,7 @@ fn conclude(
         (now («node_kinds» .exit)) (now («node_tokens» .exit)) (now («node_sizes» .exit)) (now («node_bindings» .exit))
         (now («answer_kinds» .exit)) (now («answer_numbers» .exit)) (now («answer_lengths» .exit))) r ⌝ }
 {
-    clear_tokens(
-        token_kinds,
-        token_starts,
-        token_lengths,
-        kept(last, tokens),
-    );
+    clear_tokens(token_kinds, token_starts, token_lengths, kept(last, tokens));
     clear_nodes(
         node_kinds,
         node_tokens,

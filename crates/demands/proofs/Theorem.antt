@@ -36,9 +36,11 @@ part-at z f xs n i e =
 
 row-in : (a : Accepted) (l : Tables) (i : ℕ) → answer-in (tables-after (accepted a) l) i ≡ row-answer (row-of (getD (a .answers) i indeterminate))
 row-in a l i =
-    rw (part-at 0 (λ (r : AnswerRow). r .kind) (a .answers) (length (l .answer-kinds)) i refl,
+    rw (
+      part-at 0 (λ (r : AnswerRow). r .kind) (a .answers) (length (l .answer-kinds)) i refl,
       part-at (pos 0) (λ (r : AnswerRow). r .number) (a .answers) (length (l .answer-numbers)) i refl,
-      part-at 0 (λ (r : AnswerRow). r .length) (a .answers) (length (l .answer-lengths)) i refl)
+      part-at 0 (λ (r : AnswerRow). r .length) (a .answers) (length (l .answer-lengths)) i refl,
+    )
 
 module _ (s : List ℕ) (l m : Tables) (r : Report) (reports : r ≡ report (outcome s l)) (holds : m ≡ tables-after (outcome s l) l) where
   -- ---- the first demand

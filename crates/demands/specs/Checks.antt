@@ -59,17 +59,14 @@ pub record Checks (s : List ℕ) (l m : Tables) (r : Report) : Type 0 where
   -- R1 to R9: the report and each of the ten columns are those of the outcome, whatever the bytes and the lengths
   pub reports : r ≡ report (outcome s l)
   pub holds : m ≡ tables-after (outcome s l) l
-
   -- THE FIRST DEMAND (R16). R2: every reply is 0, or a refusal from 1 to 15
   pub numbered : r .reply ≤ 15
   -- R6, R7: after a refusal the counts are 0 and the tables zeros
   pub cleared : r .reply ≢ 0 → (r .tokens ≡ 0) × (r .nodes ≡ 0) × (r .constants ≡ 0) × (m ≡ zeros l)
-
   -- THE SECOND (R17). Reply 0 is given exactly to the acceptable files
   pub accepts : (r .reply ≡ 0) ↔ ((a : Accepted) × AcceptableIn s l a)
   -- and what is then reported and held is the file's own: its tokens, the tree of its derivation, its bindings, its answers
   pub tree : (a : Accepted) → AcceptableIn s l a → (r ≡ report (accepted a)) × (m ≡ tables-after (accepted a) l)
-
   -- THE THIRD (R18). There is a row for each constant of an acceptable file
   pub answers : (a : Accepted) → AcceptableIn s l a → r .constants ≡ length (constants (a .table))
   -- and the rules give a constant the answer in its row and no other (K28), which is `?`, an end or a member of its declared type (K32)

@@ -7,9 +7,9 @@ ghost use Rattle.operations.specs.Meaning.{answer-of, arithmetic-of, connective
 ghost use Rattle.answer_rows.specs.Stored.{stored};
 ghost use Rattle.exports.specs.Places.{relation-at};
 ghost use Rattle.exports.specs.Operands.{answer-at, arithmetic-at, connective-at, operator-at, sign-at, HoldsRow};
+use crate::logicals;
 use answer_rows::answer_of_row;
 use answer_rows::row_of;
-use crate::logicals;
 use operations::Answer;
 use operations::Arithmetic;
 use operations::Connective;

@@ -1,14 +1,14 @@
 // What is found of a node in an expression, or of an own attribute or label.
 ghost use Rattle.meanings.specs.Node.{MemberFault, NodeFindings};
-use columns::index;
-use columns::saturating_sub;
 use crate::found;
 use crate::qualified_finding;
 use crate::use_finding;
+use columns::index;
+use columns::saturating_sub;
 use faults::Fault;
 use meanings::Use;
-use scopes::at8;
 use scopes::at;
+use scopes::at8;
 use type_names::Finding;
 
 // How many tokens before an item's name the name of its type stands.
@@ -50,7 +50,16 @@ pub fn node_finding(
     let symbol = at(symbols, token);
     let place = at(starts, token);
     if kind == codes::nodes::NAME {
-        let meaning = meanings::use_meant(keys, nodes, heads, next, inherited, owner, schema, symbol);
+        let meaning = meanings::use_meant(
+            keys,
+            nodes,
+            heads,
+            next,
+            inherited,
+            owner,
+            schema,
+            symbol,
+        );
         return use_finding(kinds, nodes, meaning, place);
     }
     if kind == codes::nodes::QUALIFIED_ITEM {

@@ -3,8 +3,8 @@ ghost use mathlib.Core.Path.{_≡_};
 ghost use Rattle.pipeline.specs.Binding.{Declarations, AnswersNamed};
 ghost use Rattle.pipeline.specs.NameStage.{of-resolution, NamesFile};
 use columns::shorter;
-use resolutions::Resolution;
 use names::resolve;
+use resolutions::Resolution;
 use stages::Stage;
 use stages::answer_file;
 

@@ -55,7 +55,7 @@ module _ {class sort m : ℕ} (q : sort ≡ class % 8) (w : m ≡ class / 8) whe
       record {
         is = λ k r e. record {
           declarations-is =
-            d ∙ ap (λ (y : ℕ). before .declarations + y) (one ∙ ap (λ (b : Bool). cond b 1 0) (ap (λ (y : ℕ). eqb y declared) q ∙ class-declares class k r e));
+              d ∙ ap (λ (y : ℕ). before .declarations + y) (one ∙ ap (λ (b : Bool). cond b 1 0) (ap (λ (y : ℕ). eqb y declared) q ∙ class-declares class k r e));
           others-is = o ∙ ap (λ (y : ℕ). before .others + y) (w ∙ class-entries class k r e);
         };
       }

@@ -38,9 +38,11 @@ module _ {before : Stage} {starts terminals kinds tokens sizes bindings order de
               sizes-are = c .sizes-are;
               declares = d;
             }) (A .room) in
-            let same : i ≡ n = cc in
-            (u ∙ ap (λ (x : Typing). of-typing starts tokens x i) o ∙ typed-as t starts tokens (A .starts-are) (c .tokens-are) (kind.typing t bindings) i ∙
-            ap (of-kinds t (kind.typing t bindings)) same, d);
+            let same : i ≡ n = cc in (
+              u ∙ ap (λ (x : Typing). of-typing starts tokens x i) o ∙ typed-as t starts tokens (A .starts-are) (c .tokens-are) (kind.typing t bindings) i ∙
+                  ap (of-kinds t (kind.typing t bindings)) same,
+              d,
+            );
       }
 
   pub passed-file : {k p : ℕ} {declared′ : List ℕ} → before ≡ Refused k p → TypesFile before starts terminals kinds tokens sizes bindings order declared scratch (Refused k p) declared′

@@ -86,7 +86,7 @@ module _ (s : List ℕ) (before : Stage) (token-kinds starts lengths terms scrat
     columns-read : (j : ℕ) → j ≡ count (table-of s) → count (table-of s) ≤ entries → NodeColumns (table-of s) j kinds′ tokens′ sizes′ roles′
     columns-read j c l =
         let rows : rows-after before (take n terms′) scratch ≡ rows-of (parsed file (token-table s .terminals)) = rows-read (take n terms′) scratch q (rw (W .mine) (W .few)) (rw (W .mine)
-            (W .room)) ∙ ap (λ (ts : List ℕ). rows-of (parsed file ts)) (W .mine) in
+        (W .room)) ∙ ap (λ (ts : List ℕ). rows-of (parsed file ts)) (W .mine) in
         let h = entries-le (length kinds) (length tokens) (length sizes) (length roles) (count (table-of s)) l in
         let many = rows-of (parsed file (token-table s .terminals)) in
         let ck : count (table-of s) ≡ length many = length-map many _ in

@@ -55,7 +55,7 @@ module _ (s : List ℕ) (t : Table) where
 
   by-rows : (entries ar : ℕ) (b : Bool) → cond b (cond (leb (length (constants t)) ar) (after-names (lexed s .rows) t (names t)) (refused 8 (length (constants t)))) (refused 7 entries) ≡
       outcome-of s t (then-stage (then-stage (then-stage (cond b (Done entries) (Refused 7 entries)) (λ _. of-constants (t .kinds) ar)) (of-names (names t))) (of-kinds t (typing t (bindings
-          t))))
+      t))))
   by-rows entries ar true = by-constants (leb (length (constants t)) ar)
   by-rows entries ar false = refl
 

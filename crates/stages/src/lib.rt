@@ -31,12 +31,7 @@ pub fn count(stage: Stage) -> usize
 }
 
 // The tokens of a file: replies 1, 2, 3 and 6.
-pub fn scan_tokens(
-    src: &[u8],
-    kinds: &mut [u8],
-    starts: &mut [u32],
-    lengths: &mut [u32],
-) -> Stage
+pub fn scan_tokens(src: &[u8], kinds: &mut [u8], starts: &mut [u32], lengths: &mut [u32]) -> Stage
     ensures { λ r. ⌜ ScansTokens (now (src .entry)) (now (kinds .entry)) (now (starts .entry)) (now (lengths .entry)) r
         (now (kinds .exit)) (now (starts .exit)) (now (lengths .exit)) ⌝ }
 {
@@ -198,8 +193,15 @@ pub fn type_file(
     match before {
         Stage::Done(n) => {
             declared_types(terminals, kinds, tokens, sizes, bindings, order, declared);
-            let typing =
-                type_constants(terminals, kinds, tokens, sizes, bindings, declared, scratch);
+            let typing = type_constants(
+                terminals,
+                kinds,
+                tokens,
+                sizes,
+                bindings,
+                declared,
+                scratch,
+            );
             of_typing(typing, starts, tokens, n)
         }
         Stage::Refused(k, p) => Stage::Refused(k, p),

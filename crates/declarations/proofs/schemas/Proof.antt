@@ -41,7 +41,7 @@ loop-holds c = (
   refl,
   ready-of (c .before .before .before .before .before .before .before .before .before .pre)
       ((c .before .before .before .before .before .schema-at .ensures .reads
-          (c .before .before .before .before .before .before .before .before .before .pre)) .ahead) (c .before .first .given .1),
+      (c .before .before .before .before .before .before .before .before .before .pre)) .ahead) (c .before .first .given .1),
   loops-begin,
 )
 
@@ -63,33 +63,36 @@ same-length-2 c = search needs
 returns-2 : tie.Need-returns-2 Inv-loop μ-loop
 returns-2 c =
     list-then (reads-goes
-      (c .before .before .before .before .before .before .before .before .before .before .before .before .before .before .schema-at .ensures .reads
-      (c .before .before .before .before .before .before .before .before .before .before .before .before .before .before .before .before .before .before .pre)))
+    (c .before .before .before .before .before .before .before .before .before .before .before .before .before .before .schema-at .ensures .reads
+    (c .before .before .before .before .before .before .before .before .before .before .before .before .before .before .before .before .before .before .pre)))
     (c .before .before .before .before .before .before .before .before .before .before .first .given .1)
     (many-refused (loops-turn (c .before .before .before .before .before .before .before .before .loop .inv .2) schemas-ok
     (c .before .before .before .before .before .before .before .before .loop .inv .1) (seen-one
     (c .before .before .before .before .before .before .before .before .before .before .before .before .before .before .before .before .before .before .args .terminals .now)
     (c .before .before .before .before .before .before .before .before .loop .q) 125 (c .before .before .before .before .before .before .before .token .ensures)
     (c .before .before .before .before .before .before .if1 .taken)) (reads-goes (c .before .before .before .before .schema-at2 .ensures .reads
-      (c .before .before .before .before .before .before .before .before .loop .inv .1)))) (c .enum-told2 .given .1))
+    (c .before .before .before .before .before .before .before .before .loop .inv .1)))) (c .enum-told2 .given .1))
 
 loop-less : tie.Need-loop-less Inv-loop μ-loop
-loop-less c = omega (arith, reads-at (c .before .before .before .before .before .schema-at2 .ensures .reads
-  (c .before .before .before .before .before .before .before .before .before .loop .inv .1)) (c .before .next .given .1))
+loop-less c = omega (
+  arith,
+  reads-at (c .before .before .before .before .before .schema-at2 .ensures .reads
+      (c .before .before .before .before .before .before .before .before .before .loop .inv .1)) (c .before .next .given .1),
+)
 
 loop-again : tie.Need-loop-again Inv-loop μ-loop
 loop-again c = (
   search needs,
   ready-of (c .before .before .before .before .before .before .before .before .before .loop .inv .1)
       ((c .before .before .before .before .before .schema-at2 .ensures .reads
-        (c .before .before .before .before .before .before .before .before .before .loop .inv .1)) .ahead) (c .before .next .given .1),
+      (c .before .before .before .before .before .before .before .before .before .loop .inv .1)) .ahead) (c .before .next .given .1),
   loops-at (loops-turn (c .before .before .before .before .before .before .before .before .before .loop .inv .2) schemas-ok
       (c .before .before .before .before .before .before .before .before .before .loop .inv .1) (seen-one
       (c .before .before .before .before .before .before .before .before .before .before .before .before .before .before .before .before .before .before .before .args
       .terminals .now) (c .before .before .before .before .before .before .before .before .before .loop .q) 125
       (c .before .before .before .before .before .before .before .before .token .ensures) (c .before .before .before .before .before .before .before .if1 .taken)) (reads-goes
       (c .before .before .before .before .before .schema-at2 .ensures .reads
-          (c .before .before .before .before .before .before .before .before .before .loop .inv .1)))) (c .before .next .given .1),
+      (c .before .before .before .before .before .before .before .before .before .loop .inv .1)))) (c .before .next .given .1),
 )
 
 same-length-3 : tie.Need-same-length-3 Inv-loop μ-loop
@@ -97,7 +100,7 @@ same-length-3 c = search needs
 
 returns-3 : tie.Need-returns-3 Inv-loop μ-loop
 returns-3 c = list-then (reads-goes (c .before .before .before .before .before .before .before .before .schema-at .ensures .reads
-  (c .before .before .before .before .before .before .before .before .before .before .before .before .pre))) (c .before .before .before .before .first .given .1)
+    (c .before .before .before .before .before .before .before .before .before .before .before .before .pre))) (c .before .before .before .before .first .given .1)
     (many-ends (c .before .before .loop .inv .2) schemas-ok (c .before .before .loop .inv .1) (seen-other
     (c .before .before .before .before .before .before .before .before .before .before .before .before .args .terminals .now) (c .before .before .loop .q) 125
     (c .before .token .ensures) (c .if1 .left)))

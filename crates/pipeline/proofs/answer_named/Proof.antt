@@ -20,8 +20,12 @@ slice-aggregate-answer-file : tie.Need-slice-aggregate-answer-file
 slice-aggregate-answer-file c = sym (length-take-le (c .before .shorter2 .result) _ (omega (arith, c .before .shorter2 .ensures, c .before .before .shorter .ensures)))
 
 slice-aggregate-answer-file-2 : tie.Need-slice-aggregate-answer-file-2
-slice-aggregate-answer-file-2 c = sym (length-take-le (c .before .before .shorter2 .result) _ (omega (arith, c .before .before .shorter2 .ensures, c .before .before .before .shorter
-    .ensures)))
+slice-aggregate-answer-file-2 c = sym (length-take-le (c .before .before .shorter2 .result) _ (omega (
+  arith,
+  c .before .before .shorter2 .ensures,
+  c .before .before .before .shorter
+      .ensures,
+)))
 
 answer-file-requires : tie.Need-answer-file-requires
 answer-file-requires c κs = search needs

@@ -46,7 +46,7 @@ returns-3 c = (
   entered-other (c .before .before .before .before .before .before .before .before .before .before .before .if1 .left)
       (c .before .before .before .before .before .before .before .before .if2 .left) (c .if3 .taken)
       (keyed (c .before .before .before .before .before .before .before .before .before .before .before .before .before .before .pre)
-          (c .before .before .before .before .before .before .before .before .before .key .ensures)
+      (c .before .before .before .before .before .before .before .before .before .key .ensures)
       (c .before .before .before .before .before .before .before .before .before .before .scope .ensures)) (c .before .before .before .before .before .enter2 .ensures .0),
   entered-other (c .before .before .before .before .before .before .before .before .before .before .before .if1 .left)
       (c .before .before .before .before .before .before .before .before .if2 .left) (c .if3 .taken) refl
@@ -72,14 +72,14 @@ returns-4 : tie.Need-returns-4
 returns-4 c = (
   entered-item (c .before .before .before .before .before .before .before .before .if3 .left)
       (keyed
-          (c .before .before .before .before .before .before .before .before .before .before .before
-              .before .before .before .before .before .before .before .before .before .before .before .pre)
+      (c .before .before .before .before .before .before .before .before .before .before .before
+      .before .before .before .before .before .before .before .before .before .before .before .pre)
       (c .before .before .before .before .before .before .before .before .before .before .before .before .before .before .before .before .before .key .ensures)
       (c .before .before .before .before .before .before .before .before .before .before .before .before .before .before .before .before .before .before .scope .ensures))
       (item-keyed
-          (c .before .before .before .before .before .before .before .before .before .before .before
-              .before .before .before .before .before .before .before .before .before .before .before .pre)
-          (c .before .before .before .before .before .key2 .ensures))
+      (c .before .before .before .before .before .before .before .before .before .before .before
+      .before .before .before .before .before .before .before .before .before .before .before .pre)
+      (c .before .before .before .before .before .key2 .ensures))
       (c .before .before .before .before .before .before .before .before .before .before .before .before .before .enter2 .ensures .0) (c .before .before .before .before .enter3 .ensures .0),
   entered-item (c .before .before .before .before .before .before .before .before .if3 .left) refl refl
       (c .before .before .before .before .before .before .before .before .before .before .before .before .before .enter2 .ensures .1)

@@ -30,9 +30,9 @@ returns : tie.Need-returns
 returns c =
     let ts = c .before .before .before .before .before .before .before .before .before .before .args .terminals .now in
     let within = end-within ts (c .before .before .before .before .before .before .before .first-deep .result)
-        (c .before .before .before .before .before .before .end-of .result) (c .before .before .before .before .before .before .end-of .ensures) in
+    (c .before .before .before .before .before .before .end-of .result) (c .before .before .before .before .before .before .end-of .ensures) in
     let read = c .before .before .before .expression-at .ensures .reads (whole-ready ts (c .before .before .before .before .before .before .end-of .result) within
-        (c .before .before .before .before .before .before .before .before .before .before .pre)) in
+    (c .before .before .before .before .before .before .before .before .before .before .pre)) in
     record {
       judges = judges ts expression′ (c .before .before .before .expression-at .result) _ _ (c .before .before .before .before .before .before .before .first-deep .result)
           (c .before .before .before .before .before .before .end-of .result) (c .judged .result) (c .before .before .before .before .before .before .before .first-deep .ensures)
