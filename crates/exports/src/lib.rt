@@ -1,6 +1,6 @@
 // The proved functions under the names by which Rust and C call them. A number passes as itself, a slice as a pointer and a
-// length; a reading step as its reply, returned, and its number, written to a place of the caller's; any other enum as one
-// number.
+// length; what has a reply (a reading step, a parse, a typing, the names of a file) as its reply, returned, and its number,
+// written to a place of the caller's; any other enum as one number.
 pub mod arithmetic;
 pub mod binaries;
 pub mod graphs;

@@ -38,7 +38,7 @@ pub record FileRead (src starts lengths terminals kinds tokens sizes roles : Lis
   pub sizes-are : sizes ≡ t .sizes
   pub roles-are : roles ≡ t .roles
 
--- and of all columns: a symbol and a link for each token, a key, a node and a link for each entry of the dictionary
+-- ROOM in all columns: a symbol and a link for each token, a key, a node and a link for each entry of the dictionary, and what the stages write
 pub record NamesRoom (t : Table) (symbols keys nodes heads next bound first to types constants scratch spellings attributes owners attribute-heads attribute-next mark queue : ℕ) : Type 0 where
   pub symbol-room : enough (length (t .starts)) (length (t .lengths)) symbols heads next ≡ true
   pub consistent : Consistent t
@@ -54,7 +54,8 @@ Resolved t Bound bindings′ types constants =
 Resolved t (Faulty number place) bindings′ types constants = (names t ≡ fault number place) × (number ≢ 0)
 Resolved t Unfit bindings′ types constants = Unit {0}
 
--- `resolve`: of every file that is read. Whatever the columns hold, the column of bindings is as it was unless all names are bound.
+-- `resolve`: of every file that is read. Whatever the columns hold, the column of bindings is as it was unless all names are bound. No room is
+-- answered only where some is lacking. What the other lent columns hold afterwards is left free, and so are both orders after a fault.
 pub record Resolves (src starts lengths terminals kinds tokens sizes roles symbols keys nodes heads next bound first to types constants scratch spellings attributes owners
     attribute-heads attribute-next mark queue : List ℕ) (r : Resolution) (bindings′ types′ constants′ : List ℕ) : Type 0 where
   pub kept : r ≢ Bound → bindings′ ≡ roles

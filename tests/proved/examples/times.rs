@@ -4,7 +4,7 @@
 //! The reference allocates its rows anew in each run, which is part of its time.
 
 use compare::random::{well_typed, Rng, LARGEST};
-use proved::{declared_types, evaluate_constants, intern, parse, resolve, scan, terminals, type_constants};
+use proved::{codes, declared_types, evaluate_constants, intern, parse, resolve, scan, terminals, type_constants};
 use proved::{NameColumns, Nodes, Rows, Text};
 use reference::outline::Outline;
 use reference::terminals::classify;
@@ -86,15 +86,6 @@ fn steps(file: &[u8], rows: &[TokenRow]) -> [Timed; 4] {
         .map(|(step, [proved, reference])| Timed { step, proved, reference })
 }
 
-/// The codes of a file's terminals.
-fn codes(file: &[u8], rows: &[TokenRow]) -> Vec<u8> {
-    let (mut kinds, mut starts, mut lengths) = (vec![0; rows.len()], vec![0; rows.len()], vec![0; rows.len()]);
-    scan(file, &mut kinds, &mut starts, &mut lengths).expect("a file of tokens");
-    let mut codes = vec![0; rows.len()];
-    terminals(file, &kinds, &starts, &lengths, &mut codes);
-    codes
-}
-
 /// The proved functions from declared types to answers, and what the reference does in their place, with its outline, by which
 /// it finds types and constants.
 struct Kinds {
@@ -123,7 +114,7 @@ fn kinds_of(bytes: &[u8]) -> Kinds {
     let order: Vec<u32> = names.constant_order.iter().map(node).collect();
     let starts: Vec<u32> = tokens.iter().map(|token| token.start).collect();
     let lengths: Vec<u32> = tokens.iter().map(|token| token.length).collect();
-    let codes = codes(bytes, &tokens);
+    let codes = codes(bytes, tokens.len());
     let text = Text { bytes, starts: &starts, lengths: &lengths };
     let columns =
         Nodes { terminals: &codes, kinds: &node_kinds, tokens: &node_tokens, sizes: &sizes, bindings: &names.bindings };
@@ -205,7 +196,7 @@ fn names_of(bytes: &[u8]) -> [f64; 3] {
     let roles: Vec<u32> = nodes.iter().map(|node| node.role.into()).collect();
     let starts: Vec<u32> = tokens.iter().map(|token| token.start).collect();
     let lengths: Vec<u32> = tokens.iter().map(|token| token.length).collect();
-    let codes = codes(bytes, &tokens);
+    let codes = codes(bytes, tokens.len());
     let text = Text { bytes, starts: &starts, lengths: &lengths };
     let columns = Nodes { terminals: &codes, kinds: &kinds, tokens: &node_tokens, sizes: &sizes, bindings: &[] };
     let (mut bindings, mut lent) = (roles.clone(), name_columns(tokens.len()));

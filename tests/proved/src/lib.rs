@@ -9,3 +9,12 @@ pub use calls::{applied, between, combined, held, Operator};
 pub use calls::{binary, build, components, find, integer, intern, next_of, order, parse, reachable, scan, scan_to, symbol_of, terminals, Sorted};
 pub use calls::{compare_binaries, join, Binary};
 pub use calls::{declared_types, evaluate_constants, resolve, type_constants, NameColumns, Nodes, Rows, Text};
+
+/// The codes of the terminals of a text with so many tokens.
+pub fn codes(bytes: &[u8], count: usize) -> Vec<u8> {
+    let (mut kinds, mut starts, mut lengths) = (vec![0; count], vec![0; count], vec![0; count]);
+    scan(bytes, &mut kinds, &mut starts, &mut lengths).expect("tokens");
+    let mut codes = vec![0; count];
+    terminals(bytes, &kinds, &starts, &lengths, &mut codes);
+    codes
+}

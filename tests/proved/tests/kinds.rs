@@ -3,7 +3,7 @@
 
 use compare::cases;
 use compare::random::{self, Rng};
-use proved::{declared_types, evaluate_constants, scan, terminals, type_constants, Nodes, Rows, Text};
+use proved::{codes, declared_types, evaluate_constants, type_constants, Nodes, Rows, Text};
 use reference::evaluation::answers;
 use reference::kinds::{check, underlying_types, Underlying};
 use reference::outline::Outline;
@@ -113,15 +113,6 @@ impl Named {
         };
         (0..length).map(&mut entry).collect()
     }
-}
-
-/// The codes of a file's terminals, by the proved functions.
-fn codes(bytes: &[u8], count: usize) -> Vec<u8> {
-    let (mut kinds, mut starts, mut lengths) = (vec![0; count], vec![0; count], vec![0; count]);
-    scan(bytes, &mut kinds, &mut starts, &mut lengths).expect("tokens");
-    let mut codes = vec![0; count];
-    terminals(bytes, &kinds, &starts, &lengths, &mut codes);
-    codes
 }
 
 /// What is declared at each node, by the numbers that the column has: 0 for what is not evaluated.

@@ -2,7 +2,7 @@
 
 use compare::cases;
 use compare::random::{self, Rng};
-use proved::{resolve, scan, terminals, NameColumns, Nodes, Text};
+use proved::{codes, resolve, NameColumns, Nodes, Text};
 use reference::outline::Outline;
 use reference::parser::{kind, read, role, SyntaxRow};
 use reference::terminals::classify;
@@ -56,15 +56,6 @@ struct Parsed {
     sizes: Vec<u32>,
     roles: Vec<u32>,
     bindings: Result<Vec<u32>, Refusal>,
-}
-
-/// The codes of a file's terminals, by the proved functions.
-fn codes(bytes: &[u8], count: usize) -> Vec<u8> {
-    let (mut kinds, mut starts, mut lengths) = (vec![0; count], vec![0; count], vec![0; count]);
-    scan(bytes, &mut kinds, &mut starts, &mut lengths).expect("tokens");
-    let mut codes = vec![0; count];
-    terminals(bytes, &kinds, &starts, &lengths, &mut codes);
-    codes
 }
 
 fn parsed(bytes: &[u8]) -> Option<Parsed> {
