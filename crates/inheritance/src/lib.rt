@@ -219,7 +219,7 @@ fn asks(kind: u8, role: u32) -> bool
 fn store_inherited(
     kinds: &[u8],
     tokens: &[u32],
-    roles: &[u32],
+    roles: &[u8],
     symbols: &[u32],
     keys: &[u64],
     nodes: &[u32],
@@ -241,7 +241,7 @@ fn store_inherited(
     let mut i = hi;
     while lo < i {
         i -= 1;
-        if asks(at8(kinds, i), at(roles, i)) {
+        if asks(at8(kinds, i), at8(roles, i) as u32) {
             let name = symbol(tokens, symbols, i);
             let meaning = recalled(
                 keys,
@@ -276,7 +276,7 @@ fn inherits(kinds: &[u8], first: &[u32], node: usize, vertex: usize) -> bool
 fn inherit_in(
     kinds: &[u8],
     tokens: &[u32],
-    roles: &[u32],
+    roles: &[u8],
     symbols: &[u32],
     entry_keys: &[u64],
     entry_nodes: &[u32],
@@ -329,7 +329,7 @@ fn inherit_in(
 pub fn inherit_all(
     kinds: &[u8],
     tokens: &[u32],
-    roles: &[u32],
+    roles: &[u8],
     symbols: &[u32],
     entry_keys: &[u64],
     entry_nodes: &[u32],

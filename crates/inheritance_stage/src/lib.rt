@@ -9,7 +9,7 @@ use columns::shorter;
 pub fn bind_inherited(
     kinds: &[u8],
     tokens: &[u32],
-    roles: &[u32],
+    roles: &[u8],
     symbols: &[u32],
     keys: &[u64],
     nodes: &[u32],

@@ -8,7 +8,7 @@ use name_stages::bind_declarations;
 use name_stages::bind_expressions;
 use scopes::dictionary::Preparation;
 
-// Interns the identifiers of a file, and enters what it declares into its dictionary.
+// Interns the identifiers of a file, chained in a column of links, and enters what it declares into its dictionary.
 pub fn prepare(
     src: &[u8],
     starts: &[u32],
@@ -16,18 +16,19 @@ pub fn prepare(
     terminals: &[u8],
     kinds: &[u8],
     tokens: &[u32],
-    roles: &[u32],
+    roles: &[u8],
     symbols: &mut [u32],
     keys: &mut [u64],
     nodes: &mut [u32],
     heads: &mut [u32],
+    links: &mut [u32],
     next: &mut [u32],
 ) -> Preparation
     ensures { λ r. ⌜ PreparesFile (now (src .entry)) (now (starts .entry)) (now (lengths .entry)) (now (terminals .entry)) (now (kinds .entry)) (now (tokens .entry))
-        (now (roles .entry)) (now (symbols .entry)) (now (keys .entry)) (now (nodes .entry)) (now (heads .entry)) (now (next .entry)) r
+        (now (roles .entry)) (now (symbols .entry)) (now (keys .entry)) (now (nodes .entry)) (now (heads .entry)) (now (links .entry)) (now (next .entry)) r
         (now (symbols .exit)) (now (keys .exit)) (now (nodes .exit)) (now (heads .exit)) (now (next .exit)) ⌝ }
 {
-    let interned = symbols::intern(src, starts, lengths, terminals, symbols, heads, next);
+    let interned = symbols::intern(src, starts, lengths, terminals, symbols, heads, links);
     match interned {
         Outcome::Done => preparation::prepare(
             kinds,
@@ -49,7 +50,7 @@ pub fn bind_names(
     kinds: &[u8],
     tokens: &[u32],
     sizes: &[u32],
-    roles: &[u32],
+    roles: &[u8],
     symbols: &[u32],
     starts: &[u32],
     keys: &[u64],

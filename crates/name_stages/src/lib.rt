@@ -9,7 +9,7 @@ use faults::Fault;
 pub fn bind_declarations(
     kinds: &[u8],
     tokens: &[u32],
-    roles: &[u32],
+    roles: &[u8],
     symbols: &[u32],
     starts: &[u32],
     keys: &[u64],
@@ -52,7 +52,7 @@ pub fn bind_expressions(
     kinds: &[u8],
     tokens: &[u32],
     sizes: &[u32],
-    roles: &[u32],
+    roles: &[u8],
     symbols: &[u32],
     starts: &[u32],
     keys: &[u64],

@@ -16,7 +16,7 @@ use scopes::ITEMS_OF_TYPES;
 use scopes::NO_SORT;
 use scopes::RADIX;
 use scopes::SCHEMAS;
-use scopes::at;
+use scopes::at8;
 use scopes::dictionary::Preparation;
 use scopes::dictionary::key;
 use scopes::dictionary::put;
@@ -147,7 +147,7 @@ fn more(class: u8, before: Counts) -> Counts
 }
 
 // How many entries the nodes have: none where there are too many nodes.
-pub fn count_entries(kinds: &[u8], roles: &[u32]) -> Counts
+pub fn count_entries(kinds: &[u8], roles: &[u8]) -> Counts
     ensures { λ r. ⌜ Counting (now (kinds .entry)) (now (roles .entry)) r ⌝ }
 {
     let mut so_far = Counts {
@@ -160,14 +160,14 @@ pub fn count_entries(kinds: &[u8], roles: &[u32]) -> Counts
     let classes = CLASSES;
     let mut i = 0;
     while i < kinds.len() {
-        so_far = more(class(&classes, kinds[i], at(roles, i)), so_far);
+        so_far = more(class(&classes, kinds[i], at8(roles, i) as u32), so_far);
         i += 1;
     }
     so_far
 }
 
 // Do the columns of nodes and tokens fit each other?
-fn consistent(kinds: &[u8], tokens: &[u32], roles: &[u32], symbols: &[u32]) -> bool
+fn consistent(kinds: &[u8], tokens: &[u32], roles: &[u8], symbols: &[u32]) -> bool
     ensures { λ r. ⌜ Decides (Consistent (table-of (now (kinds .entry)) (now (tokens .entry)) (now (roles .entry)) (now (symbols .entry)))) r ⌝ }
 {
     if RADIX <= kinds.len() as u64 {
@@ -247,7 +247,7 @@ fn enter_node(
 fn fill(
     kinds: &[u8],
     tokens: &[u32],
-    roles: &[u32],
+    roles: &[u8],
     symbols: &[u32],
     counts: Counts,
     keys: &mut [u64],
@@ -264,7 +264,7 @@ fn fill(
     let mut i = kinds.len();
     while 0 < i {
         i -= 1;
-        let class = class(&classes, kinds[i], roles[i]);
+        let class = class(&classes, kinds[i], roles[i] as u32);
         if class != NOTHING {
             let k = index(tokens[i]);
             here = passed(class, i, here);
@@ -285,7 +285,7 @@ fn fill(
 pub fn prepare(
     kinds: &[u8],
     tokens: &[u32],
-    roles: &[u32],
+    roles: &[u8],
     symbols: &[u32],
     keys: &mut [u64],
     nodes: &mut [u32],

@@ -87,7 +87,7 @@ fn bind_range(
     kinds: &[u8],
     tokens: &[u32],
     sizes: &[u32],
-    roles: &[u32],
+    roles: &[u8],
     symbols: &[u32],
     starts: &[u32],
     keys: &[u64],
@@ -109,7 +109,7 @@ fn bind_range(
     let mut i = shorter(hi, shorter(kinds.len(), roles.len()));
     while lo < i {
         i -= 1;
-        if asks(kinds[i], roles[i]) {
+        if asks(kinds[i], roles[i] as u32) {
             let code = at(bound, i);
             let found = finding_at(
                 kinds,
@@ -138,7 +138,7 @@ pub fn bind_uses(
     kinds: &[u8],
     tokens: &[u32],
     sizes: &[u32],
-    roles: &[u32],
+    roles: &[u8],
     symbols: &[u32],
     starts: &[u32],
     keys: &[u64],

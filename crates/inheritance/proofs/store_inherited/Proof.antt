@@ -22,8 +22,11 @@ sub-i c = search needs
 at8-requires : tie.Need-at8-requires Inv-loop μ-loop
 at8-requires c κs = search needs
 
-at-requires : tie.Need-at-requires Inv-loop μ-loop
-at-requires c κs = search needs
+at8-requires-2 : tie.Need-at8-requires-2 Inv-loop μ-loop
+at8-requires-2 c κs = search needs
+
+cast-asks : tie.Need-cast-asks Inv-loop μ-loop
+cast-asks c = search needs
 
 asks-requires : tie.Need-asks-requires Inv-loop μ-loop
 asks-requires c κs = search needs
@@ -44,7 +47,7 @@ loop-again : tie.Need-loop-again Inv-loop μ-loop
 loop-again c = storing-more (c .before .before .before .before .before .before .before .before .before .before .before .before .before .before .before .before .before
     .loop .inv) (c .before .before .before .before .before .before .before .before .before .before .before .before .before .before .before .before .loop-test .taken) (ap₂
     asks-by (sym (c .before .before .before .before .before .before .before .before .before .before .before .before .before .before .before .at8 .ensures)) (sym (c
-    .before .before .before .before .before .before .before .before .before .before .before .before .before .before .at .ensures)) ∙ sym (c .before .before .before
+    .before .before .before .before .before .before .before .before .before .before .before .before .before .before .at82 .ensures)) ∙ sym (c .before .before .before
     .before .before .before .before .before .before .before .before .before .before .asks .ensures) ∙ c .before .before .before .before .before .before .before .before
     .before .before .before .before .if1 .taken) (c .before .before .before .before .before .before .before .before .before .before .before .symbol .ensures) (c .before
     .before .before .before .before .before .before .before .recalled .ensures) (c .before .before .before .before .before .before .before .before .recalled .kept .1 .1
@@ -56,7 +59,7 @@ loop-less-2 c = search needs
 
 loop-again-2 : tie.Need-loop-again-2 Inv-loop μ-loop
 loop-again-2 c = storing-skip (c .before .before .before .before .before .loop .inv) (c .before .before .before .before .loop-test .taken) (ap₂ asks-by (sym (c .before
-    .before .before .at8 .ensures)) (sym (c .before .before .at .ensures)) ∙ sym (c .before .asks .ensures) ∙ c .if1 .left)
+    .before .before .at8 .ensures)) (sym (c .before .before .at82 .ensures)) ∙ sym (c .before .asks .ensures) ∙ c .if1 .left)
 
 same-length : tie.Need-same-length Inv-loop μ-loop
 same-length c = c .before .loop .inv .stamps-long
@@ -79,7 +82,8 @@ store-inherited-spec =
     loop-holds
     sub-i
     at8-requires
-    at-requires
+    at8-requires-2
+    cast-asks
     asks-requires
     symbol-requires
     recalled-requires
