@@ -1,16 +1,16 @@
--- `resolutions::copy` meets its contract, by the laws of `Copying`. Assumes nothing.
-use Rattle.resolutions.proofs.copy.Statement.{statement}
-use Rattle.resolutions.proofs.copy.Tie as tie
-use borrow.Author.Needs.{needs}
-use Prim.Native.Nat.{_-_}
-use native.Mathlib.Omega.{arith}
+-- `resolutions::widen` meets its contract, by the laws of `Copying`. Assumes nothing.
+use Rattle.resolutions.proofs.widen.Statement.{statement}
+use Rattle.resolutions.proofs.widen.Tie as tie
 use Rattle.resolutions.proofs.Copying.{Copying, copying-starts, copying-goes-on, copying-ends}
+use Prim.Native.Nat.{_-_}
+use borrow.Author.Needs.{needs}
+use native.Mathlib.Omega.{arith}
 
 abbrev Inv-loop : tie.InvT-loop
-Inv-loop from into₀ end i₀ into i = Copying from into₀ into i
+Inv-loop bytes into₀ end i₀ into i = Copying bytes into₀ into i
 
 abbrev μ-loop : tie.MeasureT-loop
-μ-loop from into₀ end i₀ into i = end - i
+μ-loop bytes into₀ end i₀ into i = end - i
 
 shorter-requires : tie.Need-shorter-requires Inv-loop μ-loop
 shorter-requires c κs = search needs
@@ -18,14 +18,14 @@ shorter-requires c κs = search needs
 loop-holds : tie.Need-loop-holds Inv-loop μ-loop
 loop-holds c = copying-starts
 
-mul-into : tie.Need-mul-into Inv-loop μ-loop
-mul-into c = search needs
-
 shared-slice-read-into : tie.Need-shared-slice-read-into Inv-loop μ-loop
 shared-slice-read-into c = omega (arith, c .before .loop-test .taken, c .before .before .before .shorter .ensures)
 
-mul-into-2 : tie.Need-mul-into-2 Inv-loop μ-loop
-mul-into-2 c = search needs
+cast-into : tie.Need-cast-into Inv-loop μ-loop
+cast-into c = omega (arith, c .shared-slice-known2 .given (c .before .before .loop .i))
+
+mul-into : tie.Need-mul-into Inv-loop μ-loop
+mul-into c = search needs
 
 slice-write-into : tie.Need-slice-write-into Inv-loop μ-loop
 slice-write-into c = omega (arith, c .before .loop-test .taken, c .before .before .before .shorter .ensures, c .before .before .loop .inv .len)
@@ -45,17 +45,17 @@ same-length c = c .before .loop .inv .len
 returns : tie.Need-returns Inv-loop μ-loop
 returns c = copying-ends (c .before .before .shorter .ensures) (c .loop-test .left) (c .before .loop .inv)
 
-pub copy-spec : {M : Type 1} → statement M
-copy-spec =
+pub widen-spec : {M : Type 1} → statement M
+widen-spec =
     tie.close
     (tie.spec
     Inv-loop
     μ-loop
     shorter-requires
     loop-holds
-    mul-into
     shared-slice-read-into
-    mul-into-2
+    cast-into
+    mul-into
     slice-write-into
     add-i
     loop-less
