@@ -3,7 +3,6 @@ ghost use Rattle.name_binding.specs.Binding.{BindsNames};
 ghost use Rattle.name_binding.specs.Prepared.{PreparesFile};
 use faults::Fault;
 use index::Outcome;
-use inheritance_stage::bind_inherited;
 use name_stages::bind_declarations;
 use name_stages::bind_expressions;
 use scopes::dictionary::Preparation;
@@ -63,18 +62,10 @@ pub fn bind_names(
     types: &mut [u32],
     constants: &mut [u32],
     scratch: &mut [u32],
-    spellings: &mut [u64],
-    attributes: &mut [u32],
-    owners: &mut [u32],
-    attribute_heads: &mut [u32],
-    attribute_next: &mut [u32],
-    mark: &mut [u32],
-    queue: &mut [u32],
 ) -> Fault
     ensures { λ r. ⌜ BindsNames (now (kinds .entry)) (now (tokens .entry)) (now (sizes .entry)) (now (roles .entry)) (now (symbols .entry)) (now (starts .entry))
         (now (keys .entry)) (now (nodes .entry)) (now (heads .entry)) (now (next .entry))
         (now (bound .entry)) (now (first .entry)) (now (to .entry)) (now (types .entry)) (now (constants .entry)) (now (scratch .entry))
-        (now (spellings .entry)) (now (attributes .entry)) (now (owners .entry)) (now («attribute_heads» .entry)) (now («attribute_next» .entry)) (now (mark .entry)) (now (queue .entry))
         r (now (bound .exit)) (now (types .exit)) (now (constants .exit)) ⌝ }
 {
     let declared = bind_declarations(
@@ -92,26 +83,6 @@ pub fn bind_names(
         to,
         types,
         scratch,
-    );
-    bind_inherited(
-        kinds,
-        tokens,
-        roles,
-        symbols,
-        keys,
-        nodes,
-        first,
-        to,
-        spellings,
-        attributes,
-        owners,
-        attribute_heads,
-        attribute_next,
-        constants,
-        scratch,
-        mark,
-        queue,
-        bound,
     );
     let used = bind_expressions(
         kinds,
