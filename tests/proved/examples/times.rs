@@ -161,27 +161,19 @@ fn print_kinds() {
 
 /// Columns for the names of a file with so many tokens.
 fn name_columns(tokens: usize) -> NameColumns {
-    let [narrow, wide] = [(); 2].map(|()| vec![0u32; tokens + 1]);
-    let column = || narrow.clone();
+    let column = |entries: usize| vec![0u32; entries + 2];
     NameColumns {
-        symbols: column(),
-        keys: vec![0; wide.len()],
-        nodes: column(),
+        roles: vec![0; tokens],
+        symbols: column(tokens),
+        keys: vec![0; tokens / 2],
+        nodes: column(tokens / 2),
         heads: vec![0; BUCKETS.min(tokens.next_power_of_two() / 2).max(1)],
-        next: column(),
-        bound: column(),
-        first: column(),
-        to: column(),
-        types: column(),
-        constants: column(),
-        scratch: vec![0; 6 * narrow.len()],
-        spellings: vec![0; wide.len()],
-        attributes: column(),
-        owners: column(),
-        attribute_heads: vec![0; BUCKETS.min(tokens.next_power_of_two() / 4).max(1)],
-        attribute_next: column(),
-        mark: column(),
-        queue: column(),
+        next: column(tokens / 2),
+        first: column(tokens / 5),
+        to: column(tokens / 2),
+        types: column(tokens / 5),
+        constants: column(tokens / 5),
+        scratch: column(6 * (tokens / 5 + 1)),
     }
 }
 
