@@ -1,7 +1,7 @@
 -- The table of classes: what its entries say of a kind and a role.
-use mathlib.Core.Path.{_≡_, refl, sym, ap, _∙_}
+use mathlib.Core.Path.{_≡_, refl, ap, _∙_}
 use mathlib.Core.Logic.{⊎-elim}
-use mathlib.Core.Bool.{Bool, false, cond}
+use mathlib.Core.Bool.{Bool, cond}
 use mathlib.Core.List.{List}
 use Prim.Native.Nat.{ℕ, _+_, _*_, _-_, _/_, _%_, _≤_, _<_}
 use native.Mathlib.Omega.{arith}
@@ -12,7 +12,7 @@ use Rattle.columns.proofs.Laws.{tabulated-at}
 use Rattle.relations.proofs.Select.{le-or}
 use Rattle.express.specs.syntax.NodeKind.{name, enumeration-item, constant, type, attribute-name, derived-attribute, rule, entity, schema, labelled, supertype-name}
 use Rattle.scopes.specs.Entries.{schemas, declared}
-use Rattle.scopes.specs.Standing.{declares, sort-by, entry-count, class-of, first-letter, class-table, Passed, PassedBy, More, MoreBy}
+use Rattle.scopes.specs.Standing.{declares, sort-by, entry-count, class-of, first-letter, class-table, PassedBy, MoreBy}
 use Rattle.scopes.specs.declared.Here.{Here}
 use Rattle.scopes.specs.declared.Counts.{Counts}
 use Rattle.scopes.proofs.Sorting.{sort-schema, sort-declares, sort-small}

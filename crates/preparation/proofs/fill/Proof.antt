@@ -101,7 +101,7 @@ enter-node-requires c κs = entering-fits (c .before .before .before .before .be
     .before .before .before .before .before .before .before .before .before .before .before .before .before .loop-test .taken) (c .before .before .before .before .before
     .before .before .before .before .class .ensures) (c .before .before .before .before .before .passed .ensures) (c .before .sort-in .ensures) (ap (λ (x : ℕ). getD (c
     .before .before .before .before .before .before .before .before .before .before .before .before .before .before .before .before .before .before .before .before
-    .before .before .args .symbols .now) x 0) (c .before .before .before .before .before .before .index .ensures)) refl
+    .before .before .args .symbols .now) x 0) (c .before .before .before .before .before .before .index .ensures))
 
 loop-less : tie.Need-loop-less Inv-loop μ-loop
 loop-less c = omega (arith, c .before .before .before .before .before .before .before .before .before .before .before .before .before .before .before .before .before .before .loop-test .taken)
