@@ -14,19 +14,18 @@ use Rattle.express.specs.syntax.Tree.{Table, count, kind, role, nodes, is-name-
 use Rattle.express.specs.syntax.Grammar.{Nonterminal, file, schema, constants, constant, base, type-declaration, underlying, where-clause, domain-rule, entity}
 use Rattle.express.specs.syntax.Grammar.{attributes as explicit, derived, expression, sum, term, factor, operand, atom, interval, rules}
 use Rattle.express.specs.syntax.Syntax.{Read, whole}
+use Rattle.express.specs.names.Fault.{sort}
 use Rattle.express.specs.names.Scope.{is-use, means}
 use Rattle.express.proofs.syntax.Count as count-laws
-use Rattle.scopes.specs.Entries.{entries, other-entries, vertex, others-before}
-use Rattle.scopes.specs.Standing.{declares, sort-by, entry-count}
+use Rattle.scopes.specs.Entries.{is-other, declares-other, entries, vertex, others-before}
+use Rattle.scopes.specs.Standing.{declares, sort-by}
 use Rattle.scopes.specs.Range.{vertex-count}
-use Rattle.scopes.proofs.Sorting.{sort-is}
-use Rattle.scopes.proofs.Passing.{entries-count}
 use Rattle.scopes.proofs.Ranges.{range-below}
 use Rattle.preparation.proofs.Preparing.{entries-total}
 use Rattle.dependencies.specs.Target.{led-to, led-to-from, behind-all, target-of, type-target, constant-of, constant-target}
 use Rattle.inheritance.specs.Attributes.{owned-attribute, attributes-from, attributes}
 use Rattle.bounds.proofs.Weight.{Scale, pays, text-weight}
-use Rattle.bounds.proofs.Total.{total, total-both, total-flat, total-keep, keep-fewer, rows-total}
+use Rattle.bounds.proofs.Total.{total, total-both, total-keep, keep-fewer, rows-total}
 
 -- ---- the weights
 
@@ -80,9 +79,10 @@ one-where k x = cond (eqb (part x) k) 1 0
 abbrev named : ℕ → ℕ → ℕ → Bool
 named role k o = eqb k name && eqb o role
 
--- as many as a row has entries
+-- 2 for an entry
 abbrev entry-scale : Scale Nonterminal
-entry-scale = record { row = λ k o. cond (declares k) 1 0 + entry-count (sort-by k o); loan = nowhere; gain = nowhere }
+entry-scale =
+    record { row = λ k o. cond (declares k) 2 0 + cond (is-other (sort-by k o)) 2 0; loan = one-where of-explicit; gain = one-where of-explicit }
 
 -- 5 for a constant, a type and an entity
 abbrev vertex-scale : Scale Nonterminal
@@ -148,7 +148,7 @@ module _ {t : Table} (R : Read file t) where
   nodes-are = ap length (R .kinds) ∙ length-map (R .rows) (λ (r : Row). r .kind)
 
   -- a number for each node, not above what its row weighs
-  total-few : (S : Scale Nonterminal) → ((x : Nonterminal) → pays S rules x ≡ true) → S .loan file ≡ 0 →
+  pub total-few : (S : Scale Nonterminal) → ((x : Nonterminal) → pays S rules x ≡ true) → S .loan file ≡ 0 →
       (f : ℕ → ℕ) → ((n : ℕ) → f n ≤ S .row (kind t n) (role t n)) → total f (nodes t) ≤ length (t .terminals)
   total-few S g z f h =
       let a = text-weight rules S g file (whole (R .rows)) (R .parses) z in
@@ -168,15 +168,14 @@ module _ {t : Table} (R : Read file t) where
   pub nodes-few : count t ≤ length (t .terminals)
   nodes-few = omega (arith, nodes-are, counted count-laws.pays (R .parses) 0 0 refl)
 
-  -- ENTRIES of the dictionary: no more than tokens
-  pub entries-few : length (entries t) ≤ length (t .terminals)
-  unfolding vertex others-before
+  -- ENTRIES of the dictionary: each has two tokens
+  pub entries-few : 2 * length (entries t) ≤ length (t .terminals)
+  unfolding vertex others-before sort
   entries-few =
-      let f : ℕ → ℕ = λ n. cond (is-declaration t n) 1 0 in
-      let g : ℕ → ℕ = λ n. length (other-entries t n) in
-      let h : (n : ℕ) → f n + g n ≤ entry-scale .row (kind t n) (role t n) = λ n. omega (arith, entries-count t n, ap entry-count (sort-is t n)) in
-      let a = total-few entry-scale (λ x. passes x .by-entries) refl (λ n. f n + g n) h in
-      omega (arith, a, entries-total t, total-both f g (nodes t), total-keep 1 (is-declaration t) (nodes t), total-flat (other-entries t) (nodes t))
+      let f : ℕ → ℕ = λ n. cond (is-declaration t n) 2 0 in
+      let g : ℕ → ℕ = λ n. cond (declares-other t n) 2 0 in
+      let a = total-few entry-scale (λ x. passes x .by-entries) refl (λ n. f n + g n) (λ n. omega arith) in
+      omega (arith, a, entries-total t, total-both f g (nodes t), total-keep 2 (is-declaration t) (nodes t), total-keep 2 (declares-other t) (nodes t))
 
   -- CONSTANTS, TYPES AND ENTITIES: each has five tokens
   pub vertices-few : 5 * vertex-count t ≤ length (t .terminals)

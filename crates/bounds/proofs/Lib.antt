@@ -1,4 +1,5 @@
 pub mod Weight
 pub mod Total
 pub mod Bounds
+pub mod Roles
 pub mod Consistent
