@@ -200,7 +200,14 @@ fn names_of(bytes: &[u8]) -> [f64; 3] {
         || {
             let symbols = symbols::intern(bytes, &tokens, &terminals);
             let outline = Outline::new(&nodes);
-            let file = File { bytes, tokens: &tokens, terminals: &terminals, nodes: &nodes, symbols: &symbols, outline: &outline };
+            let file = File {
+                bytes,
+                tokens: &tokens,
+                terminals: &terminals,
+                nodes: &nodes,
+                symbols: &symbols,
+                outline: &outline,
+            };
             names::bind(black_box(&file)).is_ok()
         },
     );
@@ -217,7 +224,12 @@ fn print_names() {
         let sized = |file: &Vec<u8>| (size / 4 * 3..=size / 4 * 5).contains(&file.len());
         for file in (0..).map(|seed| well_typed(seed, size)).filter(sized).take(6) {
             let [proved, bound, whole] = names_of(&file).map(|time| time / file.len() as f64);
-            println!("{:8}{proved:10.3} |{bound:10.3}{whole:14.3} |{:8.2}{:14.2}", file.len(), proved / bound, proved / whole);
+            println!(
+                "{:8}{proved:10.3} |{bound:10.3}{whole:14.3} |{:8.2}{:14.2}",
+                file.len(),
+                proved / bound,
+                proved / whole
+            );
         }
     }
 }
@@ -258,9 +270,18 @@ fn hostile() -> Vec<(&'static str, Vec<u8>)> {
         ("a chain, and many attributes below it", pieces(&wide, |i| format!("b{i}:REAL;"), "END_ENTITY;END_SCHEMA;")),
         ("constants in one chain", pieces("SCHEMA s;CONSTANT ", constant, "END_CONSTANT;END_SCHEMA;")),
         ("renamings in one chain", pieces("SCHEMA s;", |i| format!("TYPE t{i}=t{};END_TYPE;", i + 1), "END_SCHEMA;")),
-        ("items of one name", pieces("SCHEMA s;TYPE t=ENUMERATION OF(a", |_| ",a".to_string(), ");END_TYPE;END_SCHEMA;")),
-        ("items, all different", pieces("SCHEMA s;TYPE t=ENUMERATION OF(a", |i| format!(",a{i}"), ");END_TYPE;END_SCHEMA;")),
-        ("entities with a thousand supertypes", pieces("SCHEMA s;", |i| format!("ENTITY e{i};END_ENTITY;"), "END_SCHEMA;")),
+        (
+            "items of one name",
+            pieces("SCHEMA s;TYPE t=ENUMERATION OF(a", |_| ",a".to_string(), ");END_TYPE;END_SCHEMA;"),
+        ),
+        (
+            "items, all different",
+            pieces("SCHEMA s;TYPE t=ENUMERATION OF(a", |i| format!(",a{i}"), ");END_TYPE;END_SCHEMA;"),
+        ),
+        (
+            "entities with a thousand supertypes",
+            pieces("SCHEMA s;", |i| format!("ENTITY e{i};END_ENTITY;"), "END_SCHEMA;"),
+        ),
     ]
 }
 

@@ -241,8 +241,10 @@ fn hierarchy(seed: u64) -> Vec<u8> {
             let (wide, many) = (rng.below(3), rng.below(3));
             let above = some(&mut rng, wide, if loose { count } else { entity });
             let own = some(&mut rng, many, 9);
-            let attributes =
-                own.into_iter().map(|own| if rng.one_in(2) { rng.below(shared) } else { 100 + 10 * entity + own }).collect();
+            let attributes = own
+                .into_iter()
+                .map(|own| if rng.one_in(2) { rng.below(shared) } else { 100 + 10 * entity + own })
+                .collect();
             Entity { above, attributes }
         })
         .collect();
