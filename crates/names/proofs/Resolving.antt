@@ -116,7 +116,7 @@ module _ {src starts lengths terminals kinds tokens roles symbols keys nodes hea
     pub nodes-fit : c .declarations + c .others ≤ length nodes′
     nodes-fit = omega (arith, total, ap length (made .prepared .nodes-is), length-map (entries some-table) (λ (e : Entry). e .node), length-take (length (entries some-table)) nodes′)
 
-    pub sum-small : c .declarations + c .others < 4 * radix
+    pub sum-small : c .declarations + c .others < 2 * radix
     unfolding some-table
     sum-small = total-small (counted some-table refl refl few) (made .prepared .consistent)
 
@@ -261,6 +261,9 @@ module _ {src starts lengths terminals kinds tokens sizes roles bindings symbols
 
 -- ---- roles in bytes
 
+pub roles-fit : {bindings roles′ : List ℕ} (roles : List ℕ) {b : Bool} → Narrows bindings (length roles) b roles′ → not b ≡ false → length roles′ ≡ length roles → length bindings ≤ length roles′
+roles-fit roles {b} N n l = omega (arith, N .fits (not-false b n), l)
+
 module _ {src starts lengths terminals kinds tokens sizes bindings roles symbols keys nodes heads next first to types constants scratch roles′ : List ℕ} where
   -- a role that is no byte, or no room for the roles
   pub wide-resolved :
@@ -305,6 +308,3 @@ module _ {src starts lengths terminals kinds tokens sizes bindings roles symbols
       by-kept Bound e d = absurd (d e)
       by-kept (Faulty k x) e d = Q .put-back k x e same-long ∙ front
       by-kept Unfit e d = Q .kept e
-
-  pub roles-fit : {b : Bool} → Narrows bindings (length roles) b roles′ → not b ≡ false → length roles′ ≡ length roles → length bindings ≤ length roles′
-  roles-fit {b} N n l = omega (arith, N .fits (not-false b n), l)
