@@ -3,6 +3,7 @@ ghost use Rattle.name_binding.specs.Binding.{BindsNames};
 ghost use Rattle.name_binding.specs.Prepared.{PreparesFile};
 use faults::Fault;
 use index::Outcome;
+use inheritance::inherit_all;
 use name_stages::bind_declarations;
 use name_stages::bind_expressions;
 use scopes::dictionary::Preparation;
@@ -44,7 +45,7 @@ pub fn prepare(
 }
 
 // All stages, over a dictionary that is prepared: the first fault, and where there is none the bindings of all nodes, and an order of
-// the declarations by their types and one by their constants. The columns of the second order, which comes last, serve what is inherited.
+// the declarations by their types and one by their constants. What is inherited comes before both orders, and uses their columns.
 pub fn bind_names(
     kinds: &[u8],
     tokens: &[u32],
@@ -81,9 +82,22 @@ pub fn bind_names(
         bound,
         first,
         to,
-        types,
-        scratch,
     );
+    inherit_all(
+        kinds,
+        tokens,
+        roles,
+        symbols,
+        keys,
+        nodes,
+        first,
+        to,
+        scratch,
+        types,
+        constants,
+        bound,
+    );
+    let cyclic = dependencies::arrange(tokens, starts, nodes, first, to, types, scratch);
     let used = bind_expressions(
         kinds,
         tokens,
@@ -101,5 +115,5 @@ pub fn bind_names(
         constants,
         scratch,
     );
-    faults::or_later(declared, used)
+    faults::or_later(declared, faults::or_later(cyclic, used))
 }

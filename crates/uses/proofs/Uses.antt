@@ -32,7 +32,8 @@ use Rattle.type_names.specs.Pass.{Finds, Skipped, RangeOf, WithinDeclarations}
 use Rattle.type_names.specs.declared.Finding.{Finding}
 use Rattle.type_names.specs.declared.Progress.{Progress}
 use Rattle.type_names.proofs.Passes.{PassingFile, file-starts, file-goes-on, file-ends}
-use Rattle.inheritance.specs.Inheritance.{several-code, code, inherited-code}
+use Rattle.symbol_tables.specs.Entry.{several-code, code}
+use Rattle.inheritance.specs.Inheritance.{inherited-code}
 use Rattle.meanings.specs.Use.{StandsFor}
 use Rattle.meanings.specs.Node.{asks, inherits, ColumnsOf, FoundAt, Standing, NodeFindings}
 use Rattle.meanings.specs.declared.Use.{Use}

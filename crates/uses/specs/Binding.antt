@@ -22,7 +22,8 @@ use Rattle.type_names.specs.TypeName.{is-type-name}
 use Rattle.type_names.specs.Pass.{Pass, Finds, PassesRange, PassedAll}
 use Rattle.type_names.specs.declared.Finding.{Finding}
 use Rattle.type_names.specs.declared.Progress.{Progress}
-use Rattle.inheritance.specs.Inheritance.{several-code, code, inherited-code}
+use Rattle.symbol_tables.specs.Entry.{several-code, code}
+use Rattle.inheritance.specs.Inheritance.{inherited-code}
 use Rattle.meanings.specs.Use.{StandsFor}
 use Rattle.meanings.specs.Node.{asks, inherits, ColumnsOf}
 use Rattle.meanings.specs.declared.Use.{Use}

@@ -37,7 +37,7 @@ fn decoded(code: u32) -> Use
     if code == 0 {
         return Use::Nothing;
     }
-    if code == inheritance::SEVERAL {
+    if code == symbol_tables::SEVERAL {
         return Use::Several;
     }
     Use::Node(index(code - 1))
