@@ -218,7 +218,7 @@ module _ {t : Table} {keys₀ nodes₀ : List ℕ} where
       record { within = omega arith; consistent = ok; counted = C .declarations-is; stands = stands-end C E; keys-filling = filling-starts; nodes-filling = filling-starts }
 
   module _ {keys nodes : List ℕ} {after h : Here} {class d i s y : ℕ} (E : Entering t d keys₀ nodes₀ keys nodes after i) (l : 0 < i)
-      (C : class ≡ class-of (sort-by (kind t (i - 1)) (role t (i - 1)))) (P : PassedBy class (i - 1) after h) (ss : s ≡ class % 8) (ys : y ≡ symbol t (i - 1)) where
+      (C : class ≡ class-of (sort-by (kind t (i - 1)) (role t (i - 1)))) (P : PassedBy class (i - 1) after h) (ss : s ≡ class % sorts) (ys : y ≡ symbol t (i - 1)) where
     back : i - 1 + 1 ≡ i
     back = omega arith
 
@@ -261,5 +261,5 @@ module _ {t : Table} {keys₀ nodes₀ : List ℕ} where
       {keys nodes : List ℕ} {here : Here} {class d i : ℕ} → Entering t d keys₀ nodes₀ keys nodes here i → 0 < i →
       class ≡ class-of (sort-by (kind t (i - 1)) (role t (i - 1))) → class ≡ 0 → Entering t d keys₀ nodes₀ keys nodes here (i - 1)
   entering-skip E l C z =
-      let s = ap (λ (x : ℕ). x % 8) z in
+      let s = ap (λ (x : ℕ). x % sorts) z in
       entering-goes-on E l C (passed-nothing z) refl refl refl (entered-none _ s) (entered-none _ s)

@@ -3,7 +3,7 @@ ghost use mathlib.Core.Path.{_≡_};
 ghost use mathlib.Core.Bool.{cond};
 ghost use Prim.Native.Nat.{_/_, _%_, _<_};
 ghost use lib.ListN.{length, set};
-ghost use Rattle.scopes.specs.Entries.{Entry, radix};
+ghost use Rattle.scopes.specs.Entries.{sorts, Entry, radix};
 ghost use Rattle.scopes.specs.Standing.{table-of, sort-by, class-of, class-table, PassedBy, Ended, MoreBy, Counted, Counting};
 ghost use Rattle.scopes.specs.Preparation.{Consistent, Room, Answers, Decides, Enterable, Entered, Filled};
 use columns::index;
@@ -82,13 +82,13 @@ fn class(classes: &[u8; 256], kind: u8, role: u32) -> u8
 
 // The sort in a class.
 fn sort_in(class: u8) -> u64
-    ensures { λ r. ⌜ r ≡ class % 8 ⌝ }
+    ensures { λ r. ⌜ r ≡ class % sorts ⌝ }
 {
     (class % SORTS) as u64
 }
 
 fn entries_in(class: u8) -> usize
-    ensures { λ r. ⌜ r ≡ class / 8 ⌝ }
+    ensures { λ r. ⌜ r ≡ class / sorts ⌝ }
 {
     (class / SORTS) as usize
 }

@@ -88,7 +88,7 @@ module _ {t : Table} {keys nodes heads next : List ℕ} (P : Prepared t keys nod
 
 -- ---- the number of a node's entry
 
-pub at-mem : (ns : List ℕ) (i : ℕ) → i < length ns → List·Memᴰ (getD ns i 0) ns
+at-mem : (ns : List ℕ) (i : ℕ) → i < length ns → List·Memᴰ (getD ns i 0) ns
 at-mem [] i l = absurd (omega arith)
 at-mem (n ∷ ns) zero l = List·Memᴰ·head refl
 at-mem (n ∷ ns) (suc i) l = List·Memᴰ·tail (at-mem ns i (omega arith))
@@ -107,25 +107,21 @@ same-keys t [] = refl
 same-keys t (n ∷ ns) = ap (λ (r : List ℕ). own-key t n ∷ r) (same-keys t ns)
 
 module _ (t : Table) where
-  abbrev pub declared-nodes : List ℕ
+  abbrev declared-nodes : List ℕ
   declared-nodes = keep (is-declaration t) (nodes t)
 
-  abbrev pub other-nodes : List ℕ
+  abbrev other-nodes : List ℕ
   other-nodes = keep (declares-other t) (nodes t)
 
-  pub declared-long : length declared-nodes ≡ vertex t (count t)
+  declared-long : length declared-nodes ≡ vertex t (count t)
   unfolding vertex
   declared-long = refl
-
-  pub entries-long : length (entries t) ≡ length (declaring t)
-  unfolding entries
-  entries-long = length-map (declaring t) (own-entry t)
 
   -- a declaration is of no other sort
   other-declares : (n : ℕ) → is-declaration t n ≡ false → (sort t n ≡ 0 → ⊥) → declares-other t n ≡ true
   other-declares n d z = rw (ne-eqb (sort t n) none z, declared-sort t n ∙ d)
 
-  pub other-sort : (n : ℕ) → declares-other t n ≡ true → (sort t n ≡ 0 → ⊥) × (is-declaration t n ≡ false)
+  other-sort : (n : ℕ) → declares-other t n ≡ true → (sort t n ≡ 0 → ⊥) × (is-declaration t n ≡ false)
   other-sort n o = (λ (z : sort t n ≡ 0). false≢true (rw z at o), sym (declared-sort t n) ∙ by (eqb (sort t n) none) (eqb (sort t n) declared) o)
     where
       by : (a b : Bool) → not (a || b) ≡ true → b ≡ false
@@ -185,7 +181,7 @@ module _ {t : Table} {keys nodes heads next : List ℕ} (P : Prepared t keys nod
   unfolding entries
   keys-are = P .keys-is ∙ same-keys t (declaring t)
 
-  pub keys-long : length keys ≡ length (declaring t)
+  keys-long : length keys ≡ length (declaring t)
   keys-long = ap length keys-are ∙ length-map (declaring t) (own-key t)
 
   key-at : (e : ℕ) → e < length keys → getD keys e 0 ≡ own-key t (getD nodes e 0)
