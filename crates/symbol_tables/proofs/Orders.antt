@@ -1,8 +1,8 @@
 -- What some nodes mean does not go by their order: lists with the same members, each once, have none, the same one, or several.
 use mathlib.Core.Path.{_≡_, refl, sym, ap, _∙_}
-use mathlib.Core.Logic.{_↔_}
+use mathlib.Core.Logic.{_↔_, ⊎-elim}
 use mathlib.Core.Bool.{Bool, true, false, cond}
-use mathlib.Core.List.{List, [], _∷_, List·Memᴰ, List·Memᴰ·head, List·Memᴰ·tail, List·Memᴰ·not-nil, List·Memᴰ·eq-of-singleton}
+use mathlib.Core.List.{List, [], _∷_, _++_, List·Memᴰ, List·Memᴰ·head, List·Memᴰ·tail, List·Memᴰ·append-cases, List·Memᴰ·not-nil, List·Memᴰ·eq-of-singleton}
 use Prim.Native.Nat.{ℕ}
 use native.Mathlib.Omega.{arith}
 use Rattle.relations.specs.Select.{keep, Ascending, nil, cons}
@@ -26,6 +26,11 @@ distinct-keep p (more {n} {ns} h d) = by (p n) (distinct-keep p d)
     by : (b : Bool) → Distinct (keep p ns) → Distinct (cond b (n ∷ keep p ns) (keep p ns))
     by true e = more (λ m. h (keep-mem p ns m .0)) e
     by false e = e
+
+pub distinct-append : {ms ns : List ℕ} → Distinct ms → Distinct ns → ((k : ℕ) → List·Memᴰ k ms → List·Memᴰ k ns → ⊥) → Distinct (ms ++ ns)
+distinct-append empty e h = e
+distinct-append (more {n} {ns = ms} a d) e h =
+    more (λ m. ⊎-elim a (h n (List·Memᴰ·head refl)) (List·Memᴰ·append-cases ms m)) (distinct-append d e (λ k x. h k (List·Memᴰ·tail x)))
 
 two-apart : {x y : ℕ} {ns : List ℕ} → Distinct (x ∷ y ∷ ns) → x ≡ y → ⊥
 two-apart (more h d) e = h (List·Memᴰ·head e)
