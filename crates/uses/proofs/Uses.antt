@@ -14,6 +14,7 @@ use Rattle.relations.proofs.Select.{or-cases, or-left, or-right, and-fst, le-or
 use Rattle.express.specs.syntax.NodeKind as node
 use Rattle.express.specs.syntax.Grammar.{file}
 use Rattle.express.specs.syntax.Syntax.{Read}
+use Rattle.express.specs.tokens.Scanned.{Scanned}
 use Rattle.express.specs.syntax.Tree.{Table, count, kind, role, symbol, is, is-declaration, is-scope-member, owner, schema-of, in-constant}
 use Rattle.express.specs.names.Scope.{Meaning, none, one, several, meaning, inherited, is-use, means, binding}
 use Rattle.express.specs.names.Scope as scope
@@ -38,6 +39,7 @@ use Rattle.type_names.proofs.Passes.{PassingFile, file-starts, file-goes-on, fi
 use Rattle.inheritance.specs.Inheritance.{inherited-code}
 use Rattle.symbol_tables.specs.Entry.{several-code, code, stamp-count, says}
 use Rattle.symbol_tables.specs.Table.{symbol-in}
+use Rattle.symbol_tables.proofs.Symbols.{symbol-within}
 use Rattle.schema_items.specs.Items.{ItemsOf, SchemaOf, Tabling, Begins, Turns}
 use Rattle.schema_items.specs.declared.Tabled.{Tabled}
 use Rattle.meanings.specs.Use.{StandsFor}
@@ -263,28 +265,32 @@ declared-in {t} R C few u l =
       held = omega (arith, s .0 .known, few);
     }
 
+pub record Asked (kinds tokens sizes roles symbols starts keys nodes heads next bound : List ℕ) (offsets places slots : ℕ) (t : Table) : Type 0 where
+  pub scanned : Scanned t
+  pub file : FileAsked kinds tokens sizes roles symbols starts keys nodes heads next bound offsets places slots t
+
 module _ {kinds tokens sizes roles symbols starts keys nodes heads next : List ℕ} where
-  within-file : {b : List ℕ} {f a i : ℕ} (t : Table) → FileAsked kinds tokens sizes roles symbols starts keys nodes heads next b f a i t → WithinDeclarations t (uses t)
-  within-file t A = within t (A .of-file .read)
+  within-file : {b : List ℕ} {f a i : ℕ} (t : Table) → Asked kinds tokens sizes roles symbols starts keys nodes heads next b f a i t → WithinDeclarations t (uses t)
+  within-file t A = within t (A .file .of-file .read)
 
 -- the declarations from v on are passed, and the items of one schema stand in the table
 pub record PassingUses (kinds tokens sizes roles symbols starts keys nodes heads next bound₀ first₀ to₀ : List ℕ) (slots v : ℕ) (first : List ℕ) (so-far : Progress) (bound to : List ℕ)
     (tabled : Tabled) (items : List ℕ) : Type 0 where
   pub passing :
-      PassingFile (FileAsked kinds tokens sizes roles symbols starts keys nodes heads next bound₀ (length first₀) (length to₀) slots) uses bound₀ first₀ to₀ v first so-far
+      PassingFile (Asked kinds tokens sizes roles symbols starts keys nodes heads next bound₀ (length first₀) (length to₀) slots) uses bound₀ first₀ to₀ v first so-far
       bound to
   pub items-long : length items ≡ slots
   pub tabling :
-      (t : Table) → FileAsked kinds tokens sizes roles symbols starts keys nodes heads next bound₀ (length first₀) (length to₀) slots t → Tabling t v tabled items
+      (t : Table) → Asked kinds tokens sizes roles symbols starts keys nodes heads next bound₀ (length first₀) (length to₀) slots t → Tabling t v tabled items
 
 module _ {kinds tokens sizes roles symbols starts keys nodes heads next bound₀ first₀ to₀ : List ℕ} where
   pub uses-start :
       {v : ℕ} {so-far : Progress} {tabled : Tabled} {items : List ℕ} → v ≡ length first₀ - 1 → so-far .arcs ≡ length to₀ → fault-of (so-far .least) ≡ express.fine →
       Begins (length kinds) tabled items → PassingUses kinds tokens sizes roles symbols starts keys nodes heads next bound₀ first₀ to₀ (length items) v first₀ so-far bound₀ to₀ tabled items
   uses-start {v} e a f B = record {
-    passing = file-starts within-file e a f (λ t A. A .graph-room) (λ t A. A .bound-room) (λ t A n l. A .bound-is n l);
+    passing = file-starts within-file e a f (λ t A. A .file .graph-room) (λ t A. A .file .bound-room) (λ t A n l. A .file .bound-is n l);
     items-long = refl;
-    tabling = λ t A. B .is t (ap length (A .of-file .columns .kinds-are)) v;
+    tabling = λ t A. B .is t (ap length (A .file .of-file .columns .kinds-are)) v;
   }
 
   module _ {slots v : ℕ} {first : List ℕ} {so-far : Progress} {bound to : List ℕ} {tabled : Tabled} {items : List ℕ}
@@ -300,13 +306,13 @@ module _ {kinds tokens sizes roles symbols starts keys nodes heads next bound₀
       passing =
           file-goes-on within-file (G .passing) n s some
           (λ t A l.
-          let P = A .of-file .prepared in (
+          let P = A .file .of-file .prepared in (
             record { number = l; from-is = D .from-is t heads next P l; upto-is = D .node-is t heads next P l },
             record {
-              of-file = A .of-file;
-              roles-are = A .roles-are;
+              of-file = A .file .of-file;
+              roles-are = A .file .roles-are;
               schema-is = D .schema-is t heads next P l;
-              items-room = λ m h. omega (arith, A .items-room m h, long);
+              items-room = λ m h. omega (arith, A .file .items-room, symbol-within (A .scanned) (P .consistent) m h, long);
               items-are = turns t A .0;
             },
           )) R bl tl;
@@ -318,13 +324,13 @@ module _ {kinds tokens sizes roles symbols starts keys nodes heads next bound₀
         long = il ∙ G .items-long
 
         turns :
-            (t : Table) → FileAsked kinds tokens sizes roles symbols starts keys nodes heads next bound₀ (length first₀) (length to₀) slots t →
+            (t : Table) → Asked kinds tokens sizes roles symbols starts keys nodes heads next bound₀ (length first₀) (length to₀) slots t →
             ItemsOf t (d .schema) items′ (turned .stamp) × Tabling t (v - 1) turned items′
         turns t A =
-            let F = A .of-file in
+            let F = A .file .of-file in
             let w = G .passing .is t A .building .within in
             let l : v - 1 < vertex-count t = omega (arith, w, some) in
-            let few : v < stamp-count = omega (arith, w, A .stamp-room) in
+            let few : v < stamp-count = omega (arith, w, A .file .stamp-room) in
             let e : y ≡ v = z (omega arith) in
             let S = declared-in (F .read) (F .columns) (F .prepared .consistent .few) (v - 1) l in
             rw e at (W .is t (rw (D .schema-is t heads next (F .prepared) l) S) (omega arith) (omega arith) (rw e (G .tabling t A)))
@@ -332,4 +338,4 @@ module _ {kinds tokens sizes roles symbols starts keys nodes heads next bound₀
     pub uses-end :
         {items₀ : List ℕ} → slots ≡ length items₀ → first′ ≡ set first 0 x → v ≤ 0 →
         BindsUses kinds tokens sizes roles symbols starts keys nodes heads next bound₀ first₀ to₀ items₀ (so-far .least) bound first′ to
-    uses-end e s h = record { is = λ t A. file-ends within-file (G .passing) n s h t (rw e A) }
+    uses-end e s h = record { is = λ t S A. file-ends within-file (G .passing) n s h t (record { scanned = S; file = rw e A }) }

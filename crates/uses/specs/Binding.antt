@@ -9,6 +9,7 @@ use Rattle.express.specs.syntax.NodeKind.{name, qualified-item, self, in-expres
 use Rattle.express.specs.syntax.NodeKind as node
 use Rattle.express.specs.syntax.Grammar.{file}
 use Rattle.express.specs.syntax.Syntax.{Read}
+use Rattle.express.specs.tokens.Scanned.{Scanned}
 use Rattle.express.specs.syntax.Tree.{Table, count, symbol, is, owner, schema-of}
 use Rattle.express.specs.names.Scope.{Meaning, one, binding}
 use Rattle.express.specs.names.Fault.{expression}
@@ -79,9 +80,9 @@ module _ (kinds tokens sizes roles symbols starts keys nodes heads next : List �
     pub bound-room : count t ≤ length bound
     pub bound-is : (n : ℕ) → n < count t → getD bound n 0 ≡ inherited-before t n
     pub graph-room : Room t (constant-target t) offsets places
-    pub items-room : (n : ℕ) → n < count t → symbol t n < slots
+    pub items-room : length (t .symbols) ≤ slots
     pub stamp-room : vertex-count t < stamp-count
 
   -- `bind_uses`: the fault of the stage of expressions, the bindings of all names, and the graph of N17
   pub record BindsUses (bound first to items : List ℕ) (r : Fault) (bound′ first′ to′ : List ℕ) : Type 0 where
-    pub is : (t : Table) → FileAsked bound (length first) (length to) (length items) t → PassedAll t (uses t) r bound′ first′ to′
+    pub is : (t : Table) → Scanned t → FileAsked bound (length first) (length to) (length items) t → PassedAll t (uses t) r bound′ first′ to′
