@@ -11,11 +11,11 @@ use Prim.Native.Nat.{_-_, _≤_}
 use lib.ListN.{length}
 
 abbrev Inv-loop : tie.InvT-loop
-Inv-loop kinds tokens sizes roles symbols starts keys nodes heads next schema lo hi bound₀ to₀ so-far₀ i₀ bound to so-far i = PassingRange (RangeAsked kinds tokens sizes
-    roles symbols starts keys nodes heads next schema) uses lo hi so-far₀ bound₀ to₀ i so-far bound to × (i ≤ length kinds) × (i ≤ length roles)
+Inv-loop kinds tokens sizes roles symbols starts keys nodes heads next items stamp schema lo hi bound₀ to₀ so-far₀ i₀ bound to so-far i = PassingRange (RangeAsked kinds tokens sizes
+    roles symbols starts keys nodes heads next items stamp schema) uses lo hi so-far₀ bound₀ to₀ i so-far bound to × (i ≤ length kinds) × (i ≤ length roles)
 
 abbrev μ-loop : tie.MeasureT-loop
-μ-loop kinds tokens sizes roles symbols starts keys nodes heads next schema lo hi bound₀ to₀ so-far₀ i₀ bound to so-far i = i
+μ-loop kinds tokens sizes roles symbols starts keys nodes heads next items stamp schema lo hi bound₀ to₀ so-far₀ i₀ bound to so-far i = i
 
 shorter-requires : tie.Need-shorter-requires Inv-loop μ-loop
 shorter-requires c κs = search needs
