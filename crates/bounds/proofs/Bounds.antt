@@ -40,8 +40,11 @@ of-underlying = 2
 abbrev of-rule : ℕ
 of-rule = 3
 
+abbrev of-explicit : ℕ
+of-explicit = 4
+
 abbrev of-expression : ℕ
-of-expression = 4
+of-expression = 5
 
 abbrev part : Nonterminal → ℕ
 part file = other
@@ -54,7 +57,7 @@ part underlying = of-underlying
 part where-clause = other
 part domain-rule = of-rule
 part entity = other
-part explicit = other
+part explicit = of-explicit
 part derived = other
 part expression = of-expression
 part sum = of-expression

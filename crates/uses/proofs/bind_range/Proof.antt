@@ -45,7 +45,7 @@ shared-slice-read-asks-2 : tie.Need-shared-slice-read-asks-2 Inv-loop μ-loop
 shared-slice-read-asks-2 c = omega (arith, c .before .before .before .loop .inv .2, c .before .before .loop-test .taken)
 
 cast-asks : tie.Need-cast-asks Inv-loop μ-loop
-cast-asks c = omega (arith, c .shared-slice-known12 .given (c .before .before .before .loop .i - 1))
+cast-asks c = omega (arith, c .shared-slice-known13 .given (c .before .before .before .loop .i - 1))
 
 asks-requires : tie.Need-asks-requires Inv-loop μ-loop
 asks-requires c κs = search needs
