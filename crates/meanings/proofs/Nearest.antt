@@ -1,25 +1,23 @@
 -- The nearest meaning, level by level.
 use mathlib.Core.Path.{_≡_, refl, sym, ap, _∙_}
 use mathlib.Core.Logic.{⊎-elim}
-use mathlib.Core.Bool.{Bool, true, false, _||_, _&&_}
-use mathlib.Core.List.{List, List·Memᴰ}
+use mathlib.Core.Bool.{true, false}
+use mathlib.Core.List.{List}
 use Prim.Native.Nat.{ℕ, _<_}
 use native.Mathlib.Omega.{arith}
 use borrow.Author.Tests.{eqb-true, ne-eqb}
-use lib.Dec.{eqb}
 use lib.ListN.{getD}
 use Rattle.relations.specs.Select.{nearest}
 use Rattle.relations.proofs.Select.{or-cases, and-fst}
 use Rattle.express.specs.syntax.NodeKind as node
 use Rattle.express.specs.syntax.Tree.{Table, count, kind, is, is-scope-member, is-attribute}
-use Rattle.express.specs.names.Scope.{Meaning, none, one, several, meaning, own, inherited, declarations, items, value-meant}
+use Rattle.express.specs.names.Scope.{Meaning, none, one, several, meaning, own, inherited, declarations, items}
 use Rattle.express.proofs.names.Meaning.{or-else, meaning-nearest, meaning-one, spelled-ascending, items-iff, own-iff, inherited-iff}
 use Rattle.scopes.specs.LookUp.{Means, node-meant}
-use Rattle.scopes.specs.Preparation.{Prepared}
 use Rattle.scopes.specs.declared.look_ups.Meaning as entries
 use Rattle.scopes.specs.declared.look_ups.Meaning.the-variants as entry
 use Rattle.scopes.proofs.Ranges.{declared-meant}
-use Rattle.meanings.specs.Use.{use-meaning, Sorted, StandsFor, ValueMeans, ByNode, inherited-or-value, use-meant, InheritedOrValue, InDeclaration}
+use Rattle.meanings.specs.Use.{use-meaning, ValueMeans, ByNode, InheritedOrValue, InDeclaration}
 use Rattle.meanings.specs.declared.Use.{Use}
 use Rattle.meanings.specs.declared.Use.the-variants.{Nothing, Several, Node, Declaration}
 

@@ -3,30 +3,27 @@ use mathlib.Core.Path.{_≡_, refl, sym, ap, ap₂, _∙_}
 use mathlib.Core.Logic.{⊎-elim}
 use mathlib.Core.Bool.{Bool, true, false, cond, not, _&&_, _||_, false≢true}
 use mathlib.Core.List.{List, [], _∷_}
-use Prim.Native.Nat.{ℕ, _+_, _-_, _<_}
+use Prim.Native.Nat.{ℕ, _-_, _<_}
 use native.Mathlib.Omega.{arith}
 use borrow.Author.Tests.{eqb-true, ne-eqb, eq-eqb}
 use lib.Dec.{eqb}
 use lib.ListN.{getD}
 use Rattle.ebnf.specs.Set.{mem}
 use Rattle.relations.specs.Select.{empty}
-use Rattle.relations.proofs.Select.{or-cases, or-left, or-right, and-fst, and-snd}
+use Rattle.relations.proofs.Select.{or-cases, or-left, or-right, and-fst}
 use Rattle.express.specs.syntax.NodeKind as node
-use Rattle.express.specs.syntax.Grammar.{file}
-use Rattle.express.specs.syntax.Syntax.{Read}
-use Rattle.express.specs.syntax.Tree.{Table, count, kind, token, role, symbol, symbol-at, place, place-at, is, is-scope-member, owner, schema-of, in-constant}
+use Rattle.express.specs.syntax.Tree.{Table, count, kind, token, symbol, symbol-at, place, place-at, is, is-scope-member, owner, schema-of, in-constant}
 use Rattle.express.specs.names.Scope.{Meaning, none, one, several, meaning, inherited, declarations, items, candidates, is-use, means, binding, binding-of, type-token, type-meant, qualified-meant}
 use Rattle.express.specs.names.Fault as express
 use Rattle.express.specs.names.Fault.{judged, is-value, is-enumeration, or-later, expression, qualified}
 use Rattle.express.proofs.syntax.FormedRows.{sized}
 use Rattle.express.proofs.names.Owned.{in-constant-is, qualified-means}
-use Rattle.scopes.specs.Preparation.{Prepared}
 use Rattle.dependencies.specs.Target.{constant-of, constant-target}
 use Rattle.faults.specs.Meaning.{fault-of}
 use Rattle.faults.specs.declared.Fault as code
-use Rattle.meanings.specs.Use.{use-meaning, StandsFor, use-meant, InDeclaration}
+use Rattle.meanings.specs.Use.{StandsFor, use-meant, InDeclaration}
 use Rattle.meanings.specs.Finding.{Made, UseFinding, QualifiedFinding}
-use Rattle.meanings.specs.Node.{asks, MemberFault, ColumnsOf, FoundAt, Standing, NodeFindings}
+use Rattle.meanings.specs.Node.{asks, MemberFault, ColumnsOf, FoundAt, NodeFindings}
 use Rattle.meanings.specs.declared.Use.{Use}
 use Rattle.meanings.specs.declared.Use.the-variants.{Nothing, Several, Node, Declaration}
 use Rattle.type_names.specs.declared.Finding.{Finding}

@@ -1,11 +1,15 @@
 -- One stage after another.
-use mathlib.Core.Path.{_≡_, sym, ap, ap₂, _∙_}
-use mathlib.Core.Logic.{by-cases}
-use mathlib.Core.Bool.{Bool, cond}
-use mathlib.Core.List.{List}
-use Prim.Native.Nat.{ℕ}
+use mathlib.Core.Path.{_≡_, sym, ap, ap₂, _∙_, refl}
+use mathlib.Core.Logic.{by-cases, ⊎-elim}
+use mathlib.Core.Bool.{Bool, cond, true, false}
+use mathlib.Core.List.{List, map, _++_}
+use Prim.Native.Nat.{ℕ, _+_, _-_, _≤_, _<_, min}
 use native.Mathlib.Decide.{ℕ-discrete}
-use borrow.Author.Tests.{eq-eqb, ne-eqb}
+use borrow.Author.Tests.{eq-eqb, ne-eqb, le-leb, lt-ltb}
+use native.Mathlib.Omega.{arith}
+use lib.Dec.{eqb}
+use lib.ListN.{length, take, drop, length-append, length-map, length-drop}
+use lib.Seq.{take-all, length-take-le}
 use Rattle.express.specs.syntax.NodeKind as node
 use Rattle.express.specs.syntax.Tree.{is}
 use Rattle.express.specs.syntax.Tree as tree
@@ -51,17 +55,40 @@ module _ {kinds tokens roles symbols starts keys nodes heads next bound first to
         record { reply = f ∙ ap₂ or-later x (P .reply); entries = P .entries; graph = P .graph };
   }
 
-module _ {kinds tokens sizes roles symbols starts keys nodes heads next bound first to order scratch : List ℕ} {b c r : code.Fault} {bound′ first′ to′ order′ scratch′ : List ℕ} where
+-- a part of a column, and the column after the part is written
+pub part-long : (n : ℕ) (l : List ℕ) → n ≤ length l → n ≡ length (take n l)
+part-long n l h = sym (length-take-le n l h)
+
+pub joined-long : (n : ℕ) (l a : List ℕ) → n ≤ length l → length a ≡ length (take n l) → length (a ++ drop n l) ≡ length l
+joined-long n l a h e = omega (arith, length-append a (drop n l), length-drop n l, length-take-le n l h, e)
+
+-- The table of items is a part of the scratch, as long as the column of symbols; the search for an order has the whole of it.
+module _ {kinds tokens sizes roles symbols starts keys nodes heads next bound first to order scratch : List ℕ} {slots : ℕ} {b c r : code.Fault}
+    {bound′ first′ to′ order′ scratch′ : List ℕ} where
   pub expressions-bound :
-      BindsUses kinds tokens sizes roles symbols starts keys nodes heads next bound first to b bound′ first′ to′ → Arranges tokens starts nodes first′ to′ order scratch c order′ scratch′ →
-      fault-of r ≡ or-later (fault-of b) (fault-of c) →
+      (items : List ℕ) → slots ≡ min (length symbols) (length scratch) → length items ≡ length (take slots scratch) →
+      BindsUses kinds tokens sizes roles symbols starts keys nodes heads next bound first to (take slots scratch) b bound′ first′ to′ →
+      Arranges tokens starts nodes first′ to′ order (items ++ drop slots scratch) c order′ scratch′ → fault-of r ≡ or-later (fault-of b) (fault-of c) →
       BindsExpressions kinds tokens sizes roles symbols starts keys nodes heads next bound first to order scratch r bound′ first′ to′ order′
-  expressions-bound B A e = record {
+  expressions-bound items short part B A e = record {
     is = λ t S Q room.
+        let low : slots ≤ length scratch = omega (arith, short) in
         let C = Q .of-file in
-        let P = B .is t Q in
-        let asked : Answer t (is t node.constant) (constant-edges t) order scratch c order′ scratch′ = A .is t (constant-target t) (is t node.constant) (constant-edges t)
-        (asked-constants (C .read) S (C .columns .tokens-are) (C .columns .starts-are) (column-node (C .prepared)) (room .order-room) (room .scratch-room) (P .graph)) in
+        let P = B .is t S
+        (record {
+          of-file = C;
+          roles-are = Q .roles-are;
+          bound-room = Q .bound-room;
+          bound-is = Q .bound-is;
+          graph-room = Q .graph-room;
+          items-room = omega (arith, Q .items-room, ap length (C .columns .symbols-are), short, part-long slots scratch low);
+          stamp-room = Q .stamp-room;
+        }) in
+        let asked : Answer t (is t node.constant) (constant-edges t) order (items ++ drop slots scratch) c order′ scratch′ =
+        A .is t (constant-target t) (is t node.constant) (constant-edges t)
+        (asked-constants (C .read) S (C .columns .tokens-are) (C .columns .starts-are) (column-node (C .prepared)) (room .order-room)
+        (omega (arith, room .scratch-room, joined-long slots scratch items low part))
+        (P .graph)) in
         record {
           reply =
               e ∙ ap (or-later (fault-of b)) (asked .reply)

@@ -53,5 +53,5 @@ pub record ExpressionsBound (t : Table) (r : Fault) (bound first to order : List
 pub record BindsExpressions (kinds tokens sizes roles symbols starts keys nodes heads next bound first to order scratch : List ℕ) (r : Fault) (bound′ first′ to′ order′ : List ℕ) :
     Type 0 where
   pub is :
-      (t : Table) → Scanned t → uses.FileAsked kinds tokens sizes roles symbols starts keys nodes heads next bound (length first) (length to) t → OrderRoom t order scratch →
+      (t : Table) → Scanned t → uses.FileAsked kinds tokens sizes roles symbols starts keys nodes heads next bound (length first) (length to) (length scratch) t → OrderRoom t order scratch →
       ExpressionsBound t r bound′ first′ to′ order′

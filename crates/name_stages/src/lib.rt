@@ -42,7 +42,7 @@ pub fn bind_declarations(
 }
 
 // Stages 10 to 12 of expressions, and 13 of constants: the bindings of all names, the graph of the constants and an order of the
-// declarations.
+// declarations. The column that the search for an order needs serves as the table of items before.
 pub fn bind_expressions(
     kinds: &[u8],
     tokens: &[u32],
@@ -65,6 +65,7 @@ pub fn bind_expressions(
         (now (bound .entry)) (now (first .entry)) (now (to .entry)) (now (order .entry)) (now (scratch .entry)) r
         (now (bound .exit)) (now (first .exit)) (now (to .exit)) (now (order .exit)) ⌝ }
 {
+    let slots = columns::shorter(symbols.len(), scratch.len());
     let unbound = uses::bind_uses(
         kinds,
         tokens,
@@ -79,6 +80,7 @@ pub fn bind_expressions(
         bound,
         first,
         to,
+        &mut scratch[..slots],
     );
     let cyclic = dependencies::arrange(tokens, starts, nodes, first, to, order, scratch);
     faults::or_later(unbound, cyclic)

@@ -1,9 +1,9 @@
 -- The items of a schema are the item nodes below its node, since the schema of a node is the first at or after it and none stands below another.
 use mathlib.Core.Path.{_≡_, refl, sym, ap, _∙_}
-use mathlib.Core.Logic.{_↔_, _⊎_, inl, inr, ⊎-elim, by-cases}
-use mathlib.Core.Bool.{Bool, true, false, _||_, false≢true}
-use mathlib.Core.List.{List, [], _++_, append-nil, List·Memᴰ}
-use Prim.Native.Nat.{ℕ, _+_, _-_, _≤_, _<_}
+use mathlib.Core.Logic.{_⊎_, inl, inr, ⊎-elim, by-cases}
+use mathlib.Core.Bool.{Bool, true, false, false≢true}
+use mathlib.Core.List.{List, [], append-nil, List·Memᴰ}
+use Prim.Native.Nat.{ℕ, _-_, _≤_, _<_}
 use native.Mathlib.Omega.{arith}
 use native.Mathlib.Decide.{ℕ-discrete}
 use borrow.Author.Tests.{eqb-true, eq-eqb}
@@ -26,11 +26,11 @@ use Rattle.express.proofs.syntax.Within.{passes-below, schema-over}
 use Rattle.express.proofs.syntax.FormedRows.{sized}
 use Rattle.express.proofs.names.Meaning.{items-iff, spelled-ascending}
 use Rattle.express.proofs.names.Owned.{in-schema}
-use Rattle.symbol_tables.specs.Entry.{code, stamp-count, stamp-of, says}
-use Rattle.symbol_tables.specs.Table.{either-kind, symbol-in, kinds-between, Tabulated, OnlyStamped, AddsRange}
+use Rattle.symbol_tables.specs.Entry.{code, stamp-of, says}
+use Rattle.symbol_tables.specs.Table.{either-kind, symbol-in, kinds-between, OnlyStamped, AddsRange}
 use Rattle.symbol_tables.proofs.Tables.{untouched}
-use Rattle.symbol_tables.proofs.Orders.{Distinct, ascending-distinct, distinct-keep, meaning-same}
-use Rattle.schema_items.specs.Items.{ItemsOf, SchemaOf, Tabulates, Tabling, Begins, Turns}
+use Rattle.symbol_tables.proofs.Orders.{ascending-distinct, distinct-keep, meaning-same}
+use Rattle.schema_items.specs.Items.{ItemsOf, Tabulates, Tabling, Begins, Turns}
 use Rattle.schema_items.specs.declared.Tabled.{Tabled}
 
 -- ---- the nodes below a schema
@@ -134,8 +134,11 @@ module _ {t : Table} {v : ℕ} {before : Tabled} {table : List ℕ} (T : Tabling
 
 pub begins : {n : ℕ} (table : List ℕ) {table′ : List ℕ} {r : Tabled} → table′ ≡ cleared 0 0 table → r .schema ≡ n → Begins n r table′
 begins {n} table {table′} {r} c e = record {
-  is = λ t q v. record { stamps = λ s. inl (ap (λ (l : List ℕ). stamp-of (getD l s 0)) (c ∙ clear-front 0 0 table [] refl) ∙ ap stamp-of (getD-padded 0 (length table) [] s)); items-are = λ l. absurd (omega (arith, l, e, q)) };
+  is = λ t q v. record { stamps = λ s. inl (none s); items-are = λ l. absurd (omega (arith, l, e, q)) };
 }
+  where
+    none : (s : ℕ) → stamp-of (getD table′ s 0) ≡ 0
+    none s = ap (λ (l : List ℕ). stamp-of (getD l s 0)) (c ∙ clear-front 0 0 table [] refl) ∙ ap stamp-of (getD-padded 0 (length table) [] s)
 
 module _ {kinds tokens sizes symbols : List ℕ} {h stamp : ℕ} {before : Tabled} {table : List ℕ} where
   pub stays : h ≡ before .schema → Turns kinds tokens sizes symbols h stamp before table before table

@@ -3,33 +3,31 @@ use mathlib.Core.Path.{_≡_, refl, sym, ap, ap₂, _∙_}
 use mathlib.Core.Logic.{⊎-elim}
 use mathlib.Core.Bool.{Bool, true, false, cond, not, _&&_, _||_, false≢true}
 use mathlib.Core.List.{List, [], _∷_}
-use Prim.Native.Nat.{ℕ, _+_, _-_, _≤_, _<_, min}
+use Prim.Native.Nat.{ℕ, _-_, _≤_, _<_, min}
 use native.Mathlib.Omega.{arith}
-use borrow.Author.Tests.{eqb-true, eq-eqb, lt-leb}
-use lib.Dec.{eqb, leb}
+use borrow.Author.Tests.{eqb-true, eq-eqb}
 use lib.ListN.{length, getD, set}
 use Rattle.ebnf.specs.Set.{mem, disjoint, subset}
 use Rattle.ebnf.proofs.Sets.{in-more}
-use Rattle.relations.proofs.Select.{or-cases, or-left, or-right, and-fst, le-or, untrue}
+use Rattle.relations.proofs.Select.{or-cases, and-fst, untrue}
 use Rattle.express.specs.syntax.NodeKind as node
 use Rattle.express.specs.syntax.Grammar.{file}
 use Rattle.express.specs.syntax.Syntax.{Read}
 use Rattle.express.specs.tokens.Scanned.{Scanned}
-use Rattle.express.specs.syntax.Tree.{Table, count, kind, role, symbol, is, is-declaration, is-scope-member, owner, schema-of, in-constant}
-use Rattle.express.specs.names.Scope.{Meaning, none, one, several, meaning, inherited, is-use, means, binding}
+use Rattle.express.specs.syntax.Tree.{Table, count, kind, symbol, is, is-declaration, is-scope-member, owner, schema-of, in-constant}
+use Rattle.express.specs.names.Scope.{Meaning, none, one, several, meaning, inherited, is-use, binding}
 use Rattle.express.specs.names.Scope as scope
 use Rattle.express.specs.names.Fault as express
-use Rattle.express.specs.names.Fault.{Fault, expression}
+use Rattle.express.specs.names.Fault.{expression}
 use Rattle.express.proofs.syntax.KindSets as set
-use Rattle.express.proofs.syntax.Within.{Over, schema-over}
+use Rattle.express.proofs.syntax.Within.{schema-over}
 use Rattle.express.proofs.names.Owned.{declaring, declaring-kind, undeclared, in-schema, in-owner, owner-schema}
-use Rattle.scopes.specs.Preparation.{Prepared}
 use Rattle.scopes.specs.Entries.{radix}
 use Rattle.scopes.specs.Range.{vertex-count, node-of, DeclarationAt}
 use Rattle.scopes.specs.declared.Extent.{Extent}
 use Rattle.scopes.proofs.Ranges.{node-below, node-declares, range-owner, range-end}
 use Rattle.faults.specs.Meaning.{fault-of}
-use Rattle.dependencies.specs.Target.{Targets, constant-target, behind-all}
+use Rattle.dependencies.specs.Target.{behind-all}
 use Rattle.dependencies.proofs.Instances.{constant-targets}
 use Rattle.type_names.specs.TypeName.{is-type-name}
 use Rattle.type_names.specs.Pass.{Finds, Skipped, RangeOf, WithinDeclarations}
@@ -43,12 +41,12 @@ use Rattle.symbol_tables.proofs.Symbols.{symbol-within}
 use Rattle.schema_items.specs.Items.{ItemsOf, SchemaOf, Tabling, Begins, Turns}
 use Rattle.schema_items.specs.declared.Tabled.{Tabled}
 use Rattle.meanings.specs.Use.{StandsFor}
-use Rattle.meanings.specs.Node.{asks, inherits, ColumnsOf, FoundAt, Standing, NodeFindings}
+use Rattle.meanings.specs.Node.{asks, inherits, ColumnsOf, Standing, NodeFindings}
 use Rattle.meanings.specs.declared.Use.{Use}
-use Rattle.meanings.specs.declared.Use.the-variants.{Nothing, Several, Node, Declaration}
+use Rattle.meanings.specs.declared.Use.the-variants.{Nothing, Several, Node}
 use Rattle.meanings.proofs.Nearest.{item-sort, inherited-sort}
 use Rattle.meanings.proofs.NodeLaws.{asked, chosen, passed, both-false, unbound}
-use Rattle.uses.specs.Binding.{asks-by, Decodes, inherited-before, uses, FileOf, FindingAt, RangeAsked, FileAsked, BindsRange, BindsUses}
+use Rattle.uses.specs.Binding.{asks-by, Decodes, inherited-before, uses, FindingAt, RangeAsked, FileAsked, BindsRange, BindsUses}
 
 pub or-none : (b : Bool) → b ≡ b || false || false || false
 or-none true = refl

@@ -3,9 +3,6 @@ use borrow.Author.Needs.{needs}
 use Rattle.meanings.proofs.value_meant.Statement.{statement}
 use Rattle.meanings.proofs.value_meant.Tie as tie
 use Rattle.meanings.proofs.Nearest.{meanings}
-use Rattle.meanings.proofs.value_meant.Reads as reads
-use Rattle.meanings.proofs.value_meant.Lts as lts
-use Rattle.scopes.proofs.look_ups.declaration_meant.Reads as declaration-meant-reads
 
 declaration-meant-requires : tie.Need-declaration-meant-requires
 declaration-meant-requires c κs = search needs

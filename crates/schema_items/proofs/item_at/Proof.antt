@@ -17,7 +17,10 @@ meaning-of-requires : tie.Need-meaning-of-requires
 meaning-of-requires c κs = search needs
 
 returns : tie.Need-returns
-returns c = reads-item (c .before .before .before .before .before .before .before .args .tokens .now) (c .before .before .before .before .before .before .before .args .symbols .now) (c .before .before .before .before .before .before .before .args .table .now) (c .before .before .before .before .before .before .before .args .stamp) (c .before .before .before .before .before .before .before .args .node) (c .before .before .before .at .ensures) (c .before .before .index .ensures) (c .before .at2 .ensures) (c .meaning-of .ensures)
+returns c = reads-item (c .before .before .before .before .before .before .before .args .tokens .now) (c .before .before .before .before .before .before .before .args .symbols
+    .now) (c .before .before .before .before .before .before .before .args .table .now) (c .before .before .before .before .before .before .before .args .stamp) (c .before
+    .before .before .before .before .before .before .args .node) (c .before .before .before .at .ensures) (c .before .before .index .ensures) (c .before .at2 .ensures) (c
+    .meaning-of .ensures)
 
 pub item-at-spec : {M : Type 1} → statement M
 item-at-spec =

@@ -23,7 +23,8 @@ same-length : tie.Need-same-length
 same-length c = search needs
 
 returns : tie.Need-returns
-returns c = tabulates (c .before .before .before .before .before .before .before .at .ensures) (c .before .before .before .before .before .before .index .ensures) (c .before .before .before .before .before .saturating-sub .ensures) (c .before .before .before .before .saturating-sub2 .ensures) (c .before .before .add-range .ensures)
+returns c = tabulates (c .before .before .before .before .before .before .before .at .ensures) (c .before .before .before .before .before .before .index .ensures) (c .before
+    .before .before .before .before .saturating-sub .ensures) (c .before .before .before .before .saturating-sub2 .ensures) (c .before .before .add-range .ensures)
 
 pub tabulate-items-spec : {M : Type 1} → statement M
 tabulate-items-spec =

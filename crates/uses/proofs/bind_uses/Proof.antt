@@ -8,7 +8,8 @@ use borrow.Author.Needs.{needs}
 use native.Mathlib.Omega.{arith}
 
 abbrev Inv-loop : tie.InvT-loop
-Inv-loop kinds tokens sizes roles symbols starts keys nodes heads next bound₀ first₀ to₀ items₀ so-far₀ tabled₀ v₀ bound first to items so-far tabled v = PassingUses kinds tokens sizes roles symbols starts keys nodes heads next bound₀ first₀ to₀ (length items₀) v first so-far bound to tabled items
+Inv-loop kinds tokens sizes roles symbols starts keys nodes heads next bound₀ first₀ to₀ items₀ so-far₀ tabled₀ v₀ bound first to items so-far tabled v = PassingUses kinds
+    tokens sizes roles symbols starts keys nodes heads next bound₀ first₀ to₀ (length items₀) v first so-far bound to tabled items
 
 abbrev μ-loop : tie.MeasureT-loop
 μ-loop kinds tokens sizes roles symbols starts keys nodes heads next bound₀ first₀ to₀ items₀ so-far₀ tabled₀ v₀ bound first to items so-far tabled v = v
@@ -47,12 +48,23 @@ bind-range-requires : tie.Need-bind-range-requires Inv-loop μ-loop
 bind-range-requires c κs = search needs
 
 loop-less : tie.Need-loop-less Inv-loop μ-loop
-loop-less c = omega (arith, c .before .before .before .before .before .before .before .before .before .before .before .before .before .before .before .before .before .before .before .loop-test .taken)
+loop-less c = omega (
+  arith,
+  c .before .before .before .before .before .before .before .before .before .before .before .before .before .before .before .before .before .before
+      .before .loop-test .taken,
+)
 
 loop-again : tie.Need-loop-again Inv-loop μ-loop
 loop-again c =
-    uses-go-on (c .before .before .before .before .before .before .before .before .before .before .before .before .before .before .before .before .before .before .before .before .loop .inv) (c .before .before .before .before .before .before .before .before .before .before .before .before .before .before .before .before .before .number .ensures) (c .before .before .before .before .before .before .before .before .before .before .before .before .before .before .before .before .put32 .ensures) (c .before .before .before .before .before .before .before .before .before .before .before .before .before .before .before .before .before .before .before .loop-test .taken) (c .before .before .before .before .before .before .before .before .before .before .before .before .before .number2 .ensures) (c .before .before .before .before .before .before .before .before .before .before .before .before .declaration .ensures) (c .before .before .before .before .before .before .before .before .before .before .turn-to .ensures) (c .before .before .before .before .bind-range .ensures)
-    (c .before .before .before .before .bind-range .kept .1 .1 .1 .1 .1 .1 .1 .1 .1 .1 .1 .1 .1 .1 .1 .1 .0) (c .before .before .before .before .bind-range .kept .1 .1 .1 .1 .1 .1 .1 .1 .1 .1 .1 .1 .1 .1 .1 .1 .1 .0) (c .before .before .before .before .before .before .before .before .before .before .turn-to .kept .1 .1 .1 .1 .1 .1 .1 .0)
+    uses-go-on (c .before .before .before .before .before .before .before .before .before .before .before .before .before .before .before .before .before .before .before
+    .before .loop .inv) (c .before .before .before .before .before .before .before .before .before .before .before .before .before .before .before .before .before .number
+    .ensures) (c .before .before .before .before .before .before .before .before .before .before .before .before .before .before .before .before .put32 .ensures) (c .before
+    .before .before .before .before .before .before .before .before .before .before .before .before .before .before .before .before .before .before .loop-test .taken) (c
+    .before .before .before .before .before .before .before .before .before .before .before .before .before .number2 .ensures) (c .before .before .before .before .before
+    .before .before .before .before .before .before .before .declaration .ensures) (c .before .before .before .before .before .before .before .before .before .before .turn-to
+    .ensures) (c .before .before .before .before .bind-range .ensures)
+    (c .before .before .before .before .bind-range .kept .1 .1 .1 .1 .1 .1 .1 .1 .1 .1 .1 .1 .1 .1 .1 .1 .0) (c .before .before .before .before .bind-range .kept .1 .1 .1 .1 .1
+    .1 .1 .1 .1 .1 .1 .1 .1 .1 .1 .1 .1 .0) (c .before .before .before .before .before .before .before .before .before .before .turn-to .kept .1 .1 .1 .1 .1 .1 .1 .0)
 
 number-requires-3 : tie.Need-number-requires-3 Inv-loop μ-loop
 number-requires-3 c κs = search needs
@@ -64,16 +76,20 @@ same-length : tie.Need-same-length Inv-loop μ-loop
 same-length c = c .before .before .before .before .before .before .before .loop .inv .passing .bound-long
 
 same-length-2 : tie.Need-same-length-2 Inv-loop μ-loop
-same-length-2 c = ap length (c .before .before .before .put322 .ensures) ∙ length-set (c .before .before .before .before .before .before .before .loop .first) 0 (c .before .before .before .before .number3 .result) ∙ c .before .before .before .before .before .before .before .loop .inv .passing .first-long
+same-length-2 c = ap length (c .before .before .before .put322 .ensures) ∙ length-set (c .before .before .before .before .before .before .before .loop .first) 0 (c .before
+    .before .before .before .number3 .result) ∙ c .before .before .before .before .before .before .before .loop .inv .passing .first-long
 
 same-length-3 : tie.Need-same-length-3 Inv-loop μ-loop
 same-length-3 c = c .before .before .before .before .before .before .before .loop .inv .passing .to-long
 
 same-length-4 : tie.Need-same-length-4 Inv-loop μ-loop
-same-length-4 c = c .before .before .before .before .before .before .before .loop .inv .items-long ∙ c .before .before .before .before .before .before .before .before .before .before .before .begin .kept .1 .0
+same-length-4 c = c .before .before .before .before .before .before .before .loop .inv .items-long ∙ c .before .before .before .before .before .before .before .before .before
+    .before .before .begin .kept .1 .0
 
 returns : tie.Need-returns Inv-loop μ-loop
-returns c = uses-end (c .before .before .before .before .before .before .before .loop .inv) (c .before .before .before .before .number3 .ensures) (c .before .before .before .before .before .before .before .before .before .before .before .begin .kept .1 .0) (c .before .before .before .put322 .ensures) (c .before .before .before .before .before .before .loop-test .left)
+returns c = uses-end (c .before .before .before .before .before .before .before .loop .inv) (c .before .before .before .before .number3 .ensures) (c .before .before .before
+    .before .before .before .before .before .before .before .before .begin .kept .1 .0) (c .before .before .before .put322 .ensures) (c .before .before .before .before .before
+    .before .loop-test .left)
 
 pub bind-uses-spec : {M : Type 1} → statement M
 bind-uses-spec =
