@@ -146,6 +146,8 @@ module _ {kinds tokens sizes roles symbols starts keys nodes heads next bound fi
           bound-room = omega (arith, R .bound-room, lb, lb₂);
           bound-is = λ n l. inherited q n l ∙ ap (cond (asks t n) (inherited-code t n)) (P .entries n l);
           graph-room = rw (lf, lt) (R .constant-graph);
+          items-room = omega (arith, R .entry-room, ls, A .scratch-long);
+          stamp-room = R .stamps;
         })
         (record {
           order-room = omega (arith, R .constant-order .order-room, lc);
