@@ -1,61 +1,46 @@
+-- `names::bind_prepared` meets its contract: the parts lie within their columns, and the stages have room. Assumes nothing.
 use borrow.Author.Needs.{needs}
 use Rattle.names.proofs.bind_prepared.Statement.{statement}
 use Rattle.names.proofs.bind_prepared.Tie as tie
-use Rattle.names.proofs.bind_prepared.Reads as reads
-use Rattle.names.proofs.bind_prepared.Lts as lts
-use Rattle.name_binding.proofs.bind_names.Reads as bind-names-reads
-use Rattle.names.proofs.Fitting.{prepared-bound, part-long, joined-long}
+use Rattle.names.proofs.Fitting.{prepared-bound, part-long}
 use native.Mathlib.Omega.{arith}
 
--- src/lib.rt:49:9
 slice-aggregate-bind-names : tie.Need-slice-aggregate-bind-names
 slice-aggregate-bind-names c = part-long _ _ (c .before .before .before .before .before .before .before .before .before .before .before .before .before .before .before .before .before .pre .1)
 
--- src/lib.rt:50:9
 slice-aggregate-bind-names-2 : tie.Need-slice-aggregate-bind-names-2
 slice-aggregate-bind-names-2 c = part-long _ _ (c .before .before .before .before .before .before .before .before .before .before .before .before .before .before .before .before .before .before .pre .2)
 
--- src/lib.rt:54:22
 add-bind-names : tie.Need-add-bind-names
 add-bind-names c = search needs
 
--- src/lib.rt:54:9
 slice-relend-prefix-bind-names : tie.Need-slice-relend-prefix-bind-names
 slice-relend-prefix-bind-names c = search needs
 
--- src/lib.rt:54:9
 slice-aggregate-bind-names-3 : tie.Need-slice-aggregate-bind-names-3
 slice-aggregate-bind-names-3 c = part-long _ _ (omega (arith, c .before .before .before .before .before .before .before .before .before .before .before .before .before .before .before .before .before .before .before .before .pre .0 .first-room))
 
--- src/lib.rt:42:5
 bind-names-requires : tie.Need-bind-names-requires
 bind-names-requires c κs = search needs
 
--- src/lib.rt:16:1
 same-length : tie.Need-same-length
 same-length c = search needs
 
--- src/lib.rt:16:1
 same-length-2 : tie.Need-same-length-2
 same-length-2 c = search needs
 
--- src/lib.rt:16:1
 same-length-3 : tie.Need-same-length-3
 same-length-3 c = search needs
 
--- src/lib.rt:16:1
 same-length-4 : tie.Need-same-length-4
 same-length-4 c = search needs
 
--- src/lib.rt:16:1
 same-length-5 : tie.Need-same-length-5
 same-length-5 c = search needs
 
--- src/lib.rt:16:1
 same-length-6 : tie.Need-same-length-6
 same-length-6 c = search needs
 
--- src/lib.rt:16:1
 returns : tie.Need-returns
 returns c = prepared-bound _ (c .before .before .before .before .before .before .before .before .before .before .before .before .before .before .before .before .before .before .before .before .before .before .before .before .before .before .before .before .before .before .before .before .before .before .before .before .before .pre .0) (c .before .before .before .before .before .before .before .before .before .before .before .before .bind-names .ensures)
 

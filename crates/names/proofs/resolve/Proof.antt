@@ -1,90 +1,67 @@
+-- `names::resolve` meets its contract: the roles are narrowed, or there is no room. Assumes nothing.
 use borrow.Author.Needs.{needs}
 use Rattle.names.proofs.resolve.Statement.{statement}
 use Rattle.names.proofs.resolve.Tie as tie
-use Rattle.names.proofs.resolve.Reads as reads
-use Rattle.names.proofs.resolve.Lts as lts
-use Rattle.names.proofs.resolve_roles.Reads as resolve-roles-reads
-use Rattle.resolutions.proofs.narrow.Reads as narrow-reads
 use Rattle.names.proofs.Resolving.{roles-fit, wide-resolved, narrow-resolved}
 use Rattle.names.proofs.Fitting.{part-long}
 
--- src/lib.rt:167:9
 narrow-requires : tie.Need-narrow-requires
 narrow-requires c κs = search needs
 
--- src/lib.rt:168:9
 same-length : tie.Need-same-length
 same-length c = search needs
 
--- src/lib.rt:168:9
 same-length-2 : tie.Need-same-length-2
 same-length-2 c = search needs
 
--- src/lib.rt:168:9
 returns : tie.Need-returns
 returns c = wide-resolved (c .before .before .before .narrow .ensures) (c .if1 .taken)
 
--- src/lib.rt:179:9
 slice-reshare-prefix-resolve-roles : tie.Need-slice-reshare-prefix-resolve-roles
 slice-reshare-prefix-resolve-roles c = roles-fit (c .before .before .before .before .before .before .before .before .before .before .before .before .before .before .before .before .before .before .before .before .before .before .before .before .before .args .roles .now) (c .before .before .before .narrow .ensures) (c .if1 .left) (c .before .before .before .narrow .kept .1 .0)
 
--- src/lib.rt:179:9
 slice-aggregate-resolve-roles : tie.Need-slice-aggregate-resolve-roles
 slice-aggregate-resolve-roles c = part-long _ _ (roles-fit (c .before .before .before .before .before .before .before .before .before .before .before .before .before .before .before .before .before .before .before .before .before .before .before .before .before .before .args .roles .now) (c .before .before .before .before .narrow .ensures) (c .before .if1 .left) (c .before .before .before .before .narrow .kept .1 .0))
 
--- src/lib.rt:171:5
 resolve-roles-requires : tie.Need-resolve-roles-requires
 resolve-roles-requires c κs = search needs
 
--- src/lib.rt:141:1
 same-length-3 : tie.Need-same-length-3
 same-length-3 c = search needs
 
--- src/lib.rt:141:1
 same-length-4 : tie.Need-same-length-4
 same-length-4 c = search needs
 
--- src/lib.rt:141:1
 same-length-5 : tie.Need-same-length-5
 same-length-5 c = search needs
 
--- src/lib.rt:141:1
 same-length-6 : tie.Need-same-length-6
 same-length-6 c = search needs
 
--- src/lib.rt:141:1
 same-length-7 : tie.Need-same-length-7
 same-length-7 c = search needs
 
--- src/lib.rt:141:1
 same-length-8 : tie.Need-same-length-8
 same-length-8 c = search needs
 
--- src/lib.rt:141:1
 same-length-9 : tie.Need-same-length-9
 same-length-9 c = search needs
 
--- src/lib.rt:141:1
 same-length-10 : tie.Need-same-length-10
 same-length-10 c = search needs
 
--- src/lib.rt:141:1
 same-length-11 : tie.Need-same-length-11
 same-length-11 c = search needs
 
--- src/lib.rt:141:1
 same-length-12 : tie.Need-same-length-12
 same-length-12 c = search needs
 
--- src/lib.rt:141:1
 same-length-13 : tie.Need-same-length-13
 same-length-13 c = search needs
 
--- src/lib.rt:141:1
 same-length-14 : tie.Need-same-length-14
 same-length-14 c = search needs
 
--- src/lib.rt:141:1
 returns-2 : tie.Need-returns-2
 returns-2 c = narrow-resolved (c .before .before .before .before .before .before .before .before .before .before .before .before .before .before .before .before .before .before .before .before .before .before .before .before .before .before .before .before .before .before .before .before .before .before .before .before .before .before .narrow .ensures) (c .before .before .before .before .before .before .before .before .before .before .before .before .before .before .before .before .before .before .before .before .before .before .before .before .before .before .before .before .before .before .before .before .before .before .before .if1 .left) (c .before .before .before .before .before .before .before .before .before .before .before .before .before .before .before .before .before .before .before .before .before .before .resolve-roles .ensures)
 

@@ -1,127 +1,92 @@
+-- `names::resolve_roles` meets its contract, by the laws of `Resolving`. Assumes nothing.
 use borrow.Author.Needs.{needs}
 use Rattle.names.proofs.resolve_roles.Statement.{statement}
 use Rattle.names.proofs.resolve_roles.Tie as tie
-use Rattle.names.proofs.resolve_roles.Reads as reads
-use Rattle.names.proofs.resolve_roles.Lts as lts
-use Rattle.name_binding.proofs.prepare.Reads as prepare-reads
-use Rattle.names.proofs.bind_prepared.Reads as bind-prepared-reads
-use Rattle.preparation.proofs.count_entries.Reads as count-entries-reads
-use Rattle.resolutions.proofs.finish.Reads as finish-reads
-use Rattle.resolutions.proofs.fits.Reads as fits-reads
-use Rattle.resolutions.proofs.room.Reads as room-reads
 use Rattle.names.proofs.Resolving.{fits-done, fits-room, keys-fit, nodes-fit, sum-small, symbols-within, symbols-cut, unfit-resolved, file-resolved}
 use mathlib.Core.Path.{_∙_}
 use native.Mathlib.Omega.{arith}
 
--- src/lib.rt:89:9
 prepare-requires : tie.Need-prepare-requires
 prepare-requires c κs = search needs
 
--- src/lib.rt:104:9
 count-entries-requires : tie.Need-count-entries-requires
 count-entries-requires c κs = search needs
 
--- src/lib.rt:105:9
 room-requires : tie.Need-room-requires
 room-requires c κs = search needs
 
--- src/lib.rt:114:9
 fits-requires : tie.Need-fits-requires
 fits-requires c κs = search needs
 
--- src/lib.rt:115:9
 same-length : tie.Need-same-length
 same-length c = search needs
 
--- src/lib.rt:115:9
 same-length-2 : tie.Need-same-length-2
 same-length-2 c = search needs
 
--- src/lib.rt:115:9
 same-length-3 : tie.Need-same-length-3
 same-length-3 c = search needs
 
--- src/lib.rt:115:9
 same-length-4 : tie.Need-same-length-4
 same-length-4 c = search needs
 
--- src/lib.rt:115:9
 same-length-5 : tie.Need-same-length-5
 same-length-5 c = search needs
 
--- src/lib.rt:115:9
 same-length-6 : tie.Need-same-length-6
 same-length-6 c = search needs
 
--- src/lib.rt:115:9
 returns : tie.Need-returns
 returns c = unfit-resolved (c .before .before .before .before .before .before .before .before .before .before .before .before .before .before .before .before .prepare .ensures) (c .before .before .before .count-entries .ensures) (c .before .before .before .before .before .before .before .before .before .before .before .before .before .before .before .before .prepare .kept .1 .1 .1 .1 .1 .1 .1 .1 .1 .1 .1 .0) (c .before .before .room .ensures) (c .before .fits2 .ensures) (c .if1 .taken)
 
--- src/lib.rt:122:9
 slice-reshare-prefix-bind-prepared : tie.Need-slice-reshare-prefix-bind-prepared
 slice-reshare-prefix-bind-prepared c = symbols-within (c .before .before .before .before .before .before .before .before .before .before .before .before .before .before .before .before .prepare .ensures) (c .before .before .before .count-entries .ensures) (fits-done _ (c .before .fits2 .ensures) (c .if1 .left))
 
--- src/lib.rt:122:9
 slice-aggregate-bind-prepared : tie.Need-slice-aggregate-bind-prepared
 slice-aggregate-bind-prepared c = symbols-cut (c .before .before .before .before .before .before .before .before .before .before .before .before .before .before .before .before .before .prepare .ensures) (c .before .before .before .before .count-entries .ensures) (fits-done _ (c .before .before .fits2 .ensures) (c .before .if1 .left))
 
--- src/lib.rt:129:9
 add-bind-prepared : tie.Need-add-bind-prepared
 add-bind-prepared c = omega (arith, sum-small (c .before .before .before .before .before .before .before .before .before .before .before .before .before .before .before .before .before .before .before .before .before .before .prepare .ensures) (c .before .before .before .before .before .before .before .before .before .count-entries .ensures) (fits-done _ (c .before .before .before .before .before .before .before .fits2 .ensures) (c .before .before .before .before .before .before .if1 .left)))
 
--- src/lib.rt:117:9
 bind-prepared-requires : tie.Need-bind-prepared-requires
 bind-prepared-requires c κs = (fits-room (c .before .before .before .before .before .before .before .before .before .before .before .before .before .before .before .before .before .before .before .before .before .before .before .before .before .before .before .before .prepare .result) (c .before .before .before .before .before .before .before .before .before .before .before .before .before .before .room .ensures) (c .before .before .before .before .before .before .before .before .before .before .before .before .before .fits2 .ensures) (c .before .before .before .before .before .before .before .before .before .before .before .before .if1 .left), keys-fit (c .before .before .before .before .before .before .before .before .before .before .before .before .before .before .before .before .before .before .before .before .before .before .before .before .before .before .before .before .prepare .ensures) (c .before .before .before .before .before .before .before .before .before .before .before .before .before .before .before .count-entries .ensures) (fits-done _ (c .before .before .before .before .before .before .before .before .before .before .before .before .before .fits2 .ensures) (c .before .before .before .before .before .before .before .before .before .before .before .before .if1 .left)), nodes-fit (c .before .before .before .before .before .before .before .before .before .before .before .before .before .before .before .before .before .before .before .before .before .before .before .before .before .before .before .before .prepare .ensures) (c .before .before .before .before .before .before .before .before .before .before .before .before .before .before .before .count-entries .ensures) (fits-done _ (c .before .before .before .before .before .before .before .before .before .before .before .before .before .fits2 .ensures) (c .before .before .before .before .before .before .before .before .before .before .before .before .if1 .left)))
 
--- src/lib.rt:137:5
 finish-requires : tie.Need-finish-requires
 finish-requires c κs = search needs
 
--- src/lib.rt:63:1
 same-length-7 : tie.Need-same-length-7
 same-length-7 c = search needs
 
--- src/lib.rt:63:1
 same-length-8 : tie.Need-same-length-8
 same-length-8 c = (c .before .before .before .before .before .before .before .before .before .before .before .before .before .before .before .before .before .before .before .before .before .before .before .before .before .before .before .before .before .before .before .before .before .before .before .before .before .before .before .before .before .before .before .before .before .prepare .kept .1 .1 .1 .1 .1 .1 .1 .0)
 
--- src/lib.rt:63:1
 same-length-9 : tie.Need-same-length-9
 same-length-9 c = (c .before .before .before .before .before .before .before .before .before .before .before .before .before .before .before .before .before .before .before .before .before .before .before .before .before .before .before .before .before .before .before .before .before .before .before .before .before .before .before .before .before .before .before .before .before .prepare .kept .1 .1 .1 .1 .1 .1 .1 .1 .0)
 
--- src/lib.rt:63:1
 same-length-10 : tie.Need-same-length-10
 same-length-10 c = (c .before .before .before .before .before .before .before .before .before .before .before .before .before .before .before .before .before .before .before .before .before .before .before .before .before .before .before .before .before .before .before .before .before .before .before .before .before .before .before .before .before .before .before .before .before .prepare .kept .1 .1 .1 .1 .1 .1 .1 .1 .1 .0)
 
--- src/lib.rt:63:1
 same-length-11 : tie.Need-same-length-11
 same-length-11 c = (c .before .before .before .before .before .before .before .before .before .before .before .before .before .before .before .before .before .before .before .before .before .before .before .before .before .before .before .before .before .before .before .before .before .before .before .before .before .before .before .before .before .before .before .before .before .prepare .kept .1 .1 .1 .1 .1 .1 .1 .1 .1 .1 .0)
 
--- src/lib.rt:63:1
 same-length-12 : tie.Need-same-length-12
 same-length-12 c = (c .before .before .before .before .before .before .before .before .before .before .before .before .before .before .before .before .before .before .before .before .before .before .before .before .before .before .before .before .before .before .before .before .before .before .before .before .before .before .before .before .before .before .before .before .before .prepare .kept .1 .1 .1 .1 .1 .1 .1 .1 .1 .1 .1 .1 .0)
 
--- src/lib.rt:63:1
 same-length-13 : tie.Need-same-length-13
 same-length-13 c = search needs
 
--- src/lib.rt:63:1
 same-length-14 : tie.Need-same-length-14
 same-length-14 c = search needs
 
--- src/lib.rt:63:1
 same-length-15 : tie.Need-same-length-15
 same-length-15 c = search needs
 
--- src/lib.rt:63:1
 same-length-16 : tie.Need-same-length-16
 same-length-16 c = search needs
 
--- src/lib.rt:63:1
 same-length-17 : tie.Need-same-length-17
 same-length-17 c = (c .before .before .before .before .before .before .before .before .before .before .before .before .before .before .before .before .bind-prepared .kept .1 .1 .1 .1 .1 .1 .1 .1 .1 .1 .1 .1 .1 .1 .1 .1 .1 .0) ∙ (c .before .before .before .before .before .before .before .before .before .before .before .before .before .before .before .before .before .before .before .before .before .before .before .before .before .before .before .before .before .before .before .before .before .before .before .before .before .before .before .before .before .before .before .before .before .prepare .kept .1 .1 .1 .1 .1 .1 .1 .1 .1 .1 .1 .0)
 
--- src/lib.rt:63:1
 returns-2 : tie.Need-returns-2
 returns-2 c = file-resolved _ (c .before .before .before .before .before .before .before .before .before .before .before .before .before .before .before .before .before .before .before .before .before .before .before .before .before .before .before .before .before .before .before .before .before .before .before .before .before .before .before .before .before .before .before .before .before .prepare .ensures) (c .before .before .before .before .before .before .before .before .before .before .before .before .before .before .before .before .before .before .before .before .before .before .before .before .before .before .before .before .before .before .before .before .count-entries .ensures) (c .before .before .before .before .before .before .before .before .before .before .before .before .before .before .before .before .before .before .before .before .before .before .before .before .before .before .before .before .before .before .fits2 .ensures) (c .before .before .before .before .before .before .before .before .before .before .before .before .before .before .before .before .before .before .before .before .before .before .before .before .before .before .before .before .before .if1 .left) (c .before .before .before .before .before .before .before .before .before .before .before .before .before .before .before .before .bind-prepared .ensures) (c .before .before .before .before .before .before .before .before .before .before .before .before .before .before .before .before .bind-prepared .kept .1 .1 .1 .1 .1 .1 .1 .1 .1 .1 .1 .1 .0) (c .before .before .finish .ensures)
 
