@@ -8,9 +8,8 @@ use lib.ListN.{length, length-map}
 use Rattle.ebnf.specs.Rows.{Row}
 use Rattle.ebnf.proofs.Count.{counted}
 use Rattle.relations.specs.Select.{span, keep}
-use Rattle.relations.proofs.Select.{and-fst}
-use Rattle.express.specs.syntax.NodeKind.{name, attribute-name, derived-attribute, in-expression, renamed-type, select-name, supertype-name}
-use Rattle.express.specs.syntax.Tree.{Table, count, kind, role, nodes, is-name-in, is-declaration, is-attribute}
+use Rattle.express.specs.syntax.NodeKind.{name, in-expression, renamed-type, select-name, supertype-name}
+use Rattle.express.specs.syntax.Tree.{Table, count, kind, role, nodes, is-name-in, is-declaration}
 use Rattle.express.specs.syntax.Grammar.{Nonterminal, file, schema, constants, constant, base, type-declaration, underlying, where-clause, domain-rule, entity}
 use Rattle.express.specs.syntax.Grammar.{attributes as explicit, derived, expression, sum, term, factor, operand, atom, interval, rules}
 use Rattle.express.specs.syntax.Syntax.{Read, whole}
@@ -24,7 +23,6 @@ use Rattle.scopes.proofs.Passing.{entries-count}
 use Rattle.scopes.proofs.Ranges.{range-below}
 use Rattle.preparation.proofs.Preparing.{entries-total}
 use Rattle.dependencies.specs.Target.{led-to, led-to-from, behind-all, target-of, type-target, constant-of, constant-target}
-use Rattle.inheritance.specs.Attributes.{owned-attribute, attributes-from, attributes}
 use Rattle.bounds.proofs.Weight.{Scale, pays, text-weight}
 use Rattle.bounds.proofs.Total.{total, total-both, total-flat, total-keep, keep-fewer, rows-total}
 
@@ -43,11 +41,8 @@ of-underlying = 2
 abbrev of-rule : ℕ
 of-rule = 3
 
-abbrev of-explicit : ℕ
-of-explicit = 4
-
 abbrev of-expression : ℕ
-of-expression = 5
+of-expression = 4
 
 abbrev part : Nonterminal → ℕ
 part file = other
@@ -60,7 +55,7 @@ part underlying = of-underlying
 part where-clause = other
 part domain-rule = of-rule
 part entity = other
-part explicit = of-explicit
+part explicit = other
 part derived = other
 part expression = of-expression
 part sum = of-expression
@@ -88,11 +83,6 @@ entry-scale = record { row = λ k o. cond (declares k) 1 0 + entry-count (sort-b
 abbrev vertex-scale : Scale Nonterminal
 vertex-scale = record { row = λ k o. cond (declares k) 5 0; loan = nowhere; gain = one-where of-base }
 
--- 2 for an attribute
-abbrev attribute-scale : Scale Nonterminal
-attribute-scale =
-    record { row = λ k o. cond (eqb k attribute-name || eqb k derived-attribute) 2 0; loan = one-where of-explicit; gain = one-where of-explicit }
-
 -- 2 for a name of what is renamed, selected or a supertype
 abbrev type-scale : Scale Nonterminal
 type-scale =
@@ -111,30 +101,29 @@ use-scale =
 record Passes (x : Nonterminal) : Type 0 where
   by-entries : pays entry-scale rules x ≡ true
   by-vertices : pays vertex-scale rules x ≡ true
-  by-attributes : pays attribute-scale rules x ≡ true
   by-types : pays type-scale rules x ≡ true
   by-uses : pays use-scale rules x ≡ true
 
 passes : (x : Nonterminal) → Passes x
-passes file = record { by-entries = refl; by-vertices = refl; by-attributes = refl; by-types = refl; by-uses = refl }
-passes schema = record { by-entries = refl; by-vertices = refl; by-attributes = refl; by-types = refl; by-uses = refl }
-passes constants = record { by-entries = refl; by-vertices = refl; by-attributes = refl; by-types = refl; by-uses = refl }
-passes constant = record { by-entries = refl; by-vertices = refl; by-attributes = refl; by-types = refl; by-uses = refl }
-passes base = record { by-entries = refl; by-vertices = refl; by-attributes = refl; by-types = refl; by-uses = refl }
-passes type-declaration = record { by-entries = refl; by-vertices = refl; by-attributes = refl; by-types = refl; by-uses = refl }
-passes underlying = record { by-entries = refl; by-vertices = refl; by-attributes = refl; by-types = refl; by-uses = refl }
-passes where-clause = record { by-entries = refl; by-vertices = refl; by-attributes = refl; by-types = refl; by-uses = refl }
-passes domain-rule = record { by-entries = refl; by-vertices = refl; by-attributes = refl; by-types = refl; by-uses = refl }
-passes entity = record { by-entries = refl; by-vertices = refl; by-attributes = refl; by-types = refl; by-uses = refl }
-passes explicit = record { by-entries = refl; by-vertices = refl; by-attributes = refl; by-types = refl; by-uses = refl }
-passes derived = record { by-entries = refl; by-vertices = refl; by-attributes = refl; by-types = refl; by-uses = refl }
-passes expression = record { by-entries = refl; by-vertices = refl; by-attributes = refl; by-types = refl; by-uses = refl }
-passes sum = record { by-entries = refl; by-vertices = refl; by-attributes = refl; by-types = refl; by-uses = refl }
-passes term = record { by-entries = refl; by-vertices = refl; by-attributes = refl; by-types = refl; by-uses = refl }
-passes factor = record { by-entries = refl; by-vertices = refl; by-attributes = refl; by-types = refl; by-uses = refl }
-passes operand = record { by-entries = refl; by-vertices = refl; by-attributes = refl; by-types = refl; by-uses = refl }
-passes atom = record { by-entries = refl; by-vertices = refl; by-attributes = refl; by-types = refl; by-uses = refl }
-passes interval = record { by-entries = refl; by-vertices = refl; by-attributes = refl; by-types = refl; by-uses = refl }
+passes file = record { by-entries = refl; by-vertices = refl; by-types = refl; by-uses = refl }
+passes schema = record { by-entries = refl; by-vertices = refl; by-types = refl; by-uses = refl }
+passes constants = record { by-entries = refl; by-vertices = refl; by-types = refl; by-uses = refl }
+passes constant = record { by-entries = refl; by-vertices = refl; by-types = refl; by-uses = refl }
+passes base = record { by-entries = refl; by-vertices = refl; by-types = refl; by-uses = refl }
+passes type-declaration = record { by-entries = refl; by-vertices = refl; by-types = refl; by-uses = refl }
+passes underlying = record { by-entries = refl; by-vertices = refl; by-types = refl; by-uses = refl }
+passes where-clause = record { by-entries = refl; by-vertices = refl; by-types = refl; by-uses = refl }
+passes domain-rule = record { by-entries = refl; by-vertices = refl; by-types = refl; by-uses = refl }
+passes entity = record { by-entries = refl; by-vertices = refl; by-types = refl; by-uses = refl }
+passes explicit = record { by-entries = refl; by-vertices = refl; by-types = refl; by-uses = refl }
+passes derived = record { by-entries = refl; by-vertices = refl; by-types = refl; by-uses = refl }
+passes expression = record { by-entries = refl; by-vertices = refl; by-types = refl; by-uses = refl }
+passes sum = record { by-entries = refl; by-vertices = refl; by-types = refl; by-uses = refl }
+passes term = record { by-entries = refl; by-vertices = refl; by-types = refl; by-uses = refl }
+passes factor = record { by-entries = refl; by-vertices = refl; by-types = refl; by-uses = refl }
+passes operand = record { by-entries = refl; by-vertices = refl; by-types = refl; by-uses = refl }
+passes atom = record { by-entries = refl; by-vertices = refl; by-types = refl; by-uses = refl }
+passes interval = record { by-entries = refl; by-vertices = refl; by-types = refl; by-uses = refl }
 
 -- ---- the bounds
 
@@ -182,15 +171,6 @@ module _ {t : Table} (R : Read file t) where
   pub vertices-few : 5 * vertex-count t ≤ length (t .terminals)
   unfolding vertex
   vertices-few = kept-few vertex-scale (λ x. passes x .by-vertices) refl 5 (is-declaration t) (λ n e. rw e (omega arith))
-
-  -- ATTRIBUTES: each has two tokens
-  pub attributes-few : 2 * length (attributes t) ≤ length (t .terminals)
-  unfolding attributes-from
-  attributes-few =
-      let z : count t - 0 ≡ count t = omega arith in
-      rw z
-      (kept-few attribute-scale (λ x. passes x .by-attributes) refl 2 (owned-attribute t)
-      (λ n e. let q : is-attribute t n ≡ true = and-fst (is-attribute t n) _ e in rw q (omega arith)))
 
   -- nodes that lead to something only if they pass a test, and then weigh at least 2
   led-few : (S : Scale Nonterminal) → ((x : Nonterminal) → pays S rules x ≡ true) → S .loan file ≡ 0 →
