@@ -81,20 +81,11 @@ decodes-node {c} {j} {k} z y x e = record { stands = λ t nodes m few s q. by t 
 
 -- ---- what is found
 
--- the code of what a node inherits
-inherited-coded : (t : Table) (n o : ℕ) → o ≡ owner t n → inherited-code t n ≡ code (meaning (inherited t o (symbol t n)))
-unfolding inherited-code
-inherited-coded t n o p = rw p (by (meaning (inherited t (owner t n) (symbol t n))) refl)
-  where
-    by : (m : Meaning) → meaning (inherited t (owner t n) (symbol t n)) ≡ m → inherited-code t n ≡ code m
-    by none e = rw e
-    by (one k) e = rw e
-    by several e = rw e
-
 pub finding-found :
     {kinds tokens sizes symbols starts keys nodes heads next items : List ℕ} {k o h c d stamp n : ℕ} {u i : Use} {f : Finding} → k ≡ getD kinds n 0 → Decodes c u →
     d ≡ says items stamp (symbol-in tokens symbols n) → Decodes d i → NodeFindings kinds tokens sizes symbols starts keys nodes heads next k o h u i n f →
     FindingAt kinds tokens sizes symbols starts keys nodes heads next items stamp o h c n f
+unfolding inherited-code
 finding-found {tokens = tokens} {symbols = symbols} {nodes = nodes} {items = items} {o = o} {h = h} {stamp = stamp} {n = n} {u = u} {i = i} e D L E F = record {
   is = λ t A l a p q r low I.
       let few = A .prepared .consistent .few in
@@ -106,7 +97,7 @@ finding-found {tokens = tokens} {symbols = symbols} {nodes = nodes} {items = ite
         owner-is = p;
         schema-is = q;
         inherited-is = λ i.
-            D .stands t nodes (meaning (inherited t o (symbol t n))) (omega arith) (inherited-sort t o (symbol t n)) (r i ∙ inherited-coded t n o p);
+            D .stands t nodes (meaning (inherited t o (symbol t n))) (omega arith) (inherited-sort t o (symbol t n)) (r i ∙ ap (λ (x : ℕ). code (meaning (inherited t x (symbol t n)))) (sym p));
         item-is = λ _. E .stands t nodes (meaning (scope.items t h (symbol t n))) (omega arith) (item-sort t h (symbol t n)) (L ∙ ap (says items stamp) s ∙ I .is (symbol t n) low);
       } in
       let G = F .found t (A .read) (A .columns) (A .prepared) S in
