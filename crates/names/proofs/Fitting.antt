@@ -1,9 +1,9 @@
 -- The stages have room in columns that are long enough for the tokens and the declarations of a file.
-use mathlib.Core.Path.{_≡_, sym, ap, _∙_}
-use mathlib.Core.List.{List, _++_}
+use mathlib.Core.Path.{_≡_, ap, _∙_}
+use mathlib.Core.List.{List}
 use Prim.Native.Nat.{ℕ, _+_, _*_, _≤_}
 use native.Mathlib.Omega.{arith}
-use lib.ListN.{length, take, drop, length-append, length-drop}
+use lib.ListN.{length, take}
 use lib.Seq.{length-take-le}
 use Rattle.express.specs.syntax.Tree.{Table}
 use Rattle.dependencies.specs.Target.{led-to-from, type-target, constant-target}
@@ -41,11 +41,3 @@ module _ {kinds tokens sizes roles symbols starts keys nodes heads next : List �
           stamps = omega (arith, R .few, w);
         });
   }
-
--- a part that lies within its column is as long as it was cut
-pub part-long : (n : ℕ) (l : List ℕ) → n ≤ length l → n ≡ length (take n l)
-part-long n l h = sym (length-take-le n l h)
-
--- a part that is written and keeps its length leaves its column as long as it was
-pub joined-long : (n : ℕ) (l a : List ℕ) → n ≤ length l → length a ≡ length (take n l) → length (a ++ drop n l) ≡ length l
-joined-long n l a h e = omega (arith, length-append a (drop n l), length-drop n l, length-take-le n l h, e)

@@ -2,7 +2,8 @@
 use borrow.Author.Needs.{needs}
 use Rattle.names.proofs.bind_prepared.Statement.{statement}
 use Rattle.names.proofs.bind_prepared.Tie as tie
-use Rattle.names.proofs.Fitting.{prepared-bound, part-long}
+use Rattle.name_stages.proofs.Staged.{part-long}
+use Rattle.names.proofs.Fitting.{prepared-bound}
 use native.Mathlib.Omega.{arith}
 
 slice-aggregate-bind-names : tie.Need-slice-aggregate-bind-names

@@ -3,7 +3,7 @@ use borrow.Author.Needs.{needs}
 use Rattle.names.proofs.resolve.Statement.{statement}
 use Rattle.names.proofs.resolve.Tie as tie
 use Rattle.names.proofs.Resolving.{roles-fit, wide-resolved, narrow-resolved}
-use Rattle.names.proofs.Fitting.{part-long}
+use Rattle.name_stages.proofs.Staged.{part-long}
 
 narrow-requires : tie.Need-narrow-requires
 narrow-requires c κs = search needs
