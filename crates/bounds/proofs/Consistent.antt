@@ -33,7 +33,7 @@ module _ {t : Table} (R : Read file t) (S : Scanned t) where
   rows = lexed (t .bytes) .rows
 
   -- a start and a symbol for each terminal
-  starts-long : length (t .starts) ≡ length (t .terminals)
+  pub starts-long : length (t .starts) ≡ length (t .terminals)
   starts-long =
       ap length (S .starts-are) ∙ length-map (lexed (t .bytes) .rows) (λ (r : TokenRow). r .start)
       ∙ sym (ap length (S .terminals-are) ∙ length-map (lexed (t .bytes) .rows) (λ r. terminal-of (r .kind) (row-bytes (t .bytes) r)))
