@@ -5,12 +5,13 @@ use Prim.Native.Nat.{ℕ, _≤_}
 use lib.IntN.{ℤ, pos}
 use lib.ListN.{length, take}
 use Rattle.columns.specs.Column.{cleared}
-use Rattle.express.specs.tokens.Lexis.{most}
+use Rattle.express.specs.tokens.Lexis.{most, lexed}
 use Rattle.express.specs.whole.Reply.{Accepted, Tables, token-entries, node-entries, answer-entries}
 use Rattle.express.specs.whole.Reply as express
 use Rattle.stages.specs.declared.Stage.{Stage}
 use Rattle.stages.specs.declared.Stage.the-variants.{Done}
 use Rattle.stages.specs.Line.{count-of, kept-of, reported, accepted-with, token-stage, node-stage, kind-stage}
+use Rattle.demands.specs.Checks.{Checks}
 use Rattle.checker.specs.declared.Report.{Report}
 
 -- R10: a report of the code
@@ -91,3 +92,7 @@ pub record Ran (s : List ℕ) (l m : Tables) (tokens nodes : ℕ) (last : Stage)
   pub last-is : last ≡ kind-stage s (token-rows l) (node-rows l) (answer-rows l)
   pub begins : (n : ℕ) → last ≡ Done n → Begins (accepted-with s) tokens nodes n m
   pub as-long : AsLong l m
+
+-- a check of a file that has at most so many tokens
+pub record ChecksWithin (tokens-most : ℕ) (s : List ℕ) (l m : Tables) (r : Report) : Type 0 where
+  pub is : length (lexed s .rows) ≤ tokens-most → Checks s l m (report-of r)
