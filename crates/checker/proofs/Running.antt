@@ -34,8 +34,9 @@ use Rattle.reading.specs.FileReading.{ReadsFile}
 use Rattle.name_frames.specs.NameFrame.{NamesWithin}
 use Rattle.answer_frames.specs.AnswerFrame.{NamedFile, AnswersWithin}
 use Rattle.demands.specs.Checks.{Checks}
-use Rattle.checker.specs.declared.Report.{Report}
-use Rattle.checker.specs.Conclusion.{report-of, Concludes, Begins, AsLong, token-rows, node-rows, answer-rows, Ran, ChecksWithin}
+use Rattle.conclusions.specs.declared.Report.{Report}
+use Rattle.conclusions.specs.Conclusion.{report-of, Concludes}
+use Rattle.checker.specs.Running.{Begins, AsLong, token-rows, node-rows, answer-rows, Ran, Runs, ChecksWithin}
 use Rattle.checker.proofs.Concluding.{concluded}
 
 -- a column that values were stored in begins with them, where it is long enough
@@ -259,10 +260,14 @@ module _ {s : List ℕ} {l m : Tables} {read : Reading} {named last : Stage} {an
           as-long = as-long;
         }
 
-  -- THE LAW OF THE THREE SIZES: arrays for a file of at most n tokens
-  pub checks-within : {m′ : Tables} {r : Report} (n : ℕ) → n ≤ length terms → n < 5 * length types + 5 → n < 5 * length orders + 5 →
-      Concludes (read .tokens) (read .nodes) last m m′ r → ChecksWithin n s l m′ r
-  checks-within n a b c C = record { is = λ h. concluded (ran (omega arith) (omega arith) (omega arith)) C }
+  pub runs : {m′ : Tables} {r : Report} → Concludes (read .tokens) (read .nodes) last m m′ r → Runs s terms types orders l m′ r
+  runs C = record { is = λ a b c. concluded (ran a b c) C }
+
+-- THE LAW OF THE THREE SIZES: arrays for a file of at most n tokens
+pub within :
+    {s : List ℕ} {l m : Tables} {r : Report} (n : ℕ) (terms types orders : List ℕ) → n ≤ length terms → n < 5 * length types + 5 → n < 5 * length orders + 5 → Runs s terms types orders l m r →
+    ChecksWithin n s l m r
+within n terms types orders a b c R = record { is = λ h. R .is (omega arith) (omega arith) (omega arith) }
 
 -- ---- the choice among the three
 

@@ -1,53 +1,17 @@
--- What all stages leave, and the end of a check: zeros behind what stands, and the report (R6, R7).
+-- What all stages leave, and what is promised of them where there is room for a file's tokens.
 use mathlib.Core.Path.{_≡_}
 use mathlib.Core.List.{List}
-use Prim.Native.Nat.{ℕ, _≤_}
-use lib.IntN.{ℤ, pos}
+use Prim.Native.Nat.{ℕ, _+_, _*_, _≤_, _<_}
 use lib.ListN.{length, take}
-use Rattle.columns.specs.Column.{cleared}
-use Rattle.express.specs.tokens.Lexis.{most, lexed}
+use Rattle.express.specs.tokens.Lexis.{lexed}
 use Rattle.express.specs.whole.Reply.{Accepted, Tables, token-entries, node-entries, answer-entries}
 use Rattle.express.specs.whole.Reply as express
 use Rattle.stages.specs.declared.Stage.{Stage}
 use Rattle.stages.specs.declared.Stage.the-variants.{Done}
-use Rattle.stages.specs.Line.{count-of, kept-of, reported, accepted-with, token-stage, node-stage, kind-stage}
+use Rattle.stages.specs.Line.{count-of, accepted-with, token-stage, node-stage, kind-stage}
 use Rattle.demands.specs.Checks.{Checks}
-use Rattle.checker.specs.declared.Report.{Report}
-
--- R10: a report of the code
-abbrev pub report-of : Report → express.Report
-report-of r = record { reply = r .reply; number = r .number; tokens = r .tokens; nodes = r .nodes; constants = r .constants }
-
--- `summary`, of counts that a file may have
-pub record Reports (tokens nodes : ℕ) (last : Stage) (r : Report) : Type 0 where
-  pub is : tokens ≤ most → nodes ≤ most → count-of last ≤ most → report-of r ≡ reported tokens nodes last
-
--- ---- zeros
-
-pub record ClearsTokens (from : ℕ) (kinds starts lengths kinds′ starts′ lengths′ : List ℕ) : Type 0 where
-  pub kinds-are : kinds′ ≡ cleared 0 from kinds
-  pub starts-are : starts′ ≡ cleared 0 from starts
-  pub lengths-are : lengths′ ≡ cleared 0 from lengths
-
-pub record ClearsNodes (from : ℕ) (kinds tokens sizes bindings kinds′ tokens′ sizes′ bindings′ : List ℕ) : Type 0 where
-  pub kinds-are : kinds′ ≡ cleared 0 from kinds
-  pub tokens-are : tokens′ ≡ cleared 0 from tokens
-  pub sizes-are : sizes′ ≡ cleared 0 from sizes
-  pub bindings-are : bindings′ ≡ cleared 0 from bindings
-
-pub record ClearsAnswers (from : ℕ) (kinds : List ℕ) (numbers : List ℤ) (lengths kinds′ : List ℕ) (numbers′ : List ℤ) (lengths′ : List ℕ) : Type 0 where
-  pub kinds-are : kinds′ ≡ cleared 0 from kinds
-  pub numbers-are : numbers′ ≡ cleared (pos 0) from numbers
-  pub lengths-are : lengths′ ≡ cleared 0 from lengths
-
--- `conclude`: the report, and zeros in each table from its count on, all of it after a refusal
-pub record Concludes (tokens nodes : ℕ) (last : Stage) (l m : Tables) (r : Report) : Type 0 where
-  pub reports : Reports tokens nodes last r
-  pub of-tokens : ClearsTokens (kept-of last tokens) (l .token-kinds) (l .token-starts) (l .token-lengths) (m .token-kinds) (m .token-starts) (m .token-lengths)
-  pub of-nodes : ClearsNodes (kept-of last nodes) (l .node-kinds) (l .node-tokens) (l .node-sizes) (l .node-bindings) (m .node-kinds) (m .node-tokens) (m .node-sizes) (m .node-bindings)
-  pub of-answers : ClearsAnswers (count-of last) (l .answer-kinds) (l .answer-numbers) (l .answer-lengths) (m .answer-kinds) (m .answer-numbers) (m .answer-lengths)
-
--- ---- what the stages leave
+use Rattle.conclusions.specs.Conclusion.{report-of}
+use Rattle.conclusions.specs.declared.Report.{Report}
 
 -- tables begin with the rows of what is accepted
 pub record Begins (a : Accepted) (tokens nodes answers : ℕ) (m : Tables) : Type 0 where
@@ -92,6 +56,10 @@ pub record Ran (s : List ℕ) (l m : Tables) (tokens nodes : ℕ) (last : Stage)
   pub last-is : last ≡ kind-stage s (token-rows l) (node-rows l) (answer-rows l)
   pub begins : (n : ℕ) → last ≡ Done n → Begins (accepted-with s) tokens nodes n m
   pub as-long : AsLong l m
+
+-- `run`: of a file that has a terminal for each token, and a place for each of its declarations in two orders (of five tokens one has at least)
+pub record Runs (s terminals types constants : List ℕ) (l m : Tables) (r : Report) : Type 0 where
+  pub is : length (lexed s .rows) ≤ length terminals → length (lexed s .rows) < 5 * length types + 5 → length (lexed s .rows) < 5 * length constants + 5 → Checks s l m (report-of r)
 
 -- a check of a file that has at most so many tokens
 pub record ChecksWithin (tokens-most : ℕ) (s : List ℕ) (l m : Tables) (r : Report) : Type 0 where

@@ -1,8 +1,8 @@
--- `checker::conclude` meets its contract: each table is cleared by itself. Assumes nothing.
+-- `conclusions::conclude` meets its contract: each table is cleared by itself. Assumes nothing.
 use borrow.Author.Needs.{needs}
-use Rattle.checker.proofs.conclude.Statement.{statement}
-use Rattle.checker.proofs.conclude.Tie as tie
-use Rattle.checker.proofs.Concluding.{concludes}
+use Rattle.conclusions.proofs.conclude.Statement.{statement}
+use Rattle.conclusions.proofs.conclude.Tie as tie
+use Rattle.conclusions.proofs.Concluding.{concludes}
 
 kept-requires : tie.Need-kept-requires
 kept-requires c κs = search needs

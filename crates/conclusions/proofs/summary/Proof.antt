@@ -1,8 +1,8 @@
--- `checker::summary` meets its contract: counts of a file fit into 32 bits. Assumes nothing.
+-- `conclusions::summary` meets its contract: counts of a file fit into 32 bits. Assumes nothing.
 use borrow.Author.Needs.{needs}
-use Rattle.checker.proofs.summary.Statement.{statement}
-use Rattle.checker.proofs.summary.Tie as tie
-use Rattle.checker.proofs.Concluding.{done-report, refused-report}
+use Rattle.conclusions.proofs.summary.Statement.{statement}
+use Rattle.conclusions.proofs.summary.Tie as tie
+use Rattle.conclusions.proofs.Concluding.{done-report, refused-report}
 
 enum-known-last : tie.Need-enum-known-last
 enum-known-last c = search needs
