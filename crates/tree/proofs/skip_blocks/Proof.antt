@@ -31,13 +31,26 @@ returns : tie.Need-returns Inv-loop μ-loop
 returns c = c .before .before .before .loop .inv
 
 add-at : tie.Need-add-at Inv-loop μ-loop
-add-at c = omega (arith, c .before .before .before .before .saturating-sub .ensures, c .before .before .loop-test .taken, c .before .before .before .before .before .before .good)
+add-at c =
+    omega (
+      arith,
+      c .before .before .before .before .saturating-sub .ensures,
+      c .before .before .loop-test .taken,
+      c .before .before .before .before .before
+          .before .good,
+    )
 
 loop-less : tie.Need-loop-less Inv-loop μ-loop
 loop-less c = omega (arith, c .before .before .loop-test .taken)
 
 loop-again : tie.Need-loop-again Inv-loop μ-loop
-loop-again c = skips-block _ _ (c .before .before .before .loop .inv) (omega (arith, c .before .before .before .before .saturating-sub .ensures, c .before .before .loop-test .taken)) (c .before .in-block .ensures) (c .if1 .left)
+loop-again c =
+    skips-block _ _ (c .before .before .before .loop .inv) (omega (
+      arith,
+      c .before .before .before .before .saturating-sub .ensures,
+      c .before .before
+          .loop-test .taken,
+    )) (c .before .in-block .ensures) (c .if1 .left)
 
 returns-2 : tie.Need-returns-2 Inv-loop μ-loop
 returns-2 c = c .before .loop .inv
