@@ -5,8 +5,8 @@ use mathlib.Core.Bool.{Bool, true, false, false≢true}
 use mathlib.Core.List.{List, [], _∷_, map}
 use Prim.Native.Nat.{ℕ, zero, suc, _+_, _-_, _≤_, _<_}
 use native.Mathlib.Omega.{arith}
-use borrow.Author.Tests.{leb-true, le-leb, lt-leb, lt-ltb, le-ltb}
-use lib.Dec.{eqb, leb, ltb}
+use borrow.Author.Tests.{leb-true, le-leb, lt-leb}
+use lib.Dec.{eqb, leb}
 use lib.ListN.{length, getD, drop, drop-of-length-le}
 use lib.Seq.{drop-cons}
 use Rattle.relations.proofs.Select.{and-fst, and-snd, le-or, First, first-is, first-rises}
@@ -28,10 +28,13 @@ module _ (kinds : List ℕ) where
   schema-upto d m l h =
       ⊎-elim (λ (a : schema-in kinds d ≤ m). a) (λ (a : m < schema-in kinds d). absurd (false≢true (sym (of d .none m l a) ∙ h))) (le-or (schema-in kinds d) m)
 
-  schema-grows : (c d : ℕ) → c ≤ d → schema-in kinds c < length kinds → schema-in kinds c ≤ schema-in kinds d
+  within : (d : ℕ) → d ≤ length kinds → schema-in kinds d ≤ length kinds
+  within d l = omega (arith, of d .upto)
+
+  schema-grows : (c d : ℕ) → c ≤ d → c ≤ length kinds → schema-in kinds c ≤ schema-in kinds d
   schema-grows c d l k =
       ⊎-elim (λ (a : d ≤ length kinds). first-rises is-schema (length kinds) c d l a)
-      (λ (a : length kinds < d). let b = schema-from d in omega arith) (le-or d (length kinds))
+      (λ (a : length kinds < d). let b = schema-from d in let u = within c k in omega arith) (le-or d (length kinds))
 
   -- THE LOOP'S INVARIANT: the next schema from lo on is s, lo is the node behind one, and what is to come decides
   pub record Grouping (order : List ℕ) (i lo s : ℕ) : Type 0 where
@@ -65,67 +68,64 @@ module _ (kinds : List ℕ) where
     grouping-behind a = rw (lt-leb lo (schema-in kinds d) (before d a)) at step
 
     module _ (b : lo ≤ d) where
-      -- past the last schema
-      pub grouping-out : length kinds ≤ s → false ≡ grouped kinds order
+      -- where s bounds what follows, lo does
+      alike : (x : ℕ) → leb s (schema-in kinds x) ≡ leb lo (schema-in kinds x)
+      alike x =
+          let v = schema-from lo in
+          ⊎-elim
+          (λ (a : lo ≤ x).
+          let u = schema-grows lo x a (G .low) in
+          le-leb s (schema-in kinds x) (omega (arith, G .next)) ∙ sym (le-leb lo (schema-in kinds x) (omega arith)))
+          (λ (a : x < lo).
+          let u = before x a in
+          lt-leb s (schema-in kinds x) (omega (arith, G .next)) ∙ sym (lt-leb lo (schema-in kinds x) u))
+          (le-or lo x)
+
+      from-either : (xs : List ℕ) → never-falls (length kinds) s (map (schema-in kinds) xs) ≡ never-falls (length kinds) lo (map (schema-in kinds) xs)
       unfolding never-falls
-      grouping-out k =
-          let u = schema-from d in
-          let v : length kinds ≤ schema-in kinds d =
-          ⊎-elim (λ (a : d ≤ length kinds). let w = first-rises is-schema (length kinds) lo d b a in omega (arith, w, G .next))
-          (λ (a : length kinds < d). omega (arith, u)) (le-or d (length kinds)) in
-          rw (le-leb lo (schema-in kinds d) (omega (arith, u)), le-ltb (schema-in kinds d) (length kinds) v) at step
+      from-either [] = refl
+      from-either (x ∷ xs) = rw (alike x)
 
-      module _ (k : s < length kinds) where
-        known : schema-in kinds lo < length kinds
-        known = omega (arith, G .next)
+      -- the first schema from lo on stands at s, unless there is none
+      stands : s < length kinds → is-schema s ≡ true
+      stands k = rw (G .next) (of lo .passes (omega (arith, G .next, k, schema-from lo)))
 
-        stands : is-schema s ≡ true
-        stands = rw (G .next) (of lo .passes (omega (arith, known, schema-from lo)))
+      pub grouping-here : d ≤ s → Grouping order (i + 1) lo s
+      unfolding never-falls
+      grouping-here a =
+          let w = schema-from lo in
+          let z = within lo (G .low) in
+          let u : schema-in kinds d ≤ s =
+          ⊎-elim (λ (x : length kinds ≤ s). let y = within d (omega (arith, G .next)) in omega (arith, G .next)) (λ (x : s < length kinds). schema-upto d s a (stands x))
+          (le-or (length kinds) s) in
+          let v = schema-grows lo d b (G .low) in
+          let q : schema-in kinds d ≡ s = omega (arith, G .next) in
+          record {
+            next = G .next;
+            low = G .low;
+            start = G .start;
+            is = sym (from-either (drop (i + 1) order)) ∙ (rw (q, le-leb lo s (omega (arith, G .next)), le-leb s (length kinds) (omega (arith, G .next))) at step);
+          }
 
-        -- where s bounds what follows, lo does
-        alike : (x : ℕ) → leb s (schema-in kinds x) ≡ leb lo (schema-in kinds x)
-        alike x =
-            ⊎-elim
-            (λ (a : lo ≤ x).
-            let u = schema-grows lo x a known in
-            let v = schema-from lo in
-            le-leb s (schema-in kinds x) (omega (arith, G .next)) ∙ sym (le-leb lo (schema-in kinds x) (omega arith)))
-            (λ (a : x < lo).
-            let u = before x a in
-            let v = schema-from lo in
-            lt-leb s (schema-in kinds x) (omega (arith, G .next)) ∙ sym (lt-leb lo (schema-in kinds x) u))
-            (le-or lo x)
+      module _ (a : s < d) where
+        low : leb lo (schema-in kinds d) ≡ true
+        low = le-leb lo (schema-in kinds d) (omega (arith, schema-from d))
 
-        from-either : (xs : List ℕ) → never-falls (length kinds) s (map (schema-in kinds) xs) ≡ never-falls (length kinds) lo (map (schema-in kinds) xs)
+        -- past the last schema
+        pub grouping-out : length kinds ≤ s → false ≡ grouped kinds order
         unfolding never-falls
-        from-either [] = refl
-        from-either (x ∷ xs) = rw (alike x)
+        grouping-out k = rw (low, lt-leb (schema-in kinds d) (length kinds) (omega (arith, schema-from d))) at step
 
-        pub grouping-here : d ≤ s → Grouping order (i + 1) lo s
+        pub grouping-next : s < length kinds → {r : ℕ} → r ≡ schema-in kinds (s + 1) → Grouping order i (s + 1) r
         unfolding never-falls
-        grouping-here a =
-            let u = schema-upto d s a stands in
-            let v = schema-grows lo d b known in
-            let w = schema-from lo in
-            let q : schema-in kinds d ≡ s = omega (arith, G .next) in
-            record {
-              next = G .next;
-              low = G .low;
-              start = G .start;
-              is = sym (from-either (drop (i + 1) order)) ∙ (rw (q, le-leb lo s (omega (arith, G .next)), lt-ltb s (length kinds) k) at step);
-            }
-
-        pub grouping-next : s < d → {r : ℕ} → r ≡ schema-in kinds (s + 1) → Grouping order i (s + 1) r
-        unfolding never-falls
-        grouping-next a e =
+        grouping-next k e =
             let u = schema-from d in
             let q : s + 1 - 1 ≡ s = omega arith in
-            let low : leb lo (schema-in kinds d) ≡ true = le-leb lo (schema-in kinds d) (omega arith) in
             let high : leb (s + 1) (schema-in kinds d) ≡ true = le-leb (s + 1) (schema-in kinds d) (omega arith) in
             record {
               next = e;
               low = omega arith;
-              start = inr (omega arith, rw q stands);
+              start = inr (omega arith, rw q (stands k));
               is = rw (split, high) (rw low at step);
             }
 
@@ -136,12 +136,12 @@ fall-from n s [] h j l = absurd (omega arith)
 fall-from n s (x ∷ xs) h zero l = leb-true s x (and-fst (leb s x) _ h)
 fall-from n s (x ∷ xs) h (suc j) l =
     let a = leb-true s x (and-fst (leb s x) _ h) in
-    let b = fall-from n x xs (and-snd (ltb x n) _ (and-snd (leb s x) _ h)) j (omega arith) in omega arith
+    let b = fall-from n x xs (and-snd (leb x n) _ (and-snd (leb s x) _ h)) j (omega arith) in omega arith
 
 pub falls-not : (n s : ℕ) (xs : List ℕ) → never-falls n s xs ≡ true → (i j : ℕ) → i ≤ j → j < length xs → getD xs i 0 ≤ getD xs j 0
 unfolding never-falls
 falls-not n s [] h i j a l = absurd (omega arith)
 falls-not n s (x ∷ xs) h zero zero a l = omega arith
-falls-not n s (x ∷ xs) h zero (suc j) a l = fall-from n x xs (and-snd (ltb x n) _ (and-snd (leb s x) _ h)) j (omega arith)
+falls-not n s (x ∷ xs) h zero (suc j) a l = fall-from n x xs (and-snd (leb x n) _ (and-snd (leb s x) _ h)) j (omega arith)
 falls-not n s (x ∷ xs) h (suc i) zero a l = absurd (omega arith)
-falls-not n s (x ∷ xs) h (suc i) (suc j) a l = falls-not n x xs (and-snd (ltb x n) _ (and-snd (leb s x) _ h)) i j (omega arith) (omega arith)
+falls-not n s (x ∷ xs) h (suc i) (suc j) a l = falls-not n x xs (and-snd (leb x n) _ (and-snd (leb s x) _ h)) i j (omega arith) (omega arith)

@@ -2,7 +2,7 @@
 use mathlib.Core.Bool.{Bool, true, _&&_}
 use mathlib.Core.List.{List, [], _∷_, map}
 use Prim.Native.Nat.{ℕ, _-_}
-use lib.Dec.{eqb, leb, ltb}
+use lib.Dec.{eqb, leb}
 use lib.ListN.{length, getD}
 use Rattle.relations.specs.Select.{first-from}
 use Rattle.express.specs.syntax.NodeKind as node
@@ -11,10 +11,10 @@ use Rattle.express.specs.syntax.NodeKind as node
 abbrev pub schema-in : List ℕ → ℕ → ℕ
 schema-in kinds n = first-from (λ m. eqb (getD kinds m 0) node.schema) n (length kinds - n)
 
--- numbers below n, none less than s or than one before it
+-- numbers up to n, none less than s or than one before it
 unfoldable pub never-falls : ℕ → ℕ → List ℕ → Bool
 never-falls n s [] = true
-never-falls n s (x ∷ xs) = let later = never-falls n x xs in leb s x && (ltb x n && later)
+never-falls n s (x ∷ xs) = let later = never-falls n x xs in leb s x && (leb x n && later)
 
 -- the schemas of an order's declarations stand as in the text
 abbrev pub grouped : List ℕ → List ℕ → Bool

@@ -51,6 +51,9 @@ fn is_due(kinds: &[u8], lo: usize, hi: usize, d: usize) -> bool
     at8(kinds, d) == codes::nodes::CONSTANT
 }
 
+// The nodes of a constant that are not of its expression: its own and, before the expression, that of its type, which has no answer.
+const BESIDES: usize = 2;
+
 // Evaluates one constant into its row, of columns that start with row `at`.
 fn evaluate_constant(
     src: &[u8],
@@ -79,7 +82,8 @@ fn evaluate_constant(
         (now («value_kinds» .entry)) (now («value_numbers» .entry)) (now («value_lengths» .entry))
         (now («answer_kinds» .exit)) (now («answer_numbers» .exit)) (now («answer_lengths» .exit)) ⌝ }
 {
-    let first = columns::saturating_sub(d + 1, index_at(sizes, d));
+    let nodes = columns::saturating_sub(index_at(sizes, d), BESIDES);
+    let first = columns::saturating_sub(d, nodes);
     evaluate_expression(
         src,
         starts,

@@ -20,12 +20,12 @@ pub fn is_grouped(kinds: &[u8], order: &[u32]) -> bool
         if d < lo {
             return false;
         }
-        if schema >= kinds.len() {
-            return false;
-        }
         if d <= schema {
             i += 1;
         } else {
+            if schema >= kinds.len() {
+                return false;
+            }
             lo = schema + 1;
             schema = next_of_kind(kinds, codes::nodes::SCHEMA, lo);
         }

@@ -71,7 +71,7 @@ pub fn low(sizes: &[u32], n: usize) -> usize
 }
 
 // So many nodes are looked at together, and passed over where none is of the kind that is looked for.
-const BLOCK: usize = 16;
+const BLOCK: usize = 64;
 
 // Is one of the block from a node on of a kind? All are looked at, without a jump, which the compiler does at once.
 fn in_block(kinds: &[u8], kind: u8, from: usize) -> bool

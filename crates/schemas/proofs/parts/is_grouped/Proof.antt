@@ -33,31 +33,30 @@ returns : tie.Need-returns Inv-loop μ-loop
 returns c =
     grouping-behind _ (c .before .before .before .before .loop .inv) (c .before .before .before .loop-test .taken) (c .before .index .ensures) (c .if1 .taken)
 
-returns-2 : tie.Need-returns-2 Inv-loop μ-loop
-returns-2 c =
-    grouping-out _ (c .before .before .before .before .before .loop .inv) (c .before .before .before .before .loop-test .taken) (c .before .before .index
-    .ensures) (c .before .if1 .left) (c .if2 .taken)
-
 add-i : tie.Need-add-i Inv-loop μ-loop
 add-i c = search needs
 
 loop-less : tie.Need-loop-less Inv-loop μ-loop
-loop-less c = omega (arith, c .before .before .before .before .before .loop-test .taken)
+loop-less c = omega (arith, c .before .before .before .before .loop-test .taken)
 
 loop-again : tie.Need-loop-again Inv-loop μ-loop
 loop-again c =
-    grouping-here _ (c .before .before .before .before .before .before .loop .inv) (c .before .before .before .before .before .loop-test .taken) (c .before
+    grouping-here _ (c .before .before .before .before .before .loop .inv) (c .before .before .before .before .loop-test .taken) (c .before .before .index
+    .ensures) (c .before .if1 .left) (c .if2 .taken)
+
+returns-2 : tie.Need-returns-2 Inv-loop μ-loop
+returns-2 c =
+    grouping-out _ (c .before .before .before .before .before .before .loop .inv) (c .before .before .before .before .before .loop-test .taken) (c .before
     .before .before .index .ensures) (c .before .before .if1 .left) (c .before .if2 .left) (c .if3 .taken)
 
 add-lo : tie.Need-add-lo Inv-loop μ-loop
-add-lo c = omega (arith, c .before .if2 .left, c .before .before .before .before .before .before .before .before .before .before .good)
+add-lo c = omega (arith, c .if3 .left, c .before .before .before .before .before .before .before .before .before .before .good)
 
 next-of-kind-requires-2 : tie.Need-next-of-kind-requires-2 Inv-loop μ-loop
 next-of-kind-requires-2 c κs = search needs
 
 loop-less-2 : tie.Need-loop-less-2 Inv-loop μ-loop
-loop-less-2 c =
-    let h = next-beyond _ _ _ (c .before .before .before .before .before .before .before .loop .inv .next) in omega (arith, h, c .before .before .if2 .left)
+loop-less-2 c = let h = next-beyond _ _ _ (c .before .before .before .before .before .before .before .loop .inv .next) in omega (arith, h, c .before .if3 .left)
 
 loop-again-2 : tie.Need-loop-again-2 Inv-loop μ-loop
 loop-again-2 c =
@@ -80,10 +79,10 @@ is-grouped-spec =
     shared-slice-read-index
     index-requires
     returns
-    returns-2
     add-i
     loop-less
     loop-again
+    returns-2
     add-lo
     next-of-kind-requires-2
     loop-less-2
