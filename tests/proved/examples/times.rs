@@ -139,24 +139,33 @@ fn kinds_of(bytes: &[u8]) -> Kinds {
     Kinds { proved: [declared, typed, evaluated], reference: [outlined, checked, answered] }
 }
 
-/// Nanoseconds for each byte of well-typed files of three sizes, and the proved time as a part of the reference's, without its
-/// outline and with it.
+/// Nanoseconds for each byte of well-typed files of three sizes and of one of many schemas, and the proved time as a part of the
+/// reference's, without its outline and with it.
 fn print_kinds() {
     println!("\nnanoseconds for each byte");
     println!("   bytes  declared    typing   answers |   outline     check   answers |   ratio  with outline");
+    let [clock, _] = best(|| (), || ());
     for size in [1_024, 16_384, LARGEST] {
         let sized = |file: &Vec<u8>| (size / 4 * 3..=size / 4 * 5).contains(&file.len());
         for file in (0..).map(|seed| well_typed(seed, size)).filter(sized).take(6) {
-            let Kinds { proved, reference } = kinds_of(&file);
-            let print = |times: [f64; 3]| times.map(|time| print!("{:10.3}", time / file.len() as f64));
-            print!("{:8}", file.len());
-            print(proved);
-            print!(" |");
-            print(reference);
-            let [proved, whole] = [proved, reference].map(|times| times.iter().sum::<f64>());
-            println!(" |{:8.2}{:14.2}", proved / (whole - reference[0]), proved / whole);
+            print_kinds_of(&file, clock);
         }
     }
+    let schema = |i: usize| format!("SCHEMA s{i};CONSTANT c:INTEGER:={i};END_CONSTANT;END_SCHEMA;");
+    print_kinds_of(&pieces("", schema, ""), clock);
+}
+
+/// Each call is timed by itself, and the clock's own time taken off.
+fn print_kinds_of(file: &[u8], clock: f64) {
+    let Kinds { proved, reference } = kinds_of(file);
+    let [proved, reference] = [proved, reference].map(|times| times.map(|time| (time - clock).max(0.0)));
+    let print = |times: [f64; 3]| times.map(|time| print!("{:10.3}", time / file.len() as f64));
+    print!("{:8}", file.len());
+    print(proved);
+    print!(" |");
+    print(reference);
+    let [proved, whole] = [proved, reference].map(|times| times.iter().sum::<f64>());
+    println!(" |{:8.2}{:14.2}", proved / (whole - reference[0]), proved / whole);
 }
 
 /// Columns for the names of a file with so many tokens.
