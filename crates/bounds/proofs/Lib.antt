@@ -2,3 +2,4 @@ pub mod Weight
 pub mod Total
 pub mod Bounds
 pub mod Consistent
+pub mod Constants
