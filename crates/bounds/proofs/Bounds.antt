@@ -148,7 +148,7 @@ module _ {t : Table} (R : Read file t) where
       rw nodes-are (omega (arith, a, b))
 
   -- nodes that pass a test and weigh at least m
-  kept-few : (S : Scale Nonterminal) → ((x : Nonterminal) → pays S rules x ≡ true) → S .loan file ≡ 0 →
+  pub kept-few : (S : Scale Nonterminal) → ((x : Nonterminal) → pays S rules x ≡ true) → S .loan file ≡ 0 →
       (m : ℕ) (p : ℕ → Bool) → ((n : ℕ) → p n ≡ true → m ≤ S .row (kind t n) (role t n)) → m * length (keep p (nodes t)) ≤ length (t .terminals)
   kept-few S g z m p h = rw (total-keep m p (nodes t)) (total-few S g z (λ n. cond (p n) m 0) (λ n. by n (p n) refl))
     where

@@ -3,3 +3,4 @@ pub mod Total
 pub mod Bounds
 pub mod Roles
 pub mod Consistent
+pub mod Constants

@@ -58,9 +58,10 @@ fn each_rule_has_its_definition_and_no_other_is_cited() {
 /// The file of a module as DEFINITIONS.md cites it, `tokens/Lexis` or `ebnf/proofs/Exact`.
 fn file(module: &str) -> PathBuf {
     let mut parts: Vec<&str> = module.split('/').collect();
-    let below =
-        ["ebnf", "relations", "columns", "examples", "theorems", "bounds", "demands", "stages"].contains(&parts[0]);
-    let library = if below { parts.remove(0) } else { "express" };
+    let below = [
+        "ebnf", "relations", "columns", "examples", "theorems", "bounds", "demands", "record_demands", "stages", "listing_parts",
+    ];
+    let library = if below.contains(&parts[0]) { parts.remove(0) } else { "express" };
     let folder = if parts[0] == "proofs" { parts.remove(0) } else { "specs" };
     top().join("crates").join(library).join(folder).join(parts.join("/")).with_extension("antt")
 }

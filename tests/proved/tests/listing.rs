@@ -1,0 +1,123 @@
+//! The proved program, run on files: what it writes is the listing, and it says so where it cannot read or write.
+//!
+//! The program waits for the public call; then `#[ignore]` goes.
+
+use compare::cases::{self, PROGRAM_LENGTHS};
+use compare::random::{damaged, file, well_typed, LARGEST};
+use std::fs::{File, OpenOptions};
+use std::io::{ErrorKind, Write};
+use std::path::{Path, PathBuf};
+use std::process::{Command, Output, Stdio};
+use std::sync::OnceLock;
+use std::thread;
+
+/// Random files, each run in a process of its own.
+const FILES: u64 = 1_000;
+
+/// The program, built where it is not there yet.
+fn program() -> &'static Path {
+    static PROGRAM: OnceLock<PathBuf> = OnceLock::new();
+    PROGRAM.get_or_init(|| {
+        let top = Path::new(env!("CARGO_MANIFEST_DIR")).join("../..");
+        let program = top.join("target/bin/listing");
+        if !program.exists() {
+            let built =
+                Command::new("rt").args(["check", "listing"]).current_dir(&top).output().expect("rt on the PATH");
+            assert!(built.status.success(), "{}", String::from_utf8_lossy(&built.stdout));
+        }
+        program
+    })
+}
+
+/// What it writes of an input that comes through a pipe, and how it ends.
+fn run(input: &[u8]) -> Output {
+    let mut child = Command::new(program())
+        .stdin(Stdio::piped())
+        .stdout(Stdio::piped())
+        .stderr(Stdio::piped())
+        .spawn()
+        .expect("the program starts");
+    let mut pipe = child.stdin.take().expect("a pipe");
+    thread::scope(|scope| {
+        // It stops reading one byte past the limit, so that the pipe may break.
+        scope.spawn(move || match pipe.write_all(input) {
+            Err(error) if error.kind() != ErrorKind::BrokenPipe => panic!("{error}"),
+            _ => drop(pipe),
+        });
+        child.wait_with_output().expect("the program ends")
+    })
+}
+
+/// The listing of an input, with nothing said beside it.
+fn listing(input: &[u8]) -> Vec<u8> {
+    let Output { status, stdout, stderr } = run(input);
+    assert!(status.success() && stderr.is_empty(), "{status}: {}", String::from_utf8_lossy(&stderr));
+    stdout
+}
+
+/// The reference's.
+fn expected(input: &[u8]) -> Vec<u8> {
+    let [tokens, nodes, answers] = PROGRAM_LENGTHS;
+    reference::listing(input, &reference::check(input, tokens, nodes, answers))
+}
+
+#[test]
+#[ignore = "the program is not there yet"]
+fn every_case_has_its_listing() {
+    let all: Vec<_> = cases::all().into_iter().filter(|case| case.lengths == PROGRAM_LENGTHS).collect();
+    let wrong: Vec<_> =
+        all.iter().filter(|case| listing(&case.input) != case.expected).map(|case| &case.name).collect();
+    assert!(wrong.is_empty(), "{} of {}: {wrong:?}", wrong.len(), all.len());
+}
+
+#[test]
+#[ignore = "the program is not there yet"]
+fn random_files_have_the_listing_of_the_reference() {
+    for seed in 0..FILES {
+        for input in [file(seed), damaged(seed, 300)] {
+            assert_eq!(listing(&input), expected(&input), "{}", String::from_utf8_lossy(&input));
+        }
+    }
+    let large = well_typed(1, LARGEST);
+    assert_eq!(listing(&large), expected(&large));
+}
+
+/// A schema with a long name, and constants that hold an item with a long name.
+fn long_names(name: usize, constants: usize) -> Vec<u8> {
+    let mut text = format!("SCHEMA {};\nCONSTANT\n", "S".repeat(name));
+    for i in 0..constants {
+        text += &format!("c{i}:e:=i{};", i % 2);
+    }
+    text += &format!("END_CONSTANT;\nTYPE e=ENUMERATION OF (i0,i1,I{});END_TYPE;\nEND_SCHEMA;", "X".repeat(name));
+    text.into_bytes()
+}
+
+#[test]
+#[ignore = "the program is not there yet"]
+fn listings_longer_than_any_buffer_are_written_whole() {
+    for (name, constants) in [(1, 1_024), (300, 1_024), (20_000, 1_024), (20_000, 3), (32_000, 1)] {
+        let input = long_names(name, constants);
+        let (got, want) = (listing(&input), expected(&input));
+        assert!(want.starts_with(b"accepted"), "{name}, {constants}");
+        assert!(got == want, "{name}, {constants}: {} bytes, not {}", got.len(), want.len());
+    }
+}
+
+#[test]
+#[ignore = "the program is not there yet"]
+fn an_input_without_end_is_too_long() {
+    let endless = File::open("/dev/zero").expect("/dev/zero");
+    let Output { status, stdout, stderr } = Command::new(program()).stdin(endless).output().expect("the program ends");
+    assert_eq!((status.success(), stdout, stderr), (true, expected(&vec![0; reference::MAX_BYTES + 1]), Vec::new()));
+}
+
+#[test]
+#[ignore = "the program is not there yet"]
+fn it_says_so_where_it_cannot_read_or_write() {
+    let folder = File::open(env!("CARGO_MANIFEST_DIR")).expect("a folder opens");
+    let unread = Command::new(program()).stdin(folder).output().expect("the program ends");
+    assert!(unread.stdout.is_empty() && !unread.stderr.is_empty());
+    let full = OpenOptions::new().write(true).open("/dev/full").expect("/dev/full");
+    let unwritten = Command::new(program()).stdin(Stdio::null()).stdout(full).output().expect("the program ends");
+    assert!(!unwritten.stderr.is_empty());
+}
