@@ -1,12 +1,12 @@
 // Reading the columns of a tree: an entry, a child of a node, the next node of a kind.
 ghost use mathlib.Core.Path.{_≡_};
-ghost use Prim.Native.Nat.{_+_, _-_, _≤_};
+ghost use Prim.Native.Nat.{_+_, _-_, _≤_, _<_};
 ghost use lib.Dec.{eqb};
 ghost use lib.ListN.{length, getD};
 ghost use Rattle.relations.specs.Select.{span, first-from, any};
 ghost use Rattle.express.specs.syntax.Tree as Tree;
 ghost use Rattle.tree.specs.Children.{Child};
-ghost use Rattle.tree.specs.Blocks.{block, Skips};
+ghost use Rattle.tree.specs.Blocks.{Skips};
 
 // The number at an index; past the end of the column 0.
 pub fn at8(column: &[u8], i: usize) -> u8
@@ -70,17 +70,19 @@ pub fn low(sizes: &[u32], n: usize) -> usize
     before(sizes, lower(sizes, n))
 }
 
-// So many nodes are looked at together, and passed over where none is of the kind that is looked for.
-const BLOCK: usize = 64;
+// So many nodes are looked at together, and passed over where none is of the kind that is looked for: first many, then few.
+const MANY: usize = 64;
+
+const FEW: usize = 16;
 
 // Is one of the block from a node on of a kind? All are looked at, without a jump, which the compiler does at once.
-fn in_block(kinds: &[u8], kind: u8, from: usize) -> bool
+fn in_block(kinds: &[u8], kind: u8, from: usize, block: usize) -> bool
     requires { ⌜ from + block ≤ length (now kinds) ⌝ }
     ensures { λ r. ⌜ r ≡ any (λ n. eqb (getD (now (kinds .entry)) n 0) kind) (span from block) ⌝ }
 {
     let mut found = false;
     let mut i: usize = 0;
-    while i < BLOCK {
+    while i < block {
         if kinds[from + i] == kind {
             found = true;
             i += 1;
@@ -92,16 +94,17 @@ fn in_block(kinds: &[u8], kind: u8, from: usize) -> bool
 }
 
 // A node from which on the first of a kind is the same: blocks that have none are passed over.
-fn skip_blocks(kinds: &[u8], kind: u8, from: usize) -> usize
+fn skip_blocks(kinds: &[u8], kind: u8, from: usize, block: usize) -> usize
+    requires { ⌜ 0 < block ⌝ }
     ensures { λ r. ⌜ Skips (λ n. eqb (getD (now (kinds .entry)) n 0) kind) (length (now (kinds .entry))) from r ⌝ }
 {
-    let whole = columns::saturating_sub(kinds.len(), BLOCK - 1);
+    let whole = columns::saturating_sub(kinds.len(), block - 1);
     let mut at = from;
     while at < whole {
-        if in_block(kinds, kind, at) {
+        if in_block(kinds, kind, at, block) {
             return at;
         }
-        at += BLOCK;
+        at += block;
     }
     at
 }
@@ -110,7 +113,8 @@ fn skip_blocks(kinds: &[u8], kind: u8, from: usize) -> usize
 pub fn next_of_kind(kinds: &[u8], kind: u8, from: usize) -> usize
     ensures { λ r. ⌜ r ≡ first-from (λ n. eqb (getD (now (kinds .entry)) n 0) kind) from (length (now (kinds .entry)) - from) ⌝ }
 {
-    let mut n = skip_blocks(kinds, kind, from);
+    let far = skip_blocks(kinds, kind, from, MANY);
+    let mut n = skip_blocks(kinds, kind, far, FEW);
     while n < kinds.len() {
         if kinds[n] == kind {
             return n;

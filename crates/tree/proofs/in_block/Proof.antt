@@ -5,15 +5,14 @@ use lib.Dec.{eqb}
 use lib.ListN.{getD}
 use Prim.Native.Nat.{_-_}
 use borrow.Author.Tests.{eq-eqb, ne-eqb}
-use Rattle.tree.specs.Blocks.{block}
 use Rattle.tree.proofs.Blocks.{Looking, looking-starts, looking-found, looking-on, looking-ends}
 use native.Mathlib.Omega.{arith}
 
 abbrev Inv-loop : tie.InvT-loop
-Inv-loop kinds kind from found₀ i₀ found i = Looking (λ n. eqb (getD kinds n 0) kind) from i found
+Inv-loop kinds kind from block found₀ i₀ found i = Looking (λ n. eqb (getD kinds n 0) kind) from block i found
 
 abbrev μ-loop : tie.MeasureT-loop
-μ-loop kinds kind from found₀ i₀ found i = block - i
+μ-loop kinds kind from block found₀ i₀ found i = block - i
 
 loop-holds : tie.Need-loop-holds Inv-loop μ-loop
 loop-holds c = looking-starts

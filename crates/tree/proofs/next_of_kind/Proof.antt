@@ -2,27 +2,30 @@
 use mathlib.Core.Path.{_≡_, sym, _∙_}
 use Prim.Native.Nat.{_-_}
 use native.Mathlib.Omega.{arith}
-use borrow.Author.Needs.{needs}
 use borrow.Author.Tests.{eq-eqb, ne-eqb}
 use lib.Dec.{eqb}
 use lib.ListN.{length, getD}
 use Rattle.relations.specs.Select.{first-from}
 use Rattle.relations.proofs.Select.{first-step, first-end}
+use Rattle.tree.proofs.Blocks.{skips-on}
 use Rattle.tree.proofs.next_of_kind.Statement.{statement}
 use Rattle.tree.proofs.next_of_kind.Tie as tie
 
 abbrev Inv-loop : tie.InvT-loop
-Inv-loop kinds kind from n₀ n =
+Inv-loop kinds kind from far n₀ n =
     first-from (λ m. eqb (getD kinds m 0) kind) n (length kinds - n) ≡ first-from (λ m. eqb (getD kinds m 0) kind) from (length kinds - from)
 
 abbrev μ-loop : tie.MeasureT-loop
-μ-loop kinds kind from n₀ n = length kinds - n
+μ-loop kinds kind from far n₀ n = length kinds - n
 
 skip-blocks-requires : tie.Need-skip-blocks-requires Inv-loop μ-loop
-skip-blocks-requires c κs = search needs
+skip-blocks-requires c κs = omega arith
+
+skip-blocks-requires-2 : tie.Need-skip-blocks-requires-2 Inv-loop μ-loop
+skip-blocks-requires-2 c κs = omega arith
 
 loop-holds : tie.Need-loop-holds Inv-loop μ-loop
-loop-holds c = c .skip-blocks .ensures .is
+loop-holds c = skips-on _ _ (c .before .skip-blocks .ensures) (c .skip-blocks2 .ensures) .is
 
 shared-slice-read-if1 : tie.Need-shared-slice-read-if1 Inv-loop μ-loop
 shared-slice-read-if1 c = omega arith
@@ -43,4 +46,4 @@ returns-2 : tie.Need-returns-2 Inv-loop μ-loop
 returns-2 c = sym (first-end _ _ _ (c .loop-test .left)) ∙ c .before .loop .inv
 
 pub next-of-kind-spec : {M : Type 1} → statement M
-next-of-kind-spec = tie.close (tie.spec Inv-loop μ-loop skip-blocks-requires loop-holds shared-slice-read-if1 returns add-n loop-less loop-again returns-2)
+next-of-kind-spec = tie.close (tie.spec Inv-loop μ-loop skip-blocks-requires skip-blocks-requires-2 loop-holds shared-slice-read-if1 returns add-n loop-less loop-again returns-2)

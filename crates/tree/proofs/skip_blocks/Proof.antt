@@ -5,15 +5,15 @@ use borrow.Author.Needs.{needs}
 use lib.Dec.{eqb}
 use lib.ListN.{length, getD}
 use Prim.Native.Nat.{_-_}
-use Rattle.tree.specs.Blocks.{block, Skips}
+use Rattle.tree.specs.Blocks.{Skips}
 use Rattle.tree.proofs.Blocks.{skips-none, skips-block}
 use native.Mathlib.Omega.{arith}
 
 abbrev Inv-loop : tie.InvT-loop
-Inv-loop kinds kind from whole at₀ at = Skips (λ m. eqb (getD kinds m 0) kind) (length kinds) from at
+Inv-loop kinds kind from block whole at₀ at = Skips (λ m. eqb (getD kinds m 0) kind) (length kinds) from at
 
 abbrev μ-loop : tie.MeasureT-loop
-μ-loop kinds kind from whole at₀ at = whole - at
+μ-loop kinds kind from block whole at₀ at = whole - at
 
 sub-saturating-sub : tie.Need-sub-saturating-sub Inv-loop μ-loop
 sub-saturating-sub c = search needs
@@ -45,7 +45,7 @@ loop-less c = omega (arith, c .before .before .loop-test .taken)
 
 loop-again : tie.Need-loop-again Inv-loop μ-loop
 loop-again c =
-    skips-block _ _ (c .before .before .before .loop .inv) (omega (
+    skips-block _ _ (c .before .before .before .before .before .before .args .block) (c .before .before .before .loop .inv) (omega (
       arith,
       c .before .before .before .before .saturating-sub .ensures,
       c .before .before
