@@ -96,64 +96,108 @@ pub struct Columns {
     pub answer_lengths: Vec<u8>,
 }
 
+/// What columns hold before a call, by a seed and an entry.
+fn mixed(seed: u64, i: usize) -> u64 {
+    (seed ^ i as u64).wrapping_mul(0x9e37_79b9_7f4a_7c15) >> 7
+}
+
+/// Ten columns to lend, with a pattern in and around them.
+#[derive(Clone, Debug)]
+pub struct Tables {
+    seed: u64,
+    token_kinds: Column<u8>,
+    token_starts: Column<u32>,
+    token_lengths: Column<u32>,
+    node_kinds: Column<u8>,
+    node_tokens: Column<u32>,
+    node_sizes: Column<u32>,
+    node_bindings: Column<u32>,
+    answer_kinds: Column<u8>,
+    answer_numbers: Column<i64>,
+    answer_lengths: Column<u8>,
+}
+
+impl Tables {
+    pub fn new(Lengths { tokens, nodes, answers }: Lengths, seed: u64) -> Self {
+        let (byte, word) = (|i: usize| mixed(seed, i) as u8, |i: usize| mixed(seed, i) as u32);
+        Tables {
+            seed,
+            token_kinds: Column::new(tokens[0], byte),
+            token_starts: Column::new(tokens[1], word),
+            token_lengths: Column::new(tokens[2], word),
+            node_kinds: Column::new(nodes[0], byte),
+            node_tokens: Column::new(nodes[1], word),
+            node_sizes: Column::new(nodes[2], word),
+            node_bindings: Column::new(nodes[3], word),
+            answer_kinds: Column::new(answers[0], byte),
+            answer_numbers: Column::new(answers[1], |i: usize| mixed(seed, i) as i64),
+            answer_lengths: Column::new(answers[2], byte),
+        }
+    }
+
+    /// Checks a file with these columns lent.
+    pub fn check(&mut self, src: &[u8]) -> Report {
+        let mut counts = [u32::MAX; 4];
+        let [number, tokens, nodes, constants] = &mut counts;
+        // SAFETY: each column is lent with its own length, and no two overlap.
+        let reply = unsafe {
+            woffulent_check(
+                src.as_ptr(),
+                src.len(),
+                self.token_kinds.lent(),
+                self.token_kinds.length,
+                self.token_starts.lent(),
+                self.token_starts.length,
+                self.token_lengths.lent(),
+                self.token_lengths.length,
+                self.node_kinds.lent(),
+                self.node_kinds.length,
+                self.node_tokens.lent(),
+                self.node_tokens.length,
+                self.node_sizes.lent(),
+                self.node_sizes.length,
+                self.node_bindings.lent(),
+                self.node_bindings.length,
+                self.answer_kinds.lent(),
+                self.answer_kinds.length,
+                self.answer_numbers.lent(),
+                self.answer_numbers.length,
+                self.answer_lengths.lent(),
+                self.answer_lengths.length,
+                number,
+                tokens,
+                nodes,
+                constants,
+            )
+        };
+        let [number, tokens, nodes, constants] = counts;
+        Report { reply: reply.into(), number: number.into(), tokens, nodes, constants }
+    }
+
+    /// What the columns hold, where nothing around them has changed.
+    fn columns(&self, report: Report) -> Columns {
+        let (byte, word) = (|i: usize| mixed(self.seed, i) as u8, |i: usize| mixed(self.seed, i) as u32);
+        Columns {
+            report,
+            token_kinds: self.token_kinds.held(byte).to_vec(),
+            token_starts: self.token_starts.held(word).to_vec(),
+            token_lengths: self.token_lengths.held(word).to_vec(),
+            node_kinds: self.node_kinds.held(byte).to_vec(),
+            node_tokens: self.node_tokens.held(word).to_vec(),
+            node_sizes: self.node_sizes.held(word).to_vec(),
+            node_bindings: self.node_bindings.held(word).to_vec(),
+            answer_kinds: self.answer_kinds.held(byte).to_vec(),
+            answer_numbers: self.answer_numbers.held(|i: usize| mixed(self.seed, i) as i64).to_vec(),
+            answer_lengths: self.answer_lengths.held(byte).to_vec(),
+        }
+    }
+}
+
 /// Checks a file with columns of these lengths; what they hold before goes by a seed.
 pub fn check_columns(src: &[u8], lengths: Lengths, seed: u64) -> Columns {
-    let mixed = |i: usize| (seed ^ i as u64).wrapping_mul(0x9e37_79b9_7f4a_7c15) >> 7;
-    let (byte, word, long) = (|i: usize| mixed(i) as u8, |i: usize| mixed(i) as u32, |i: usize| mixed(i) as i64);
-    let Lengths { tokens, nodes, answers } = lengths;
-    let (mut token_kinds, mut node_kinds) = (Column::new(tokens[0], byte), Column::new(nodes[0], byte));
-    let [mut token_starts, mut token_lengths] = [tokens[1], tokens[2]].map(|length| Column::new(length, word));
-    let [mut node_tokens, mut node_sizes, mut node_bindings] =
-        [nodes[1], nodes[2], nodes[3]].map(|length| Column::new(length, word));
-    let [mut answer_kinds, mut answer_lengths] = [answers[0], answers[2]].map(|length| Column::new(length, byte));
-    let mut answer_numbers = Column::new(answers[1], long);
-    let mut counts = [u32::MAX; 4];
-    let [number, token_count, node_count, constants] = &mut counts;
-    // SAFETY: each column is lent with its own length, and no two overlap.
-    let reply = unsafe {
-        woffulent_check(
-            src.as_ptr(),
-            src.len(),
-            token_kinds.lent(),
-            tokens[0],
-            token_starts.lent(),
-            tokens[1],
-            token_lengths.lent(),
-            tokens[2],
-            node_kinds.lent(),
-            nodes[0],
-            node_tokens.lent(),
-            nodes[1],
-            node_sizes.lent(),
-            nodes[2],
-            node_bindings.lent(),
-            nodes[3],
-            answer_kinds.lent(),
-            answers[0],
-            answer_numbers.lent(),
-            answers[1],
-            answer_lengths.lent(),
-            answers[2],
-            number,
-            token_count,
-            node_count,
-            constants,
-        )
-    };
-    let [number, tokens, nodes, constants] = counts;
-    Columns {
-        report: Report { reply: reply.into(), number: number.into(), tokens, nodes, constants },
-        token_kinds: token_kinds.held(byte).to_vec(),
-        token_starts: token_starts.held(word).to_vec(),
-        token_lengths: token_lengths.held(word).to_vec(),
-        node_kinds: node_kinds.held(byte).to_vec(),
-        node_tokens: node_tokens.held(word).to_vec(),
-        node_sizes: node_sizes.held(word).to_vec(),
-        node_bindings: node_bindings.held(word).to_vec(),
-        answer_kinds: answer_kinds.held(byte).to_vec(),
-        answer_numbers: answer_numbers.held(long).to_vec(),
-        answer_lengths: answer_lengths.held(byte).to_vec(),
-    }
+    let mut tables = Tables::new(lengths, seed);
+    let report = tables.check(src);
+    tables.columns(report)
 }
 
 /// Entries of a column behind the rows of its table.
