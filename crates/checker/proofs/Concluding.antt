@@ -22,7 +22,7 @@ use Rattle.demands.specs.Checks.{Checks}
 use Rattle.demands.proofs.Theorem.{checks, tables-alike}
 use Rattle.conclusions.specs.declared.Report.{Report}
 use Rattle.conclusions.specs.Conclusion.{report-of, Concludes}
-use Rattle.checker.specs.Running.{token-rows, node-rows, answer-rows, Ran}
+use Rattle.running.specs.Run.{token-rows, node-rows, answer-rows, Ran}
 
 -- ---- counts
 

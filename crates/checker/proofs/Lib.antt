@@ -1,2 +1,1 @@
 pub mod Concluding
-pub mod Running

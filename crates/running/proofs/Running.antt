@@ -33,11 +33,7 @@ use Rattle.reading.specs.FileReading as reading
 use Rattle.reading.specs.FileReading.{ReadsFile}
 use Rattle.name_frames.specs.NameFrame.{NamesWithin}
 use Rattle.answer_frames.specs.AnswerFrame.{NamedFile, AnswersWithin}
-use Rattle.demands.specs.Checks.{Checks}
-use Rattle.conclusions.specs.declared.Report.{Report}
-use Rattle.conclusions.specs.Conclusion.{report-of, Concludes}
-use Rattle.checker.specs.Running.{Begins, AsLong, token-rows, node-rows, answer-rows, Ran, Runs, ChecksWithin}
-use Rattle.checker.proofs.Concluding.{concluded}
+use Rattle.running.specs.Run.{Begins, AsLong, token-rows, node-rows, answer-rows, Ran, RunsWithin}
 
 -- a column that values were stored in begins with them, where it is long enough
 front : {A : Type 0} (column values : List A) (n : ℕ) → n ≡ length values → n ≤ length column → take n (sets column 0 values) ≡ values
@@ -260,22 +256,18 @@ module _ {s : List ℕ} {l m : Tables} {read : Reading} {named last : Stage} {an
           as-long = as-long;
         }
 
-  pub runs : {m′ : Tables} {r : Report} → Concludes (read .tokens) (read .nodes) last m m′ r → Runs s terms types orders l m′ r
-  runs C = record { is = λ a b c. concluded (ran a b c) C }
-
--- THE LAW OF THE THREE SIZES: arrays for a file of at most n tokens
-pub within :
-    {s : List ℕ} {l m : Tables} {r : Report} (n : ℕ) (terms types orders : List ℕ) → n ≤ length terms → n < 5 * length types + 5 → n < 5 * length orders + 5 → Runs s terms types orders l m r →
-    ChecksWithin n s l m r
-within n terms types orders a b c R = record { is = λ h. R .is (omega arith) (omega arith) (omega arith) }
+  -- THE LAW OF THE THREE SIZES: arrays for a file of at most n tokens
+  pub runs-within : (n : ℕ) → n ≤ length terms → n < 5 * length types + 5 → n < 5 * length orders + 5 →
+      RunsWithin n s l m (record { tokens = read .tokens; nodes = read .nodes; stage = last })
+  runs-within n a b c = record { is = λ h. ran (omega arith) (omega arith) (omega arith) }
 
 -- ---- the choice among the three
 
-module _ {s : List ℕ} {l m : Tables} {r : Report} where
+module _ {s : List ℕ} {l m : Tables} {r : Reading} where
   -- a file has no more tokens than bytes
-  pub of-bytes : (n : ℕ) → length s ≤ n → ChecksWithin n s l m r → Checks s l m (report-of r)
-  of-bytes n h C = C .is (omega (arith, tokens-of s .few, h))
+  pub of-bytes : (n : ℕ) → length s ≤ n → RunsWithin n s l m r → Ran s l m (r .tokens) (r .nodes) (r .stage)
+  of-bytes n h R = R .is (omega (arith, tokens-of s .few, h))
 
   -- nor more than the largest file has bytes
-  pub of-any : ChecksWithin most s l m r → Checks s l m (report-of r)
-  of-any C = C .is (tokens-few s)
+  pub of-any : RunsWithin most s l m r → Ran s l m (r .tokens) (r .nodes) (r .stage)
+  of-any R = R .is (tokens-few s)

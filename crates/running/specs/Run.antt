@@ -1,7 +1,7 @@
--- What all stages leave, and what is promised of them where there is room for a file's tokens.
+-- All stages of a file (R3), and what they leave in the lent columns.
 use mathlib.Core.Path.{_≡_}
+use Prim.Native.Nat.{ℕ, _≤_}
 use mathlib.Core.List.{List}
-use Prim.Native.Nat.{ℕ, _+_, _*_, _≤_, _<_}
 use lib.ListN.{length, take}
 use Rattle.express.specs.tokens.Lexis.{lexed}
 use Rattle.express.specs.whole.Reply.{Accepted, Tables, token-entries, node-entries, answer-entries}
@@ -9,9 +9,7 @@ use Rattle.express.specs.whole.Reply as express
 use Rattle.stages.specs.declared.Stage.{Stage}
 use Rattle.stages.specs.declared.Stage.the-variants.{Done}
 use Rattle.stages.specs.Line.{count-of, accepted-with, token-stage, node-stage, kind-stage}
-use Rattle.demands.specs.Checks.{Checks}
-use Rattle.conclusions.specs.Conclusion.{report-of}
-use Rattle.conclusions.specs.declared.Report.{Report}
+use Rattle.reading.specs.declared.Reading.{Reading}
 
 -- tables begin with the rows of what is accepted
 pub record Begins (a : Accepted) (tokens nodes answers : ℕ) (m : Tables) : Type 0 where
@@ -57,10 +55,6 @@ pub record Ran (s : List ℕ) (l m : Tables) (tokens nodes : ℕ) (last : Stage)
   pub begins : (n : ℕ) → last ≡ Done n → Begins (accepted-with s) tokens nodes n m
   pub as-long : AsLong l m
 
--- `run`: of a file that has a terminal for each token, and a place for each of its declarations in two orders (of five tokens one has at least)
-pub record Runs (s terminals types constants : List ℕ) (l m : Tables) (r : Report) : Type 0 where
-  pub is : length (lexed s .rows) ≤ length terminals → length (lexed s .rows) < 5 * length types + 5 → length (lexed s .rows) < 5 * length constants + 5 → Checks s l m (report-of r)
-
--- a check of a file that has at most so many tokens
-pub record ChecksWithin (tokens-most : ℕ) (s : List ℕ) (l m : Tables) (r : Report) : Type 0 where
-  pub is : length (lexed s .rows) ≤ tokens-most → Checks s l m (report-of r)
+-- the same of a file that has at most so many tokens
+pub record RunsWithin (tokens-most : ℕ) (s : List ℕ) (l m : Tables) (r : Reading) : Type 0 where
+  pub is : length (lexed s .rows) ≤ tokens-most → Ran s l m (r .tokens) (r .nodes) (r .stage)
