@@ -8,25 +8,22 @@ use lib.ListN.{length, length-map}
 use Rattle.ebnf.specs.Rows.{Row}
 use Rattle.ebnf.proofs.Count.{counted}
 use Rattle.relations.specs.Select.{span, keep}
-use Rattle.relations.proofs.Select.{and-fst}
-use Rattle.express.specs.syntax.NodeKind.{name, attribute-name, derived-attribute, in-expression, renamed-type, select-name, supertype-name}
-use Rattle.express.specs.syntax.Tree.{Table, count, kind, role, nodes, is-name-in, is-declaration, is-attribute}
+use Rattle.express.specs.syntax.NodeKind.{name, in-expression, renamed-type, select-name, supertype-name}
+use Rattle.express.specs.syntax.Tree.{Table, count, kind, role, nodes, is-name-in, is-declaration}
 use Rattle.express.specs.syntax.Grammar.{Nonterminal, file, schema, constants, constant, base, type-declaration, underlying, where-clause, domain-rule, entity}
 use Rattle.express.specs.syntax.Grammar.{attributes as explicit, derived, expression, sum, term, factor, operand, atom, interval, rules}
 use Rattle.express.specs.syntax.Syntax.{Read, whole}
+use Rattle.express.specs.names.Fault.{sort}
 use Rattle.express.specs.names.Scope.{is-use, means}
 use Rattle.express.proofs.syntax.Count as count-laws
-use Rattle.scopes.specs.Entries.{entries, other-entries, vertex, others-before}
-use Rattle.scopes.specs.Standing.{declares, sort-by, entry-count}
+use Rattle.scopes.specs.Entries.{is-other, declares-other, entries, vertex, others-before}
+use Rattle.scopes.specs.Standing.{declares, sort-by}
 use Rattle.scopes.specs.Range.{vertex-count}
-use Rattle.scopes.proofs.Sorting.{sort-is}
-use Rattle.scopes.proofs.Passing.{entries-count}
 use Rattle.scopes.proofs.Ranges.{range-below}
 use Rattle.preparation.proofs.Preparing.{entries-total}
 use Rattle.dependencies.specs.Target.{led-to, led-to-from, behind-all, target-of, type-target, constant-of, constant-target}
-use Rattle.inheritance.specs.Attributes.{owned-attribute, attributes-from, attributes}
 use Rattle.bounds.proofs.Weight.{Scale, pays, text-weight}
-use Rattle.bounds.proofs.Total.{total, total-both, total-flat, total-keep, keep-fewer, rows-total}
+use Rattle.bounds.proofs.Total.{total, total-both, total-keep, keep-fewer, rows-total}
 
 -- ---- the weights
 
@@ -80,18 +77,14 @@ one-where k x = cond (eqb (part x) k) 1 0
 abbrev named : ℕ → ℕ → ℕ → Bool
 named role k o = eqb k name && eqb o role
 
--- as many as a row has entries
+-- 2 for an entry
 abbrev entry-scale : Scale Nonterminal
-entry-scale = record { row = λ k o. cond (declares k) 1 0 + entry-count (sort-by k o); loan = nowhere; gain = nowhere }
+entry-scale =
+    record { row = λ k o. cond (declares k) 2 0 + cond (is-other (sort-by k o)) 2 0; loan = one-where of-explicit; gain = one-where of-explicit }
 
 -- 5 for a constant, a type and an entity
 abbrev vertex-scale : Scale Nonterminal
 vertex-scale = record { row = λ k o. cond (declares k) 5 0; loan = nowhere; gain = one-where of-base }
-
--- 2 for an attribute
-abbrev attribute-scale : Scale Nonterminal
-attribute-scale =
-    record { row = λ k o. cond (eqb k attribute-name || eqb k derived-attribute) 2 0; loan = one-where of-explicit; gain = one-where of-explicit }
 
 -- 2 for a name of what is renamed, selected or a supertype
 abbrev type-scale : Scale Nonterminal
@@ -111,30 +104,29 @@ use-scale =
 record Passes (x : Nonterminal) : Type 0 where
   by-entries : pays entry-scale rules x ≡ true
   by-vertices : pays vertex-scale rules x ≡ true
-  by-attributes : pays attribute-scale rules x ≡ true
   by-types : pays type-scale rules x ≡ true
   by-uses : pays use-scale rules x ≡ true
 
 passes : (x : Nonterminal) → Passes x
-passes file = record { by-entries = refl; by-vertices = refl; by-attributes = refl; by-types = refl; by-uses = refl }
-passes schema = record { by-entries = refl; by-vertices = refl; by-attributes = refl; by-types = refl; by-uses = refl }
-passes constants = record { by-entries = refl; by-vertices = refl; by-attributes = refl; by-types = refl; by-uses = refl }
-passes constant = record { by-entries = refl; by-vertices = refl; by-attributes = refl; by-types = refl; by-uses = refl }
-passes base = record { by-entries = refl; by-vertices = refl; by-attributes = refl; by-types = refl; by-uses = refl }
-passes type-declaration = record { by-entries = refl; by-vertices = refl; by-attributes = refl; by-types = refl; by-uses = refl }
-passes underlying = record { by-entries = refl; by-vertices = refl; by-attributes = refl; by-types = refl; by-uses = refl }
-passes where-clause = record { by-entries = refl; by-vertices = refl; by-attributes = refl; by-types = refl; by-uses = refl }
-passes domain-rule = record { by-entries = refl; by-vertices = refl; by-attributes = refl; by-types = refl; by-uses = refl }
-passes entity = record { by-entries = refl; by-vertices = refl; by-attributes = refl; by-types = refl; by-uses = refl }
-passes explicit = record { by-entries = refl; by-vertices = refl; by-attributes = refl; by-types = refl; by-uses = refl }
-passes derived = record { by-entries = refl; by-vertices = refl; by-attributes = refl; by-types = refl; by-uses = refl }
-passes expression = record { by-entries = refl; by-vertices = refl; by-attributes = refl; by-types = refl; by-uses = refl }
-passes sum = record { by-entries = refl; by-vertices = refl; by-attributes = refl; by-types = refl; by-uses = refl }
-passes term = record { by-entries = refl; by-vertices = refl; by-attributes = refl; by-types = refl; by-uses = refl }
-passes factor = record { by-entries = refl; by-vertices = refl; by-attributes = refl; by-types = refl; by-uses = refl }
-passes operand = record { by-entries = refl; by-vertices = refl; by-attributes = refl; by-types = refl; by-uses = refl }
-passes atom = record { by-entries = refl; by-vertices = refl; by-attributes = refl; by-types = refl; by-uses = refl }
-passes interval = record { by-entries = refl; by-vertices = refl; by-attributes = refl; by-types = refl; by-uses = refl }
+passes file = record { by-entries = refl; by-vertices = refl; by-types = refl; by-uses = refl }
+passes schema = record { by-entries = refl; by-vertices = refl; by-types = refl; by-uses = refl }
+passes constants = record { by-entries = refl; by-vertices = refl; by-types = refl; by-uses = refl }
+passes constant = record { by-entries = refl; by-vertices = refl; by-types = refl; by-uses = refl }
+passes base = record { by-entries = refl; by-vertices = refl; by-types = refl; by-uses = refl }
+passes type-declaration = record { by-entries = refl; by-vertices = refl; by-types = refl; by-uses = refl }
+passes underlying = record { by-entries = refl; by-vertices = refl; by-types = refl; by-uses = refl }
+passes where-clause = record { by-entries = refl; by-vertices = refl; by-types = refl; by-uses = refl }
+passes domain-rule = record { by-entries = refl; by-vertices = refl; by-types = refl; by-uses = refl }
+passes entity = record { by-entries = refl; by-vertices = refl; by-types = refl; by-uses = refl }
+passes explicit = record { by-entries = refl; by-vertices = refl; by-types = refl; by-uses = refl }
+passes derived = record { by-entries = refl; by-vertices = refl; by-types = refl; by-uses = refl }
+passes expression = record { by-entries = refl; by-vertices = refl; by-types = refl; by-uses = refl }
+passes sum = record { by-entries = refl; by-vertices = refl; by-types = refl; by-uses = refl }
+passes term = record { by-entries = refl; by-vertices = refl; by-types = refl; by-uses = refl }
+passes factor = record { by-entries = refl; by-vertices = refl; by-types = refl; by-uses = refl }
+passes operand = record { by-entries = refl; by-vertices = refl; by-types = refl; by-uses = refl }
+passes atom = record { by-entries = refl; by-vertices = refl; by-types = refl; by-uses = refl }
+passes interval = record { by-entries = refl; by-vertices = refl; by-types = refl; by-uses = refl }
 
 -- ---- the bounds
 
@@ -148,7 +140,7 @@ module _ {t : Table} (R : Read file t) where
   nodes-are = ap length (R .kinds) ∙ length-map (R .rows) (λ (r : Row). r .kind)
 
   -- a number for each node, not above what its row weighs
-  total-few : (S : Scale Nonterminal) → ((x : Nonterminal) → pays S rules x ≡ true) → S .loan file ≡ 0 →
+  pub total-few : (S : Scale Nonterminal) → ((x : Nonterminal) → pays S rules x ≡ true) → S .loan file ≡ 0 →
       (f : ℕ → ℕ) → ((n : ℕ) → f n ≤ S .row (kind t n) (role t n)) → total f (nodes t) ≤ length (t .terminals)
   total-few S g z f h =
       let a = text-weight rules S g file (whole (R .rows)) (R .parses) z in
@@ -168,29 +160,19 @@ module _ {t : Table} (R : Read file t) where
   pub nodes-few : count t ≤ length (t .terminals)
   nodes-few = omega (arith, nodes-are, counted count-laws.pays (R .parses) 0 0 refl)
 
-  -- ENTRIES of the dictionary: no more than tokens
-  pub entries-few : length (entries t) ≤ length (t .terminals)
-  unfolding vertex others-before
+  -- ENTRIES of the dictionary: each has two tokens
+  pub entries-few : 2 * length (entries t) ≤ length (t .terminals)
+  unfolding vertex others-before sort
   entries-few =
-      let f : ℕ → ℕ = λ n. cond (is-declaration t n) 1 0 in
-      let g : ℕ → ℕ = λ n. length (other-entries t n) in
-      let h : (n : ℕ) → f n + g n ≤ entry-scale .row (kind t n) (role t n) = λ n. omega (arith, entries-count t n, ap entry-count (sort-is t n)) in
-      let a = total-few entry-scale (λ x. passes x .by-entries) refl (λ n. f n + g n) h in
-      omega (arith, a, entries-total t, total-both f g (nodes t), total-keep 1 (is-declaration t) (nodes t), total-flat (other-entries t) (nodes t))
+      let f : ℕ → ℕ = λ n. cond (is-declaration t n) 2 0 in
+      let g : ℕ → ℕ = λ n. cond (declares-other t n) 2 0 in
+      let a = total-few entry-scale (λ x. passes x .by-entries) refl (λ n. f n + g n) (λ n. omega arith) in
+      omega (arith, a, entries-total t, total-both f g (nodes t), total-keep 2 (is-declaration t) (nodes t), total-keep 2 (declares-other t) (nodes t))
 
   -- CONSTANTS, TYPES AND ENTITIES: each has five tokens
   pub vertices-few : 5 * vertex-count t ≤ length (t .terminals)
   unfolding vertex
   vertices-few = kept-few vertex-scale (λ x. passes x .by-vertices) refl 5 (is-declaration t) (λ n e. rw e (omega arith))
-
-  -- ATTRIBUTES: each has two tokens
-  pub attributes-few : 2 * length (attributes t) ≤ length (t .terminals)
-  unfolding attributes-from
-  attributes-few =
-      let z : count t - 0 ≡ count t = omega arith in
-      rw z
-      (kept-few attribute-scale (λ x. passes x .by-attributes) refl 2 (owned-attribute t)
-      (λ n e. let q : is-attribute t n ≡ true = and-fst (is-attribute t n) _ e in rw q (omega arith)))
 
   -- nodes that lead to something only if they pass a test, and then weigh at least 2
   led-few : (S : Scale Nonterminal) → ((x : Nonterminal) → pays S rules x ≡ true) → S .loan file ≡ 0 →

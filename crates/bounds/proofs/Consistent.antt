@@ -1,6 +1,6 @@
 -- The columns of a file that is scanned and read fit each other, so that its dictionary can be made.
 use mathlib.Core.Path.{_≡_, refl, sym, ap, _∙_}
-use mathlib.Core.List.{List, map}
+use mathlib.Core.List.{List}
 use Prim.Native.Nat.{ℕ, zero, suc, _≤_, _<_}
 use native.Mathlib.Omega.{arith}
 use lib.ListN.{length, getD, length-map}
@@ -33,12 +33,12 @@ module _ {t : Table} (R : Read file t) (S : Scanned t) where
   rows = lexed (t .bytes) .rows
 
   -- a start and a symbol for each terminal
-  starts-long : length (t .starts) ≡ length (t .terminals)
+  pub starts-long : length (t .starts) ≡ length (t .terminals)
   starts-long =
       ap length (S .starts-are) ∙ length-map (lexed (t .bytes) .rows) (λ (r : TokenRow). r .start)
       ∙ sym (ap length (S .terminals-are) ∙ length-map (lexed (t .bytes) .rows) (λ r. terminal-of (r .kind) (row-bytes (t .bytes) r)))
 
-  symbols-long : length (t .symbols) ≡ length (t .terminals)
+  pub symbols-long : length (t .symbols) ≡ length (t .terminals)
   symbols-long = ap length (S .symbols-are) ∙ as-many (t .bytes) (t .starts) (t .lengths) (t .terminals) ∙ starts-long
 
   symbol-below : (n : ℕ) → n < count t → symbol t n ≤ token t n

@@ -1,7 +1,8 @@
 -- Numbers of nodes, added up, and what the rows of these nodes weigh.
-use mathlib.Core.Path.{_≡_, refl, sym, ap, _∙_}
+use mathlib.Core.Path.{_≡_, sym, ap, _∙_}
+use mathlib.Core.Logic.{⊎-elim}
 use mathlib.Core.Bool.{Bool, true, false, cond}
-use mathlib.Core.List.{List, [], _∷_, map, flatMap}
+use mathlib.Core.List.{List, [], _∷_, map, List·Memᴰ, List·Memᴰ·cases-cons, List·Memᴰ·not-nil}
 use Prim.Native.Nat.{ℕ, suc, _+_, _*_, _-_, _≤_, _<_}
 use native.Mathlib.Omega.{arith}
 use native.Mathlib.Nat.{mul-zero, mul-suc}
@@ -20,11 +21,11 @@ unfolding total
 total-both f g [] = omega arith
 total-both f g (n ∷ ns) = omega (arith, total-both f g ns)
 
--- the length of a list by what each node puts into it
-pub total-flat : {A : Type 0} (g : ℕ → List A) (ns : List ℕ) → length (flatMap g ns) ≡ total (λ n. length (g n)) ns
-unfolding total flatMap
-total-flat g [] = refl
-total-flat g (n ∷ ns) = omega (arith, length-append (g n) (flatMap g ns), total-flat g ns)
+pub total-at : (f : ℕ → ℕ) (ns : List ℕ) {n : ℕ} → List·Memᴰ n ns → f n ≤ total f ns
+unfolding total
+total-at f [] m = absurd (List·Memᴰ·not-nil m)
+total-at f (k ∷ ns) {n} m =
+    ⊎-elim (λ (q : n ≡ k). rw q (omega arith)) (λ i. let l = total-at f ns i in omega (arith, l)) (List·Memᴰ·cases-cons m)
 
 -- m for each node that passes
 pub total-keep : (m : ℕ) (p : ℕ → Bool) (ns : List ℕ) → m * length (keep p ns) ≡ total (λ n. cond (p n) m 0) ns

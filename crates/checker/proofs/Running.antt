@@ -1,97 +1,80 @@
 -- ALL STAGES IN A LINE: from what each call promises to what the stages leave (`Ran`).
 use mathlib.Core.Path.{_≡_, refl, sym, ap, _∙_}
-use mathlib.Core.List.{List, [], _∷_, map}
-use Prim.Native.Nat.{ℕ, _≤_}
+use mathlib.Core.List.{List, [], _∷_, _++_, map}
+use Prim.Native.Nat.{ℕ, min, _*_, _+_, _≤_, _<_}
 use native.Mathlib.Omega.{arith}
 use lib.IntN.{ℤ}
-use lib.ListN.{length, take, length-map}
-use lib.Seq.{sets}
+use lib.ListN.{length, take, drop, length-map, length-append, length-drop}
+use lib.Seq.{sets, length-take-le, take-at}
 use Rattle.columns.proofs.Laws.{take-rows}
-use Rattle.express.specs.tokens.Lexis as lexis
-use Rattle.express.specs.tokens.Lexis.{most, lexed}
+use Rattle.express.specs.tokens.Lexis.{TokenRow, most, lexed}
+use Rattle.express.specs.tokens.Scanned.{row-bytes}
+use Rattle.express.specs.tokens.Terminal.{terminal-of}
 use Rattle.express.specs.syntax.Tree.{count}
 use Rattle.express.specs.names.Names.{names}
 use Rattle.express.specs.names.Scope as scope
 use Rattle.express.specs.kinds.Answer.{Answer}
 use Rattle.express.specs.kinds.AnswerRow.{AnswerRow, row-of}
 use Rattle.express.specs.kinds.Kind.{constants, typing}
-use Rattle.express.specs.whole.Reply.{Tables, token-entries}
+use Rattle.express.specs.whole.Reply.{Tables}
+use Rattle.express.proofs.tokens.TokenRows.{tokens-of}
+use Rattle.scopes.specs.Range.{vertex-count}
 use Rattle.constants.specs.Constants.{file-answers, WrittenRows}
+use Rattle.bounds.proofs.Bounds.{vertices-few}
 use Rattle.names.specs.Resolution.{FileRead}
 use Rattle.stages.specs.declared.Stage.{Stage}
 use Rattle.stages.specs.declared.Stage.the-variants.{Done, Refused}
-use Rattle.stages.specs.Line.{then-stage, count-of, of-constants, of-names, of-kinds, table-of, accepted-with, token-stage, constant-stage, name-stage, kind-stage}
-use Rattle.stages.specs.Reading.{ScansTokens, TokenColumns, NodesRead, ReadsNodes, FitsConstants}
-use Rattle.stages.proofs.Straight.{token-done, node-done, constant-done, name-done, kind-done, table-scanned, nodes-few}
+use Rattle.stages.specs.Line.{then-stage, of-names, of-kinds, table-of, accepted-with, constant-stage, name-stage, kind-stage}
+use Rattle.stages.proofs.Bounds.{tokens-few}
+use Rattle.stages.proofs.Straight.{constant-done, name-done, kind-done, table-scanned, nodes-few}
 use Rattle.pipeline.specs.NameStage.{NamesEnd}
-use Rattle.checker.specs.Conclusion.{Begins, AsLong, token-rows, node-rows, answer-rows, Ran}
+use Rattle.reading.specs.declared.Reading.{Reading}
+use Rattle.reading.specs.FileReading as reading
+use Rattle.reading.specs.FileReading.{ReadsFile}
+use Rattle.name_frames.specs.NameFrame.{NamesWithin}
+use Rattle.answer_frames.specs.AnswerFrame.{NamedFile, AnswersWithin}
+use Rattle.demands.specs.Checks.{Checks}
+use Rattle.conclusions.specs.declared.Report.{Report}
+use Rattle.conclusions.specs.Conclusion.{report-of, Concludes}
+use Rattle.checker.specs.Running.{Begins, AsLong, token-rows, node-rows, answer-rows, Ran, Runs, ChecksWithin}
+use Rattle.checker.proofs.Concluding.{concluded}
 
 -- a column that values were stored in begins with them, where it is long enough
 front : {A : Type 0} (column values : List A) (n : ℕ) → n ≡ length values → n ≤ length column → take n (sets column 0 values) ≡ values
 front column values n e h = rw e (take-rows column values (omega arith))
 
--- ---- tokens and nodes
+-- ---- columns
 
-module _ {s k₀ s₀ z₀ : List ℕ} {scanned : Stage} {k′ s′ z′ : List ℕ} (S : ScansTokens s k₀ s₀ z₀ scanned k′ s′ z′) where
-  -- the columns of the tokens, for what comes after them
-  pub token-columns : (terms words : List ℕ) (tokens : ℕ) → tokens ≡ count-of scanned → tokens ≤ length terms → tokens ≤ length words →
-      (n : ℕ) → scanned ≡ Done n → TokenColumns s n (take tokens k′) (take tokens s′) (take tokens z′) terms words
-  token-columns terms words tokens c a b n e =
-      let D = token-done s (token-entries k₀ s₀ z₀) n (sym (S .is) ∙ e) in
-      let t : tokens ≡ n = c ∙ ap count-of e in
-      let r = D .room in
-      let i = D .is in
-      let k : length (lexis.kinds (lexed s)) ≡ length (lexed s .rows) = length-map (lexed s .rows) _ in
-      let p : length (lexis.starts (lexed s)) ≡ length (lexed s .rows) = length-map (lexed s .rows) _ in
-      let z : length (lexis.sizes (lexed s)) ≡ length (lexed s .rows) = length-map (lexed s .rows) _ in
-      record {
-        kinds-are = rw (S .kinds-are) (front k₀ (lexis.kinds (lexed s)) tokens (omega arith) (omega arith));
-        starts-are = rw (S .starts-are) (front s₀ (lexis.starts (lexed s)) tokens (omega arith) (omega arith));
-        lengths-are = rw (S .lengths-are) (front z₀ (lexis.sizes (lexed s)) tokens (omega arith) (omega arith));
-        terminal-room = omega arith;
-        scratch-room = omega arith;
-      }
+-- the front of a column was lent and written
+pub joined-front : (n : ℕ) (front column : List ℕ) → length front ≡ length (take n column) → n ≤ length column → take n (front ++ drop n column) ≡ front
+joined-front n front column e h = take-at front (drop n column) n (e ∙ length-take-le n column h)
 
-module _ {s : List ℕ} {tr nr : ℕ} {read : Stage} {terms nk nt ns nb : List ℕ} (R : NodesRead s tr nr read terms nk nt ns nb) (nodes : ℕ) (nodes-are : nodes ≡ count-of read) where
-  -- the first nodes of the columns are those of the file
-  front-kinds : (n : ℕ) → read ≡ Done n → take nodes nk ≡ table-of s .kinds
-  front-kinds n e = let q : nodes ≡ n = nodes-are ∙ ap count-of e in rw q (R .nodes-are n e .kinds-are)
+pub joined-length : (n : ℕ) (front column : List ℕ) → length front ≡ length (take n column) → n ≤ length column → length (front ++ drop n column) ≡ length column
+joined-length n front column e h = omega (arith, e, length-take-le n column h, length-append front (drop n column), length-drop n column)
 
-  -- THE ROOM FOR ANSWERS
-  pub fit-is : {ar : ℕ} {fit : Stage} → FitsConstants read (take nodes nk) ar fit → fit ≡ constant-stage s tr nr ar
-  fit-is {ar} {fit} F = by read refl
-    where
-      by : (x : Stage) → read ≡ x → fit ≡ constant-stage s tr nr ar
-      by (Done n) e =
-          let N = node-done s tr nr n (sym (R .is) ∙ e) in
-          let k = front-kinds n e in
-          let few : length (take nodes nk) ≤ most = rw k (nodes-few N) in
-          F .is few ∙ rw (k, R .is)
-      by (Refused j p) e =
-          let z : nodes ≡ 0 = nodes-are ∙ ap count-of e in
-          let few : length (take nodes nk) ≤ most = rw z (omega arith) in
-          F .is few ∙ ap (λ (x : Stage). then-stage x (λ _. of-constants (take nodes nk) ar)) e ∙
-          ap (λ (x : Stage). then-stage x (λ _. of-constants (table-of s .kinds) ar)) (sym e ∙ R .is)
+-- what is counted is in each column that is as long as it was
+module _ {s tk ts tl terms nk nt ns nb : List ℕ} {answers : ℕ} {r : Reading} {tk′ ts′ tl′ terms′ nk′ nt′ ns′ nb′ : List ℕ}
+    (R : ReadsFile s tk ts tl terms nk nt ns nb answers r tk′ ts′ tl′ terms′ nk′ nt′ ns′ nb′) {n : ℕ} where
+  pub starts-fit : n ≡ length ts → r .tokens ≤ n
+  starts-fit e = omega (arith, R .tokens-in .0, e)
 
-  -- the columns of a file that is read, for the names
-  pub file-read : {tk ts tl terms₀ words : List ℕ} {i : ℕ} → TokenColumns s i tk ts tl terms₀ words → (tokens : ℕ) → tokens ≡ i → token-stage s tr ≡ Done i → (n : ℕ) → read ≡ Done n →
-      FileRead s ts tl (take tokens terms) (take nodes nk) (take nodes nt) (take nodes ns) (take nodes nb) (table-of s)
-  file-read {i = i} T tokens c q n e =
-      let N = node-done s tr nr n (sym (R .is) ∙ e) in
-      let C = R .nodes-are n e in
-      let v : nodes ≡ n = nodes-are ∙ ap count-of e in
-      record {
-        scanned = table-scanned s;
-        read = N .read;
-        bytes-are = refl;
-        starts-are = T .starts-are;
-        lengths-are = T .lengths-are;
-        terminals-are = rw c (R .terminals-are i q);
-        kinds-are = rw v (C .kinds-are);
-        tokens-are = rw v (C .tokens-are);
-        sizes-are = rw v (C .sizes-are);
-        roles-are = rw v (C .roles-are);
-      }
+  pub lengths-fit : n ≡ length tl → r .tokens ≤ n
+  lengths-fit e = omega (arith, R .tokens-in .0, e)
+
+  pub terminals-fit : n ≡ length terms → r .tokens ≤ n
+  terminals-fit e = omega (arith, R .tokens-in .1, e)
+
+  pub kinds-fit : n ≡ length nk → r .nodes ≤ n
+  kinds-fit e = omega (arith, R .nodes-in, e)
+
+  pub tokens-fit : n ≡ length nt → r .nodes ≤ n
+  tokens-fit e = omega (arith, R .nodes-in, e)
+
+  pub sizes-fit : n ≡ length ns → r .nodes ≤ n
+  sizes-fit e = omega (arith, R .nodes-in, e)
+
+  pub bindings-fit : n ≡ length nb → r .nodes ≤ n
+  bindings-fit e = omega (arith, R .nodes-in, e)
 
 -- ---- names and kinds, where what is done before them is known
 
@@ -140,94 +123,159 @@ module _ {aks : List ℕ} {azs : List ℤ} {als aks′ : List ℕ} {azs′ : Lis
 
 -- ---- the line
 
-module _ {s : List ℕ} {l m : Tables} {scanned read fit named last : Stage} {tokens nodes : ℕ} {terms₀ words terms nb types orders : List ℕ}
-    (S : ScansTokens s (l .token-kinds) (l .token-starts) (l .token-lengths) scanned (m .token-kinds) (m .token-starts) (m .token-lengths))
-    (tokens-are : tokens ≡ count-of scanned) (terms-room : tokens ≤ length terms₀) (words-room : tokens ≤ length words)
-    (R : ReadsNodes s scanned (take tokens (m .token-kinds)) (take tokens (m .token-starts)) (take tokens (m .token-lengths)) terms₀ words
-    (l .node-kinds) (l .node-tokens) (l .node-sizes) (l .node-bindings) read terms (m .node-kinds) (m .node-tokens) (m .node-sizes) nb)
-    (nodes-are : nodes ≡ count-of read) (F : FitsConstants read (take nodes (m .node-kinds)) (answer-rows l) fit)
-    (names-passed : (k p : ℕ) → fit ≡ Refused k p → named ≡ Refused k p)
-    (names-end : (n : ℕ) → fit ≡ Done n →
-    FileRead s (take tokens (m .token-starts)) (take tokens (m .token-lengths)) (take tokens terms) (take nodes (m .node-kinds)) (take nodes (m .node-tokens)) (take nodes (m .node-sizes))
-    (take nodes nb) (table-of s) → NamesEnd (table-of s) n named (take nodes (m .node-bindings)) types orders)
-    (kinds-passed : (k p : ℕ) → named ≡ Refused k p → last ≡ Refused k p)
-    (kinds-end : (n : ℕ) → named ≡ Done n → (last ≡ of-kinds (table-of s) (typing (table-of s) (take nodes (m .node-bindings))) n) ×
-    ((k : ℕ) → last ≡ Done k →
-    WrittenRows (l .answer-kinds) (l .answer-numbers) (l .answer-lengths) (file-answers (table-of s)) (m .answer-kinds) (m .answer-numbers) (m .answer-lengths)))
-    (as-long : AsLong l m) where
-  nodes-read : NodesRead s (token-rows l) (node-rows l) read terms (m .node-kinds) (m .node-tokens) (m .node-sizes) nb
-  nodes-read = R .is (token-rows l) (S .is) (token-columns S terms₀ words tokens tokens-are terms-room words-room)
+module _ {s : List ℕ} {l m : Tables} {read : Reading} {named last : Stage} {answers rest : ℕ} {terms types orders terms′ nb b types′ orders′ : List ℕ}
+    (R : ReadsFile s (l .token-kinds) (l .token-starts) (l .token-lengths) terms (l .node-kinds) (l .node-tokens) (l .node-sizes) (l .node-bindings) answers read
+    (m .token-kinds) (m .token-starts) (m .token-lengths) terms′ (m .node-kinds) (m .node-tokens) (m .node-sizes) nb)
+    (rest-are : rest ≡ min (length (l .answer-numbers)) (length (l .answer-lengths))) (answers-are : answers ≡ min (length (l .answer-kinds)) rest)
+    (N : NamesWithin most (read .stage) s (take (read .tokens) (m .token-starts)) (take (read .tokens) (m .token-lengths)) (take (read .tokens) terms′)
+    (take (read .nodes) (m .node-kinds)) (take (read .nodes) (m .node-tokens)) (take (read .nodes) (m .node-sizes)) (take (read .nodes) nb) types orders named b types′ orders′)
+    (bindings-are : take (read .nodes) (m .node-bindings) ≡ b)
+    (A : AnswersWithin most named s (take (read .tokens) (m .token-starts)) (take (read .tokens) (m .token-lengths)) (take (read .tokens) terms′)
+    (take (read .nodes) (m .node-kinds)) (take (read .nodes) (m .node-tokens)) (take (read .nodes) (m .node-sizes)) (take (read .nodes) (m .node-bindings)) types′ orders′
+    (l .answer-kinds) (l .answer-numbers) (l .answer-lengths) last (m .answer-kinds) (m .answer-numbers) (m .answer-lengths))
+    (as-long : AsLong l m) (types-long : length types′ ≡ length types) (orders-long : length orders′ ≡ length orders) where
+  -- where there is room for terminals and orders
+  module _ (few : length (lexed s .rows) ≤ length terms) (types-room : length (lexed s .rows) < 5 * length types + 5) (orders-room : length (lexed s .rows) < 5 * length orders + 5) where
+    file : reading.FileRead s (token-rows l) (node-rows l) answers read (m .token-kinds) (m .token-starts) (m .token-lengths) terms′ (m .node-kinds) (m .node-tokens) (m .node-sizes) nb
+    file = R .is few
 
-  fit-as : fit ≡ constant-stage s (token-rows l) (node-rows l) (answer-rows l)
-  fit-as = fit-is nodes-read nodes nodes-are F
+    fit-as : read .stage ≡ constant-stage s (token-rows l) (node-rows l) (answer-rows l)
+    fit-as = file .stage-is ∙ ap (constant-stage s (token-rows l) (node-rows l)) (answers-are ∙ ap (min (length (l .answer-kinds))) rest-are)
 
-  -- where there is room for the answers, the tokens and the nodes are there
-  record There : Type 0 where
-    token-there : scanned ≡ Done (length (lexed s .rows))
-    node-there : read ≡ Done (count (table-of s))
-    stage-there : token-stage s (token-rows l) ≡ Done (length (lexed s .rows))
+    -- where there is room for the answers
+    done : (n : ℕ) → read .stage ≡ Done n → constant-stage s (token-rows l) (node-rows l) (answer-rows l) ≡ Done n
+    done n e = sym fit-as ∙ e
 
-  there : (n : ℕ) → fit ≡ Done n → There
-  there n e =
-      let C = constant-done s (token-rows l) (node-rows l) (answer-rows l) n (sym fit-as ∙ e) in
-      let q = C .of-nodes .tokens-done in
-      record { token-there = S .is ∙ q; node-there = nodes-read .is ∙ C .nodes-done; stage-there = q }
+    -- a declaration for each five tokens at most
+    vertices-fit : (n : ℕ) → read .stage ≡ Done n → (vertex-count (table-of s) ≤ length types) × (vertex-count (table-of s) ≤ length orders)
+    vertices-fit n e =
+        let C = constant-done s (token-rows l) (node-rows l) (answer-rows l) n (done n e) in
+        let v = vertices-few (C .of-nodes .read) in
+        let k : length (table-of s .terminals) ≡ length (lexed s .rows) = length-map (lexed s .rows) (λ (r : TokenRow). terminal-of (r .kind) (row-bytes s r)) in
+        (omega (arith, v, k, types-room), omega (arith, v, k, orders-room))
 
-  tokens-there : There → TokenColumns s (length (lexed s .rows)) (take tokens (m .token-kinds)) (take tokens (m .token-starts)) (take tokens (m .token-lengths)) terms₀ words
-  tokens-there H = token-columns S terms₀ words tokens tokens-are terms-room words-room (length (lexed s .rows)) (H .token-there)
+    ended : (n : ℕ) → read .stage ≡ Done n → NamesEnd (table-of s) n named b types′ orders′
+    ended n e =
+        let C = constant-done s (token-rows l) (node-rows l) (answer-rows l) n (done n e) in
+        let B = file .begins n e in
+        let F : FileRead s (take (read .tokens) (m .token-starts)) (take (read .tokens) (m .token-lengths)) (take (read .tokens) terms′) (take (read .nodes) (m .node-kinds))
+        (take (read .nodes) (m .node-tokens)) (take (read .nodes) (m .node-sizes)) (take (read .nodes) nb) (table-of s) = record {
+          scanned = table-scanned s;
+          read = C .of-nodes .read;
+          bytes-are = refl;
+          starts-are = B .token-starts-are;
+          lengths-are = B .token-lengths-are;
+          terminals-are = B .terminals-are;
+          kinds-are = B .node-kinds-are;
+          tokens-are = B .node-tokens-are;
+          sizes-are = B .node-sizes-are;
+          roles-are = B .roles-are;
+        } in
+        let k : length (table-of s .starts) ≡ length (lexed s .rows) = length-map (lexed s .rows) (λ (r : TokenRow). r .start) in
+        let v = vertices-fit n e in
+        N .is (table-of s) F (omega (arith, ap length (B .token-starts-are), k, tokens-few s)) (v .0) (v .1) n e
 
-  ended : (n : ℕ) → fit ≡ Done n → NamesEnd (table-of s) n named (take nodes (m .node-bindings)) types orders
-  ended n e =
-      let H = there n e in
-      names-end n e (file-read nodes-read nodes nodes-are (tokens-there H) tokens (tokens-are ∙ ap count-of (H .token-there)) (H .stage-there) (count (table-of s)) (H .node-there))
+    named-as : named ≡ name-stage s (token-rows l) (node-rows l) (answer-rows l)
+    named-as = named-is s (token-rows l) (node-rows l) (answer-rows l) fit-as (N .passed-on) (λ n e. ended n e .is)
 
-  named-as : named ≡ name-stage s (token-rows l) (node-rows l) (answer-rows l)
-  named-as = named-is s (token-rows l) (node-rows l) (answer-rows l) fit-as names-passed (λ n e. ended n e .is)
+    fit-done : (n : ℕ) → named ≡ Done n → read .stage ≡ Done n
+    fit-done n e = fit-as ∙ name-done s (token-rows l) (node-rows l) (answer-rows l) n (sym named-as ∙ e) .constants-done
 
-  fit-done : (n : ℕ) → named ≡ Done n → fit ≡ Done n
-  fit-done n e = fit-as ∙ name-done s (token-rows l) (node-rows l) (answer-rows l) n (sym named-as ∙ e) .constants-done
+    bound : (n : ℕ) → named ≡ Done n → take (read .nodes) (m .node-bindings) ≡ scope.bindings (table-of s)
+    bound n e = bindings-are ∙ ended n (fit-done n e) .bound n e
 
-  bound : (n : ℕ) → named ≡ Done n → take nodes (m .node-bindings) ≡ scope.bindings (table-of s)
-  bound n e = ended n (fit-done n e) .bound n e
+    -- the names are right and bound
+    named-file : (n : ℕ) → named ≡ Done n → NamedFile s (take (read .tokens) (m .token-starts)) (take (read .tokens) (m .token-lengths)) (take (read .tokens) terms′)
+        (take (read .nodes) (m .node-kinds)) (take (read .nodes) (m .node-tokens)) (take (read .nodes) (m .node-sizes)) (take (read .nodes) (m .node-bindings)) types′ orders′
+        (l .answer-kinds) (l .answer-numbers) (l .answer-lengths) (table-of s)
+    named-file n e =
+        let f = fit-done n e in
+        let C = constant-done s (token-rows l) (node-rows l) (answer-rows l) n (done n f) in
+        let B = file .begins n f in
+        let E = ended n f in
+        let v = vertices-fit n f in
+        let room = C .room in
+        record {
+          scanned = table-scanned s;
+          read = C .of-nodes .read;
+          named = name-done s (token-rows l) (node-rows l) (answer-rows l) n (sym named-as ∙ e) .named;
+          bytes-are = refl;
+          starts-are = B .token-starts-are;
+          lengths-are = B .token-lengths-are;
+          terminals-are = B .terminals-are;
+          kinds-are = B .node-kinds-are;
+          tokens-are = B .node-tokens-are;
+          sizes-are = B .node-sizes-are;
+          bound = bound n e;
+          types-room = omega (arith, v .0, types-long);
+          constants-room = omega (arith, v .1, orders-long);
+          types-arranged = E .types-arranged n e;
+          constants-arranged = E .constants-arranged n e;
+          answer-room = record { kinds-long = omega arith; numbers-long = omega arith; lengths-long = omega arith };
+        }
 
-  last-as : last ≡ kind-stage s (token-rows l) (node-rows l) (answer-rows l)
-  last-as =
-      last-is s (token-rows l) (node-rows l) (answer-rows l) named-as kinds-passed
-      (λ n e. kinds-end n e .0 ∙ ap (λ (x : List ℕ). of-kinds (table-of s) (typing (table-of s) x) n) (bound n e))
+    kinds-end : (n : ℕ) → named ≡ Done n → (last ≡ of-kinds (table-of s) (typing (table-of s) (take (read .nodes) (m .node-bindings))) n) ×
+        ((k : ℕ) → last ≡ Done k →
+        WrittenRows (l .answer-kinds) (l .answer-numbers) (l .answer-lengths) (file-answers (table-of s)) (m .answer-kinds) (m .answer-numbers) (m .answer-lengths))
+    kinds-end n e =
+        let C = constant-done s (token-rows l) (node-rows l) (answer-rows l) n (done n (fit-done n e)) in
+        A .is (table-of s) (named-file n e) (nodes-few (C .of-nodes)) n e
 
-  begins : (n : ℕ) → last ≡ Done n → Begins (accepted-with s) tokens nodes n m
-  begins n e =
-      let nd : named ≡ Done n = named-as ∙ kind-done s (token-rows l) (node-rows l) (answer-rows l) n (sym last-as ∙ e) in
-      let fd = fit-done n nd in
-      let H = there n fd in
-      let C = constant-done s (token-rows l) (node-rows l) (answer-rows l) n (sym fit-as ∙ fd) in
-      let T = tokens-there H in
-      let N = nodes-read .nodes-are (count (table-of s)) (H .node-there) in
-      let v : nodes ≡ count (table-of s) = nodes-are ∙ ap count-of (H .node-there) in
-      let W = kinds-end n nd .1 n e in
-      let c : n ≡ length (file-answers (table-of s)) = C .is ∙ sym (length-map (constants (table-of s)) _) in
-      let i = C .is in
-      let room = C .room in
-      record {
-        token-kinds = T .kinds-are;
-        token-starts = T .starts-are;
-        token-lengths = T .lengths-are;
-        node-kinds = rw v (N .kinds-are);
-        node-tokens = rw v (N .tokens-are);
-        node-sizes = rw v (N .sizes-are);
-        node-bindings = bound n nd;
-        answer-kinds = answer-kinds-front W n c (omega arith);
-        answer-numbers = answer-numbers-front W n c (omega arith);
-        answer-lengths = answer-lengths-front W n c (omega arith);
-      }
+    last-as : last ≡ kind-stage s (token-rows l) (node-rows l) (answer-rows l)
+    last-as =
+        last-is s (token-rows l) (node-rows l) (answer-rows l) named-as (A .passed-on)
+        (λ n e. kinds-end n e .0 ∙ ap (λ (x : List ℕ). of-kinds (table-of s) (typing (table-of s) x) n) (bound n e))
 
-  -- WHAT THE STAGES LEAVE
-  pub ran : Ran s l m tokens nodes last
-  ran =
-      record {
-        tokens-are = tokens-are ∙ ap count-of (S .is);
-        nodes-are = nodes-are ∙ ap count-of (nodes-read .is);
-        last-is = last-as;
-        begins = begins;
-        as-long = as-long;
-      }
+    begins : (n : ℕ) → last ≡ Done n → Begins (accepted-with s) (read .tokens) (read .nodes) n m
+    begins n e =
+        let nd : named ≡ Done n = named-as ∙ kind-done s (token-rows l) (node-rows l) (answer-rows l) n (sym last-as ∙ e) in
+        let fd = fit-done n nd in
+        let C = constant-done s (token-rows l) (node-rows l) (answer-rows l) n (done n fd) in
+        let B = file .begins n fd in
+        let W = kinds-end n nd .1 n e in
+        let c : n ≡ length (file-answers (table-of s)) = C .is ∙ sym (length-map (constants (table-of s)) _) in
+        let i = C .is in
+        let room = C .room in
+        record {
+          token-kinds = B .token-kinds-are;
+          token-starts = B .token-starts-are;
+          token-lengths = B .token-lengths-are;
+          node-kinds = B .node-kinds-are;
+          node-tokens = B .node-tokens-are;
+          node-sizes = B .node-sizes-are;
+          node-bindings = bound n nd;
+          answer-kinds = answer-kinds-front W n c (omega arith);
+          answer-numbers = answer-numbers-front W n c (omega arith);
+          answer-lengths = answer-lengths-front W n c (omega arith);
+        }
+
+    -- WHAT THE STAGES LEAVE
+    ran : Ran s l m (read .tokens) (read .nodes) last
+    ran =
+        record {
+          tokens-are = file .tokens-are;
+          nodes-are = file .nodes-are;
+          last-is = last-as;
+          begins = begins;
+          as-long = as-long;
+        }
+
+  pub runs : {m′ : Tables} {r : Report} → Concludes (read .tokens) (read .nodes) last m m′ r → Runs s terms types orders l m′ r
+  runs C = record { is = λ a b c. concluded (ran a b c) C }
+
+-- THE LAW OF THE THREE SIZES: arrays for a file of at most n tokens
+pub within :
+    {s : List ℕ} {l m : Tables} {r : Report} (n : ℕ) (terms types orders : List ℕ) → n ≤ length terms → n < 5 * length types + 5 → n < 5 * length orders + 5 → Runs s terms types orders l m r →
+    ChecksWithin n s l m r
+within n terms types orders a b c R = record { is = λ h. R .is (omega arith) (omega arith) (omega arith) }
+
+-- ---- the choice among the three
+
+module _ {s : List ℕ} {l m : Tables} {r : Report} where
+  -- a file has no more tokens than bytes
+  pub of-bytes : (n : ℕ) → length s ≤ n → ChecksWithin n s l m r → Checks s l m (report-of r)
+  of-bytes n h C = C .is (omega (arith, tokens-of s .few, h))
+
+  -- nor more than the largest file has bytes
+  pub of-any : ChecksWithin most s l m r → Checks s l m (report-of r)
+  of-any C = C .is (tokens-few s)

@@ -1,1 +1,1 @@
-pub mod Conclusion
+pub mod Running

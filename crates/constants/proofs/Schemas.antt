@@ -1,17 +1,18 @@
 -- The schemas one after the other: the part of the answer columns after the earlier schemas is lent for each, and put together again.
 use mathlib.Core.Path.{_≡_, refl, sym, ap, subst, _∙_}
 use mathlib.Core.Logic.{_⊎_, inl, inr, ⊎-elim}
+use mathlib.Core.Bool.{Bool, cond}
 use mathlib.Core.List.{List, _++_}
 use Prim.Native.Nat.{ℕ, min, suc, _+_, _-_, _≤_, _<_}
 use native.Mathlib.Omega.{arith}
-use lib.Dec.{eqb}
+use lib.Dec.{eqb, ltb}
 use lib.IntN.{ℤ}
 use lib.ListN.{length, getD, take, drop, length-take, length-drop, List·getD-append, List·getD-eq-default}
 use lib.Seq.{length-take-le, getD-take, getD-drop, getD-append-add}
 use Rattle.ebnf.specs.Set.{mem}
 use Rattle.relations.specs.Select.{first-from}
 use Rattle.relations.proofs.Select.{le-or, First, first-is}
-use Rattle.tree.proofs.Next.{next-is}
+use Rattle.tree.proofs.Next.{next-is, next-beyond}
 use Rattle.express.specs.syntax.NodeKind as node
 use Rattle.express.specs.syntax.Grammar.{file}
 use Rattle.express.specs.syntax.Syntax.{Read}
@@ -23,6 +24,8 @@ use Rattle.express.proofs.names.Owned.{in-schema}
 use Rattle.express.proofs.kinds.Backward.{schema-step, schema-end, schema-rises}
 use Rattle.constants.specs.Constants.{FillsSchemas}
 use Rattle.schemas.specs.Rows.{row, answer-of-constant, OfFile, Rows, Room, Holds, Schema, Filled, FilledRows, FillsSchema}
+use Rattle.schemas.specs.Parts.{grouped}
+use Rattle.constants.proofs.Parted.{Started, started, started-next, parted}
 use Rattle.schemas.proofs.Numbering.{row-none, row-rises, row-before, row-other}
 
 -- ---- one column, of which the part from row h on was lent
@@ -178,22 +181,24 @@ in-a-schema d c l k = schema-over d c (in-schema d c l (rw k) .0) .2
 
 -- ---- THE LOOP'S INVARIANT
 pub record Filling (bytes starts lengths terminals kinds tokens sizes bindings declared order row-of aks₀ : List ℕ) (azs₀ : List ℤ) (als₀ vks₀ : List ℕ) (vzs₀ : List ℤ)
-    (vls₀ aks : List ℕ) (azs : List ℤ) (als vks : List ℕ) (vzs : List ℤ) (vls : List ℕ) (n lo at : ℕ) : Type 0 where
+    (vls₀ aks : List ℕ) (azs : List ℤ) (als vks : List ℕ) (vzs : List ℤ) (vls : List ℕ) (n lo at from : ℕ) : Type 0 where
   pub kinds-kept : length aks ≡ length aks₀
   pub numbers-kept : length azs ≡ length azs₀
   pub lengths-kept : length als ≡ length als₀
   pub value-kinds-kept : length vks ≡ length vks₀
   pub value-numbers-kept : length vzs ≡ length vzs₀
   pub value-lengths-kept : length vls ≡ length vls₀
+  pub ahead : lo ≤ n
+  pub begun : Started order lo from
   pub is :
       (t : Table) → OfFile t bytes starts lengths terminals kinds tokens sizes bindings declared order → Rows t row-of → Room t vks₀ vzs₀ vls₀ →
       Holds (length (constants t)) aks₀ azs₀ als₀ → Stage t n lo at × FilledRows t 0 lo 0 aks₀ azs₀ als₀ aks azs als
 
 -- where a schema stands at n, unless all have passed
 pub record Here (bytes starts lengths terminals kinds tokens sizes bindings declared order row-of aks₀ : List ℕ) (azs₀ : List ℤ) (als₀ vks₀ : List ℕ) (vzs₀ : List ℤ)
-    (vls₀ aks : List ℕ) (azs : List ℤ) (als vks : List ℕ) (vzs : List ℤ) (vls : List ℕ) (n lo at : ℕ) : Type 0 where
+    (vls₀ aks : List ℕ) (azs : List ℤ) (als vks : List ℕ) (vzs : List ℤ) (vls : List ℕ) (n lo at from : ℕ) : Type 0 where
   pub filling :
-      Filling bytes starts lengths terminals kinds tokens sizes bindings declared order row-of aks₀ azs₀ als₀ vks₀ vzs₀ vls₀ aks azs als vks vzs vls n lo at
+      Filling bytes starts lengths terminals kinds tokens sizes bindings declared order row-of aks₀ azs₀ als₀ vks₀ vzs₀ vls₀ aks azs als vks vzs vls n lo at from
   pub stands : n < length kinds → getD kinds n 0 ≡ node.schema
 
 -- a part of a column is long enough for the rows of a schema
@@ -203,7 +208,7 @@ part-long t {lo} {n} {at} {h} column m s l u =
     omega (arith, row-rises (t .kinds) lo n l, length-take (length column - h) (drop h column), length-drop h column)
 
 module _ {bytes starts lengths terminals kinds tokens sizes bindings declared order row-of aks₀ : List ℕ} {azs₀ : List ℤ} {als₀ vks₀ : List ℕ} {vzs₀ : List ℤ} {vls₀ : List ℕ} where
-  pub filling-starts : Filling bytes starts lengths terminals kinds tokens sizes bindings declared order row-of aks₀ azs₀ als₀ vks₀ vzs₀ vls₀ aks₀ azs₀ als₀ vks₀ vzs₀ vls₀ 0 0 0
+  pub filling-starts : Filling bytes starts lengths terminals kinds tokens sizes bindings declared order row-of aks₀ azs₀ als₀ vks₀ vzs₀ vls₀ aks₀ azs₀ als₀ vks₀ vzs₀ vls₀ 0 0 0 0
   filling-starts =
       record {
         kinds-kept = refl;
@@ -212,6 +217,8 @@ module _ {bytes starts lengths terminals kinds tokens sizes bindings declared or
         value-kinds-kept = refl;
         value-numbers-kept = refl;
         value-lengths-kept = refl;
+        ahead = omega arith;
+        begun = started order;
         is = λ t O W M R. (
           stage-starts t,
           record {
@@ -222,12 +229,12 @@ module _ {bytes starts lengths terminals kinds tokens sizes bindings declared or
         );
       }
 
-  module _ {aks : List ℕ} {azs : List ℤ} {als vks : List ℕ} {vzs : List ℤ} {vls : List ℕ} {n lo at : ℕ}
-      (P : Filling bytes starts lengths terminals kinds tokens sizes bindings declared order row-of aks₀ azs₀ als₀ vks₀ vzs₀ vls₀ aks azs als vks vzs vls n lo at) where
+  module _ {aks : List ℕ} {azs : List ℤ} {als vks : List ℕ} {vzs : List ℤ} {vls : List ℕ} {n lo at from : ℕ}
+      (P : Filling bytes starts lengths terminals kinds tokens sizes bindings declared order row-of aks₀ azs₀ als₀ vks₀ vzs₀ vls₀ aks azs als vks vzs vls n lo at from) where
     -- the next schema
     pub filling-next :
         {m : ℕ} → m ≡ first-from (λ j. eqb (getD kinds j 0) node.schema) n (length kinds - n) →
-        Here bytes starts lengths terminals kinds tokens sizes bindings declared order row-of aks₀ azs₀ als₀ vks₀ vzs₀ vls₀ aks azs als vks vzs vls m lo at
+        Here bytes starts lengths terminals kinds tokens sizes bindings declared order row-of aks₀ azs₀ als₀ vks₀ vzs₀ vls₀ aks azs als vks vzs vls m lo at from
     filling-next {m} q =
         record {
           filling = record {
@@ -237,6 +244,8 @@ module _ {bytes starts lengths terminals kinds tokens sizes bindings declared or
             value-kinds-kept = P .value-kinds-kept;
             value-numbers-kept = P .value-numbers-kept;
             value-lengths-kept = P .value-lengths-kept;
+            ahead = let g = next-beyond (λ j. eqb (getD kinds j 0) node.schema) n (length kinds - n) q in omega (arith, P .ahead);
+            begun = P .begun;
             is = λ t O W M R.
                 let Q = P .is t O W M R in
                 let e = ap (λ (ks : List ℕ). first-from (λ j. eqb (getD ks j 0) node.schema) n (length ks - n)) (O .kinds-are) in
@@ -247,16 +256,18 @@ module _ {bytes starts lengths terminals kinds tokens sizes bindings declared or
 
     module _ (l : n < length kinds) where
       module _ (k : getD kinds n 0 ≡ node.schema) {a b c o : ℕ} (a-is : a ≡ min at (length aks)) (b-is : b ≡ min at (length azs)) (c-is : c ≡ min at (length als)) (o-is : o ≡ getD row-of n 0)
+          {next to : ℕ} {g : Bool} (next-is : next ≡ first-from (λ i. ltb n (getD order i 0)) from (length order - from)) (g-is : g ≡ grouped kinds order)
+          (to-is : to ≡ cond g next (length order))
           {aks′ : List ℕ} {azs′ : List ℤ} {als′ : List ℕ} (post₁ : List ℕ) (post₂ : List ℤ) (post₃ : List ℕ) {vks′ : List ℕ} {vzs′ : List ℤ} {vls′ : List ℕ} where
         pub filling-schema :
-            FillsSchema bytes starts lengths terminals kinds tokens sizes bindings declared order row-of lo n at (take (length aks - a) (drop a aks))
-            (take (length azs - b) (drop b azs)) (take (length als - c) (drop c als)) vks vzs vls aks′ azs′ als′ →
+            FillsSchema bytes starts lengths terminals kinds tokens sizes bindings declared (take (to - from) (drop from order)) row-of lo n at
+            (take (length aks - a) (drop a aks)) (take (length azs - b) (drop b azs)) (take (length als - c) (drop c als)) vks vzs vls aks′ azs′ als′ →
             length aks′ ≡ length (take (length aks - a) (drop a aks)) → length azs′ ≡ length (take (length azs - b) (drop b azs)) →
             length als′ ≡ length (take (length als - c) (drop c als)) →
             length (take a aks ++ (aks′ ++ post₁)) ≡ length aks → length (take b azs ++ (azs′ ++ post₂)) ≡ length azs → length (take c als ++ (als′ ++ post₃)) ≡ length als →
             length vks′ ≡ length vks → length vzs′ ≡ length vzs → length vls′ ≡ length vls →
             Filling bytes starts lengths terminals kinds tokens sizes bindings declared order row-of aks₀ azs₀ als₀ vks₀ vzs₀ vls₀
-            (take a aks ++ (aks′ ++ post₁)) (take b azs ++ (azs′ ++ post₂)) (take c als ++ (als′ ++ post₃)) vks′ vzs′ vls′ (n + 1) (n + 1) o
+            (take a aks ++ (aks′ ++ post₁)) (take b azs ++ (azs′ ++ post₂)) (take c als ++ (als′ ++ post₃)) vks′ vzs′ vls′ (n + 1) (n + 1) o next
         filling-schema E p₁ p₂ p₃ a₁ a₂ a₃ v₁ v₂ v₃ =
             record {
               kinds-kept = a₁ ∙ P .kinds-kept;
@@ -265,9 +276,14 @@ module _ {bytes starts lengths terminals kinds tokens sizes bindings declared or
               value-kinds-kept = v₁ ∙ P .value-kinds-kept;
               value-numbers-kept = v₂ ∙ P .value-numbers-kept;
               value-lengths-kept = v₃ ∙ P .value-lengths-kept;
+              ahead = omega arith;
+              begun = started-next (P .begun) n low next-is;
               is = rows;
             }
           where
+            low : lo ≤ n + 1
+            low = omega (arith, P .ahead)
+
             rows :
                 (t : Table) → OfFile t bytes starts lengths terminals kinds tokens sizes bindings declared order → Rows t row-of → Room t vks₀ vzs₀ vls₀ →
                 Holds (length (constants t)) aks₀ azs₀ als₀ →
@@ -289,7 +305,7 @@ module _ {bytes starts lengths terminals kinds tokens sizes bindings declared or
                   numbers-long = omega (arith, P .value-numbers-kept, M .numbers-long);
                   lengths-long = omega (arith, P .value-lengths-kept, M .lengths-long);
                 } in
-                let G = E .is t O W (stage-part S l′ k′) Y
+                let G = E .is t order O (parted (P .begun) n low next-is kinds g-is to-is O l′ k′) W (stage-part S l′ k′) Y
                 (record {
                   kinds-long = part-long t aks a-is (S .start) (S .from) u₁;
                   numbers-long = part-long t azs b-is (S .start) (S .from) u₂;

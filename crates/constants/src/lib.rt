@@ -2,10 +2,14 @@
 ghost use Rattle.constants.specs.Constants.{FillsSchemas, EvaluatesConstants};
 use schemas::evaluate_schema;
 use schemas::number_rows;
+use schemas::parts::first_behind;
+use schemas::parts::is_grouped;
+use schemas::parts::part_end;
 use tree::index_at;
 use tree::next_of_kind;
 
-// Each schema in the order of the text, into the part of the answer columns after those of the schemas before it.
+// Each schema in the order of the text, into the part of the answer columns after those of the schemas before it. Its constants are looked for in the
+// part of the order behind the declarations of those schemas.
 fn evaluate_schemas(
     src: &[u8],
     starts: &[u32],
@@ -31,10 +35,14 @@ fn evaluate_schemas(
         (now («value_kinds» .entry)) (now («value_numbers» .entry)) (now («value_lengths» .entry))
         (now («answer_kinds» .exit)) (now («answer_numbers» .exit)) (now («answer_lengths» .exit)) ⌝ }
 {
+    let are_grouped = is_grouped(kinds, order);
     let mut n = next_of_kind(kinds, codes::nodes::SCHEMA, 0);
     let mut lo: usize = 0;
     let mut at: usize = 0;
+    let mut from: usize = 0;
     while n < kinds.len() {
+        let next = first_behind(order, from, n);
+        let to = part_end(are_grouped, next, order.len());
         let a = columns::shorter(at, answer_kinds.len());
         let b = columns::shorter(at, answer_numbers.len());
         let c = columns::shorter(at, answer_lengths.len());
@@ -48,7 +56,7 @@ fn evaluate_schemas(
             sizes,
             bindings,
             declared,
-            order,
+            &order[from..to],
             row_of,
             lo,
             n,
@@ -62,6 +70,7 @@ fn evaluate_schemas(
         );
         at = index_at(row_of, n);
         lo = n + 1;
+        from = next;
         n = next_of_kind(kinds, codes::nodes::SCHEMA, lo);
     }
 }

@@ -5,7 +5,7 @@ use mathlib.Core.Bool.{Bool, true, false, cond, not, _&&_, false≢true}
 use mathlib.Core.List.{List, [], _∷_, map, List·Memᴰ, List·Memᴰ·head, List·Memᴰ·tail, List·Memᴰ·cases-cons, List·Memᴰ·not-nil}
 use Prim.Native.Nat.{ℕ, zero, suc, _+_, _-_, _≤_, _<_}
 use native.Mathlib.Omega.{arith}
-use borrow.Author.Tests.{eqb-true, eqb-false, eq-eqb, ne-eqb, ltb-true, lt-ltb, le-ltb}
+use borrow.Author.Tests.{eqb-true, eqb-false, eq-eqb, ne-eqb, ltb-true, lt-ltb}
 use lib.Dec.{eqb, ltb}
 use lib.ListN.{length, getD}
 use Rattle.relations.specs.Select.{span, first-from, keep, any, Ascending, cons}
@@ -13,21 +13,20 @@ use Rattle.relations.proofs.Select.{and-fst, and-snd, mem-upto, upto-mem, mem-k
 use Rattle.express.specs.syntax.Tree as tree
 use Rattle.express.specs.syntax.Tree.{Table, count, symbol, place}
 use Rattle.express.specs.names.Fault.{Fault, fault, fine, sort, scope, alike, repeated}
-use Rattle.express.specs.names.Names.{Stage, Passes, Least, sooner, least}
+use Rattle.express.specs.names.Names.{Stage, Passes, sooner, least}
 use Rattle.express.proofs.kinds.Backward.{least-step, least-end}
 use Rattle.express.proofs.names.Names.{Untied, passes-iff, least-is, least-skip, least-only}
 use Rattle.index.specs.Dictionary.{has, first-with, Continues, Indexed}
 use Rattle.index.specs.declared.dictionary.Found.{Found}
 use Rattle.index.specs.declared.dictionary.Found.the-variants.{At, Nothing}
-use Rattle.scopes.specs.Entries.{Entry, key-of, own-key, entries, entry-number}
+use Rattle.scopes.specs.Entries.{own-key, entry-number}
 use Rattle.scopes.specs.Preparation.{Prepared}
 use Rattle.scopes.specs.LookUp.{numbers}
-use Rattle.scopes.proofs.Sorting.{sort-below, scope-below}
-use Rattle.scopes.proofs.Numbering.{keys-long, entry-mem, entry-own, number-node, number-below}
+use Rattle.scopes.proofs.Numbering.{Declares, entry-declares, number-node, number-below}
 use Rattle.scopes.proofs.Repeated.{map-mem, some, alike-nodes, has-key, first-own}
 use Rattle.faults.specs.Meaning.{fault-of}
 use Rattle.faults.specs.declared.Fault as code
-use Rattle.duplicates.specs.Duplicates.{schema-items, repetition-fault, entry-fault, entry-stage, Repetition, Duplicates}
+use Rattle.duplicates.specs.Duplicates.{repetition-fault, entry-fault, Repetition, Duplicates}
 
 -- ---- two stages over two lists with the same faults
 
@@ -120,7 +119,7 @@ last p (suc j) f l e = by (p j) refl (λ l′. last p j f l′ e)
 -- ---- of a file
 module _ {t : Table} {keys nodes heads next : List ℕ} (P : Prepared t keys nodes heads next) where
   abbrev S : Stage
-  S = entry-stage (t .tokens) (t .starts) keys nodes
+  S = entry-fault (t .tokens) (t .starts) keys nodes
 
   abbrev at-node : ℕ → ℕ
   at-node e = getD nodes e 0
@@ -144,39 +143,30 @@ module _ {t : Table} {keys nodes heads next : List ℕ} (P : Prepared t keys nod
       let b = once k hk in
       ap (λ (x : Fault). x .number) (twice n (a .0) (a .1)) ∙ sym (ap (λ (x : Fault). x .number) (twice k (b .0) (b .1)))
 
-  -- the entry of a number
-  own : (e : ℕ) → e < length keys → getD keys e 0 < schema-items → (at-node e < count t) × (sort t (at-node e) ≢ 0) × (getD keys e 0 ≡ own-key t (at-node e))
-  own e l h =
-      let m = entry-mem (entries t) e (omega (arith, l, keys-long P)) in
-      let k : getD keys e 0 ≡ m .0 .key = ap (λ (ks : List ℕ). getD ks e 0) (P .keys-is) ∙ m .2 (λ (x : Entry). x .key) in
-      let n : getD nodes e 0 ≡ m .0 .node = ap (λ (ks : List ℕ). getD ks e 0) (P .nodes-is) ∙ m .2 (λ (x : Entry). x .node) in
-      let O = entry-own t (m .0) (m .1) (omega (arith, k, h)) in
-      rw n (O .node, O .declares, k ∙ O .key-is)
-
   -- a later entry with the key of an entry: its node is declared twice
-  module _ (e j : ℕ) (l : e < j) (u : j < length keys) (h : getD keys e 0 < schema-items) (same : getD keys j 0 ≡ getD keys e 0) where
+  module _ (e j : ℕ) (l : e < j) (u : j < length keys) (same : getD keys j 0 ≡ getD keys e 0) where
     abbrev m : ℕ
     m = at-node e
 
-    O : (m < count t) × (sort t m ≢ 0) × (getD keys e 0 ≡ own-key t m)
-    O = own e (omega arith) h
+    O : Declares t (getD keys e 0) m
+    O = entry-declares P e (omega arith)
 
     holds : (i : ℕ) → getD keys i 0 ≡ own-key t m → has keys (own-key t m) i ≡ true
-    holds i q = rw (ne-eqb (own-key t m) 0 (λ z. omega (arith, z, some P m (O .0) (O .1))), eq-eqb (getD keys i 0) (own-key t m) q)
+    holds i q = rw (ne-eqb (own-key t m) 0 (λ z. omega (arith, z, some P m (O .node) (O .declares))), eq-eqb (getD keys i 0) (own-key t m) q)
 
     among-numbers : (i : ℕ) → i < length keys → getD keys i 0 ≡ own-key t m → List·Memᴰ i (numbers keys (own-key t m))
     unfolding numbers
     among-numbers i g q = mem-keep (has keys (own-key t m)) (span 0 (length keys)) (mem-upto (length keys) i g) (holds i q)
 
     alike-both : List·Memᴰ (at-node j) (keep (alike t m) (span 0 (count t)))
-    alike-both = rw (alike-nodes P m (O .0) (O .1)) at (map-mem at-node (numbers keys (own-key t m)) (among-numbers j u (same ∙ O .2)))
+    alike-both = rw (alike-nodes P m (O .node) (O .declares)) at (map-mem at-node (numbers keys (own-key t m)) (among-numbers j u (same ∙ O .key-is)))
 
     earlier : m < at-node j
     unfolding numbers
     earlier =
         rising at-node (has keys (own-key t m)) (length keys) 0 0
-        (rw (alike-nodes P m (O .0) (O .1)) (ascending-keep (alike t m) (ascending-span 0 (count t)))) e j
-        (among-numbers e (omega arith) (O .2)) (among-numbers j u (same ∙ O .2)) l
+        (rw (alike-nodes P m (O .node) (O .declares)) (ascending-keep (alike t m) (ascending-span 0 (count t)))) e j
+        (among-numbers e (omega arith) (O .key-is)) (among-numbers j u (same ∙ O .key-is)) l
 
     turned : (n k : ℕ) → alike t n k ≡ true → (alike t k n ≡ true) × (sort t k ≡ sort t n)
     turned n k a =
@@ -191,12 +181,12 @@ module _ {t : Table} {keys nodes heads next : List ℕ} (P : Prepared t keys nod
         let k = keep-mem (alike t m) (span 0 (count t)) alike-both in
         let w = turned m (at-node j) (k .1) in (
           upto-mem (count t) (at-node j) (k .0),
-          twice (at-node j) (λ z. O .1 (sym (w .1) ∙ z)) (mem-any (alike t (at-node j)) (span 0 (at-node j)) (mem-upto (at-node j) m earlier) (w .0)),
+          twice (at-node j) (λ z. O .declares (sym (w .1) ∙ z)) (mem-any (alike t (at-node j)) (span 0 (at-node j)) (mem-upto (at-node j) m earlier) (w .0)),
         )
 
   to : (e : ℕ) → List·Memᴰ e (span 0 (length keys)) → S e .number ≢ 0 → Has (repeated t) (tree.nodes t) (S e)
   unfolding first-with
-  to e me h = by (ltb (getD keys e 0) schema-items) refl h
+  to e me h = by (ltb f (length keys)) refl h
     where
       f : ℕ
       f = first-from (has keys (getD keys e 0)) (e + 1) (length keys - (e + 1))
@@ -204,24 +194,15 @@ module _ {t : Table} {keys nodes heads next : List ℕ} (P : Prepared t keys nod
       F : First (has keys (getD keys e 0)) (e + 1) (length keys - (e + 1)) f
       F = first-is (has keys (getD keys e 0)) (e + 1) (length keys - (e + 1))
 
-      found : (c : Bool) → ltb f (length keys) ≡ c → getD keys e 0 < schema-items → (repetition-fault (t .tokens) (t .starts) nodes (cond c (At f) Nothing)) .number ≢ 0 →
+      by : (c : Bool) → ltb f (length keys) ≡ c → (repetition-fault (t .tokens) (t .starts) nodes (cond c (At f) Nothing)) .number ≢ 0 →
           Has (repeated t) (tree.nodes t) (repetition-fault (t .tokens) (t .starts) nodes (cond c (At f) Nothing))
-      found true q low h =
+      by true q h =
           let u = ltb-true f (length keys) q in
           let passes = F .passes (omega (arith, u, F .from)) in
           let k = eqb-true _ _ (and-snd (not (eqb (getD keys e 0) 0)) (eqb (getD keys f 0) (getD keys e 0)) passes) in
-          let r = later-repeated e f (omega (arith, F .from)) u low k in
+          let r = later-repeated e f (omega (arith, F .from)) u k in
           (at-node f, mem-upto (count t) (at-node f) (r .0), r .1)
-      found false q low h = absurd (h refl)
-
-      by : (b : Bool) → ltb (getD keys e 0) schema-items ≡ b → (cond b (entry-fault (t .tokens) (t .starts) keys nodes e) fine) .number ≢ 0 →
-          Has (repeated t) (tree.nodes t) (cond b (entry-fault (t .tokens) (t .starts) keys nodes e) fine)
-      by true q h = found (ltb f (length keys)) refl (ltb-true _ _ q) h
       by false q h = absurd (h refl)
-
-  own-small : (n : ℕ) → n < count t → own-key t n < schema-items
-  unfolding key-of
-  own-small n l = omega (arith, sort-below t n, scope-below t n (omega (arith, l)), P .consistent .few, P .consistent .small n l)
 
   -- a node that is declared twice: the last entry before its own that has its key
   back : (n : ℕ) → List·Memᴰ n (tree.nodes t) → repeated t n .number ≢ 0 → Has S (span 0 (length keys)) (repeated t n)
@@ -244,7 +225,7 @@ module _ {t : Table} {keys nodes heads next : List ℕ} (P : Prepared t keys nod
       j = entry-number t n
 
       low : j < length keys
-      low = number-below t n l P z
+      low = number-below P n l z
 
       p : ℕ → Bool
       p = has keys key
@@ -278,7 +259,7 @@ module _ {t : Table} {keys nodes heads next : List ℕ} (P : Prepared t keys nod
           (first-of p (length keys) (L .at + 1) j (omega (arith, L .before)) low (has-key P n l z) (λ i g k. L .none i (omega arith) k), lt-ltb j (length keys) low)
 
       is : S (L .at) ≡ fault 9 (place t n)
-      is = rw (same, lt-ltb key schema-items (own-small n l), next-is, number-node t n l P z)
+      is = rw (same, next-is, number-node P n l z)
 
   -- STAGE 9
   pub stage-is : least S (span 0 (length keys)) ≡ least (repeated t) (tree.nodes t)
@@ -292,7 +273,7 @@ module _ {tokens starts keys nodes next : List ℕ} {e : ℕ} {q : Found} {r : c
 -- the least fault of the entries from e on
 module _ (tokens starts keys nodes next : List ℕ) where
   abbrev stage : Stage
-  stage = entry-stage tokens starts keys nodes
+  stage = entry-fault tokens starts keys nodes
 
   pub record LeastFrom (e : ℕ) (r : code.Fault) : Type 0 where
     pub upto : e ≤ length keys
@@ -305,27 +286,17 @@ module _ (tokens starts keys nodes next : List ℕ) where
     back-one : e - 1 + 1 ≡ e
     back-one = omega arith
 
-    step : (heads : List ℕ) → Indexed keys heads next → least stage (span (e - 1) (length keys - (e - 1))) ≡ sooner (stage (e - 1)) (fault-of r)
-    step h I =
-        least-step (length keys) stage (e - 1) (omega (arith, L .upto))
-        ∙ ap (λ (i : ℕ). sooner (stage (e - 1)) (least stage (span i (length keys - i)))) back-one
-        ∙ ap (sooner (stage (e - 1))) (sym (L .is h I))
-
     pub least-more :
-        {f r′ : code.Fault} → getD keys (e - 1) 0 < schema-items → Repetition tokens starts keys nodes next (e - 1) f →
-        fault-of r′ ≡ sooner (fault-of f) (fault-of r) → LeastFrom (e - 1) r′
-    least-more l R q =
+        {f r′ : code.Fault} → Repetition tokens starts keys nodes next (e - 1) f → fault-of r′ ≡ sooner (fault-of f) (fault-of r) → LeastFrom (e - 1) r′
+    least-more {f} R q =
         record {
           upto = omega (arith, L .upto);
-          is = λ h I. q ∙ sym (step h I ∙ ap (λ (x : Fault). sooner x (fault-of r)) (ap (λ (b : Bool). cond b (entry-fault tokens starts keys nodes (e - 1)) fine)
-              (lt-ltb (getD keys (e - 1) 0) schema-items l) ∙ sym (R .is h I)));
-        }
-
-    pub least-same : schema-items ≤ getD keys (e - 1) 0 → LeastFrom (e - 1) r
-    least-same l =
-        record {
-          upto = omega (arith, L .upto);
-          is = λ h I. sym (step h I ∙ ap (λ (b : Bool). sooner (cond b (entry-fault tokens starts keys nodes (e - 1)) fine) (fault-of r)) (le-ltb (getD keys (e - 1) 0) schema-items l));
+          is = λ h I.
+              q
+              ∙ ap (λ (x : Fault). sooner x (fault-of r)) (R .is h I)
+              ∙ ap (sooner (stage (e - 1))) (L .is h I)
+              ∙ ap (λ (i : ℕ). sooner (stage (e - 1)) (least stage (span i (length keys - i)))) (sym back-one)
+              ∙ sym (least-step (length keys) stage (e - 1) (omega (arith, L .upto)));
         }
 
   pub least-all : {r : code.Fault} → LeastFrom 0 r → Duplicates tokens starts keys nodes next r
@@ -336,6 +307,6 @@ module _ (tokens starts keys nodes next : List ℕ) where
           let z : length keys - 0 ≡ length keys = omega arith in
           L .is heads (P .indexed)
           ∙ ap (λ (m : ℕ). least stage (span 0 m)) z
-          ∙ ap (λ (ts : List ℕ). least (entry-stage ts starts keys nodes) (span 0 (length keys))) a
-          ∙ ap (λ (ss : List ℕ). least (entry-stage (t .tokens) ss keys nodes) (span 0 (length keys))) b
+          ∙ ap (λ (ts : List ℕ). least (entry-fault ts starts keys nodes) (span 0 (length keys))) a
+          ∙ ap (λ (ss : List ℕ). least (entry-fault (t .tokens) ss keys nodes) (span 0 (length keys))) b
           ∙ stage-is P

@@ -1,9 +1,7 @@
 -- Reply 9 by the entries of a file's dictionary: an entry with the key of an earlier one is declared twice (N2, N3).
 use mathlib.Core.Path.{_≡_}
-use mathlib.Core.Bool.{cond}
 use mathlib.Core.List.{List}
-use Prim.Native.Nat.{ℕ, _+_, _*_}
-use lib.Dec.{ltb}
+use Prim.Native.Nat.{ℕ, _+_}
 use lib.ListN.{getD}
 use Rattle.express.specs.syntax.Tree as tree
 use Rattle.express.specs.syntax.Tree.{Table}
@@ -12,14 +10,9 @@ use Rattle.express.specs.names.Names.{least}
 use Rattle.index.specs.Dictionary.{first-with, Indexed}
 use Rattle.index.specs.declared.dictionary.Found.{Found}
 use Rattle.index.specs.declared.dictionary.Found.the-variants.{At, Nothing}
-use Rattle.scopes.specs.Entries.{items-of-schemas, radix}
 use Rattle.scopes.specs.Preparation.{Prepared}
 use Rattle.faults.specs.Meaning.{fault-of}
 use Rattle.faults.specs.declared.Fault as code
-
--- the keys of items in their schemas are no smaller, and no others are as large: these may repeat
-abbrev pub schema-items : ℕ
-schema-items = items-of-schemas * radix * radix
 
 module _ (tokens starts : List ℕ) where
   -- at the name of the later entry
@@ -30,9 +23,6 @@ module _ (tokens starts : List ℕ) where
   -- of an entry: the fault of the next one with its key
   abbrev pub entry-fault : List ℕ → List ℕ → ℕ → Fault
   entry-fault keys nodes e = repetition-fault nodes (first-with keys (getD keys e 0) (e + 1))
-
-  abbrev pub entry-stage : List ℕ → List ℕ → ℕ → Fault
-  entry-stage keys nodes e = cond (ltb (getD keys e 0) schema-items) (entry-fault keys nodes e) fine
 
   pub record Repetition (keys nodes next : List ℕ) (e : ℕ) (r : code.Fault) : Type 0 where
     pub is : (heads : List ℕ) → Indexed keys heads next → fault-of r ≡ entry-fault keys nodes e

@@ -5,9 +5,6 @@ use faults::Fault;
 use index::dictionary::Found;
 use scopes::at;
 
-// Keys of items in their schemas are no smaller; these may repeat.
-const SCHEMA_ITEMS: u64 = scopes::ITEMS_OF_SCHEMAS * scopes::RADIX * scopes::RADIX;
-
 // The fault of the entry after e that has its key, if there is one.
 fn repetition(
     tokens: &[u32],
@@ -41,9 +38,7 @@ pub fn least_duplicate(
     let mut e = keys.len();
     while 0 < e {
         e -= 1;
-        if keys[e] < SCHEMA_ITEMS {
-            least = faults::sooner(repetition(tokens, starts, keys, nodes, next, e), least);
-        }
+        least = faults::sooner(repetition(tokens, starts, keys, nodes, next, e), least);
     }
     least
 }

@@ -291,6 +291,10 @@ fn other(
             answer_at(value_kinds, value_numbers, value_lengths, last(n)),
         );
     }
+    // The kinds of literals are the first; of any other node no token is read.
+    if kind > codes::nodes::LOGICAL {
+        return Answer::Indeterminate;
+    }
     leaf(
         kind,
         at8(terminals, token),

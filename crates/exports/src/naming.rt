@@ -114,31 +114,23 @@ pub extern "C" fn woffulent_resolve(
     tokens: &[u32],
     sizes: &[u32],
     bindings: &mut [u32],
+    roles: &mut [u8],
     symbols: &mut [u32],
     keys: &mut [u64],
     nodes: &mut [u32],
     heads: &mut [u32],
     next: &mut [u32],
-    bound: &mut [u32],
     first: &mut [u32],
     to: &mut [u32],
     types: &mut [u32],
     constants: &mut [u32],
     scratch: &mut [u32],
-    spellings: &mut [u64],
-    attributes: &mut [u32],
-    owners: &mut [u32],
-    attribute_heads: &mut [u32],
-    attribute_next: &mut [u32],
-    mark: &mut [u32],
-    queue: &mut [u32],
     place: &mut u32,
 ) -> u8
     ensures { λ r. ⌜ Encodes resolution-reply resolution-place (λ o. Resolves
         (now (src .entry)) (now (starts .entry)) (now (lengths .entry)) (now (terminals .entry)) (now (kinds .entry)) (now (tokens .entry)) (now (sizes .entry))
-        (now (bindings .entry)) (now (symbols .entry)) (now (keys .entry)) (now (nodes .entry)) (now (heads .entry)) (now (next .entry)) (now (bound .entry)) (now (first .entry))
-        (now (to .entry)) (now (types .entry)) (now (constants .entry)) (now (scratch .entry)) (now (spellings .entry)) (now (attributes .entry)) (now (owners .entry))
-        (now («attribute_heads» .entry)) (now («attribute_next» .entry)) (now (mark .entry)) (now (queue .entry))
+        (now (bindings .entry)) (now (roles .entry)) (now (symbols .entry)) (now (keys .entry)) (now (nodes .entry)) (now (heads .entry)) (now (next .entry)) (now (first .entry))
+        (now (to .entry)) (now (types .entry)) (now (constants .entry)) (now (scratch .entry))
         o (now (bindings .exit)) (now (types .exit)) (now (constants .exit))) r (now (place .exit)) ⌝ }
 {
     let resolution = names::resolve(
@@ -150,24 +142,17 @@ pub extern "C" fn woffulent_resolve(
         tokens,
         sizes,
         bindings,
+        roles,
         symbols,
         keys,
         nodes,
         heads,
         next,
-        bound,
         first,
         to,
         types,
         constants,
         scratch,
-        spellings,
-        attributes,
-        owners,
-        attribute_heads,
-        attribute_next,
-        mark,
-        queue,
     );
     *place = resolution_place(resolution);
     resolution_reply(resolution)

@@ -26,7 +26,7 @@ fn member_fault(inherited: Use, place: u32) -> Fault
     }
 }
 
-// A node with a kind, of an owner in a schema, whose symbol inherits some attributes there.
+// A node with a kind, of an owner in a schema, whose symbol inherits some attributes there and means some items of the schema.
 pub fn node_finding(
     kinds: &[u8],
     tokens: &[u32],
@@ -41,10 +41,11 @@ pub fn node_finding(
     owner: usize,
     schema: usize,
     inherited: Use,
+    item: Use,
     i: usize,
 ) -> Finding
     ensures { λ r. ⌜ NodeFindings (now (kinds .entry)) (now (tokens .entry)) (now (sizes .entry)) (now (symbols .entry)) (now (starts .entry))
-        (now (keys .entry)) (now (nodes .entry)) (now (heads .entry)) (now (next .entry)) kind owner schema inherited i r ⌝ }
+        (now (keys .entry)) (now (nodes .entry)) (now (heads .entry)) (now (next .entry)) kind owner schema inherited item i r ⌝ }
 {
     let token = index(at(tokens, i));
     let symbol = at(symbols, token);
@@ -56,6 +57,7 @@ pub fn node_finding(
             heads,
             next,
             inherited,
+            item,
             owner,
             schema,
             symbol,

@@ -1,7 +1,7 @@
 pub mod Asking
-pub mod Collecting
-pub mod Gathering
-pub mod Storing
-pub mod Reaching
-pub mod Doing
 pub mod TypeGraphs
+pub mod Reaching
+pub mod Queues
+pub mod Collecting
+pub mod Storing
+pub mod Doing

@@ -12,7 +12,7 @@ use Rattle.dependencies.specs.Target.{type-target}
 use Rattle.dependencies.specs.Graph.{GraphOf}
 use Rattle.dependencies.proofs.Cycle.{arc-leads, leads-arc}
 use Rattle.dependencies.proofs.Instances.{type-arcs, type-bound, type-edge-iff}
-use Rattle.inheritance.specs.Inheritance.{TypeGraph}
+use Rattle.inheritance.specs.Steps.{TypeGraph}
 
 pub type-graph : {t : Table} {first to : List ℕ} → Read file t → Passes (nodes t) (type-name-fault t) → GraphOf t (type-target t) first to → TypeGraph t first to
 type-graph {t} {first} {to} d right G =

@@ -13,6 +13,10 @@ digit-value b = b - 48
 abbrev pub greatest-base : ℕ
 greatest-base = 10
 
+-- so many digits of base 2, whatever bytes they are, stay below 2 to the 63
+abbrev pub few : ℕ
+few = 55
+
 -- A number up to one more than the largest integer, which is 2 to the 63: the values of tokens of the language are read whole, and whatever
 -- is larger is seen to be.
 abbrev pub capped : ℕ → ℕ

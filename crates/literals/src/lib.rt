@@ -1,9 +1,11 @@
 // The values of integer and binary literals, from the bytes of their tokens.
 ghost use mathlib.Core.Path.{_≡_};
 ghost use Prim.Native.Nat.{_-_, _≤_, _<_};
-ghost use lib.ListN.{take, drop};
+ghost use mathlib.Core.Bool.{_&&_};
+ghost use lib.Dec.{leb};
+ghost use lib.ListN.{length as size, take, drop};
 ghost use Rattle.express.specs.tokens.Lexis.{numeral, integer-value, binary-value};
-ghost use Rattle.literals.specs.Literal.{digit-value, greatest-base, capped, Zeros};
+ghost use Rattle.literals.specs.Literal.{digit-value, greatest-base, few, capped, Zeros};
 
 const DECIMAL: u64 = 10;
 
@@ -44,6 +46,33 @@ fn numeral_of(s: &[u8], start: usize, length: usize, base: u64) -> u64
     v
 }
 
+// So many digits of base 2, whatever bytes they are, stay below 2 to the 63.
+const FEW: usize = 55;
+
+// The number that a few bytes stand for in base 2: no bound has to be looked at.
+fn few_bits(s: &[u8], start: usize, end: usize) -> u64
+    requires { ⌜ (start ≤ end) × (end ≤ size (now s)) × (end - start ≤ few) ⌝ }
+    ensures { λ r. ⌜ r ≡ capped (numeral 2 0 (take (end - start) (drop start (now (s .entry))))) ⌝ }
+{
+    let mut i = start;
+    let mut v: u64 = 0;
+    while i < end {
+        v = v * BINARY + digit(s[i]);
+        i += 1;
+    }
+    v
+}
+
+// Are there no more than a few bytes, and all of them among those that are left?
+fn is_short(left: usize, length: usize) -> bool
+    ensures { λ r. ⌜ r ≡ (leb length few && leb length left) ⌝ }
+{
+    if length > FEW {
+        return false;
+    }
+    length <= left
+}
+
 // How many zeros a part starts with: none of them counts, and there may be a whole file of them.
 fn zeros(s: &[u8], start: usize, length: usize) -> usize
     ensures { λ r. ⌜ Zeros (now (s .entry)) start length r ⌝ }
@@ -78,6 +107,9 @@ pub fn binary(s: &[u8], start: usize, length: usize) -> u64
     }
     if length == 0 {
         return 0;
+    }
+    if is_short(s.len() - start, length) {
+        return few_bits(s, start + 1, start + length);
     }
     numeral_of(s, start + 1, length - 1, BINARY)
 }

@@ -1,25 +1,23 @@
 -- The nearest meaning, level by level.
 use mathlib.Core.Path.{_≡_, refl, sym, ap, _∙_}
 use mathlib.Core.Logic.{⊎-elim}
-use mathlib.Core.Bool.{Bool, true, false, _||_, _&&_}
-use mathlib.Core.List.{List, List·Memᴰ}
+use mathlib.Core.Bool.{true, false}
+use mathlib.Core.List.{List}
 use Prim.Native.Nat.{ℕ, _<_}
 use native.Mathlib.Omega.{arith}
 use borrow.Author.Tests.{eqb-true, ne-eqb}
-use lib.Dec.{eqb}
 use lib.ListN.{getD}
 use Rattle.relations.specs.Select.{nearest}
 use Rattle.relations.proofs.Select.{or-cases, and-fst}
 use Rattle.express.specs.syntax.NodeKind as node
 use Rattle.express.specs.syntax.Tree.{Table, count, kind, is, is-scope-member, is-attribute}
-use Rattle.express.specs.names.Scope.{Meaning, none, one, several, meaning, own, inherited, declarations, items, value-meant}
+use Rattle.express.specs.names.Scope.{Meaning, none, one, several, meaning, own, inherited, declarations, items}
 use Rattle.express.proofs.names.Meaning.{or-else, meaning-nearest, meaning-one, spelled-ascending, items-iff, own-iff, inherited-iff}
 use Rattle.scopes.specs.LookUp.{Means, node-meant}
-use Rattle.scopes.specs.Preparation.{Prepared}
 use Rattle.scopes.specs.declared.look_ups.Meaning as entries
 use Rattle.scopes.specs.declared.look_ups.Meaning.the-variants as entry
 use Rattle.scopes.proofs.Ranges.{declared-meant}
-use Rattle.meanings.specs.Use.{use-meaning, Sorted, StandsFor, ValueMeans, ByNode, inherited-or-value, use-meant, InheritedOrValue, InDeclaration}
+use Rattle.meanings.specs.Use.{use-meaning, ValueMeans, ByNode, InheritedOrValue, InDeclaration}
 use Rattle.meanings.specs.declared.Use.{Use}
 use Rattle.meanings.specs.declared.Use.the-variants.{Nothing, Several, Node, Declaration}
 
@@ -27,7 +25,7 @@ use Rattle.meanings.specs.declared.Use.the-variants.{Nothing, Several, N
 other-kind : (t : Table) (k c : ℕ) → is t c k ≡ true → (c ≡ node.constant → ⊥) → is t node.constant k ≡ false
 other-kind t k c e d = ne-eqb (kind t k) node.constant (λ q. d (sym (eqb-true (kind t k) c e) ∙ q))
 
-item-sort : (t : Table) (h s k : ℕ) → meaning (items t h s) ≡ one k → (k < count t) × (is t node.constant k ≡ false)
+pub item-sort : (t : Table) (h s k : ℕ) → meaning (items t h s) ≡ one k → (k < count t) × (is t node.constant k ≡ false)
 unfolding items
 item-sort t h s k e =
     let O = meaning-one (items t h s) (spelled-ascending t s _) k .0 e in
@@ -68,26 +66,20 @@ passed-over xs ys m e f = meaning-nearest xs ys ∙ ap (λ (k : Meaning). or-els
 stopped : (xs ys : List ℕ) (m : Meaning) → meaning xs ≡ m → ((l : Meaning) → or-else m l ≡ m) → meaning (nearest xs ys) ≡ m
 stopped xs ys m e s = meaning-nearest xs ys ∙ ap (λ (k : Meaning). or-else k (meaning ys)) e ∙ s (meaning ys)
 
-module _ {keys nodes heads next : List ℕ} {h s : ℕ} where
-  -- ---- in a schema
+module _ {keys heads next : List ℕ} {h s : ℕ} {item : Use} where
+  -- ---- in a schema, given what the symbol means among its items
 
-  pub item-meant :
-      {d m : entries.Meaning} {r : Use} → d ≡ entry.Nothing → Means keys heads next (λ t. declarations t h s) d → Means keys heads next (λ t. items t h s) m →
-      ByNode nodes m r → ValueMeans keys nodes heads next h s r
-  item-meant {d} {m} {r} e D I B = record {
-    stands = λ t P.
+  pub item-meant : {d : entries.Meaning} → d ≡ entry.Nothing → Means keys heads next (λ t. declarations t h s) d → ValueMeans keys heads next item h s item
+  item-meant {d} e D = record {
+    stands = λ t nodes P I.
         let z : none ≡ meaning (declarations t h s) = rw e at (D .is t nodes P) in
-        record {
-          is = B .meant ∙ I .is t nodes P ∙ sym (passed-over (declarations t h s) (items t h s) _ (sym z) refl);
-          sorted = B .sorted t (λ k q. item-sort t h s k (sym (I .is t nodes P) ∙ q));
-        };
+        record { is = I .is ∙ sym (passed-over (declarations t h s) (items t h s) _ (sym z) refl); sorted = I .sorted };
   }
 
   pub declaration-meant :
-      {d : entries.Meaning} {v : ℕ} → d ≡ entry.One v → Means keys heads next (λ t. declarations t h s) d →
-      ValueMeans keys nodes heads next h s (Declaration v)
+      {d : entries.Meaning} {v : ℕ} → d ≡ entry.One v → Means keys heads next (λ t. declarations t h s) d → ValueMeans keys heads next item h s (Declaration v)
   declaration-meant {d} {v} e D = record {
-    stands = λ t P.
+    stands = λ t nodes P I.
         let z : one (getD nodes v 0) ≡ meaning (declarations t h s) = rw e at (D .is t nodes P) in
         record {
           is = sym (stopped (declarations t h s) (items t h s) (one (getD nodes v 0)) (sym z) (λ l. refl));
@@ -95,75 +87,74 @@ module _ {keys nodes heads next : List ℕ} {h s : ℕ} where
         };
   }
 
-  pub several-meant :
-      {d : entries.Meaning} → d ≡ entry.Several → Means keys heads next (λ t. declarations t h s) d → ValueMeans keys nodes heads next h s Several
+  pub several-meant : {d : entries.Meaning} → d ≡ entry.Several → Means keys heads next (λ t. declarations t h s) d → ValueMeans keys heads next item h s Several
   several-meant {d} e D = record {
-    stands = λ t P.
+    stands = λ t nodes P I.
         let z : several ≡ meaning (declarations t h s) = rw e at (D .is t nodes P) in
         record { is = sym (stopped (declarations t h s) (items t h s) several (sym z) (λ l. refl)); sorted = omega arith };
   }
 
   -- ---- given what is inherited
 
-  pub nothing-inherited :
-      {g r : Use} → g ≡ Nothing → ValueMeans keys nodes heads next h s r → InheritedOrValue keys nodes heads next g h s r
+  pub nothing-inherited : {g r : Use} → g ≡ Nothing → ValueMeans keys heads next item h s r → InheritedOrValue keys heads next g item h s r
   nothing-inherited {g} {r} e W = record {
-    stands = λ t P o G.
+    stands = λ t nodes P o G I.
         let z : none ≡ meaning (inherited t o s) = rw e at (G .is) in
         record {
-          is = W .stands t P .is ∙ sym (passed-over (inherited t o s) (nearest (declarations t h s) (items t h s)) _ (sym z) refl);
-          sorted = W .stands t P .sorted;
+          is = W .stands t nodes P I .is ∙ sym (passed-over (inherited t o s) (nearest (declarations t h s) (items t h s)) _ (sym z) refl);
+          sorted = W .stands t nodes P I .sorted;
         };
   }
 
-  kept : (g : Use) → ((l : Meaning) → or-else (use-meaning nodes g) l ≡ use-meaning nodes g) → InheritedOrValue keys nodes heads next g h s g
+  kept : (g : Use) → ((nodes : List ℕ) (l : Meaning) → or-else (use-meaning nodes g) l ≡ use-meaning nodes g) → InheritedOrValue keys heads next g item h s g
   kept g a = record {
-    stands = λ t P o G. record {
-      is = sym (stopped (inherited t o s) (nearest (declarations t h s) (items t h s)) (use-meaning nodes g) (sym (G .is)) a);
+    stands = λ t nodes P o G I. record {
+      is = sym (stopped (inherited t o s) (nearest (declarations t h s) (items t h s)) (use-meaning nodes g) (sym (G .is)) (a nodes));
       sorted = G .sorted;
     };
   }
 
-  pub several-inherited : {g : Use} → g ≡ Several → InheritedOrValue keys nodes heads next g h s g
-  several-inherited {g} e = kept g (rw e (λ l. refl))
+  pub several-inherited : {g : Use} → g ≡ Several → InheritedOrValue keys heads next g item h s g
+  several-inherited {g} e = kept g (rw e (λ nodes l. refl))
 
-  pub one-inherited : {g : Use} {k : ℕ} → g ≡ Node k → InheritedOrValue keys nodes heads next g h s g
-  one-inherited {g} e = kept g (rw e (λ l. refl))
+  pub one-inherited : {g : Use} {k : ℕ} → g ≡ Node k → InheritedOrValue keys heads next g item h s g
+  one-inherited {g} e = kept g (rw e (λ nodes l. refl))
 
-  pub other-inherited : {g : Use} {k : ℕ} → g ≡ Declaration k → InheritedOrValue keys nodes heads next g h s g
-  other-inherited {g} e = kept g (rw e (λ l. refl))
+  pub other-inherited : {g : Use} {k : ℕ} → g ≡ Declaration k → InheritedOrValue keys heads next g item h s g
+  other-inherited {g} e = kept g (rw e (λ nodes l. refl))
 
   -- ---- in a declaration
 
-  module _ {o : ℕ} {g : Use} where
+  module _ {nodes : List ℕ} {o : ℕ} {g : Use} where
     pub nothing-own :
-        {d : entries.Meaning} {r : Use} → d ≡ entry.Nothing → Means keys heads next (λ t. own t o s) d → InheritedOrValue keys nodes heads next g h s r →
-        InDeclaration keys nodes heads next g o h s r
+        {d : entries.Meaning} {r : Use} → d ≡ entry.Nothing → Means keys heads next (λ t. own t o s) d → InheritedOrValue keys heads next g item h s r →
+        InDeclaration keys nodes heads next g item o h s r
     nothing-own {d} {r} e O W = record {
-      stands = λ t P G.
+      stands = λ t P G I.
           let z : none ≡ meaning (own t o s) = rw e at (O .is t nodes P) in
+          let U = W .stands t nodes P o G I in
           record {
-            is = W .stands t P o G .is ∙ sym (passed-over (own t o s) (nearest (inherited t o s) (nearest (declarations t h s) (items t h s))) _ (sym z) refl);
-            sorted = W .stands t P o G .sorted;
+            is = U .is ∙ sym (passed-over (own t o s) (nearest (inherited t o s) (nearest (declarations t h s) (items t h s))) _ (sym z) refl);
+            sorted = U .sorted;
           };
     }
 
     found-own :
         {m : entries.Meaning} {r : Use} → ((l : Meaning) → or-else (node-meant nodes m) l ≡ node-meant nodes m) → Means keys heads next (λ t. own t o s) m → ByNode nodes m r →
-        InDeclaration keys nodes heads next g o h s r
+        InDeclaration keys nodes heads next g item o h s r
     found-own {m} {r} a O B = record {
-      stands = λ t P G. record {
+      stands = λ t P G I. record {
         is = B .meant ∙ sym (stopped (own t o s) (nearest (inherited t o s) (nearest (declarations t h s) (items t h s))) (node-meant nodes m) (sym (O .is t nodes P)) a);
         sorted = B .sorted t (λ k e. own-sort t o s k (sym (O .is t nodes P) ∙ e));
       };
     }
 
     pub one-own :
-        {m : entries.Meaning} {r : Use} {k : ℕ} → m ≡ entry.One k → Means keys heads next (λ t. own t o s) m → ByNode nodes m r → InDeclaration keys nodes heads next g o h s r
+        {m : entries.Meaning} {r : Use} {k : ℕ} → m ≡ entry.One k → Means keys heads next (λ t. own t o s) m → ByNode nodes m r → InDeclaration keys nodes heads next g item o h s r
     one-own {m} {r} e O B = found-own {m = m} {r = r} (rw e (λ l. refl)) O B
 
     pub several-own :
-        {m : entries.Meaning} {r : Use} → m ≡ entry.Several → Means keys heads next (λ t. own t o s) m → ByNode nodes m r → InDeclaration keys nodes heads next g o h s r
+        {m : entries.Meaning} {r : Use} → m ≡ entry.Several → Means keys heads next (λ t. own t o s) m → ByNode nodes m r → InDeclaration keys nodes heads next g item o h s r
     several-own {m} {r} e O B = found-own {m = m} {r = r} (rw e (λ l. refl)) O B
 
 pub ruleset meanings =

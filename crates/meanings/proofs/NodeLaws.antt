@@ -3,30 +3,27 @@ use mathlib.Core.Path.{_≡_, refl, sym, ap, ap₂, _∙_}
 use mathlib.Core.Logic.{⊎-elim}
 use mathlib.Core.Bool.{Bool, true, false, cond, not, _&&_, _||_, false≢true}
 use mathlib.Core.List.{List, [], _∷_}
-use Prim.Native.Nat.{ℕ, _+_, _-_, _<_}
+use Prim.Native.Nat.{ℕ, _-_, _<_}
 use native.Mathlib.Omega.{arith}
 use borrow.Author.Tests.{eqb-true, ne-eqb, eq-eqb}
 use lib.Dec.{eqb}
 use lib.ListN.{getD}
 use Rattle.ebnf.specs.Set.{mem}
 use Rattle.relations.specs.Select.{empty}
-use Rattle.relations.proofs.Select.{or-cases, or-left, or-right, and-fst, and-snd}
+use Rattle.relations.proofs.Select.{or-cases, or-left, or-right, and-fst}
 use Rattle.express.specs.syntax.NodeKind as node
-use Rattle.express.specs.syntax.Grammar.{file}
-use Rattle.express.specs.syntax.Syntax.{Read}
-use Rattle.express.specs.syntax.Tree.{Table, count, kind, token, role, symbol, symbol-at, place, place-at, is, is-scope-member, owner, schema-of, in-constant}
-use Rattle.express.specs.names.Scope.{Meaning, none, one, several, meaning, inherited, declarations, candidates, is-use, means, binding, binding-of, type-token, type-meant, qualified-meant}
+use Rattle.express.specs.syntax.Tree.{Table, count, kind, token, symbol, symbol-at, place, place-at, is, is-scope-member, owner, schema-of, in-constant}
+use Rattle.express.specs.names.Scope.{Meaning, none, one, several, meaning, inherited, declarations, items, candidates, is-use, means, binding, binding-of, type-token, type-meant, qualified-meant}
 use Rattle.express.specs.names.Fault as express
 use Rattle.express.specs.names.Fault.{judged, is-value, is-enumeration, or-later, expression, qualified}
 use Rattle.express.proofs.syntax.FormedRows.{sized}
 use Rattle.express.proofs.names.Owned.{in-constant-is, qualified-means}
-use Rattle.scopes.specs.Preparation.{Prepared}
 use Rattle.dependencies.specs.Target.{constant-of, constant-target}
 use Rattle.faults.specs.Meaning.{fault-of}
 use Rattle.faults.specs.declared.Fault as code
-use Rattle.meanings.specs.Use.{use-meaning, StandsFor, use-meant, InDeclaration}
+use Rattle.meanings.specs.Use.{StandsFor, use-meant, InDeclaration}
 use Rattle.meanings.specs.Finding.{Made, UseFinding, QualifiedFinding}
-use Rattle.meanings.specs.Node.{asks, MemberFault, ColumnsOf, FoundAt, Standing, NodeFindings}
+use Rattle.meanings.specs.Node.{asks, MemberFault, ColumnsOf, FoundAt, NodeFindings}
 use Rattle.meanings.specs.declared.Use.{Use}
 use Rattle.meanings.specs.declared.Use.the-variants.{Nothing, Several, Node, Declaration}
 use Rattle.type_names.specs.declared.Finding.{Finding}
@@ -211,24 +208,25 @@ module _ {kinds tokens sizes symbols starts : List ℕ} {n tk sy pl : ℕ} (S : 
   place-is : pl ≡ place t n
   place-is = S .place-at ∙ ap₂ (λ (l : List ℕ) (i : ℕ). getD l i 0) (C .starts-are) token-is
 
-module _ {kinds tokens sizes symbols starts keys nodes heads next : List ℕ} {k o h n tk sy pl : ℕ} {u : Use} {f : Finding}
+module _ {kinds tokens sizes symbols starts keys nodes heads next : List ℕ} {k o h n tk sy pl : ℕ} {u item : Use} {f : Finding}
     (E : Seen tokens symbols starts n tk sy pl) where
   pub name-node :
-      {m : Use} → k ≡ node.name → InDeclaration keys nodes heads next u o h sy m → UseFinding kinds nodes m pl f →
-      NodeFindings kinds tokens sizes symbols starts keys nodes heads next k o h u n f
+      {m : Use} → k ≡ node.name → InDeclaration keys nodes heads next u item o h sy m → UseFinding kinds nodes m pl f →
+      NodeFindings kinds tokens sizes symbols starts keys nodes heads next k o h u item n f
   name-node {m} e D U = record {
     found = λ t R C P W.
         let y = asked-use t n (W .asked) (sym (W .kind-is) ∙ e) in
         let s = symbol-is E C in
         let G : StandsFor t nodes (meaning (inherited t o sy)) u = rw s (W .inherited-is (or-left (is-use t n) (is-scope-member t n) y)) in
+        let I : StandsFor t nodes (meaning (items t h sy)) item = rw s (W .item-is y) in
         let q : use-meant t o h sy ≡ means t n = rw (W .owner-is, W .schema-is, s) (sym (use-means t n y)) in
-        let F = U .found t keys heads next (C .kinds-are) P (use-meant t o h sy) (D .stands t P G) in
+        let F = U .found t keys heads next (C .kinds-are) P (use-meant t o h sy) (D .stands t P G I) in
         use-found t n y (F .fault-is ∙ ap₂ (judged (is-value t)) q (place-is E C)) (F .binding-is ∙ ap binding-of q) (F .target-is ∙ ap (constant-of t) q);
   }
 
   pub item-node :
       {b qs qp : ℕ} → k ≡ node.qualified-item → b ≡ tk - 2 → qs ≡ getD symbols b 0 → qp ≡ getD starts b 0 → QualifiedFinding kinds sizes keys nodes heads next h qs qp sy pl f →
-      NodeFindings kinds tokens sizes symbols starts keys nodes heads next k o h u n f
+      NodeFindings kinds tokens sizes symbols starts keys nodes heads next k o h u item n f
   unfolding type-meant
   item-node {b} {qs} {qp} e B Q Z D = record {
     found = λ t R C P W.
@@ -247,7 +245,7 @@ module _ {kinds tokens sizes symbols starts keys nodes heads next : List ℕ} {k
 
   pub self-node :
       {j : ℕ} {g : code.Fault} → k ≡ node.self → j ≡ getD kinds o 0 → fault-of g ≡ judged (λ _. not (eqb j node.constant)) (one 0) pl → Made g 0 0 f →
-      NodeFindings kinds tokens sizes symbols starts keys nodes heads next k o h u n f
+      NodeFindings kinds tokens sizes symbols starts keys nodes heads next k o h u item n f
   unfolding mem
   self-node {j} e J a F = record {
     found = λ t R C P W.
@@ -264,7 +262,7 @@ module _ {kinds tokens sizes symbols starts keys nodes heads next : List ℕ} {k
 
   pub member-node :
       {g : code.Fault} → (k ≡ node.name → ⊥) → (k ≡ node.qualified-item → ⊥) → (k ≡ node.self → ⊥) → MemberFault u pl g → Made g 0 0 f →
-      NodeFindings kinds tokens sizes symbols starts keys nodes heads next k o h u n f
+      NodeFindings kinds tokens sizes symbols starts keys nodes heads next k o h u item n f
   member-node x y z M F = record {
     found = λ t R C P W.
         let i = W .kind-is in

@@ -1,11 +1,11 @@
 -- What is found of a name: its fault (N11, N12), its binding (N18), and the constant that it names (N17).
 use mathlib.Core.Path.{_≡_}
-use mathlib.Core.Bool.{Bool, true, cond, _&&_, _||_}
+use mathlib.Core.Bool.{Bool, true, cond, _||_}
 use mathlib.Core.List.{List}
 use Prim.Native.Nat.{ℕ, _+_, _-_, _<_}
 use lib.Dec.{eqb}
-use lib.ListN.{length, getD}
-use Rattle.express.specs.syntax.NodeKind.{enumeration-item, constant, type, attribute-name, derived-attribute}
+use lib.ListN.{getD}
+use Rattle.express.specs.syntax.NodeKind.{enumeration-item, constant, attribute-name, derived-attribute}
 use Rattle.express.specs.syntax.Tree.{Table, count}
 use Rattle.express.specs.names.Scope.{Meaning, one, meaning, declarations, qualified-meant, items-of, binding-of}
 use Rattle.express.specs.names.Fault as express

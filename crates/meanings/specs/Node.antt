@@ -8,7 +8,7 @@ use Rattle.express.specs.syntax.NodeKind.{qualified-item, self}
 use Rattle.express.specs.syntax.Grammar.{file}
 use Rattle.express.specs.syntax.Syntax.{Read}
 use Rattle.express.specs.syntax.Tree.{Table, count, kind, symbol, is, is-scope-member, owner, schema-of}
-use Rattle.express.specs.names.Scope.{meaning, inherited, is-use, binding}
+use Rattle.express.specs.names.Scope.{meaning, inherited, items, is-use, binding}
 use Rattle.express.specs.names.Fault as express
 use Rattle.scopes.specs.Preparation.{Prepared}
 use Rattle.dependencies.specs.Target.{constant-target}
@@ -44,14 +44,16 @@ pub record FoundAt (t : Table) (n : ℕ) (f : Finding) : Type 0 where
   pub binding-is : f .binding ≡ binding t n
   pub target-is : f .target ≡ constant-target t n
 
--- where a node stands: its kind, its owner and its schema, and what its symbol inherits there, where it can
-pub record Standing (t : Table) (nodes : List ℕ) (k o h : ℕ) (u : Use) (n : ℕ) : Type 0 where
+-- where a node stands: its kind, its owner and its schema, what its symbol inherits there, where it can, and what the symbol of a use means among the items
+pub record Standing (t : Table) (nodes : List ℕ) (k o h : ℕ) (u item : Use) (n : ℕ) : Type 0 where
   pub known : n < count t
   pub asked : asks t n ≡ true
   pub kind-is : k ≡ kind t n
   pub owner-is : o ≡ owner t n
   pub schema-is : h ≡ schema-of t n
   pub inherited-is : inherits t n ≡ true → StandsFor t nodes (meaning (inherited t o (symbol t n))) u
+  pub item-is : is-use t n ≡ true → StandsFor t nodes (meaning (items t h (symbol t n))) item
 
-pub record NodeFindings (kinds tokens sizes symbols starts keys nodes heads next : List ℕ) (k o h : ℕ) (u : Use) (n : ℕ) (f : Finding) : Type 0 where
-  pub found : (t : Table) → Read file t → ColumnsOf t kinds tokens sizes symbols starts → Prepared t keys nodes heads next → Standing t nodes k o h u n → FoundAt t n f
+pub record NodeFindings (kinds tokens sizes symbols starts keys nodes heads next : List ℕ) (k o h : ℕ) (u item : Use) (n : ℕ) (f : Finding) : Type 0 where
+  pub found :
+      (t : Table) → Read file t → ColumnsOf t kinds tokens sizes symbols starts → Prepared t keys nodes heads next → Standing t nodes k o h u item n → FoundAt t n f

@@ -1,6 +1,6 @@
 -- What a name in an expression means, as the code answers it.
 use mathlib.Core.Path.{_≡_}
-use mathlib.Core.Bool.{Bool, false}
+use mathlib.Core.Bool.{false}
 use mathlib.Core.List.{List}
 use Prim.Native.Nat.{ℕ, _<_}
 use lib.ListN.{getD}
@@ -34,9 +34,9 @@ pub record StandsFor (t : Table) (nodes : List ℕ) (m : Meaning) (r : Use) : Ty
   pub is : use-meaning nodes r ≡ m
   pub sorted : Sorted t r
 
--- in the dictionary of any file, what a symbol means in a schema
-pub record ValueMeans (keys nodes heads next : List ℕ) (h s : ℕ) (r : Use) : Type 0 where
-  pub stands : (t : Table) → Prepared t keys nodes heads next → StandsFor t nodes (value-meant t h s) r
+-- in the dictionary of any file, what a symbol means in a schema, given what it means among the items of the schema
+pub record ValueMeans (keys heads next : List ℕ) (item : Use) (h s : ℕ) (r : Use) : Type 0 where
+  pub stands : (t : Table) (nodes : List ℕ) → Prepared t keys nodes heads next → StandsFor t nodes (meaning (items t h s)) item → StandsFor t nodes (value-meant t h s) r
 
 -- an entry by its node
 pub record ByNode (nodes : List ℕ) (m : entries.Meaning) (r : Use) : Type 0 where
@@ -51,10 +51,11 @@ inherited-or-value t o h s = meaning (nearest (inherited t o s) (nearest (declar
 abbrev pub use-meant : Table → ℕ → ℕ → ℕ → Meaning
 use-meant t o h s = meaning (nearest (own t o s) (nearest (inherited t o s) (nearest (declarations t h s) (items t h s))))
 
--- given what is inherited
-pub record InheritedOrValue (keys nodes heads next : List ℕ) (given : Use) (h s : ℕ) (r : Use) : Type 0 where
-  pub stands : (t : Table) → Prepared t keys nodes heads next → (o : ℕ) → StandsFor t nodes (meaning (inherited t o s)) given →
-      StandsFor t nodes (inherited-or-value t o h s) r
+-- given what is inherited too
+pub record InheritedOrValue (keys heads next : List ℕ) (given item : Use) (h s : ℕ) (r : Use) : Type 0 where
+  pub stands : (t : Table) (nodes : List ℕ) → Prepared t keys nodes heads next → (o : ℕ) → StandsFor t nodes (meaning (inherited t o s)) given →
+      StandsFor t nodes (meaning (items t h s)) item → StandsFor t nodes (inherited-or-value t o h s) r
 
-pub record InDeclaration (keys nodes heads next : List ℕ) (given : Use) (o h s : ℕ) (r : Use) : Type 0 where
-  pub stands : (t : Table) → Prepared t keys nodes heads next → StandsFor t nodes (meaning (inherited t o s)) given → StandsFor t nodes (use-meant t o h s) r
+pub record InDeclaration (keys nodes heads next : List ℕ) (given item : Use) (o h s : ℕ) (r : Use) : Type 0 where
+  pub stands : (t : Table) → Prepared t keys nodes heads next → StandsFor t nodes (meaning (inherited t o s)) given → StandsFor t nodes (meaning (items t h s)) item →
+      StandsFor t nodes (use-meant t o h s) r

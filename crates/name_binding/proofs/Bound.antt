@@ -1,9 +1,9 @@
 -- All stages of names, one after the other: the first fault is that of N19, and where there is none each stage has what it asks for.
-use mathlib.Core.Path.{_≡_, refl, sym, ap, _∙_}
+use mathlib.Core.Path.{_≡_, refl, sym, ap, ap₂, _∙_}
 use mathlib.Core.Logic.{by-cases}
 use mathlib.Core.Bool.{Bool, true, false, false≢true, cond, not, _&&_, _||_}
 use mathlib.Core.List.{List, [], _∷_, List·Memᴰ, List·Memᴰ·head, List·Memᴰ·tail}
-use Prim.Native.Nat.{ℕ, _≤_, _<_}
+use Prim.Native.Nat.{ℕ, _<_}
 use native.Mathlib.Omega.{arith}
 use native.Mathlib.Decide.{ℕ-discrete}
 use borrow.Author.Tests.{eqb-true}
@@ -19,11 +19,14 @@ use Rattle.express.specs.names.Names.{Stage, sooner, least, first-fault, stages
 use Rattle.express.proofs.names.Names.{passes-iff}
 use Rattle.faults.specs.Meaning.{fault-of}
 use Rattle.faults.specs.declared.Fault as code
-use Rattle.inheritance.specs.Inheritance.{asks, inherited-code}
+use Rattle.dependencies.specs.Target.{type-target}
+use Rattle.dependencies.specs.Arrangement.{Answer, Arranges}
+use Rattle.dependencies.proofs.Instances.{asked-types}
+use Rattle.scopes.proofs.Ranges.{column-node}
+use Rattle.inheritance.specs.Inheritance.{asks, inherited-code, Inherits}
 use Rattle.type_names.specs.TypeName.{is-type-name}
-use Rattle.name_stages.specs.Stages.{DeclarationsBound, BindsDeclarations, ExpressionsBound, BindsExpressions}
-use Rattle.inheritance_stage.specs.Inheriting.{BindsInherited}
-use Rattle.name_binding.specs.Binding.{BindingRoom, NamesBound, BindsNames}
+use Rattle.name_stages.specs.Stages.{BindsDeclarations, ExpressionsBound, BindsExpressions}
+use Rattle.name_binding.specs.Binding.{BindsNames}
 use Rattle.name_stages.proofs.Staged.{hides, gives-way, no-first, no-later, same-later}
 
 -- ---- the first fault
@@ -57,11 +60,11 @@ last-stage t p es ns =
     (λ z. gives-way (least (cyclic t p es) ns) fine z ∙ sym (all-fine (cyclic t p es) ns (λ n m. cyclic-none t p es n (passes-iff (cyclic t p es) ns .0 z n m))))
     (λ d. hides (least (cyclic t p es) ns) fine d)
 
--- N19: the five stages, the first three and the last two put together
+-- N19: the five stages: the first two, the cycles of types, and the last two put together
 names-are : (t : Table) →
-    or-later
-    (or-later (least (repeated t) (tree.nodes t)) (or-later (least (type-name-fault t) (tree.nodes t)) (least (cyclic t (is-declaration t) (type-edges t)) (tree.nodes t))))
-    (or-later (least (expression t) (tree.nodes t)) (least (cyclic t (is t node.constant) (constant-edges t)) (tree.nodes t)))
+    or-later (or-later (least (repeated t) (tree.nodes t)) (least (type-name-fault t) (tree.nodes t)))
+    (or-later (least (cyclic t (is-declaration t) (type-edges t)) (tree.nodes t))
+    (or-later (least (expression t) (tree.nodes t)) (least (cyclic t (is t node.constant) (constant-edges t)) (tree.nodes t))))
     ≡ names t
 unfolding names stages first-fault
 names-are t =
@@ -71,7 +74,7 @@ names-are t =
     let c = least (cyclic t (is-declaration t) (type-edges t)) ns in
     let d = least (expression t) ns in
     let e = least (cyclic t (is t node.constant) (constant-edges t)) ns in
-    later-later a (or-later b c) (or-later d e) ∙ ap (or-later a) (later-later b c (or-later d e))
+    later-later a b (or-later c (or-later d e))
     ∙ ap (λ (x : Fault). or-later a (or-later b (or-later c (or-later d x)))) (sym (last-stage t (is t node.constant) (constant-edges t) ns))
 
 -- ---- what is bound before the names in expressions
@@ -100,40 +103,39 @@ asking-no-type t n a = by (is-use t n) refl (tree.is-scope-member t n) refl
     by false e true f = ap (λ (b : Bool). b && not (is-use t n)) (member-no-name t n f)
     by false e false f = absurd (false≢true (sym (rw (e, f) refl) ∙ a))
 
-module _ {kinds tokens sizes roles symbols starts keys nodes heads next bound first to types constants scratch spellings attributes owners attribute-heads attribute-next mark queue : List ℕ}
-    {a b r : code.Fault} {bound₁ first₁ to₁ types₁ bound₂ constants₁ scratch₁ bound₃ first₂ to₂ constants₂ : List ℕ} where
+module _ {kinds tokens sizes roles symbols starts keys nodes heads next bound first to types constants scratch : List ℕ} {a b c d r : code.Fault}
+    {bound₁ first₁ to₁ bound₂ types₁ constants₁ scratch₁ types₂ scratch₂ bound₃ first₂ to₂ constants₂ : List ℕ} where
   pub names-bound :
-      BindsDeclarations kinds tokens roles symbols starts keys nodes heads next bound first to types scratch a bound₁ first₁ to₁ types₁ →
+      BindsDeclarations kinds tokens roles symbols starts keys nodes heads next bound first to a bound₁ first₁ to₁ →
       length bound₁ ≡ length bound → length first₁ ≡ length first → length to₁ ≡ length to →
-      BindsInherited kinds tokens roles symbols keys nodes first₁ to₁ spellings attributes owners attribute-heads attribute-next mark queue bound₁ bound₂ →
-      length bound₂ ≡ length bound₁ → length constants₁ ≡ length constants → length scratch₁ ≡ length scratch →
-      BindsExpressions kinds tokens sizes roles symbols starts keys nodes heads next bound₂ first₁ to₁ constants₁ scratch₁ b bound₃ first₂ to₂ constants₂ →
-      fault-of r ≡ or-later (fault-of a) (fault-of b) →
-      BindsNames kinds tokens sizes roles symbols starts keys nodes heads next bound first to types constants scratch spellings attributes owners attribute-heads attribute-next mark queue
-      r bound₃ types₁ constants₂
-  names-bound D lb lf lt I lb₂ lc ls E e = record {
+      Inherits kinds tokens roles symbols keys nodes first₁ to₁ scratch types constants bound₁ bound₂ →
+      length bound₂ ≡ length bound₁ → length scratch₁ ≡ length scratch → length types₁ ≡ length types → length constants₁ ≡ length constants →
+      Arranges tokens starts nodes first₁ to₁ types₁ scratch₁ b types₂ scratch₂ →
+      BindsExpressions kinds tokens sizes roles symbols starts keys nodes heads next bound₂ first₁ to₁ constants₁ scratch₂ c bound₃ first₂ to₂ constants₂ →
+      fault-of d ≡ or-later (fault-of b) (fault-of c) → fault-of r ≡ or-later (fault-of a) (fault-of d) →
+      BindsNames kinds tokens sizes roles symbols starts keys nodes heads next bound first to types constants scratch r bound₃ types₂ constants₂
+  names-bound D lb lf lt I lb₂ ls ly lc A E e f = record {
     is = λ t S C z R.
-        let P = D .is t S (record { columns = C; bound-room = R .bound-room; graph-room = R .type-graph }) (R .type-order) in
+        let P = D .is t (record { columns = C; bound-room = R .bound-room; graph-room = R .type-graph }) in
         let right : fault-of a .number ≡ 0 → Passes (tree.nodes t) (type-name-fault t) = λ (q : fault-of a .number ≡ 0).
-        passes-iff (type-name-fault t) (tree.nodes t) .0
-        (no-first _ _ (no-later (least (repeated t) (tree.nodes t)) _ (ap (λ (f : Fault). f .number) (sym (P .reply)) ∙ q))) in
+        passes-iff (type-name-fault t) (tree.nodes t) .0 (no-later (least (repeated t) (tree.nodes t)) _ (ap (λ (g : Fault). g .number) (sym (P .reply)) ∙ q)) in
         let inherited : fault-of a .number ≡ 0 → (n : ℕ) → n < count t → getD bound₂ n 0 ≡ cond (asks t n) (inherited-code t n) (getD bound₁ n 0) = λ (q : fault-of a .number ≡ 0).
-        I .is t (record {
-          columns = record { kinds-are = sym (C .kinds-are); tokens-are = sym (C .tokens-are); roles-are = sym (C .roles-are); symbols-are = sym (C .symbols-are) };
-          read = C .read;
-          right = right q;
-          entry-heads = heads;
-          entry-next = next;
-          prepared = C .prepared;
-          graph = P .graph;
-        }) (R .attribute-room) (R .chain-room)
+        I .is t
+        (record { kinds-are = sym (C .kinds-are); tokens-are = sym (C .tokens-are); roles-are = sym (C .roles-are); symbols-are = sym (C .symbols-are) })
+        (record { scanned = S; read = C .read; right = right q; entry-heads = heads; entry-next = next; prepared = C .prepared; graph = P .graph })
         (record {
-          mark-room = R .mark-room;
-          queue-room = R .queue-room;
+          table-room = R .entry-room;
+          stamps = R .stamps;
+          mark-room = R .type-order .order-room;
+          queue-room = R .constant-order .order-room;
           bound-room = omega (arith, R .bound-room, lb);
           empty = λ n l y. P .entries n l ∙ ap (λ (x : Bool). cond x (binding t n) 0) (asking-no-type t n y);
         }) in
-        let Q : fault-of a .number ≡ 0 → ExpressionsBound t b bound₃ first₂ to₂ constants₂ = λ (q : fault-of a .number ≡ 0).
+        let O : fault-of a .number ≡ 0 → Answer t (is-declaration t) (type-edges t) types₁ scratch₁ b types₂ scratch₂ = λ (q : fault-of a .number ≡ 0).
+        A .is t (type-target t) (is-declaration t) (type-edges t)
+        (asked-types (C .read) S (C .tokens-are) (C .starts-are) (column-node (C .prepared)) (omega (arith, R .type-order .order-room, ly))
+        (omega (arith, R .type-order .scratch-room, ls)) (right q) (P .graph)) in
+        let Q : fault-of a .number ≡ 0 → ExpressionsBound t c bound₃ first₂ to₂ constants₂ = λ (q : fault-of a .number ≡ 0).
         E .is t S (record {
           of-file = record {
             read = C .read;
@@ -144,16 +146,24 @@ module _ {kinds tokens sizes roles symbols starts keys nodes heads next bound fi
           bound-room = omega (arith, R .bound-room, lb, lb₂);
           bound-is = λ n l. inherited q n l ∙ ap (cond (asks t n) (inherited-code t n)) (P .entries n l);
           graph-room = rw (lf, lt) (R .constant-graph);
-        }) (record { order-room = omega (arith, R .constant-order .order-room, lc); scratch-room = omega (arith, R .constant-order .scratch-room, ls) }) in
-        let clean : r .number ≡ 0 → fault-of a .number ≡ 0 = λ (n : r .number ≡ 0). no-first (fault-of a) (fault-of b) (ap (λ (f : Fault). f .number) (sym e) ∙ n) in
-        let clean-later : r .number ≡ 0 → fault-of b .number ≡ 0 = λ (n : r .number ≡ 0). no-later (fault-of a) (fault-of b) (ap (λ (f : Fault). f .number) (sym e) ∙ n) in
+          items-room = omega (arith, R .entry-room, ls, A .scratch-long);
+          stamp-room = R .stamps;
+        })
+        (record {
+          order-room = omega (arith, R .constant-order .order-room, lc);
+          scratch-room = omega (arith, R .constant-order .scratch-room, ls, A .scratch-long);
+        }) in
+        let rest : Fault = or-later (least (cyclic t (is-declaration t) (type-edges t)) (tree.nodes t))
+        (or-later (least (expression t) (tree.nodes t)) (least (cyclic t (is t node.constant) (constant-edges t)) (tree.nodes t))) in
+        let clean : r .number ≡ 0 → fault-of a .number ≡ 0 = λ (n : r .number ≡ 0). no-first (fault-of a) (fault-of d) (ap (λ (g : Fault). g .number) (sym f) ∙ n) in
+        let later : r .number ≡ 0 → or-later (fault-of b) (fault-of c) .number ≡ 0 = λ (n : r .number ≡ 0).
+        ap (λ (g : Fault). g .number) (sym e) ∙ no-later (fault-of a) (fault-of d) (ap (λ (g : Fault). g .number) (sym f) ∙ n) in
         record {
           reply =
-              e ∙ same-later (fault-of a) (fault-of b) _ (λ q. Q q .reply)
-              ∙ ap (λ (f : Fault). or-later f (or-later (least (expression t) (tree.nodes t)) (least (cyclic t (is t node.constant) (constant-edges t)) (tree.nodes t)))) (P .reply)
-              ∙ names-are t;
+              f ∙ same-later (fault-of a) (fault-of d) rest (λ q. e ∙ ap₂ or-later (O q .reply) (Q q .reply))
+              ∙ ap (λ (g : Fault). or-later g rest) (P .reply) ∙ names-are t;
           entries = λ n. Q (clean n) .entries;
-          types-arranged = λ n. P .arranged (clean n);
-          constants-arranged = λ n. Q (clean n) .arranged (clean-later n);
+          types-arranged = λ n. O (clean n) .arranged (no-first (fault-of b) (fault-of c) (later n));
+          constants-arranged = λ n. Q (clean n) .arranged (no-later (fault-of b) (fault-of c) (later n));
         };
   }

@@ -43,10 +43,10 @@ same-columns : (t : Table) {kinds tokens roles symbols : List ℕ} → kinds ≡
     table-of kinds tokens roles symbols ≡ columns-of t
 same-columns t k n r s = rw (k, n, r, s) refl
 
-module _ {src starts lengths terminals symbols heads next symbols′ heads₁ next₁ : List ℕ} {o : Outcome} where
+module _ {src starts lengths terminals symbols heads links symbols′ heads₁ links′ : List ℕ} {o : Outcome} where
   pub short-prepared :
-      {kinds tokens roles keys nodes : List ℕ} → Interns src starts lengths terminals symbols heads next o symbols′ heads₁ next₁ → o ≡ outcome.Short →
-      PreparesFile src starts lengths terminals kinds tokens roles symbols keys nodes heads next Unfit symbols′ keys nodes heads₁ next₁
+      {kinds tokens roles keys nodes next : List ℕ} → Interns src starts lengths terminals symbols heads links o symbols′ heads₁ links′ → o ≡ outcome.Short →
+      PreparesFile src starts lengths terminals kinds tokens roles symbols keys nodes heads links next Unfit symbols′ keys nodes heads₁ next
   short-prepared I w = record {
     done = λ e. absurd (false≢true (ap is-done e));
     unfit = λ e t k n r s ok C R. absurd (false≢true (sym (ap done w) ∙ I .answer ∙ ok));
@@ -54,30 +54,30 @@ module _ {src starts lengths terminals symbols heads next symbols′ heads₁ ne
 
   -- where all symbols are stored, they lie within their column
   pub symbols-fit :
-      Interns src starts lengths terminals symbols heads next o symbols′ heads₁ next₁ → o ≡ outcome.Done → length symbols′ ≡ length symbols → length starts ≤ length symbols′
+      Interns src starts lengths terminals symbols heads links o symbols′ heads₁ links′ → o ≡ outcome.Done → length symbols′ ≡ length symbols → length starts ≤ length symbols′
   symbols-fit I w l =
       let rest = and-snd (leb (length starts) (length lengths)) _ (sym (I .answer) ∙ ap done w) in
       let fit : length starts ≤ length symbols = leb-true (length starts) (length symbols) (and-fst _ _ rest) in
       omega (arith, fit, l)
 
   pub symbols-long :
-      Interns src starts lengths terminals symbols heads next o symbols′ heads₁ next₁ → o ≡ outcome.Done → length symbols′ ≡ length symbols →
+      Interns src starts lengths terminals symbols heads links o symbols′ heads₁ links′ → o ≡ outcome.Done → length symbols′ ≡ length symbols →
       length starts ≡ length (take (length starts) symbols′)
   symbols-long I w l = omega (arith, symbols-fit I w l, length-take (length starts) symbols′)
 
   -- the symbols of any file with these columns are those that are stored
   columns-are :
-      {kinds tokens roles : List ℕ} → Interns src starts lengths terminals symbols heads next o symbols′ heads₁ next₁ → o ≡ outcome.Done →
+      {kinds tokens roles : List ℕ} → Interns src starts lengths terminals symbols heads links o symbols′ heads₁ links′ → o ≡ outcome.Done →
       (t : Table) → kinds ≡ t .kinds → tokens ≡ t .tokens → roles ≡ t .roles → t .symbols ≡ symbols-of src starts lengths terminals →
       table-of kinds tokens roles (take (length starts) symbols′) ≡ columns-of t
   columns-are I w t k n q s = same-columns t k n q (interned I (ap done w) ∙ sym s)
 
   pub file-prepared :
-      {kinds tokens roles keys nodes : List ℕ} {r : Preparation} {keys′ nodes′ heads′ next′ : List ℕ} →
-      Interns src starts lengths terminals symbols heads next o symbols′ heads₁ next₁ → o ≡ outcome.Done → length heads₁ ≡ length heads → length next₁ ≡ length next →
-      Answers (table-of kinds tokens roles (take (length starts) symbols′)) keys nodes heads₁ next₁ r keys′ nodes′ heads′ next′ →
-      PreparesFile src starts lengths terminals kinds tokens roles symbols keys nodes heads next r symbols′ keys′ nodes′ heads′ next′
-  file-prepared {keys = keys} {nodes = nodes} {r = Done} {keys′ = keys′} {nodes′ = nodes′} {heads′ = heads′} {next′ = next′} I w h x A = record {
+      {kinds tokens roles keys nodes next : List ℕ} {r : Preparation} {keys′ nodes′ heads′ next′ : List ℕ} →
+      Interns src starts lengths terminals symbols heads links o symbols′ heads₁ links′ → o ≡ outcome.Done → length heads₁ ≡ length heads →
+      Answers (table-of kinds tokens roles (take (length starts) symbols′)) keys nodes heads₁ next r keys′ nodes′ heads′ next′ →
+      PreparesFile src starts lengths terminals kinds tokens roles symbols keys nodes heads links next r symbols′ keys′ nodes′ heads′ next′
+  file-prepared {keys = keys} {nodes = nodes} {next = next} {r = Done} {keys′ = keys′} {nodes′ = nodes′} {heads′ = heads′} {next′ = next′} I w h A = record {
     done = λ e t k n q s.
         let B = subst (λ (u : Table). Prepares u keys nodes keys′ nodes′ heads′ next′) (columns-are I w t k n q s) A in
         record {
@@ -86,15 +86,15 @@ module _ {src starts lengths terminals symbols heads next symbols′ heads₁ ne
         };
     unfit = λ e. absurd (false≢true (ap is-done (sym e)));
   }
-  file-prepared {keys = keys} {nodes = nodes} {r = Unfit} {keys′ = keys′} {nodes′ = nodes′} {heads′ = heads′} {next′ = next′} I w h x A = record {
+  file-prepared {keys = keys} {nodes = nodes} {next = next} {r = Unfit} {keys′ = keys′} {nodes′ = nodes′} {heads′ = heads′} {next′ = next′} I w h A = record {
     done = λ e. absurd (false≢true (ap is-done e));
     unfit = λ e t k n q s ok C R.
-        let B = subst (λ (u : Table). Refused u keys nodes heads₁ next₁ keys′ nodes′ heads′ next′) (columns-are I w t k n q s) A in
+        let B = subst (λ (u : Table). Refused u keys nodes heads₁ next keys′ nodes′ heads′ next′) (columns-are I w t k n q s) A in
         B .no (record { few = C .few; tokens = C .tokens; roles = C .roles; inside = C .inside; small = C .small })
         (record {
           keys-room = rw (same-entries t) (R .keys-room);
           nodes-room = rw (same-entries t) (R .nodes-room);
           heads-room = rw h (R .heads-room);
-          next-room = rw (same-entries t, x) (R .next-room);
+          next-room = rw (same-entries t) (R .next-room);
         });
   }

@@ -15,22 +15,19 @@ use Rattle.faults.specs.Meaning.{fault-of}
 use Rattle.faults.specs.declared.Fault.{Fault}
 use Rattle.dependencies.specs.Target.{type-target, constant-target}
 use Rattle.dependencies.specs.Graph.{Room}
-use Rattle.inheritance.specs.Attributes.{AttributeRoom}
 use Rattle.type_names.specs.TypeName.{FileColumns}
+use Rattle.symbol_tables.specs.Entry.{stamp-count}
 use Rattle.name_stages.specs.Stages.{OrderRoom}
-use Rattle.inheritance_stage.specs.Inheriting.{ChainRoom}
 
--- room for what each stage writes: bindings, two graphs, two orders, and what is inherited
-pub record BindingRoom (t : Table) (bound first to types constants scratch spellings attributes owners heads next mark queue : List ℕ) : Type 0 where
+-- room for what each stage writes: bindings, two graphs and two orders; and for what is inherited an entry for each symbol and a stamp for each vertex
+pub record BindingRoom (t : Table) (bound first to types constants scratch : List ℕ) : Type 0 where
   pub bound-room : count t ≤ length bound
   pub type-graph : Room t (type-target t) (length first) (length to)
   pub constant-graph : Room t (constant-target t) (length first) (length to)
   pub type-order : OrderRoom t types scratch
   pub constant-order : OrderRoom t constants scratch
-  pub attribute-room : AttributeRoom t spellings attributes owners
-  pub chain-room : ChainRoom t heads next
-  pub mark-room : vertex-count t ≤ length mark
-  pub queue-room : vertex-count t ≤ length queue
+  pub entry-room : length (t .symbols) ≤ length scratch
+  pub stamps : vertex-count t < stamp-count
 
 -- THE NAMES of a file: the fault of the first stage that has one; and where there is none, what each node is bound to, and an order of the
 -- declarations in which a type comes after those that it is made of, and one in which a constant comes after those that it names
@@ -41,9 +38,8 @@ pub record NamesBound (t : Table) (r : Fault) (bound types constants : List ℕ)
   pub constants-arranged : r .number ≡ 0 → Arranged (Joins (constant-edges t)) (declared-nodes t) (take (vertex-count t) constants)
 
 -- `bind_names`
-pub record BindsNames (kinds tokens sizes roles symbols starts keys nodes heads next bound first to types constants scratch spellings attributes owners
-    attribute-heads attribute-next mark queue : List ℕ) (r : Fault) (bound′ types′ constants′ : List ℕ) : Type 0 where
+pub record BindsNames (kinds tokens sizes roles symbols starts keys nodes heads next bound first to types constants scratch : List ℕ) (r : Fault) (bound′ types′ constants′ : List ℕ) :
+    Type 0 where
   pub is :
       (t : Table) → Scanned t → FileColumns t kinds tokens roles symbols starts keys nodes heads next → sizes ≡ t .sizes →
-      BindingRoom t bound first to types constants scratch spellings attributes owners attribute-heads attribute-next mark queue →
-      NamesBound t r bound′ types′ constants′
+      BindingRoom t bound first to types constants scratch → NamesBound t r bound′ types′ constants′

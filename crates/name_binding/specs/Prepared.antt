@@ -18,11 +18,11 @@ pub record FilePrepared (t : Table) (symbols keys nodes heads next : List ℕ) :
   pub prepared : Prepared t (take (length (entries t)) keys) (take (length (entries t)) nodes) heads next
 
 -- `prepare`: of any file with these columns; unfit only where they do not fit each other or room is lacking
-pub record PreparesFile (src starts lengths terminals kinds tokens roles symbols keys nodes heads next : List ℕ) (r : Preparation) (symbols′ keys′ nodes′ heads′ next′ : List ℕ) : Type 0 where
+pub record PreparesFile (src starts lengths terminals kinds tokens roles symbols keys nodes heads links next : List ℕ) (r : Preparation) (symbols′ keys′ nodes′ heads′ next′ : List ℕ) : Type 0 where
   pub done :
       r ≡ Done → (t : Table) → kinds ≡ t .kinds → tokens ≡ t .tokens → roles ≡ t .roles → t .symbols ≡ symbols-of src starts lengths terminals →
       FilePrepared t symbols′ keys′ nodes′ heads′ next′
   pub unfit :
       r ≡ Unfit → (t : Table) → kinds ≡ t .kinds → tokens ≡ t .tokens → roles ≡ t .roles → t .symbols ≡ symbols-of src starts lengths terminals →
-      enough (length starts) (length lengths) (length symbols) (length heads) (length next) ≡ true → Consistent t →
+      enough (length starts) (length lengths) (length symbols) (length heads) (length links) ≡ true → Consistent t →
       Room (length (entries t)) (length keys) (length nodes) (length heads) (length next) → ⊥

@@ -3,12 +3,12 @@ ghost use Rattle.name_binding.specs.Binding.{BindsNames};
 ghost use Rattle.name_binding.specs.Prepared.{PreparesFile};
 use faults::Fault;
 use index::Outcome;
-use inheritance_stage::bind_inherited;
+use inheritance::inherit_all;
 use name_stages::bind_declarations;
 use name_stages::bind_expressions;
 use scopes::dictionary::Preparation;
 
-// Interns the identifiers of a file, and enters what it declares into its dictionary.
+// Interns the identifiers of a file, chained in a column of links, and enters what it declares into its dictionary.
 pub fn prepare(
     src: &[u8],
     starts: &[u32],
@@ -16,18 +16,19 @@ pub fn prepare(
     terminals: &[u8],
     kinds: &[u8],
     tokens: &[u32],
-    roles: &[u32],
+    roles: &[u8],
     symbols: &mut [u32],
     keys: &mut [u64],
     nodes: &mut [u32],
     heads: &mut [u32],
+    links: &mut [u32],
     next: &mut [u32],
 ) -> Preparation
     ensures { λ r. ⌜ PreparesFile (now (src .entry)) (now (starts .entry)) (now (lengths .entry)) (now (terminals .entry)) (now (kinds .entry)) (now (tokens .entry))
-        (now (roles .entry)) (now (symbols .entry)) (now (keys .entry)) (now (nodes .entry)) (now (heads .entry)) (now (next .entry)) r
+        (now (roles .entry)) (now (symbols .entry)) (now (keys .entry)) (now (nodes .entry)) (now (heads .entry)) (now (links .entry)) (now (next .entry)) r
         (now (symbols .exit)) (now (keys .exit)) (now (nodes .exit)) (now (heads .exit)) (now (next .exit)) ⌝ }
 {
-    let interned = symbols::intern(src, starts, lengths, terminals, symbols, heads, next);
+    let interned = symbols::intern(src, starts, lengths, terminals, symbols, heads, links);
     match interned {
         Outcome::Done => preparation::prepare(
             kinds,
@@ -44,12 +45,12 @@ pub fn prepare(
 }
 
 // All stages, over a dictionary that is prepared: the first fault, and where there is none the bindings of all nodes, and an order of
-// the declarations by their types and one by their constants. The columns of the second order, which comes last, serve what is inherited.
+// the declarations by their types and one by their constants. What is inherited comes before both orders, and uses their columns.
 pub fn bind_names(
     kinds: &[u8],
     tokens: &[u32],
     sizes: &[u32],
-    roles: &[u32],
+    roles: &[u8],
     symbols: &[u32],
     starts: &[u32],
     keys: &[u64],
@@ -62,18 +63,10 @@ pub fn bind_names(
     types: &mut [u32],
     constants: &mut [u32],
     scratch: &mut [u32],
-    spellings: &mut [u64],
-    attributes: &mut [u32],
-    owners: &mut [u32],
-    attribute_heads: &mut [u32],
-    attribute_next: &mut [u32],
-    mark: &mut [u32],
-    queue: &mut [u32],
 ) -> Fault
     ensures { λ r. ⌜ BindsNames (now (kinds .entry)) (now (tokens .entry)) (now (sizes .entry)) (now (roles .entry)) (now (symbols .entry)) (now (starts .entry))
         (now (keys .entry)) (now (nodes .entry)) (now (heads .entry)) (now (next .entry))
         (now (bound .entry)) (now (first .entry)) (now (to .entry)) (now (types .entry)) (now (constants .entry)) (now (scratch .entry))
-        (now (spellings .entry)) (now (attributes .entry)) (now (owners .entry)) (now («attribute_heads» .entry)) (now («attribute_next» .entry)) (now (mark .entry)) (now (queue .entry))
         r (now (bound .exit)) (now (types .exit)) (now (constants .exit)) ⌝ }
 {
     let declared = bind_declarations(
@@ -89,10 +82,8 @@ pub fn bind_names(
         bound,
         first,
         to,
-        types,
-        scratch,
     );
-    bind_inherited(
+    inherit_all(
         kinds,
         tokens,
         roles,
@@ -101,17 +92,12 @@ pub fn bind_names(
         nodes,
         first,
         to,
-        spellings,
-        attributes,
-        owners,
-        attribute_heads,
-        attribute_next,
-        constants,
         scratch,
-        mark,
-        queue,
+        types,
+        constants,
         bound,
     );
+    let cyclic = dependencies::arrange(tokens, starts, nodes, first, to, types, scratch);
     let used = bind_expressions(
         kinds,
         tokens,
@@ -129,5 +115,5 @@ pub fn bind_names(
         constants,
         scratch,
     );
-    faults::or_later(declared, used)
+    faults::or_later(declared, faults::or_later(cyclic, used))
 }

@@ -37,8 +37,8 @@ use Rattle.type_names.specs.TypeName.{FileColumns}
 use Rattle.name_binding.proofs.Preparing.{as-many, length-span}
 use Rattle.name_binding.specs.Prepared.{FilePrepared, PreparesFile}
 use Rattle.name_binding.specs.Binding.{NamesBound}
-use Rattle.resolutions.specs.Answer.{StageRoom, done-with, answer-to, Finishes}
-use Rattle.names.specs.Resolution.{FileRead, NamesRoom, Resolved, Resolves, BindsPrepared}
+use Rattle.resolutions.specs.Answer.{Narrows, StageRoom, done-with, Finishes}
+use Rattle.names.specs.Resolution.{FileRead, NamesRoom, Resolved, Resolves, BindsPrepared, ResolvesRoles}
 use Rattle.resolutions.specs.declared.Resolution.{Resolution}
 use Rattle.resolutions.specs.declared.Resolution.the-variants.{Bound, Faulty, Unfit}
 
@@ -79,8 +79,8 @@ same-symbols :
     t .symbols ≡ symbols-of src starts lengths terminals
 same-symbols F = F .scanned .symbols-are ∙ rw (F .bytes-are, F .starts-are, F .lengths-are, F .terminals-are) refl
 
-module _ {src starts lengths terminals kinds tokens roles symbols keys nodes heads next : List ℕ} {p : Preparation} {symbols′ keys′ nodes′ heads′ next′ : List ℕ}
-    (P : PreparesFile src starts lengths terminals kinds tokens roles symbols keys nodes heads next p symbols′ keys′ nodes′ heads′ next′) {c : Counts} (C : Counting kinds roles c) where
+module _ {src starts lengths terminals kinds tokens roles symbols keys nodes heads links next : List ℕ} {p : Preparation} {symbols′ keys′ nodes′ heads′ next′ : List ℕ}
+    (P : PreparesFile src starts lengths terminals kinds tokens roles symbols keys nodes heads links next p symbols′ keys′ nodes′ heads′ next′) {c : Counts} (C : Counting kinds roles c) where
   -- what is counted is the dictionary of any file with these columns
   counted : (t : Table) → kinds ≡ t .kinds → roles ≡ t .roles → length kinds < radix → Counted t (count t) c
   counted t k o few =
@@ -116,7 +116,7 @@ module _ {src starts lengths terminals kinds tokens roles symbols keys nodes hea
     pub nodes-fit : c .declarations + c .others ≤ length nodes′
     nodes-fit = omega (arith, total, ap length (made .prepared .nodes-is), length-map (entries some-table) (λ (e : Entry). e .node), length-take (length (entries some-table)) nodes′)
 
-    pub sum-small : c .declarations + c .others < 4 * radix
+    pub sum-small : c .declarations + c .others < 2 * radix
     unfolding some-table
     sum-small = total-small (counted some-table refl refl few) (made .prepared .consistent)
 
@@ -180,17 +180,21 @@ is-unfit Bound = false
 is-unfit (Faulty k x) = false
 is-unfit Unfit = true
 
-module _ {src starts lengths terminals kinds tokens sizes roles symbols keys nodes heads next bound first to types constants scratch spellings attributes owners attribute-heads attribute-next
-    mark queue : List ℕ} {p : Preparation} {symbols′ keys′ nodes′ heads′ next′ : List ℕ} {c : Counts} where
+abbrev is-bound : Resolution → Bool
+is-bound Bound = true
+is-bound (Faulty k x) = false
+is-bound Unfit = false
+
+module _ {src starts lengths terminals kinds tokens sizes roles bindings symbols keys nodes heads next first to types constants scratch : List ℕ} {p : Preparation}
+    {symbols′ keys′ nodes′ heads′ next′ : List ℕ} {c : Counts} where
   pub unfit-resolved :
-      {b g : Bool} → PreparesFile src starts lengths terminals kinds tokens roles symbols keys nodes heads next p symbols′ keys′ nodes′ heads′ next′ → Counting kinds roles c →
-      Decides (StageRoom (length kinds) (c .declarations) (length bound) (length first) (length to) (length types) (length constants) (length scratch) (length spellings) (length attributes)
-      (length owners) (length attribute-heads) (length attribute-next) (length mark) (length queue)) b → g ≡ done-with p b → not g ≡ true →
-      Resolves src starts lengths terminals kinds tokens sizes roles symbols keys nodes heads next bound first to types constants scratch spellings attributes owners attribute-heads attribute-next
-      mark queue Unfit roles types constants
-  unfit-resolved {b} {g} P C D e n = record {
-    kept = λ d. refl;
-    is = λ t F. tt;
+      {b g : Bool} → PreparesFile src starts lengths terminals kinds tokens roles symbols keys nodes heads scratch next p symbols′ keys′ nodes′ heads′ next′ → Counting kinds roles c →
+      {k : ℕ} → k ≡ length scratch → Decides (StageRoom (length starts) (c .declarations) (length first) (length to) (length types) (length constants) k) b → g ≡ done-with p b → not g ≡ true →
+      ResolvesRoles src starts lengths terminals kinds tokens sizes roles bindings symbols keys nodes heads next first to types constants scratch Unfit bindings types constants
+  unfit-resolved {b} {g} P C l D e n = record {
+    kept = λ w. refl;
+    put-back = λ k x w. absurd (false≢true (sym (ap is-unfit w)));
+    is = λ t F o. tt;
     unfit = λ w t F R. by p refl F R;
   }
     where
@@ -199,27 +203,26 @@ module _ {src starts lengths terminals kinds tokens sizes roles symbols keys nod
 
       by :
           {t : Table} (x : Preparation) → p ≡ x → FileRead src starts lengths terminals kinds tokens sizes roles t →
-          NamesRoom t (length symbols) (length keys) (length nodes) (length heads) (length next) (length bound) (length first) (length to) (length types) (length constants) (length scratch)
-          (length spellings) (length attributes) (length owners) (length attribute-heads) (length attribute-next) (length mark) (length queue) → ⊥
+          NamesRoom t (length roles) (length symbols) (length keys) (length nodes) (length heads) (length next) (length first) (length to) (length types) (length constants) (length scratch) → ⊥
       by {t} preparation.Done q F R =
           let K : Counted t (count t) c = counted-file P C q F in
-          D .no (not-both p b off q) (rw (ap length (F .kinds-are), K .declarations-is) (R .stage-room))
+          D .no (not-both p b off q) (rw (ap length (F .starts-are), K .declarations-is, l) (R .stage-room))
       by {t} preparation.Unfit q F R =
           P .unfit q t (F .kinds-are) (F .tokens-are) (F .roles-are) (same-symbols F) (rw (F .starts-are, F .lengths-are) (R .symbol-room)) (R .consistent) (R .entry-room)
 
   pub file-resolved :
       (b : Bool) {g : Bool} {f : Fault} {r : Resolution} {bound′ types′ constants′ bindings′ : List ℕ} →
-      PreparesFile src starts lengths terminals kinds tokens roles symbols keys nodes heads next p symbols′ keys′ nodes′ heads′ next′ → Counting kinds roles c →
+      PreparesFile src starts lengths terminals kinds tokens roles symbols keys nodes heads scratch next p symbols′ keys′ nodes′ heads′ next′ → Counting kinds roles c →
       g ≡ done-with p b → not g ≡ false →
-      BindsPrepared kinds tokens sizes roles (take (length starts) symbols′) starts keys′ nodes′ heads′ next′ (c .declarations) (c .declarations + c .others) f bound′ types′ constants′ →
-      length kinds ≤ length bound′ → Finishes f bound′ roles r bindings′ →
-      Resolves src starts lengths terminals kinds tokens sizes roles symbols keys nodes heads next bound first to types constants scratch spellings attributes owners attribute-heads attribute-next
-      mark queue r bindings′ types′ constants′
+      BindsPrepared kinds tokens sizes roles (take (length starts) symbols′) starts keys′ nodes′ heads′ next′ bindings (c .declarations) (c .declarations + c .others) f bound′ types′ constants′ →
+      length bound′ ≡ length bindings → Finishes f roles bound′ r bindings′ →
+      ResolvesRoles src starts lengths terminals kinds tokens sizes roles bindings symbols keys nodes heads next first to types constants scratch r bindings′ types′ constants′
   file-resolved b {g} {f} {r} {bound′} {types′} {constants′} {bindings′} P C e n B l E = record {
-    kept = λ d. by-cases (ℕ-discrete (f .number) 0) (λ z. absurd (d (zero-bound z))) (λ z. E .bindings-are ∙ ap (λ (x : Bool). cond x (sets roles 0 (take (min (length bound′) (length roles)) bound′)) roles) (ne-eqb (f .number) 0 z));
-    is = λ t F. by-cases (ℕ-discrete (f .number) 0)
-        (λ z. subst (λ (x : Resolution). Resolved t x bindings′ types′ constants′) (sym (zero-bound z)) (when-bound t F z))
-        (λ z. subst (λ (x : Resolution). Resolved t x bindings′ types′ constants′) (sym (other-faulty z)) (sym (names-of t F .reply), z));
+    kept = λ w. absurd (by-cases (ℕ-discrete (f .number) 0) (λ z. false≢true (ap is-unfit (sym (zero-bound z) ∙ w))) (λ z. false≢true (ap is-unfit (sym (other-faulty z) ∙ w))));
+    put-back = λ k x w o. by-cases (ℕ-discrete (f .number) 0) (λ z. absurd (false≢true (sym (ap is-bound (sym (zero-bound z) ∙ w))))) (λ z. restored o z);
+    is = λ t F o. by-cases (ℕ-discrete (f .number) 0)
+        (λ z. subst (λ (x : Resolution). Resolved t x bindings′ types′ constants′) (sym (zero-bound z)) (when-bound t F o z))
+        (λ z. subst (λ (x : Resolution). Resolved t x bindings′ types′ constants′) (sym (other-faulty z)) (sym (names-of t F o .reply), z));
     unfit = λ w t F R. by-cases (ℕ-discrete (f .number) 0) (λ z. false≢true (ap is-unfit (sym (zero-bound z) ∙ w))) (λ z. false≢true (ap is-unfit (sym (other-faulty z) ∙ w)));
   }
     where
@@ -232,19 +235,76 @@ module _ {src starts lengths terminals kinds tokens sizes roles symbols keys nod
       other-faulty : (f .number ≡ 0 → ⊥) → r ≡ Faulty (f .number) (f .place)
       other-faulty z = E .answer ∙ ap (λ (x : Bool). cond x Bound (Faulty (f .number) (f .place))) (ne-eqb (f .number) 0 z)
 
-      names-of : (t : Table) → FileRead src starts lengths terminals kinds tokens sizes roles t → NamesBound t f bound′ types′ constants′
-      names-of t F = B .is t (F .scanned) (file-columns P C (both .0) F) (F .sizes-are) (counted-file P C (both .0) F .declarations-is)
+      restored : length bindings ≡ length roles → (f .number ≡ 0 → ⊥) → bindings′ ≡ roles
+      restored o z =
+          let all : take (min (length roles) (length bound′)) roles ≡ roles = take-all (min (length roles) (length bound′)) roles (omega (arith, o, l)) in
+          E .bindings-are ∙ ap (λ (x : Bool). cond x bound′ (sets bound′ 0 (take (min (length roles) (length bound′)) roles))) (ne-eqb (f .number) 0 z)
+          ∙ ap (sets bound′ 0) all ∙ sets-over bound′ roles (omega (arith, o, l))
 
-      when-bound : (t : Table) → FileRead src starts lengths terminals kinds tokens sizes roles t → f .number ≡ 0 → Resolved t Bound bindings′ types′ constants′
-      when-bound t F z =
-          let N = names-of t F in
-          let n : length kinds ≡ count t = ap length (F .kinds-are) in
-          let o : length roles ≡ count t = ap length (F .roles-are) ∙ as-many-roles (F .read) in
-          let m : min (length bound′) (length roles) ≡ count t = omega (arith, l, n, o) in
-          let w : take (min (length bound′) (length roles)) bound′ ≡ bindings t = ap (λ (k : ℕ). take k bound′) m ∙ bound-all t bound′ (omega (arith, l, n)) (N .entries z) in (
+      as-long : (t : Table) → FileRead src starts lengths terminals kinds tokens sizes roles t → length bindings ≡ length roles → length bound′ ≡ count t
+      as-long t F o = l ∙ o ∙ ap length (F .roles-are) ∙ as-many-roles (F .read)
+
+      names-of : (t : Table) → FileRead src starts lengths terminals kinds tokens sizes roles t → length bindings ≡ length roles → NamesBound t f bound′ types′ constants′
+      names-of t F o =
+          B .is t (F .scanned) (file-columns P C (both .0) F) (F .sizes-are) (counted-file P C (both .0) F .declarations-is) (omega (arith, as-long t F o, l))
+
+      when-bound : (t : Table) → FileRead src starts lengths terminals kinds tokens sizes roles t → length bindings ≡ length roles → f .number ≡ 0 → Resolved t Bound bindings′ types′ constants′
+      when-bound t F o z =
+          let N = names-of t F o in
+          let m : length bound′ ≡ count t = as-long t F o in (
             ap (λ (x : express.Fault). x .number) (sym (N .reply)) ∙ z,
-            E .bindings-are ∙ ap (λ (x : Bool). cond x (sets roles 0 (take (min (length bound′) (length roles)) bound′)) roles) (eq-eqb (f .number) 0 z)
-                ∙ sets-over roles _ (omega (arith, length-take-le (min (length bound′) (length roles)) bound′ (omega arith), m, o)) ∙ w,
+            E .bindings-are ∙ ap (λ (x : Bool). cond x bound′ (sets bound′ 0 (take (min (length roles) (length bound′)) roles))) (eq-eqb (f .number) 0 z)
+                ∙ sym (take-all (count t) bound′ (omega (arith, m))) ∙ bound-all t bound′ (omega (arith, m)) (N .entries z),
             N .types-arranged z,
             N .constants-arranged z,
           )
+
+-- ---- roles in bytes
+
+pub roles-fit : {bindings roles′ : List ℕ} (roles : List ℕ) {b : Bool} → Narrows bindings (length roles) b roles′ → not b ≡ false → length roles′ ≡ length roles → length bindings ≤ length roles′
+roles-fit roles {b} N n l = omega (arith, N .fits (not-false b n), l)
+
+module _ {src starts lengths terminals kinds tokens sizes bindings roles symbols keys nodes heads next first to types constants scratch roles′ : List ℕ} where
+  -- a role that is no byte, or no room for the roles
+  pub wide-resolved :
+      {b : Bool} → Narrows bindings (length roles) b roles′ → not b ≡ true →
+      Resolves src starts lengths terminals kinds tokens sizes bindings roles symbols keys nodes heads next first to types constants scratch Unfit bindings types constants
+  wide-resolved {b} N n = record {
+    kept = λ w. refl;
+    is = λ t F. tt;
+    unfit = λ w t F R.
+        let o : length bindings ≡ count t = ap length (F .roles-are) ∙ as-many-roles (F .read) in
+        N .no (not-true b n) (omega (arith, o, R .role-room)) (λ k l. rw (F .roles-are) (R .small-roles k (omega (arith, l, o))));
+  }
+
+  pub narrow-resolved :
+      {b : Bool} {r : Resolution} {bindings′ types′ constants′ : List ℕ} → Narrows bindings (length roles) b roles′ → not b ≡ false →
+      ResolvesRoles src starts lengths terminals kinds tokens sizes (take (length bindings) roles′) bindings symbols keys nodes heads next first to types constants scratch r bindings′ types′ constants′ →
+      Resolves src starts lengths terminals kinds tokens sizes bindings roles symbols keys nodes heads next first to types constants scratch r bindings′ types′ constants′
+  narrow-resolved {b} {r} {bindings′} {types′} {constants′} N n Q = record {
+    kept = λ d. by-kept r refl d;
+    is = λ t F. Q .is t (as-bytes F) same-long;
+    unfit = λ w t F R.
+        Q .unfit w t (as-bytes F) (record {
+          role-room = omega (arith, ap length front, ap length (F .roles-are), as-many-roles (F .read));
+          small-roles = R .small-roles;
+          symbol-room = R .symbol-room;
+          consistent = R .consistent;
+          entry-room = R .entry-room;
+          stage-room = R .stage-room;
+        });
+  }
+    where
+      front : take (length bindings) roles′ ≡ bindings
+      front = N .front (not-false b n)
+
+      same-long : length bindings ≡ length (take (length bindings) roles′)
+      same-long = sym (ap length front)
+
+      as-bytes : {t : Table} → FileRead src starts lengths terminals kinds tokens sizes bindings t → FileRead src starts lengths terminals kinds tokens sizes (take (length bindings) roles′) t
+      as-bytes {t} F = rw front F
+
+      by-kept : (x : Resolution) → r ≡ x → r ≢ Bound → bindings′ ≡ bindings
+      by-kept Bound e d = absurd (d e)
+      by-kept (Faulty k x) e d = Q .put-back k x e same-long ∙ front
+      by-kept Unfit e d = Q .kept e

@@ -3,8 +3,8 @@ use mathlib.Core.Path.{_≡_}
 use mathlib.Core.Logic.{_≢_}
 use mathlib.Core.Bool.{true}
 use mathlib.Core.List.{List}
-use Prim.Native.Nat.{ℕ}
-use lib.ListN.{length, take}
+use Prim.Native.Nat.{ℕ, _≤_, _<_}
+use lib.ListN.{length, getD, take}
 use Rattle.relations.specs.Reach.{Joins}
 use Rattle.relations.specs.Sorted.{Arranged}
 use Rattle.express.specs.syntax.Grammar.{file}
@@ -38,12 +38,15 @@ pub record FileRead (src starts lengths terminals kinds tokens sizes roles : Lis
   pub sizes-are : sizes ≡ t .sizes
   pub roles-are : roles ≡ t .roles
 
--- ROOM in all columns: a symbol and a link for each token, a key, a node and a link for each entry of the dictionary, and what the stages write
-pub record NamesRoom (t : Table) (symbols keys nodes heads next bound first to types constants scratch spellings attributes owners attribute-heads attribute-next mark queue : ℕ) : Type 0 where
-  pub symbol-room : enough (length (t .starts)) (length (t .lengths)) symbols heads next ≡ true
+-- ROOM in all columns: a byte for each role, which is one, a symbol and a link for each token, a key, a node and a link for each entry of the dictionary, and
+-- what the stages write
+pub record NamesRoom (t : Table) (roles symbols keys nodes heads next first to types constants scratch : ℕ) : Type 0 where
+  pub role-room : count t ≤ roles
+  pub small-roles : (n : ℕ) → n < count t → getD (t .roles) n 0 < 256
+  pub symbol-room : enough (length (t .starts)) (length (t .lengths)) symbols heads scratch ≡ true
   pub consistent : Consistent t
   pub entry-room : Room (length (entries t)) keys nodes heads next
-  pub stage-room : StageRoom (count t) (vertex-count t) bound first to types constants scratch spellings attributes owners attribute-heads attribute-next mark queue
+  pub stage-room : StageRoom (length (t .starts)) (vertex-count t) first to types constants scratch
 
 -- THE ANSWER: no fault, each node bound as the scope rules say, and two orders of the declarations; or the fault; or no room
 abbrev pub Resolved : Table → Resolution → List ℕ → List ℕ → List ℕ → Type 0
@@ -54,21 +57,30 @@ Resolved t Bound bindings′ types constants =
 Resolved t (Faulty number place) bindings′ types constants = (names t ≡ fault number place) × (number ≢ 0)
 Resolved t Unfit bindings′ types constants = Unit {0}
 
--- `resolve`: of every file that is read. Whatever the columns hold, the column of bindings is as it was unless all names are bound. No room is
--- answered only where some is lacking. What the other lent columns hold afterwards is left free, and so are both orders after a fault.
-pub record Resolves (src starts lengths terminals kinds tokens sizes roles symbols keys nodes heads next bound first to types constants scratch spellings attributes owners
-    attribute-heads attribute-next mark queue : List ℕ) (r : Resolution) (bindings′ types′ constants′ : List ℕ) : Type 0 where
-  pub kept : r ≢ Bound → bindings′ ≡ roles
-  pub is : (t : Table) → FileRead src starts lengths terminals kinds tokens sizes roles t → Resolved t r bindings′ types′ constants′
+-- `resolve`: of every file that is read; the column of bindings holds the roles before. Whatever the columns hold, it is as it was unless all names are bound. No room
+-- is answered only where some is lacking. What the other lent columns hold afterwards is left free, and so are both orders after a fault.
+pub record Resolves (src starts lengths terminals kinds tokens sizes bindings roles symbols keys nodes heads next first to types constants scratch : List ℕ)
+    (r : Resolution) (bindings′ types′ constants′ : List ℕ) : Type 0 where
+  pub kept : r ≢ Bound → bindings′ ≡ bindings
+  pub is : (t : Table) → FileRead src starts lengths terminals kinds tokens sizes bindings t → Resolved t r bindings′ types′ constants′
   pub unfit :
-      r ≡ Unfit → (t : Table) → FileRead src starts lengths terminals kinds tokens sizes roles t →
-      NamesRoom t (length symbols) (length keys) (length nodes) (length heads) (length next) (length bound) (length first) (length to) (length types) (length constants) (length scratch)
-      (length spellings) (length attributes) (length owners) (length attribute-heads) (length attribute-next) (length mark) (length queue) → ⊥
+      r ≡ Unfit → (t : Table) → FileRead src starts lengths terminals kinds tokens sizes bindings t →
+      NamesRoom t (length roles) (length symbols) (length keys) (length nodes) (length heads) (length next) (length first) (length to) (length types) (length constants) (length scratch) → ⊥
 
 -- ---- what the inner functions go by
 
 -- `bind_prepared`: the dictionary stands at the front of its columns
-pub record BindsPrepared (kinds tokens sizes roles symbols starts keys nodes heads next : List ℕ) (vertices entries : ℕ) (r : Fault) (bound′ types′ constants′ : List ℕ) : Type 0 where
+pub record BindsPrepared (kinds tokens sizes roles symbols starts keys nodes heads next bound : List ℕ) (vertices entries : ℕ) (r : Fault) (bound′ types′ constants′ : List ℕ) : Type 0 where
   pub is :
       (t : Table) → Scanned t → FileColumns t kinds tokens roles symbols starts (take entries keys) (take entries nodes) heads next → sizes ≡ t .sizes → vertices ≡ vertex-count t →
-      NamesBound t r bound′ types′ constants′
+      count t ≤ length bound → NamesBound t r bound′ types′ constants′
+
+-- `resolve_roles`: with the roles in a column of bytes, as many as there are bindings; after a fault they are put back
+pub record ResolvesRoles (src starts lengths terminals kinds tokens sizes roles bindings symbols keys nodes heads next first to types constants scratch : List ℕ)
+    (r : Resolution) (bindings′ types′ constants′ : List ℕ) : Type 0 where
+  pub kept : r ≡ Unfit → bindings′ ≡ bindings
+  pub put-back : (k p : ℕ) → r ≡ Faulty k p → length bindings ≡ length roles → bindings′ ≡ roles
+  pub is : (t : Table) → FileRead src starts lengths terminals kinds tokens sizes roles t → length bindings ≡ length roles → Resolved t r bindings′ types′ constants′
+  pub unfit :
+      r ≡ Unfit → (t : Table) → FileRead src starts lengths terminals kinds tokens sizes roles t →
+      NamesRoom t (length roles) (length symbols) (length keys) (length nodes) (length heads) (length next) (length first) (length to) (length types) (length constants) (length scratch) → ⊥

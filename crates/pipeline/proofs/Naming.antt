@@ -34,14 +34,11 @@ names-end t n (Faulty k p) u R =
     }
 names-end t n Unfit u R = absurd (u refl)
 
-module _ {before : Stage} {src starts lengths terminals kinds tokens sizes roles symbols keys nodes heads next bound first to types constants scratch spellings attributes owners
-    attribute-heads attribute-next mark queue : List ℕ} where
+module _ {before : Stage} {src starts lengths terminals kinds tokens sizes bindings roles symbols keys nodes heads next first to types constants scratch : List ℕ} where
   pub named-file : {i : ℕ} {y : Resolution} {r : Stage} {bindings′ types′ constants′ : List ℕ} → before ≡ Done i →
-      Resolves src starts lengths terminals kinds tokens sizes roles symbols keys nodes heads next bound first to types constants scratch spellings attributes owners
-      attribute-heads attribute-next mark queue y bindings′ types′ constants′ →
-      r ≡ of-resolution y i →
-      NamesFile before src starts lengths terminals kinds tokens sizes roles symbols keys nodes heads next bound first to types constants scratch spellings attributes owners
-      attribute-heads attribute-next mark queue r bindings′ types′ constants′
+      Resolves src starts lengths terminals kinds tokens sizes bindings roles symbols keys nodes heads next first to types constants scratch y bindings′ types′ constants′ → r ≡
+      of-resolution y i →
+      NamesFile before src starts lengths terminals kinds tokens sizes bindings roles symbols keys nodes heads next first to types constants scratch r bindings′ types′ constants′
   named-file {i} {y} {r} e R u =
       record {
         passed-on = λ k p q. clash (cc);
@@ -51,8 +48,7 @@ module _ {before : Stage} {src starts lengths terminals kinds tokens sizes roles
       }
 
   pub passed-names : {k p : ℕ} {bindings′ types′ constants′ : List ℕ} → before ≡ Refused k p →
-      NamesFile before src starts lengths terminals kinds tokens sizes roles symbols keys nodes heads next bound first to types constants scratch spellings attributes owners
-      attribute-heads attribute-next mark queue (Refused k p) bindings′ types′ constants′
+      NamesFile before src starts lengths terminals kinds tokens sizes bindings roles symbols keys nodes heads next first to types constants scratch (Refused k p) bindings′ types′ constants′
   passed-names e = record { passed-on = λ j q u. sym e ∙ u; is = λ t F room n q. clash (cc) }
 
 -- the answer of a resolution, taken apart

@@ -32,12 +32,11 @@ pub record NamesEnd (t : Table) (n : ℕ) (r : Stage) (bindings types constants 
   pub types-arranged : (m : ℕ) → r ≡ Done m → Arranged (Joins (type-edges t)) (declared-nodes t) (take (vertex-count t) types)
   pub constants-arranged : (m : ℕ) → r ≡ Done m → Arranged (Joins (constant-edges t)) (declared-nodes t) (take (vertex-count t) constants)
 
--- `name_file`, of every file that is read, with room for what the stage writes
-pub record NamesFile (before : Stage) (src starts lengths terminals kinds tokens sizes roles symbols keys nodes heads next bound first to types constants scratch spellings attributes owners
-    attribute-heads attribute-next mark queue : List ℕ) (r : Stage) (bindings′ types′ constants′ : List ℕ) : Type 0 where
+-- `name_file`, of every file that is read, with room for what the stage writes. The column of bindings holds the roles before.
+pub record NamesFile (before : Stage) (src starts lengths terminals kinds tokens sizes bindings roles symbols keys nodes heads next first to types constants scratch : List ℕ) (r : Stage)
+    (bindings′ types′ constants′ : List ℕ) : Type 0 where
   pub passed-on : (k p : ℕ) → before ≡ Refused k p → r ≡ Refused k p
   pub is :
-      (t : Table) → FileRead src starts lengths terminals kinds tokens sizes roles t →
-      NamesRoom t (length symbols) (length keys) (length nodes) (length heads) (length next) (length bound) (length first) (length to) (length types) (length constants) (length scratch)
-      (length spellings) (length attributes) (length owners) (length attribute-heads) (length attribute-next) (length mark) (length queue) →
+      (t : Table) → FileRead src starts lengths terminals kinds tokens sizes bindings t →
+      NamesRoom t (length roles) (length symbols) (length keys) (length nodes) (length heads) (length next) (length first) (length to) (length types) (length constants) (length scratch) →
       (n : ℕ) → before ≡ Done n → NamesEnd t n r bindings′ types′ constants′

@@ -30,31 +30,22 @@ pub fn name_file(
     tokens: &[u32],
     sizes: &[u32],
     bindings: &mut [u32],
+    roles: &mut [u8],
     symbols: &mut [u32],
     keys: &mut [u64],
     nodes: &mut [u32],
     heads: &mut [u32],
     next: &mut [u32],
-    bound: &mut [u32],
     first: &mut [u32],
     to: &mut [u32],
     types: &mut [u32],
     constants: &mut [u32],
     scratch: &mut [u32],
-    spellings: &mut [u64],
-    attributes: &mut [u32],
-    owners: &mut [u32],
-    attribute_heads: &mut [u32],
-    attribute_next: &mut [u32],
-    mark: &mut [u32],
-    queue: &mut [u32],
 ) -> Stage
     ensures { λ r. ⌜ NamesFile before (now (src .entry)) (now (starts .entry)) (now (lengths .entry)) (now (terminals .entry)) (now (kinds .entry))
-        (now (tokens .entry)) (now (sizes .entry)) (now (bindings .entry)) (now (symbols .entry)) (now (keys .entry)) (now (nodes .entry))
-        (now (heads .entry)) (now (next .entry)) (now (bound .entry)) (now (first .entry)) (now (to .entry)) (now (types .entry)) (now (constants .entry))
-        (now (scratch .entry)) (now (spellings .entry)) (now (attributes .entry)) (now (owners .entry)) (now («attribute_heads» .entry))
-        (now («attribute_next» .entry)) (now (mark .entry)) (now (queue .entry)) r
-        (now (bindings .exit)) (now (types .exit)) (now (constants .exit)) ⌝ }
+        (now (tokens .entry)) (now (sizes .entry)) (now (bindings .entry)) (now (roles .entry)) (now (symbols .entry)) (now (keys .entry)) (now (nodes .entry))
+        (now (heads .entry)) (now (next .entry)) (now (first .entry)) (now (to .entry)) (now (types .entry)) (now (constants .entry))
+        (now (scratch .entry)) r (now (bindings .exit)) (now (types .exit)) (now (constants .exit)) ⌝ }
 {
     match before {
         Stage::Done(n) => {
@@ -67,24 +58,17 @@ pub fn name_file(
                 tokens,
                 sizes,
                 bindings,
+                roles,
                 symbols,
                 keys,
                 nodes,
                 heads,
                 next,
-                bound,
                 first,
                 to,
                 types,
                 constants,
                 scratch,
-                spellings,
-                attributes,
-                owners,
-                attribute_heads,
-                attribute_next,
-                mark,
-                queue,
             );
             of_resolution(resolution, n)
         }

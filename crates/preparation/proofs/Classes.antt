@@ -1,7 +1,7 @@
 -- The table of classes: what its entries say of a kind and a role.
-use mathlib.Core.Path.{_≡_, refl, sym, ap, _∙_}
+use mathlib.Core.Path.{_≡_, refl, ap, _∙_}
 use mathlib.Core.Logic.{⊎-elim}
-use mathlib.Core.Bool.{Bool, false, cond}
+use mathlib.Core.Bool.{Bool, cond}
 use mathlib.Core.List.{List}
 use Prim.Native.Nat.{ℕ, _+_, _*_, _-_, _/_, _%_, _≤_, _<_}
 use native.Mathlib.Omega.{arith}
@@ -11,28 +11,28 @@ use lib.ListN.{getD}
 use Rattle.columns.proofs.Laws.{tabulated-at}
 use Rattle.relations.proofs.Select.{le-or}
 use Rattle.express.specs.syntax.NodeKind.{name, enumeration-item, constant, type, attribute-name, derived-attribute, rule, entity, schema, labelled, supertype-name}
-use Rattle.scopes.specs.Entries.{schemas, declared}
-use Rattle.scopes.specs.Standing.{declares, sort-by, entry-count, class-of, first-letter, class-table, Passed, PassedBy, More, MoreBy}
+use Rattle.scopes.specs.Entries.{schemas, declared, sorts}
+use Rattle.scopes.specs.Standing.{declares, sort-by, entry-count, class-of, first-letter, class-table, PassedBy, MoreBy}
 use Rattle.scopes.specs.declared.Here.{Here}
 use Rattle.scopes.specs.declared.Counts.{Counts}
 use Rattle.scopes.proofs.Sorting.{sort-schema, sort-declares, sort-small}
 
 -- ---- the parts of a class
 module _ (class k r : ℕ) (e : class ≡ class-of (sort-by k r)) where
-  pub class-sort : class % 8 ≡ sort-by k r
+  pub class-sort : class % sorts ≡ sort-by k r
   class-sort = omega (arith, e, sort-small k r)
 
-  pub class-entries : class / 8 ≡ entry-count (sort-by k r)
+  pub class-entries : class / sorts ≡ entry-count (sort-by k r)
   class-entries = omega (arith, e, sort-small k r)
 
-  class-schema : eqb (class % 8) schemas ≡ eqb k schema
+  class-schema : eqb (class % sorts) schemas ≡ eqb k schema
   class-schema = ap (λ (s : ℕ). eqb s schemas) class-sort ∙ sort-schema k r
 
-  class-declares : eqb (class % 8) declared ≡ declares k
+  class-declares : eqb (class % sorts) declared ≡ declares k
   class-declares = ap (λ (s : ℕ). eqb s declared) class-sort ∙ sort-declares k r
 
 -- by the sort that was read in the class, and the numbers that the calls gave
-module _ {class sort m : ℕ} (q : sort ≡ class % 8) (w : m ≡ class / 8) where
+module _ {class sort m : ℕ} (q : sort ≡ class % sorts) (w : m ≡ class / sorts) where
   pub passed-by :
       {n p : ℕ} {after h : Here} → h .owner ≡ cond (eqb sort declared) n (after .owner) → h .schema ≡ cond (eqb sort schemas) n (after .schema) →
       p ≡ cond (eqb sort declared) 1 0 → h .vertex ≡ after .vertex - p → h .other ≡ after .other - m → PassedBy class n after h

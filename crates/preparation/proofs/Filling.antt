@@ -1,27 +1,26 @@
 -- The columns of keys and nodes, filled from the last node to the first.
 use mathlib.Core.Path.{_≡_, refl, sym, ap, _∙_}
-use mathlib.Core.Bool.{Bool, true, false, cond, _||_}
-use mathlib.Core.List.{List, [], _∷_, _++_, map, map-append, flatMap}
-use Prim.Native.Nat.{ℕ, zero, suc, _+_, _*_, _-_, _%_, _≤_, _<_}
+use mathlib.Core.Bool.{Bool, true, false, cond, not}
+use mathlib.Core.List.{List, [], _∷_, _++_, map, map-append}
+use Prim.Native.Nat.{ℕ, suc, _+_, _*_, _-_, _%_, _≤_, _<_}
 use native.Mathlib.Omega.{arith}
-use native.Mathlib.Numerals.{add-one}
-use borrow.Author.Tests.{eq-eqb, ne-eqb}
+use borrow.Author.Tests.{ne-eqb}
 use lib.Dec.{eqb, leb}
-use lib.ListN.{length, length-append, length-map, set}
+use lib.ListN.{length, length-map, set}
 use lib.Seq.{sets, set-comm, length-sets}
 use Rattle.columns.proofs.Laws.{sets-append}
 use Rattle.relations.specs.Select.{span, keep}
-use Rattle.relations.proofs.Select.{span-step, span-end, or-right}
-use Rattle.express.specs.syntax.Tree.{Table, count, nodes, kind, role, symbol, is-declaration, owner, schema-of}
+use Rattle.relations.proofs.Select.{span-step, span-end}
+use Rattle.express.specs.syntax.Tree.{Table, count, nodes, kind, role, symbol, is-declaration, owner}
 use Rattle.express.specs.names.Fault.{sort, scope}
-use Rattle.scopes.specs.Entries.{none, schemas, declared, items-of-types, items-of-schemas, radix, key-of, Entry, own-entry, other-entries, entries, vertex, others-before}
+use Rattle.scopes.specs.Entries.{none, schemas, declared, sorts, radix, key-of, Entry, own-entry, declares-other, entries, vertex, others-before}
 use Rattle.scopes.specs.Standing.{sort-by, class-of, Stands, PassedBy, Ended, Counted}
-use Rattle.scopes.specs.Preparation.{Consistent, Enterable, Entered, Filled, scope-by, declared-by, own-by, schema-by}
+use Rattle.scopes.specs.Preparation.{Consistent, Enterable, Entered, Filled, scope-by, entry-if, own-by}
 use Rattle.scopes.specs.declared.Here.{Here}
 use Rattle.scopes.specs.declared.Counts.{Counts}
 use Rattle.scopes.proofs.Sorting.{key-within, sort-is, declared-sort, sort-below, owner-below, schema-below}
 use Rattle.preparation.proofs.Classes.{class-sort, passed-nothing}
-use Rattle.scopes.proofs.Passing.{stands-end, stands-step, vertex-step, vertex-le, vertex-small, vertex-none, others-step, others-none, others-small, entries-count}
+use Rattle.scopes.proofs.Passing.{stands-end, stands-step, vertex-step, vertex-le, vertex-small, vertex-none, others-step, others-none, others-small}
 
 -- ---- stores, the later place first
 module _ {A : Type 0} where
@@ -48,50 +47,51 @@ module _ {A : Type 0} where
       ap (λ (x : List A). sets x o p) (sets-swap (sets c v′ e) v d o′ q (omega arith))
       ∙ rw (← l, ← m) (ap (λ (x : List A). sets (sets x (o + length p) q) o p) (sets-before c v d e) ∙ sets-before (sets c v (d ++ e)) o p q)
 
-module _ (t : Table) (i : ℕ) where
-  -- the entries of the nodes from i on
-  abbrev pub declared-from : List Entry
-  declared-from = map (own-entry t) (keep (is-declaration t) (span i (count t - i)))
+-- ---- the entries of the nodes that pass a test
+module _ (t : Table) (p : ℕ → Bool) where
+  -- of the nodes from i on, and of node i
+  abbrev pub entries-from : ℕ → List Entry
+  entries-from i = map (own-entry t) (keep p (span i (count t - i)))
 
-  abbrev pub others-from : List Entry
-  others-from = flatMap (other-entries t) (span i (count t - i))
+  abbrev pub mine : ℕ → List Entry
+  mine i = entry-if (p i) (own-entry t i)
 
-  abbrev pub place : ℕ
-  place = vertex t (count t) + others-before t i
+  module _ (f : Entry → ℕ) (i : ℕ) where
+    mine-long : length (map f (mine i)) ≡ cond (p i) 1 0
+    mine-long = by (p i)
+      where
+        by : (b : Bool) → length (map f (entry-if b (own-entry t i))) ≡ cond b 1 0
+        by true = refl
+        by false = refl
 
-  -- its own among the declarations
-  abbrev pub mine : List Entry
-  mine = cond (is-declaration t i) (own-entry t i ∷ []) []
+    from-split : i < count t → map f (entries-from i) ≡ map f (mine i) ++ map f (entries-from (i + 1))
+    unfolding keep
+    from-split l = rw (span-step (count t) i l) (by (p i))
+      where
+        rest : List ℕ
+        rest = keep p (span (i + 1) (count t - (i + 1)))
 
-  mine-long : (f : Entry → ℕ) → vertex t i + length (map f mine) ≡ vertex t (i + 1)
-  mine-long f = by (is-declaration t i) (vertex-step t i)
-    where
-      by : (b : Bool) → vertex t (i + 1) ≡ vertex t i + cond b 1 0 → vertex t i + length (map f (cond b (own-entry t i ∷ []) [])) ≡ vertex t (i + 1)
-      by true h = omega arith
-      by false h = omega arith
+        by : (b : Bool) → map f (map (own-entry t) (cond b (i ∷ rest) rest)) ≡ map f (entry-if b (own-entry t i)) ++ map f (map (own-entry t) rest)
+        by true = refl
+        by false = refl
 
-module _ (t : Table) (i : ℕ) (f : Entry → ℕ) (l : i < count t) where
-  declared-split : map f (declared-from t i) ≡ map f (mine t i) ++ map f (declared-from t (i + 1))
-  unfolding keep
-  declared-split = rw (span-step (count t) i l) (by (is-declaration t i))
-    where
-      rest : List ℕ
-      rest = keep (is-declaration t) (span (i + 1) (count t - (i + 1)))
+-- among the declarations, and behind them
+module _ (t : Table) where
+  abbrev pub declared-from : ℕ → List Entry
+  declared-from = entries-from t (is-declaration t)
 
-      by : (b : Bool) → map f (map (own-entry t) (cond b (i ∷ rest) rest)) ≡ map f (cond b (own-entry t i ∷ []) []) ++ map f (map (own-entry t) rest)
-      by true = refl
-      by false = refl
+  abbrev pub others-from : ℕ → List Entry
+  others-from = entries-from t (declares-other t)
 
-  others-split : map f (others-from t i) ≡ map f (other-entries t i) ++ map f (others-from t (i + 1))
-  unfolding flatMap
-  others-split = rw (span-step (count t) i l) (map-append f (other-entries t i) (others-from t (i + 1)))
+  abbrev pub place : ℕ → ℕ
+  place i = vertex t (count t) + others-before t i
 
 module _ (t : Table) (f : Entry → ℕ) where
   abbrev declared-all : List Entry
   declared-all = map (own-entry t) (keep (is-declaration t) (nodes t))
 
   abbrev others-all : List Entry
-  others-all = flatMap (other-entries t) (nodes t)
+  others-all = map (own-entry t) (keep (declares-other t) (nodes t))
 
   declared-long : 0 + length (map f declared-all) ≡ vertex t (count t)
   unfolding vertex
@@ -99,25 +99,28 @@ module _ (t : Table) (f : Entry → ℕ) where
 
   entries-map : map f (entries t) ≡ map f declared-all ++ map f others-all
   unfolding entries
-  entries-map = map-append f declared-all others-all
+  entries-map = ap (map f) (map-append (own-entry t) (keep (is-declaration t) (nodes t)) (keep (declares-other t) (nodes t))) ∙ map-append f declared-all others-all
+
+-- a column after the stores of a node, by its place in the file
+abbrev pub stored : (Entry → ℕ) → Table → ℕ → List ℕ → List ℕ
+stored f t i column = sets (sets column (vertex t i) (map f (mine t (is-declaration t) i))) (place t i) (map f (mine t (declares-other t) i))
 
 pub record Filling (f : Entry → ℕ) (t : Table) (was column : List ℕ) (i : ℕ) : Type 0 where
   pub is : column ≡ sets (sets was (vertex t i) (map f (declared-from t i))) (place t i) (map f (others-from t i))
 
--- where a node stands, its stores are those of its entries
+-- where a node stands, its store is that of its entry
 pub entered-at :
     {f : Entry → ℕ} {t : Table} {i s y at : ℕ} {h : Here} {a b : List ℕ} → Stands t i h → s ≡ sort t i → y ≡ symbol t i → at ≡ place t i →
-    Entered f s (h .schema) (h .owner) (h .vertex) at y i a b →
-    b ≡ sets (sets a (vertex t i) (map f (mine t i))) (place t i) (map f (other-entries t i))
-unfolding scope other-entries
+    Entered f s (h .schema) (h .owner) (h .vertex) at y i a b → b ≡ stored f t i a
+unfolding scope
 entered-at {f} {t} {i} {s} {y} {at} {h} {a} {b} S e k p E =
-    let r : b ≡ sets (sets a (vertex t i) (map f (declared-by (sort t i) (own-entry t i)))) (place t i) (map f (other-entries t i)) =
+    let r : b ≡ sets (sets a (vertex t i) (map f (entry-if (eqb (sort t i) declared) (own-entry t i)))) (place t i) (map f (mine t (declares-other t) i)) =
     rw (e, k, p, S .schema-is, S .owner-is, S .vertex-is) at (E .is)
     in
-    r ∙ ap (λ (d : Bool). sets (sets a (vertex t i) (map f (cond d (own-entry t i ∷ []) []))) (place t i) (map f (other-entries t i))) (declared-sort t i)
+    r ∙ ap (λ (d : Bool). sets (sets a (vertex t i) (map f (entry-if d (own-entry t i)))) (place t i) (map f (mine t (declares-other t) i))) (declared-sort t i)
 
 starts : (f : Entry → ℕ) (t : Table) (was : List ℕ) → was ≡ sets (sets was (vertex t (count t)) (map f (declared-from t (count t)))) (place t (count t)) (map f (others-from t (count t)))
-unfolding keep flatMap
+unfolding keep
 starts f t was = rw (span-end (count t) (count t) (omega arith))
 
 module _ {f : Entry → ℕ} {t : Table} {was : List ℕ} where
@@ -125,20 +128,18 @@ module _ {f : Entry → ℕ} {t : Table} {was : List ℕ} where
   filling-starts = record { is = starts f t was }
 
   pub filling-goes-on :
-      {i : ℕ} {column column′ : List ℕ} → i < count t → Filling f t was column (i + 1) →
-      column′ ≡ sets (sets column (vertex t i) (map f (mine t i))) (place t i) (map f (other-entries t i)) →
-      Filling f t was column′ i
+      {i : ℕ} {column column′ : List ℕ} → i < count t → Filling f t was column (i + 1) → column′ ≡ stored f t i column → Filling f t was column′ i
   filling-goes-on {i} {column} {column′} l F e =
       record {
         is =
             e
-            ∙ ap (λ (c : List ℕ). sets (sets c (vertex t i) (map f (mine t i))) (place t i) (map f (other-entries t i))) (F .is)
-            ∙ sets-both was (vertex t i) (vertex t (i + 1)) (place t i) (place t (i + 1)) (map f (mine t i)) (map f (declared-from t (i + 1)))
-            (map f (other-entries t i)) (map f (others-from t (i + 1)))
-            (mine-long t i f)
-            (omega (arith, length-map (other-entries t i) f, entries-count t i, others-step t i))
+            ∙ ap (stored f t i) (F .is)
+            ∙ sets-both was (vertex t i) (vertex t (i + 1)) (place t i) (place t (i + 1)) (map f (mine t (is-declaration t) i)) (map f (declared-from t (i + 1)))
+            (map f (mine t (declares-other t) i)) (map f (others-from t (i + 1)))
+            (omega (arith, mine-long t (is-declaration t) f i, vertex-step t i))
+            (omega (arith, mine-long t (declares-other t) f i, others-step t i))
             (omega (arith, vertex-le t (i + 1) (count t) (omega arith)))
-            ∙ rw (declared-split t i f l, others-split t i f l);
+            ∙ rw (from-split t (is-declaration t) f i l, from-split t (declares-other t) f i l);
       }
 
   pub filling-ends : {i : ℕ} {column : List ℕ} → Filling f t was column i → i ≤ 0 → Filled f t was column
@@ -157,18 +158,13 @@ module _ {f : Entry → ℕ} {t : Table} {was : List ℕ} where
       whole = first ∙ rw (← declared-long t f, entries-map t f) (sym (sets-append was 0 (map f (declared-all t f)) (map f (others-all t f))))
 
 -- small enough to be entered
-pub enterable :
-    {t : Table} {i s y at : ℕ} {h : Here} → Consistent t → i < count t → Stands t i h → s ≡ sort t i → y ≡ symbol t i → at ≡ place t i →
-    Enterable s (h .schema) (h .owner) (h .vertex) at y i
-enterable {t} {i} ok l S e k p =
+pub enterable : {t : Table} {i s : ℕ} {h : Here} → Consistent t → i < count t → Stands t i h → s ≡ sort t i → Enterable s (h .schema) (h .owner) i
+enterable {t} {i} ok l S e =
     record {
       sorted = omega (arith, e, sort-below t i);
       schema-small = omega (arith, S .schema-is, schema-below t i (omega arith), ok .few);
       owner-small = omega (arith, S .owner-is, owner-below t i (omega arith), ok .few);
-      symbol-small = omega (arith, k, ok .small i l);
       node-small = omega (arith, ok .few);
-      vertex-small = omega (arith, S .vertex-is, vertex-small t i, ok .few);
-      at-small = omega (arith, p, vertex-small t (count t), others-small t i, ok .few);
     }
 
 -- ---- the stores of one node, by its sort
@@ -180,50 +176,28 @@ scope-small s schema owner h o = by (leb s schemas) (eqb s declared)
     by false true = h
     by false false = o
 
-module _ {s schema owner vertex at symbol node : ℕ} where
+module _ {s schema owner node : ℕ} (symbol : ℕ) where
   pub keyed :
-      {k x : ℕ} → Enterable s schema owner vertex at symbol node → k ≡ key-of (s % 8) (x % radix) symbol → x ≡ scope-by s schema owner → k ≡ key-of s (scope-by s schema owner) symbol
+      {k x : ℕ} → Enterable s schema owner node → k ≡ key-of (s % sorts) (x % radix) symbol → x ≡ scope-by s schema owner → k ≡ key-of s (scope-by s schema owner) symbol
   keyed E e h =
-      key-within s (scope-by s schema owner) symbol (e ∙ ap (λ (c : ℕ). key-of (s % 8) (c % radix) symbol) h) (omega (arith, E .sorted))
+      key-within s (scope-by s schema owner) symbol (e ∙ ap (λ (c : ℕ). key-of (s % sorts) (c % radix) symbol) h) (E .sorted)
       (scope-small s schema owner (E .schema-small) (E .owner-small))
 
-  pub item-keyed : {k : ℕ} → Enterable s schema owner vertex at symbol node → k ≡ key-of (items-of-schemas % 8) (schema % radix) symbol → k ≡ key-of items-of-schemas schema symbol
-  item-keyed E e = key-within items-of-schemas schema symbol e (omega arith) (E .schema-small)
-
-  module _ {f : Entry → ℕ} {a : List ℕ} where
+  module _ {f : Entry → ℕ} {vertex at : ℕ} {a : List ℕ} where
     pub entered-none : s ≡ none → Entered f s schema owner vertex at symbol node a a
     entered-none e = record { is = rw e }
 
-    pub entered-declared : {b : List ℕ} {v : ℕ} → s ≡ declared → v ≡ f (own-by s schema owner symbol node) → b ≡ set a vertex v → Entered f s schema owner vertex at symbol node a b
-    entered-declared e k h =
-        record { is = h ∙ ap (set a vertex) k ∙ by (eqb s declared) (eqb s none || eqb s declared) (eq-eqb s declared e) (or-right (eqb s none) (eqb s declared) (eq-eqb s declared e)) }
+    pub entered-one :
+        {b : List ℕ} {k v : ℕ} → (s ≡ none → ⊥) → k ≡ cond (eqb s declared) vertex at → v ≡ f (own-by s schema owner symbol node) → b ≡ set a k v →
+        Entered f s schema owner vertex at symbol node a b
+    entered-one z p e h = record { is = h ∙ rw (p, e, ne-eqb s none z) (by (eqb s declared)) }
       where
         own : Entry
         own = own-by s schema owner symbol node
 
-        more : Entry
-        more = schema-by s schema owner symbol node
-
-        by : (p q : Bool) → p ≡ true → q ≡ true → set a vertex (f own) ≡ sets (sets a vertex (map f (cond p (own ∷ []) []))) at (map f (cond q [] (own ∷ cond (eqb s
-            items-of-types) (more ∷ []) [])))
-        by p q e g = rw (e, g)
-
-    pub entered-other :
-        {b : List ℕ} {v : ℕ} → (s ≡ none → ⊥) → (s ≡ declared → ⊥) → (s ≡ items-of-types → ⊥) → v ≡ f (own-by s schema owner symbol node) → b ≡ set a at v →
-        Entered f s schema owner vertex at symbol node a b
-    entered-other z d i k h = record { is = h ∙ ap (set a at) k ∙ rw (ne-eqb s none z, ne-eqb s declared d, ne-eqb s items-of-types i) }
-
-    pub entered-item :
-        {b c : List ℕ} {v w : ℕ} → s ≡ items-of-types → v ≡ f (own-by s schema owner symbol node) → w ≡ f (schema-by s schema owner symbol node) →
-        b ≡ set a at v → c ≡ set b (at + 1) w → Entered f s schema owner vertex at symbol node a c
-    entered-item {w = w} e k m h g =
-        record {
-          is =
-              g
-              ∙ ap (λ (x : List ℕ). set x (at + 1) w) (h ∙ ap (set a at) k)
-              ∙ ap (set (set a at (f (own-by s schema owner symbol node))) (at + 1)) m
-              ∙ rw (add-one, ne-eqb s none (λ q. omega (arith, q, e)), ne-eqb s declared (λ q. omega (arith, q, e)), eq-eqb s items-of-types e);
-        }
+        by : (d : Bool) → set a (cond d vertex at) (f own) ≡ sets (sets a vertex (map f (entry-if d own))) at (map f (entry-if (not d) own))
+        by true = refl
+        by false = refl
 
 -- ---- the loop
 pub filling-long : {f : Entry → ℕ} {t : Table} {was column : List ℕ} {i : ℕ} → Filling f t was column i → length column ≡ length was
@@ -244,7 +218,7 @@ module _ {t : Table} {keys₀ nodes₀ : List ℕ} where
       record { within = omega arith; consistent = ok; counted = C .declarations-is; stands = stands-end C E; keys-filling = filling-starts; nodes-filling = filling-starts }
 
   module _ {keys nodes : List ℕ} {after h : Here} {class d i s y : ℕ} (E : Entering t d keys₀ nodes₀ keys nodes after i) (l : 0 < i)
-      (C : class ≡ class-of (sort-by (kind t (i - 1)) (role t (i - 1)))) (P : PassedBy class (i - 1) after h) (ss : s ≡ class % 8) (ys : y ≡ symbol t (i - 1)) where
+      (C : class ≡ class-of (sort-by (kind t (i - 1)) (role t (i - 1)))) (P : PassedBy class (i - 1) after h) (ss : s ≡ class % sorts) (ys : y ≡ symbol t (i - 1)) where
     back : i - 1 + 1 ≡ i
     back = omega arith
 
@@ -260,12 +234,12 @@ module _ {t : Table} {keys₀ nodes₀ : List ℕ} where
     placed : {at : ℕ} → at ≡ d + h .other → at ≡ place t (i - 1)
     placed e = omega (arith, e, E .counted, now-stands .other-is)
 
-    pub entering-small : d + h .other < 8 * radix
+    pub entering-small : d + h .other < 2 * radix
     entering-small =
         omega (arith, E .counted, now-stands .other-is, vertex-small t (count t), others-small t (i - 1), E .consistent .few, low)
 
-    pub entering-fits : {at : ℕ} → at ≡ d + h .other → Enterable s (h .schema) (h .owner) (h .vertex) at y (i - 1)
-    entering-fits e = enterable (E .consistent) low now-stands sorted ys (placed e)
+    pub entering-fits : Enterable s (h .schema) (h .owner) (i - 1)
+    entering-fits = enterable (E .consistent) low now-stands sorted
 
     pub entering-goes-on :
         {keys′ nodes′ : List ℕ} {at : ℕ} → at ≡ d + h .other →
@@ -287,5 +261,5 @@ module _ {t : Table} {keys₀ nodes₀ : List ℕ} where
       {keys nodes : List ℕ} {here : Here} {class d i : ℕ} → Entering t d keys₀ nodes₀ keys nodes here i → 0 < i →
       class ≡ class-of (sort-by (kind t (i - 1)) (role t (i - 1))) → class ≡ 0 → Entering t d keys₀ nodes₀ keys nodes here (i - 1)
   entering-skip E l C z =
-      let s = ap (λ (x : ℕ). x % 8) z in
-      entering-goes-on E l C (passed-nothing z) refl refl refl (entered-none s) (entered-none s)
+      let s = ap (λ (x : ℕ). x % sorts) z in
+      entering-goes-on E l C (passed-nothing z) refl refl refl (entered-none _ s) (entered-none _ s)

@@ -1,10 +1,10 @@
 -- The dictionary as a whole: refused with nothing written, or at the front of the columns.
 use mathlib.Core.Path.{_≡_, refl, sym, ap, _∙_}
-use mathlib.Core.Bool.{Bool, true, false, not, _&&_}
-use mathlib.Core.List.{List, map, flatMap}
+use mathlib.Core.Bool.{Bool, true, not, _&&_}
+use mathlib.Core.List.{List}
 use Prim.Native.Nat.{ℕ, _+_, _*_, _≤_, _<_}
 use native.Mathlib.Omega.{arith}
-use borrow.Author.Tests.{not-true, not-false, ne-eqb, le-leb, lt-ltb}
+use borrow.Author.Tests.{not-true, ne-eqb, le-leb, lt-ltb}
 use lib.Dec.{eqb, leb, ltb}
 use lib.ListN.{length, take, length-append, length-map, length-take}
 use lib.Seq.{sets, length-sets}
@@ -12,26 +12,24 @@ use Rattle.columns.proofs.Laws.{take-rows}
 use Rattle.relations.specs.Select.{keep}
 use Rattle.relations.proofs.Select.{and-both}
 use Rattle.express.specs.syntax.Tree.{Table, count, nodes, is-declaration}
-use Rattle.index.specs.Dictionary.{Indexed, Builds}
-use Rattle.index.specs.Room.{done, fits}
+use Rattle.index.specs.Dictionary.{Builds}
+use Rattle.index.specs.Room.{done}
 use Rattle.index.specs.declared.Outcome.{Outcome}
-use Rattle.scopes.specs.Entries.{radix, Entry, own-entry, other-entries, entries, vertex, others-before}
-use Rattle.scopes.specs.Standing.{Counted, Counting, table-of}
-use Rattle.scopes.specs.Preparation.{Consistent, Room, Prepared, Prepares, Refused, Decides, Filled, keys-of, nodes-of}
+use Rattle.scopes.specs.Entries.{radix, Entry, own-entry, declares-other, declaring, entries, vertex, others-before}
+use Rattle.scopes.specs.Standing.{Counted}
+use Rattle.scopes.specs.Preparation.{Consistent, Room, Prepares, Refused, Decides, Filled, keys-of, nodes-of}
 use Rattle.scopes.specs.declared.Counts.{Counts}
 use Rattle.scopes.proofs.Passing.{vertex-small, others-small}
 
 pub entries-total : (t : Table) → length (entries t) ≡ vertex t (count t) + others-before t (count t)
 unfolding entries vertex others-before
-entries-total t =
-    length-append (map (own-entry t) (keep (is-declaration t) (nodes t))) (flatMap (other-entries t) (nodes t))
-    ∙ ap (λ (n : ℕ). n + length (flatMap (other-entries t) (nodes t))) (length-map (keep (is-declaration t) (nodes t)) (own-entry t))
+entries-total t = length-map (declaring t) (own-entry t) ∙ length-append (keep (is-declaration t) (nodes t)) (keep (declares-other t) (nodes t))
 
 module _ {t : Table} {c : Counts} (C : Counted t (count t) c) where
   total : c .declarations + c .others ≡ length (entries t)
   total = omega (arith, C .declarations-is, C .others-is, entries-total t)
 
-  pub total-small : Consistent t → c .declarations + c .others < 4 * radix
+  pub total-small : Consistent t → c .declarations + c .others < 2 * radix
   total-small ok = omega (arith, C .declarations-is, C .others-is, vertex-small t (count t), others-small t (count t), ok .few)
 
 module _ {t : Table} (keys nodes heads next : List ℕ) where

@@ -1,9 +1,9 @@
 // The dictionary of what a file declares is made: its nodes are classed and counted, and their entries stored.
 ghost use mathlib.Core.Path.{_≡_};
 ghost use mathlib.Core.Bool.{cond};
-ghost use Prim.Native.Nat.{_*_, _/_, _%_, _<_};
+ghost use Prim.Native.Nat.{_/_, _%_, _<_};
 ghost use lib.ListN.{length, set};
-ghost use Rattle.scopes.specs.Entries.{Entry, radix};
+ghost use Rattle.scopes.specs.Entries.{sorts, Entry, radix};
 ghost use Rattle.scopes.specs.Standing.{table-of, sort-by, class-of, class-table, PassedBy, Ended, MoreBy, Counted, Counting};
 ghost use Rattle.scopes.specs.Preparation.{Consistent, Room, Answers, Decides, Enterable, Entered, Filled};
 use columns::index;
@@ -11,20 +11,18 @@ use columns::shorter;
 use scopes::Counts;
 use scopes::DECLARATIONS;
 use scopes::Here;
-use scopes::ITEMS_OF_SCHEMAS;
-use scopes::ITEMS_OF_TYPES;
 use scopes::NO_SORT;
 use scopes::RADIX;
 use scopes::SCHEMAS;
-use scopes::at;
+use scopes::at8;
 use scopes::dictionary::Preparation;
 use scopes::dictionary::key;
 use scopes::dictionary::put;
 use scopes::dictionary::scope;
 
 // What a node declares: a row for each kind of node, a column for each role, the last one for all roles from 7 on. A class is a sort,
-// and 8 for each entry behind the declarations; it stands here as a letter, that of class 0 being @. So @ is nothing, B a constant, type or
-// entity, I a schema, L an attribute or a rule with a label, M a supertype in a list, and S an item: one entry in its type, one in its schema.
+// and 8 where its entry stands behind the declarations; it stands here as a letter, that of class 0 being @. So @ is nothing, B a constant,
+// type or entity, I a schema, K an item, L an attribute or a rule with a label, and M a supertype in a list.
 const CLASSES: [u8; 256] = *b"\
     @@@@@@@@\
     @@@@@@@@\
@@ -40,7 +38,7 @@ const CLASSES: [u8; 256] = *b"\
     @@@@@@@@\
     @@@@@@@@\
     @@@@@@@@\
-    SSSSSSSS\
+    KKKKKKKK\
     @@@@@@@@\
     @@@@@@@@\
     BBBBBBBB\
@@ -84,13 +82,13 @@ fn class(classes: &[u8; 256], kind: u8, role: u32) -> u8
 
 // The sort in a class.
 fn sort_in(class: u8) -> u64
-    ensures { λ r. ⌜ r ≡ class % 8 ⌝ }
+    ensures { λ r. ⌜ r ≡ class % sorts ⌝ }
 {
     (class % SORTS) as u64
 }
 
 fn entries_in(class: u8) -> usize
-    ensures { λ r. ⌜ r ≡ class / 8 ⌝ }
+    ensures { λ r. ⌜ r ≡ class / sorts ⌝ }
 {
     (class / SORTS) as usize
 }
@@ -135,7 +133,7 @@ fn passed(class: u8, i: usize, after: Here) -> Here
 
 // One more node, before which there are so many entries.
 fn more(class: u8, before: Counts) -> Counts
-    requires { ⌜ (before .declarations < 8 * radix) × (before .others < 8 * radix) ⌝ }
+    requires { ⌜ (before .declarations < radix) × (before .others < radix) ⌝ }
     ensures { λ r. ⌜ MoreBy class before r ⌝ }
 {
     let declarations = before.declarations + choose(sort_in(class) == DECLARATIONS, 1, 0);
@@ -147,7 +145,7 @@ fn more(class: u8, before: Counts) -> Counts
 }
 
 // How many entries the nodes have: none where there are too many nodes.
-pub fn count_entries(kinds: &[u8], roles: &[u32]) -> Counts
+pub fn count_entries(kinds: &[u8], roles: &[u8]) -> Counts
     ensures { λ r. ⌜ Counting (now (kinds .entry)) (now (roles .entry)) r ⌝ }
 {
     let mut so_far = Counts {
@@ -160,14 +158,14 @@ pub fn count_entries(kinds: &[u8], roles: &[u32]) -> Counts
     let classes = CLASSES;
     let mut i = 0;
     while i < kinds.len() {
-        so_far = more(class(&classes, kinds[i], at(roles, i)), so_far);
+        so_far = more(class(&classes, kinds[i], at8(roles, i) as u32), so_far);
         i += 1;
     }
     so_far
 }
 
 // Do the columns of nodes and tokens fit each other?
-fn consistent(kinds: &[u8], tokens: &[u32], roles: &[u32], symbols: &[u32]) -> bool
+fn consistent(kinds: &[u8], tokens: &[u32], roles: &[u8], symbols: &[u32]) -> bool
     ensures { λ r. ⌜ Decides (Consistent (table-of (now (kinds .entry)) (now (tokens .entry)) (now (roles .entry)) (now (symbols .entry)))) r ⌝ }
 {
     if RADIX <= kinds.len() as u64 {
@@ -208,7 +206,7 @@ fn enter(keys: &mut [u64], nodes: &mut [u32], at: usize, key: u64, node: usize)
     columns::put32(nodes, at, node as u32);
 }
 
-// Enters what a node declares: a declaration at its vertex, all else from an entry on.
+// Enters what a node declares: a declaration at its vertex, all else at its place behind them.
 fn enter_node(
     keys: &mut [u64],
     nodes: &mut [u32],
@@ -218,7 +216,7 @@ fn enter_node(
     symbol: u32,
     node: usize,
 )
-    requires { ⌜ Enterable sort (here .schema) (here .owner) (here .vertex) other symbol node ⌝ }
+    requires { ⌜ Enterable sort (here .schema) (here .owner) node ⌝ }
     ensures { λ _. ⌜ Entered (λ (e : Entry). e .key) sort (here .schema) (here .owner) (here .vertex) other symbol node (now (keys .entry)) (now (keys .exit)) ⌝ }
     ensures { λ _. ⌜ Entered (λ (e : Entry). e .node) sort (here .schema) (here .owner) (here .vertex) other symbol node (now (nodes .entry)) (now (nodes .exit)) ⌝ }
 {
@@ -226,28 +224,15 @@ fn enter_node(
         return;
     }
     let own = key(sort, scope(sort, here), symbol);
-    if sort == DECLARATIONS {
-        enter(keys, nodes, here.vertex, own, node);
-        return;
-    }
-    enter(keys, nodes, other, own, node);
-    if sort != ITEMS_OF_TYPES {
-        return;
-    }
-    enter(
-        keys,
-        nodes,
-        other + 1,
-        key(ITEMS_OF_SCHEMAS, here.schema, symbol),
-        node,
-    );
+    let at = choose(sort == DECLARATIONS, here.vertex, other);
+    enter(keys, nodes, at, own, node);
 }
 
 // Enters all nodes, from the last to the first.
 fn fill(
     kinds: &[u8],
     tokens: &[u32],
-    roles: &[u32],
+    roles: &[u8],
     symbols: &[u32],
     counts: Counts,
     keys: &mut [u64],
@@ -264,7 +249,7 @@ fn fill(
     let mut i = kinds.len();
     while 0 < i {
         i -= 1;
-        let class = class(&classes, kinds[i], roles[i]);
+        let class = class(&classes, kinds[i], roles[i] as u32);
         if class != NOTHING {
             let k = index(tokens[i]);
             here = passed(class, i, here);
@@ -285,7 +270,7 @@ fn fill(
 pub fn prepare(
     kinds: &[u8],
     tokens: &[u32],
-    roles: &[u32],
+    roles: &[u8],
     symbols: &[u32],
     keys: &mut [u64],
     nodes: &mut [u32],

@@ -1,12 +1,14 @@
--- One column is copied to the front of another.
+-- One column is copied to the front of another, entry by entry, and roles into bytes.
 use mathlib.Core.Path.{_≡_, refl, sym, ap, _∙_}
-use mathlib.Core.List.{List, [], _∷_, _++_}
-use Prim.Native.Nat.{ℕ, zero, suc, _+_, _≤_, _<_, min}
+use mathlib.Core.Bool.{true, false, false≢true}
+use mathlib.Core.List.{List}
+use Prim.Native.Nat.{ℕ, _+_, _≤_, _<_, min}
 use native.Mathlib.Omega.{arith}
 use native.Mathlib.Numerals.{add-one}
 use lib.ListN.{length, getD, set, take, length-set}
-use lib.Seq.{sets, take-suc, length-take-le}
-use Rattle.columns.proofs.Laws.{sets-snoc}
+use lib.Seq.{sets, take-suc, take-all, length-take-le}
+use Rattle.columns.proofs.Laws.{sets-snoc, take-rows}
+use Rattle.resolutions.specs.Answer.{Narrows}
 
 -- so many entries are copied
 pub record Copying (from into₀ into : List ℕ) (i : ℕ) : Type 0 where
@@ -35,3 +37,19 @@ pub copying-ends : {from into₀ into : List ℕ} {i end : ℕ} → end ≡ min 
 copying-ends {from} {into₀} {into} {i} e l C =
     let same : i ≡ min (length from) (length into₀) = omega (arith, C .low) in
     C .is ∙ ap (λ (j : ℕ). sets into₀ 0 (take j from)) same
+
+-- ---- roles into bytes
+
+pub narrowed : {roles bytes₀ bytes : List ℕ} {i : ℕ} → length roles ≤ length bytes₀ → length roles ≤ i → Copying roles bytes₀ bytes i → Narrows roles (length bytes₀) true bytes
+narrowed {roles} {bytes₀} {bytes} {i} fit l C =
+    let same : i ≡ length roles = omega (arith, C .low) in
+    let whole : bytes ≡ sets bytes₀ 0 roles = C .is ∙ ap (sets bytes₀ 0) (take-all i roles (omega (arith, same))) in
+    record {
+      fits = λ _. fit;
+      front = λ _. ap (take (length roles)) whole ∙ take-rows bytes₀ roles fit;
+      no = λ e. absurd (false≢true (sym e));
+    }
+
+-- false: a reason why not
+pub not-narrowed : {roles bytes : List ℕ} {room : ℕ} → (length roles ≤ room → ((n : ℕ) → n < length roles → getD roles n 0 < 256) → ⊥) → Narrows roles room false bytes
+not-narrowed w = record { fits = λ e. absurd (false≢true e); front = λ e. absurd (false≢true e); no = λ e. w }

@@ -10,15 +10,19 @@ use Rattle.faults.specs.declared.Fault.{Fault}
 use Rattle.resolutions.specs.Answer.{Finishes}
 use Rattle.resolutions.specs.declared.Resolution.the-variants.{Bound, Faulty}
 
-module _ {f : Fault} {bound bindings : List ℕ} where
-  pub finishes-faulty : (f .number ≡ 0 → ⊥) → Finishes f bound bindings (Faulty (f .number) (f .place)) bindings
-  finishes-faulty d = record {
-    answer = sym (ap (λ (b : Bool). cond b Bound (Faulty (f .number) (f .place))) (ne-eqb (f .number) 0 d));
-    bindings-are = sym (ap (λ (b : Bool). cond b (sets bindings 0 (take (min (length bound) (length bindings)) bound)) bindings) (ne-eqb (f .number) 0 d));
+abbrev chosen : List ℕ → List ℕ → Bool → List ℕ
+chosen roles bindings b = cond b bindings (sets bindings 0 (take (min (length roles) (length bindings)) roles))
+
+module _ {f : Fault} {roles bindings : List ℕ} where
+  pub finishes-bound : f .number ≡ 0 → Finishes f roles bindings Bound bindings
+  finishes-bound e = record {
+    answer = sym (ap (λ (b : Bool). cond b Bound (Faulty (f .number) (f .place))) (eq-eqb (f .number) 0 e));
+    bindings-are = sym (ap (chosen roles bindings) (eq-eqb (f .number) 0 e));
   }
 
-  pub finishes-bound : {bindings′ : List ℕ} → f .number ≡ 0 → bindings′ ≡ sets bindings 0 (take (min (length bound) (length bindings)) bound) → Finishes f bound bindings Bound bindings′
-  finishes-bound e w = record {
-    answer = sym (ap (λ (b : Bool). cond b Bound (Faulty (f .number) (f .place))) (eq-eqb (f .number) 0 e));
-    bindings-are = w ∙ sym (ap (λ (b : Bool). cond b (sets bindings 0 (take (min (length bound) (length bindings)) bound)) bindings) (eq-eqb (f .number) 0 e));
+  pub finishes-faulty : {bindings′ : List ℕ} → (f .number ≡ 0 → ⊥) → bindings′ ≡ sets bindings 0 (take (min (length roles) (length bindings)) roles) →
+      Finishes f roles bindings (Faulty (f .number) (f .place)) bindings′
+  finishes-faulty d w = record {
+    answer = sym (ap (λ (b : Bool). cond b Bound (Faulty (f .number) (f .place))) (ne-eqb (f .number) 0 d));
+    bindings-are = w ∙ sym (ap (chosen roles bindings) (ne-eqb (f .number) 0 d));
   }

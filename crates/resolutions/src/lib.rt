@@ -1,9 +1,9 @@
-// What the names of a file come to: whether there is room for the stages, and the answer after them.
+// What the names of a file come to: its roles as bytes, whether there is room for the stages, and the answer after them.
 ghost use mathlib.Core.Path.{_≡_};
 ghost use Prim.Native.Nat.{min};
 ghost use lib.ListN.{length, take};
 ghost use lib.Seq.{sets};
-ghost use Rattle.resolutions.specs.Answer.{StageRoom, done-with, Finishes};
+ghost use Rattle.resolutions.specs.Answer.{Narrows, StageRoom, done-with, Finishes};
 ghost use Rattle.scopes.specs.Preparation.{Decides};
 use columns::shorter;
 use faults::Fault;
@@ -12,9 +12,16 @@ use scopes::dictionary::Preparation;
 // Words of scratch that the search for an order needs for a declaration.
 const SEARCH_WORDS: usize = 6;
 
-const MOST_DECLARATIONS: usize = 65536;
+// The numbers of declarations are below this one: they are stamps of a table by symbol.
+const MOST_DECLARATIONS: usize = 32767;
 
 const WORD: u64 = 4294967296;
+
+// The numbers of a byte are below this one.
+const BYTE: u32 = 256;
+
+// A name for every two tokens, or fewer.
+const TOKENS_OF_ARC: usize = 2;
 
 // All names are bound; a reply from 9 to 13 and its place; or the lent columns are too short, or fit no file.
 pub enum Resolution {
@@ -23,33 +30,53 @@ pub enum Resolution {
     Unfit,
 }
 
-// Is there room in every column of the stages, for so many nodes and declarations?
+// Copies roles to the front of a column of bytes: false where it is too short, or a role is no byte.
+pub fn narrow(roles: &[u32], bytes: &mut [u8]) -> bool
+    ensures { λ r. ⌜ Narrows (now (roles .entry)) (length (now (bytes .entry))) r (now (bytes .exit)) ⌝ }
+{
+    if bytes.len() < roles.len() {
+        return false;
+    }
+    let mut i = 0;
+    while i < roles.len() {
+        let role = roles[i];
+        if BYTE <= role {
+            return false;
+        }
+        bytes[i] = role as u8;
+        i += 1;
+    }
+    true
+}
+
+// Copies as many entries of a column of bytes as both have to the front of another column.
+pub fn widen(bytes: &[u8], into: &mut [u32])
+    ensures { λ _. ⌜ now (into .exit) ≡ sets (now (into .entry)) 0 (take (min (length (now (bytes .entry))) (length (now (into .entry)))) (now (bytes .entry))) ⌝ }
+{
+    let end = shorter(bytes.len(), into.len());
+    let mut i = 0;
+    while i < end {
+        into[i] = bytes[i] as u32;
+        i += 1;
+    }
+}
+
+// Is there room in every column of the stages, for so many tokens and declarations?
 pub fn room(
-    count: usize,
+    tokens: usize,
     vertices: usize,
-    bound: usize,
     first: usize,
     to: usize,
     types: usize,
     constants: usize,
     scratch: usize,
-    spellings: usize,
-    attributes: usize,
-    owners: usize,
-    heads: usize,
-    next: usize,
-    mark: usize,
-    queue: usize,
 ) -> bool
-    ensures { λ r. ⌜ Decides (StageRoom count vertices bound first to types constants scratch spellings attributes owners heads next mark queue) r ⌝ }
+    ensures { λ r. ⌜ Decides (StageRoom tokens vertices first to types constants scratch) r ⌝ }
 {
-    if MOST_DECLARATIONS < vertices {
+    if MOST_DECLARATIONS <= vertices {
         return false;
     }
     if WORD <= to as u64 {
-        return false;
-    }
-    if heads == 0 {
         return false;
     }
     if first <= vertices {
@@ -58,30 +85,10 @@ pub fn room(
     if scratch < SEARCH_WORDS * vertices {
         return false;
     }
-    let by_node = shorter(
-        bound,
-        shorter(
-            to,
-            shorter(spellings, shorter(attributes, shorter(owners, next))),
-        ),
-    );
-    let by_vertex = shorter(types, shorter(constants, shorter(mark, queue)));
-    if by_node < count {
+    if shorter(scratch, TOKENS_OF_ARC * to) < tokens {
         return false;
     }
-    vertices <= by_vertex
-}
-
-// Copies as many entries of a column as both have to the front of another.
-pub fn copy(from: &[u32], into: &mut [u32])
-    ensures { λ _. ⌜ now (into .exit) ≡ sets (now (into .entry)) 0 (take (min (length (now (from .entry))) (length (now (into .entry)))) (now (from .entry))) ⌝ }
-{
-    let end = shorter(from.len(), into.len());
-    let mut i = 0;
-    while i < end {
-        into[i] = from[i];
-        i += 1;
-    }
+    vertices <= shorter(types, constants)
 }
 
 // Was the dictionary made, and is there room?
@@ -94,13 +101,13 @@ pub fn fits(prepared: Preparation, room: bool) -> bool
     }
 }
 
-// The bindings are moved to their column where there is no fault.
-pub fn finish(fault: Fault, bound: &[u32], bindings: &mut [u32]) -> Resolution
-    ensures { λ r. ⌜ Finishes fault (now (bound .entry)) (now (bindings .entry)) r (now (bindings .exit)) ⌝ }
+// The answer to a fault: the roles are put back into the column of bindings.
+pub fn finish(fault: Fault, roles: &[u8], bindings: &mut [u32]) -> Resolution
+    ensures { λ r. ⌜ Finishes fault (now (roles .entry)) (now (bindings .entry)) r (now (bindings .exit)) ⌝ }
 {
-    if fault.number != codes::replies::ACCEPTED {
-        return Resolution::Faulty(fault.number, fault.place);
+    if fault.number == codes::replies::ACCEPTED {
+        return Resolution::Bound;
     }
-    copy(bound, bindings);
-    Resolution::Bound
+    widen(roles, bindings);
+    Resolution::Faulty(fault.number, fault.place)
 }

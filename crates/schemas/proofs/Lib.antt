@@ -2,3 +2,4 @@ pub mod Settled
 pub mod Numbering
 pub mod OneConstant
 pub mod Passing
+pub mod Grouping

@@ -12,10 +12,9 @@ use lib.IntN.{ℤ, pos}
 use lib.ListN.{length, getD, set, take}
 use lib.Seq.{take-all, getD-set-same, getD-set-other}
 use Rattle.relations.specs.Reach.{Joins}
-use Rattle.relations.specs.Sorted.{Sorted, done, next}
-use Rattle.relations.proofs.Select.{and-fst, and-snd, mem-keep, mem-upto}
+use Rattle.relations.proofs.Select.{and-fst, and-snd}
 use Rattle.express.specs.syntax.NodeKind as node
-use Rattle.express.specs.syntax.Tree.{Table, count, kind, is, nodes, is-declaration}
+use Rattle.express.specs.syntax.Tree.{Table, count, kind, is}
 use Rattle.express.specs.names.Scope as scope
 use Rattle.express.specs.names.Fault.{constant-edges}
 use Rattle.express.specs.kinds.Answer.{Answer}
@@ -27,7 +26,7 @@ use Rattle.answer_rows.proofs.Stored.{Storable, row-back}
 use Rattle.evaluate.specs.Answers.{answers-in}
 use Rattle.evaluate.specs.Evaluation.{known-in}
 use Rattle.evaluate.proofs.Rows.{row-there}
-use Rattle.schemas.specs.Rows.{row, due, answer-of-constant, OfFile, Rows, Room, Holds, EvaluatesConstant, Schema, Filled, FillsSchema}
+use Rattle.schemas.specs.Rows.{row, due, answer-of-constant, OfFile, Rows, Room, Holds, EvaluatesConstant, Schema, Part, Filled, FillsSchema}
 use Rattle.schemas.proofs.Settled.{value-alike, uses-edge, settled, answer-storable}
 use Rattle.schemas.proofs.Numbering.{row-rises, row-before}
 
@@ -38,16 +37,6 @@ mem-next (x ∷ xs) zero k (List·Memᴰ·head q) = inr q
 mem-next (x ∷ xs) zero k (List·Memᴰ·tail m) = absurd (List·Memᴰ·not-nil m)
 mem-next (x ∷ xs) (suc i) k (List·Memᴰ·head q) = inl (List·Memᴰ·head q)
 mem-next (x ∷ xs) (suc i) k (List·Memᴰ·tail m) = ⊎-elim (λ n. inl (List·Memᴰ·tail n)) (λ q. inr q) (mem-next xs i k m)
-
-sorted-at : {E : ℕ → ℕ → Type 0} {passed ds : List ℕ} → Sorted E passed ds → (i c : ℕ) → i < length ds → E (getD ds i 0) c → List·Memᴰ c passed ⊎ List·Memᴰ c (take i ds)
-sorted-at done i c l e = absurd (omega arith)
-sorted-at (next h more) zero c l e = inl (h c e)
-sorted-at (next h more) (suc i) c l e = by (sorted-at more i c (omega arith) e)
-  where
-    by : {d : ℕ} {ps qs : List ℕ} → List·Memᴰ c (d ∷ ps) ⊎ List·Memᴰ c qs → List·Memᴰ c ps ⊎ List·Memᴰ c (d ∷ qs)
-    by (inl (List·Memᴰ·head q)) = inr (List·Memᴰ·head q)
-    by (inl (List·Memᴰ·tail m)) = inl m
-    by (inr m) = inr (List·Memᴰ·tail m)
 
 -- ---- one column
 pub record Due (t : Table) (lo hi c : ℕ) : Type 0 where
@@ -142,7 +131,7 @@ module _ {t : Table} {bytes starts lengths terminals kinds tokens sizes bindings
 
     -- so the value of a constant whose uses have passed is its answer
     value-right :
-        (d : ℕ) → Due t lo hi d → ((c : ℕ) → Joins (constant-edges t) d c → List·Memᴰ c passed) →
+        (d : ℕ) → Due t lo hi d → ((c : ℕ) → Joins (constant-edges t) d c → lo ≤ c → List·Memᴰ c passed) →
         value t bindings (known-in row-of at aks azs als) d ≡ answer-of-constant t d
     value-right d D p =
         let k = eq-eqb (kind t d) node.constant (D .is-constant) in
@@ -153,7 +142,7 @@ module _ {t : Table} {bytes starts lengths terminals kinds tokens sizes bindings
         let u = uses-edge (O .read) (O .named) d k l n m c e in
         let v = eqb-true (kind t c) node.constant (constant-edge-iff t d c .0 u .1) in
         let w = S .closed d c (D .from) (D .upto) (D .is-constant) v (constant-edge-schema (O .read) d c u) in
-        known-right c (p c u) (record { from = w .0; upto = w .1; is-constant = v })) ∙
+        known-right c (p c u (w .0)) (record { from = w .0; upto = w .1; is-constant = v })) ∙
         sym (settled (O .read) (O .named) d k l)
 
 -- ---- the test
@@ -171,8 +160,8 @@ due-not {t} {kinds} {lo} {hi} {d} e h D =
     let k : getD kinds d 0 ≡ node.constant = rw (← e) (D .is-constant) in
     false≢true (sym h ∙ rw (le-leb lo d (D .from), lt-ltb d hi (D .upto), k))
 
--- ---- THE LOOP'S INVARIANT: after i of the order
-pub record Passing (bytes starts lengths terminals kinds tokens sizes bindings declared order row-of : List ℕ) (lo hi at : ℕ) (aks₀ : List ℕ) (azs₀ : List ℤ) (als₀ vks₀ : List ℕ)
+-- ---- THE LOOP'S INVARIANT: after i of the part
+pub record Passing (bytes starts lengths terminals kinds tokens sizes bindings declared part row-of : List ℕ) (lo hi at : ℕ) (aks₀ : List ℕ) (azs₀ : List ℤ) (als₀ vks₀ : List ℕ)
     (vzs₀ : List ℤ) (vls₀ aks : List ℕ) (azs : List ℤ) (als vks : List ℕ) (vzs : List ℤ) (vls : List ℕ) (i : ℕ) : Type 0 where
   pub kinds-kept : length aks ≡ length aks₀
   pub numbers-kept : length azs ≡ length azs₀
@@ -181,12 +170,13 @@ pub record Passing (bytes starts lengths terminals kinds tokens sizes bindings d
   pub value-numbers-kept : length vzs ≡ length vzs₀
   pub value-lengths-kept : length vls ≡ length vls₀
   pub is :
-      (t : Table) → OfFile t bytes starts lengths terminals kinds tokens sizes bindings declared order → Rows t row-of → Schema t lo hi at → Room t vks₀ vzs₀ vls₀ →
-      Holds (row t hi - at) aks₀ azs₀ als₀ → HeldRows t lo hi at aks₀ azs₀ als₀ aks azs als (take i order)
+      (t : Table) (order : List ℕ) → OfFile t bytes starts lengths terminals kinds tokens sizes bindings declared order → Part t lo hi part → Rows t row-of →
+      Schema t lo hi at → Room t vks₀ vzs₀ vls₀ →
+      Holds (row t hi - at) aks₀ azs₀ als₀ → HeldRows t lo hi at aks₀ azs₀ als₀ aks azs als (take i part)
 
-module _ {bytes starts lengths terminals kinds tokens sizes bindings declared order row-of : List ℕ} {lo hi at : ℕ} {aks₀ : List ℕ} {azs₀ : List ℤ} {als₀ vks₀ : List ℕ}
+module _ {bytes starts lengths terminals kinds tokens sizes bindings declared part row-of : List ℕ} {lo hi at : ℕ} {aks₀ : List ℕ} {azs₀ : List ℤ} {als₀ vks₀ : List ℕ}
     {vzs₀ : List ℤ} {vls₀ : List ℕ} where
-  pub passing-starts : Passing bytes starts lengths terminals kinds tokens sizes bindings declared order row-of lo hi at aks₀ azs₀ als₀ vks₀ vzs₀ vls₀ aks₀ azs₀ als₀ vks₀ vzs₀ vls₀ 0
+  pub passing-starts : Passing bytes starts lengths terminals kinds tokens sizes bindings declared part row-of lo hi at aks₀ azs₀ als₀ vks₀ vzs₀ vls₀ aks₀ azs₀ als₀ vks₀ vzs₀ vls₀ 0
   passing-starts =
       record {
         kinds-kept = refl;
@@ -195,7 +185,7 @@ module _ {bytes starts lengths terminals kinds tokens sizes bindings declared or
         value-kinds-kept = refl;
         value-numbers-kept = refl;
         value-lengths-kept = refl;
-        is = λ t O W S M R.
+        is = λ t order O B W S M R.
             record {
               kinds-are = record { there = λ c m D. absurd (List·Memᴰ·not-nil m); rest = λ r h. refl };
               numbers-are = record { there = λ c m D. absurd (List·Memᴰ·not-nil m); rest = λ r h. refl };
@@ -204,15 +194,15 @@ module _ {bytes starts lengths terminals kinds tokens sizes bindings declared or
       }
 
   module _ {aks : List ℕ} {azs : List ℤ} {als vks : List ℕ} {vzs : List ℤ} {vls : List ℕ} {i : ℕ}
-      (P : Passing bytes starts lengths terminals kinds tokens sizes bindings declared order row-of lo hi at aks₀ azs₀ als₀ vks₀ vzs₀ vls₀ aks azs als vks vzs vls i) where
-    module _ (l : i < length order) {d : ℕ} (d-is : d ≡ getD order i 0) {b : Bool} (b-is : b ≡ due kinds lo hi d) where
-      one-more : (k : ℕ) → List·Memᴰ k (take (i + 1) order) → List·Memᴰ k (take i order) ⊎ (k ≡ d)
+      (P : Passing bytes starts lengths terminals kinds tokens sizes bindings declared part row-of lo hi at aks₀ azs₀ als₀ vks₀ vzs₀ vls₀ aks azs als vks vzs vls i) where
+    module _ (l : i < length part) {d : ℕ} (d-is : d ≡ getD part i 0) {b : Bool} (b-is : b ≡ due kinds lo hi d) where
+      one-more : (k : ℕ) → List·Memᴰ k (take (i + 1) part) → List·Memᴰ k (take i part) ⊎ (k ≡ d)
       one-more k m =
           let e : i + 1 ≡ suc i = omega arith in
-          ⊎-elim (λ n. inl n) (λ q. inr (q ∙ sym d-is)) (mem-next order i k (rw e at m))
+          ⊎-elim (λ n. inl n) (λ q. inr (q ∙ sym d-is)) (mem-next part i k (rw e at m))
 
       pub passing-other :
-          b ≡ false → Passing bytes starts lengths terminals kinds tokens sizes bindings declared order row-of lo hi at aks₀ azs₀ als₀ vks₀ vzs₀ vls₀ aks azs als vks vzs vls (i + 1)
+          b ≡ false → Passing bytes starts lengths terminals kinds tokens sizes bindings declared part row-of lo hi at aks₀ azs₀ als₀ vks₀ vzs₀ vls₀ aks azs als vks vzs vls (i + 1)
       passing-other h =
           record {
             kinds-kept = P .kinds-kept;
@@ -221,8 +211,8 @@ module _ {bytes starts lengths terminals kinds tokens sizes bindings declared or
             value-kinds-kept = P .value-kinds-kept;
             value-numbers-kept = P .value-numbers-kept;
             value-lengths-kept = P .value-lengths-kept;
-            is = λ t O W S M R.
-                let H = P .is t O W S M R in
+            is = λ t order O B W S M R.
+                let H = P .is t order O B W S M R in
                 let n = due-not (O .kinds-are) (sym b-is ∙ h) in
                 record {
                   kinds-are = held-skip (H .kinds-are) one-more n;
@@ -235,7 +225,7 @@ module _ {bytes starts lengths terminals kinds tokens sizes bindings declared or
           b ≡ true → {aks′ : List ℕ} {azs′ : List ℤ} {als′ vks′ : List ℕ} {vzs′ : List ℤ} {vls′ : List ℕ} →
           EvaluatesConstant bytes starts lengths terminals kinds tokens sizes bindings declared row-of d at aks azs als vks vzs vls aks′ azs′ als′ →
           length aks′ ≡ length aks → length azs′ ≡ length azs → length als′ ≡ length als → length vks′ ≡ length vks → length vzs′ ≡ length vzs → length vls′ ≡ length vls →
-          Passing bytes starts lengths terminals kinds tokens sizes bindings declared order row-of lo hi at aks₀ azs₀ als₀ vks₀ vzs₀ vls₀ aks′ azs′ als′ vks′ vzs′ vls′ (i + 1)
+          Passing bytes starts lengths terminals kinds tokens sizes bindings declared part row-of lo hi at aks₀ azs₀ als₀ vks₀ vzs₀ vls₀ aks′ azs′ als′ vks′ vzs′ vls′ (i + 1)
       passing-due h {aks′} {azs′} {als′} E a₁ a₂ a₃ v₁ v₂ v₃ =
           record {
             kinds-kept = a₁ ∙ P .kinds-kept;
@@ -248,10 +238,11 @@ module _ {bytes starts lengths terminals kinds tokens sizes bindings declared or
           }
         where
           rows :
-              (t : Table) → OfFile t bytes starts lengths terminals kinds tokens sizes bindings declared order → Rows t row-of → Schema t lo hi at → Room t vks₀ vzs₀ vls₀ →
-              Holds (row t hi - at) aks₀ azs₀ als₀ → HeldRows t lo hi at aks₀ azs₀ als₀ aks′ azs′ als′ (take (i + 1) order)
-          rows t O W S M R =
-              let H = P .is t O W S M R in
+              (t : Table) (order : List ℕ) → OfFile t bytes starts lengths terminals kinds tokens sizes bindings declared order → Part t lo hi part → Rows t row-of →
+              Schema t lo hi at → Room t vks₀ vzs₀ vls₀ →
+              Holds (row t hi - at) aks₀ azs₀ als₀ → HeldRows t lo hi at aks₀ azs₀ als₀ aks′ azs′ als′ (take (i + 1) part)
+          rows t order O B W S M R =
+              let H = P .is t order O B W S M R in
               let D = due-is (O .kinds-are) (sym b-is ∙ h) in
               let Y : Room t vks vzs vls = record {
                 kinds-long = omega (arith, P .value-kinds-kept, M .kinds-long);
@@ -265,7 +256,7 @@ module _ {bytes starts lengths terminals kinds tokens sizes bindings declared or
               } in
               let G = E .is t order O Y (due-known O W S d D) (D .is-constant) in
               let x = value-right O W S H Q d D
-              (λ c e. ⊎-elim (λ m. absurd (List·Memᴰ·not-nil m)) (λ m. m) (sorted-at (O .ordered .sorted) i c l (subst (λ (y : ℕ). Joins (constant-edges t) y c) d-is e))) in
+              (λ c e g. B .sorted i c l (subst (λ (y : ℕ). Joins (constant-edges t) y c) d-is e) g) in
               let j = ap (λ (y : ℕ). y - at) (W .is d (due-known O W S d D)) in
               let w = row-within O W S d D in
               record {
@@ -276,27 +267,25 @@ module _ {bytes starts lengths terminals kinds tokens sizes bindings declared or
 
     -- all constants of the schema are in the order
     pub passing-ends :
-        length order ≤ i → FillsSchema bytes starts lengths terminals kinds tokens sizes bindings declared order row-of lo hi at aks₀ azs₀ als₀ vks₀ vzs₀ vls₀ aks azs als
+        length part ≤ i → FillsSchema bytes starts lengths terminals kinds tokens sizes bindings declared part row-of lo hi at aks₀ azs₀ als₀ vks₀ vzs₀ vls₀ aks azs als
     passing-ends e =
         record {
-          is = λ t O W S M R.
-              let H = P .is t O W S M R in
+          is = λ t order O B W S M R.
+              let H = P .is t order O B W S M R in
               record {
-                kinds-are = all O W S (H .kinds-are);
-                numbers-are = all O W S (H .numbers-are);
-                lengths-are = all O W S (H .lengths-are);
+                kinds-are = all B (H .kinds-are);
+                numbers-are = all B (H .numbers-are);
+                lengths-are = all B (H .lengths-are);
               };
         }
       where
         all :
-            {A : Type 0} {z : A} {f : Answer → A} {t : Table} {was column : List A} → OfFile t bytes starts lengths terminals kinds tokens sizes bindings declared order →
-            Rows t row-of → Schema t lo hi at → Held z f t lo hi at was column (take i order) → Filled z f t lo hi at was column
-        all {t = t} O W S H =
+            {A : Type 0} {z : A} {f : Answer → A} {t : Table} {was column : List A} → Part t lo hi part → Held z f t lo hi at was column (take i part) → Filled z f t lo hi at was column
+        all {t = t} B H =
             record {
               constants-are = λ c lo hi k.
                   let D : Due t _ _ c = record { from = lo; upto = hi; is-constant = k } in
-                  let m = O .ordered .complete c (mem-keep (is-declaration t) (nodes t) (mem-upto (count t) c (due-known O W S c D)) (rw k)) in
-                  H .there c (rw (take-all i order e) m) D;
+                  H .there c (rw (take-all i part e) (B .complete c lo hi k)) D;
               rest = H .rest;
             }
 

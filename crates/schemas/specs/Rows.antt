@@ -1,11 +1,12 @@
 -- The answers of the constants of a schema in the rows of the answer columns (K13, K26, K36).
 use mathlib.Core.Path.{_≡_}
 use mathlib.Core.Bool.{Bool, _&&_}
-use mathlib.Core.List.{List}
+use mathlib.Core.List.{List, List·Memᴰ}
+use mathlib.Core.Logic.{_⊎_}
 use Prim.Native.Nat.{ℕ, _-_, _≤_, _<_}
 use lib.Dec.{eqb, leb, ltb}
 use lib.IntN.{ℤ, pos}
-use lib.ListN.{length, getD}
+use lib.ListN.{length, getD, take}
 use Rattle.relations.specs.Select.{span, keep}
 use Rattle.relations.specs.Reach.{Joins}
 use Rattle.relations.specs.Sorted.{Arranged}
@@ -35,6 +36,11 @@ row t n = row-in (t .kinds) n
 -- the answer of a constant, by its node
 abbrev pub answer-of-constant : Table → ℕ → Answer
 answer-of-constant t c = answer-at (answers t (scope.bindings t) (constant-order t)) c
+
+-- v stands in the entries from lo up to hi, as far as the column reaches; all others are as they were
+pub record Fills (v lo hi : ℕ) (was column : List ℕ) : Type 0 where
+  pub inside : (m : ℕ) → lo ≤ m → m < hi → m < length was → getD column m 0 ≡ v
+  pub outside : (m : ℕ) → (m < lo) ⊎ (hi ≤ m) → getD column m 0 ≡ getD was m 0
 
 -- the row of each constant, by node; nodes are numbered with 32 bits
 pub record NumbersRows (kinds row-of row-of′ : List ℕ) : Type 0 where
@@ -93,6 +99,11 @@ pub record Schema (t : Table) (lo hi at : ℕ) : Type 0 where
   pub closed :
       (d c : ℕ) → lo ≤ d → d < hi → kind t d ≡ node.constant → kind t c ≡ node.constant → schema-of t d ≡ schema-of t c → (lo ≤ c) × (c < hi)
 
+-- A PART OF THE ORDER with the constants from lo up to hi, each after those that it names
+pub record Part (t : Table) (lo hi : ℕ) (part : List ℕ) : Type 0 where
+  pub sorted : (i c : ℕ) → i < length part → Joins (constant-edges t) (getD part i 0) c → lo ≤ c → List·Memᴰ c (take i part)
+  pub complete : (c : ℕ) → lo ≤ c → c < hi → kind t c ≡ node.constant → List·Memᴰ c part
+
 -- A COLUMN whose rows from `at` on are those of the constants from lo up to hi: f gives what stands in a constant's row; all other rows are as they were
 pub record Filled {A : Type 0} (z : A) (f : Answer → A) (t : Table) (lo hi at : ℕ) (was column : List A) : Type 0 where
   pub constants-are : (c : ℕ) → lo ≤ c → c < hi → kind t c ≡ node.constant → getD column (row t c - at) z ≡ f (answer-of-constant t c)
@@ -104,10 +115,10 @@ pub record FilledRows (t : Table) (lo hi at : ℕ) (aks : List ℕ) (azs : List 
   pub numbers-are : Filled (pos 0) (λ a. row-of a .number) t lo hi at azs azs′
   pub lengths-are : Filled 0 (λ a. row-of a .length) t lo hi at als als′
 
-module _ (bytes starts lengths terminals kinds tokens sizes bindings declared order : List ℕ) where
+module _ (bytes starts lengths terminals kinds tokens sizes bindings declared part : List ℕ) where
   -- A SCHEMA: the rows of its constants are filled
   pub record FillsSchema (row-of : List ℕ) (lo hi at : ℕ) (aks : List ℕ) (azs : List ℤ) (als vks : List ℕ) (vzs : List ℤ) (vls aks′ : List ℕ) (azs′ : List ℤ) (als′ : List ℕ)
       : Type 0 where
     pub is :
-        (t : Table) → OfFile t bytes starts lengths terminals kinds tokens sizes bindings declared order → Rows t row-of → Schema t lo hi at → Room t vks vzs vls →
-        Holds (row t hi - at) aks azs als → FilledRows t lo hi at aks azs als aks′ azs′ als′
+        (t : Table) (order : List ℕ) → OfFile t bytes starts lengths terminals kinds tokens sizes bindings declared order → Part t lo hi part → Rows t row-of →
+        Schema t lo hi at → Room t vks vzs vls → Holds (row t hi - at) aks azs als → FilledRows t lo hi at aks azs als aks′ azs′ als′

@@ -1,27 +1,40 @@
 // The evaluation of the constants of one schema into the answer columns.
+pub mod parts;
+
 ghost use mathlib.Core.Path.{_≡_};
 ghost use Prim.Native.Nat.{_<_};
-ghost use Rattle.schemas.specs.Rows.{due, NumbersRows, EvaluatesConstant, FillsSchema};
+ghost use Rattle.schemas.specs.Rows.{due, Fills, NumbersRows, EvaluatesConstant, FillsSchema};
 use evaluate::answer_at;
 use evaluate::evaluate_expression;
 use evaluate::put_answer;
 use tree::at8;
 use tree::index_at;
+use tree::next_of_kind;
 
-// The row of each constant by its node: how many constants stand before it.
+// One number in the entries from one up to another, which is not among them.
+fn fill(column: &mut [u32], from: usize, to: usize, value: u32)
+    ensures { λ _. ⌜ Fills value from to (now (column .entry)) (now (column .exit)) ⌝ }
+{
+    let end = columns::shorter(to, column.len());
+    let mut i = from;
+    while i < end {
+        column[i] = value;
+        i += 1;
+    }
+}
+
+// The row of each constant by its node: how many constants stand before it. The nodes up to a constant have one number.
 pub fn number_rows(kinds: &[u8], row_of: &mut [u32])
     ensures { λ _. ⌜ NumbersRows (now (kinds .entry)) (now («row_of» .entry)) (now («row_of» .exit)) ⌝ }
 {
     let mut n: usize = 0;
     let mut rows: usize = 0;
     while n < kinds.len() {
-        columns::put32(row_of, n, columns::number(rows));
-        if kinds[n] == codes::nodes::CONSTANT {
-            rows += 1;
-            n += 1;
-        } else {
-            n += 1;
-        }
+        let constant = next_of_kind(kinds, codes::nodes::CONSTANT, n);
+        let end = columns::shorter(constant, kinds.len() - 1) + 1;
+        fill(row_of, n, end, columns::number(rows));
+        rows += 1;
+        n = end;
     }
 }
 
@@ -37,6 +50,9 @@ fn is_due(kinds: &[u8], lo: usize, hi: usize, d: usize) -> bool
     }
     at8(kinds, d) == codes::nodes::CONSTANT
 }
+
+// The nodes of a constant that are not of its expression: its own and, before the expression, that of its type, which has no answer.
+const BESIDES: usize = 2;
 
 // Evaluates one constant into its row, of columns that start with row `at`.
 fn evaluate_constant(
@@ -66,7 +82,8 @@ fn evaluate_constant(
         (now («value_kinds» .entry)) (now («value_numbers» .entry)) (now («value_lengths» .entry))
         (now («answer_kinds» .exit)) (now («answer_numbers» .exit)) (now («answer_lengths» .exit)) ⌝ }
 {
-    let first = columns::saturating_sub(d + 1, index_at(sizes, d));
+    let nodes = columns::saturating_sub(index_at(sizes, d), BESIDES);
+    let first = columns::saturating_sub(d, nodes);
     evaluate_expression(
         src,
         starts,
@@ -94,8 +111,8 @@ fn evaluate_constant(
     put_answer(answer_kinds, answer_numbers, answer_lengths, row, answer);
 }
 
-// Evaluates the constants from node lo up to hi, which are those of a schema, in the order that is given, into the part of the answer columns from
-// row `at` on.
+// Evaluates the constants from node lo up to hi, which are those of a schema, as they stand in a part of the order, into the part of the answer columns
+// from row `at` on.
 pub fn evaluate_schema(
     src: &[u8],
     starts: &[u32],
@@ -106,7 +123,7 @@ pub fn evaluate_schema(
     sizes: &[u32],
     bindings: &[u32],
     declared: &[u32],
-    order: &[u32],
+    part: &[u32],
     row_of: &[u32],
     lo: usize,
     hi: usize,
@@ -119,14 +136,14 @@ pub fn evaluate_schema(
     value_lengths: &mut [u8],
 )
     ensures { λ _. ⌜ FillsSchema (now (src .entry)) (now (starts .entry)) (now (lengths .entry)) (now (terminals .entry)) (now (kinds .entry))
-        (now (tokens .entry)) (now (sizes .entry)) (now (bindings .entry)) (now (declared .entry)) (now (order .entry)) (now («row_of» .entry)) lo hi at
+        (now (tokens .entry)) (now (sizes .entry)) (now (bindings .entry)) (now (declared .entry)) (now (part .entry)) (now («row_of» .entry)) lo hi at
         (now («answer_kinds» .entry)) (now («answer_numbers» .entry)) (now («answer_lengths» .entry))
         (now («value_kinds» .entry)) (now («value_numbers» .entry)) (now («value_lengths» .entry))
         (now («answer_kinds» .exit)) (now («answer_numbers» .exit)) (now («answer_lengths» .exit)) ⌝ }
 {
     let mut i: usize = 0;
-    while i < order.len() {
-        let d = columns::index(order[i]);
+    while i < part.len() {
+        let d = columns::index(part[i]);
         if is_due(kinds, lo, hi, d) {
             evaluate_constant(
                 src,

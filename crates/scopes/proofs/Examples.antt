@@ -1,17 +1,15 @@
--- A file with one schema, computed: ENTITY with an attribute, TYPE with two items, CONSTANT. The declarations come first, an item has two entries.
+-- A file with one schema, computed: ENTITY with an attribute, TYPE with two items, CONSTANT. The declarations come first.
 use mathlib.Core.Path.{_≡_, refl}
 use mathlib.Core.List.{List, [], _∷_}
-use Prim.Native.Nat.{ℕ, zero, suc, _+_, _<_}
+use Prim.Native.Nat.{ℕ, zero, suc, _<_}
 use native.Mathlib.Omega.{arith}
 use Rattle.relations.specs.Select.{span, first-from, keep}
 use Rattle.express.specs.syntax.NodeKind.{enumeration-item, enumeration, constant, type, attribute-name, entity, schema, file}
 use Rattle.express.specs.syntax.Tree.{Table, owner, schema-of, token, symbol}
 use Rattle.express.specs.names.Fault.{sort, scope}
-use Rattle.express.specs.names.Scope.{declarations, items, own, items-of}
-use Rattle.scopes.specs.Entries.{radix, key-of, other-entries, entries, vertex}
+use Rattle.scopes.specs.Entries.{radix, key-of, entries, vertex}
 use Rattle.scopes.specs.Standing.{table-of}
 use Rattle.scopes.specs.Preparation.{Consistent, nodes-of, keys-of}
-use mathlib.Core.List.{flatMap}
 
 -- token and symbol of node n are n
 abbrev small-file : Table
@@ -20,14 +18,14 @@ small-file =
     table-of (attribute-name ∷ entity ∷ enumeration-item ∷ enumeration-item ∷ enumeration ∷ type ∷ constant ∷ schema ∷ file ∷ []) numbers
     (0 ∷ 0 ∷ 0 ∷ 0 ∷ 0 ∷ 0 ∷ 0 ∷ 0 ∷ 0 ∷ []) numbers
 
-its-nodes : nodes-of (entries small-file) ≡ 1 ∷ 5 ∷ 6 ∷ 0 ∷ 2 ∷ 2 ∷ 3 ∷ 3 ∷ 7 ∷ []
-unfolding entries other-entries flatMap keep span sort scope owner schema-of first-from
+its-nodes : nodes-of (entries small-file) ≡ 1 ∷ 5 ∷ 6 ∷ 0 ∷ 2 ∷ 3 ∷ 7 ∷ []
+unfolding entries keep span sort scope owner schema-of first-from
 its-nodes = refl
 
 its-keys :
     keys-of (entries small-file) ≡
-    key-of 2 7 1 ∷ key-of 2 7 5 ∷ key-of 2 7 6 ∷ key-of 4 1 0 ∷ key-of 3 5 2 ∷ key-of 6 7 2 ∷ key-of 3 5 3 ∷ key-of 6 7 3 ∷ key-of 1 0 7 ∷ []
-unfolding entries other-entries flatMap keep span sort scope owner schema-of first-from
+    key-of 2 7 1 ∷ key-of 2 7 5 ∷ key-of 2 7 6 ∷ key-of 4 1 0 ∷ key-of 3 5 2 ∷ key-of 3 5 3 ∷ key-of 1 0 7 ∷ []
+unfolding entries keep span sort scope owner schema-of first-from
 its-keys = refl
 
 its-vertex : vertex small-file 6 ≡ 2

@@ -1,30 +1,30 @@
 -- The look-ups: what is found under a key is what the candidates mean.
 use mathlib.Core.Path.{_≡_, refl, sym, ap, _∙_}
-use mathlib.Core.Logic.{_⊎_, ⊎-elim}
+use mathlib.Core.Logic.{⊎-elim}
 use mathlib.Core.Bool.{Bool, true, false, cond, _&&_}
 use mathlib.Core.List.{List, []}
-use Prim.Native.Nat.{ℕ, zero, suc, _+_, _-_, _≤_, _<_, _%_}
+use Prim.Native.Nat.{ℕ, _+_, _-_, _≤_, _<_, _%_}
 use native.Mathlib.Omega.{arith}
 use borrow.Author.Tests.{ne-eqb}
 use lib.Dec.{eqb, ltb}
 use lib.ListN.{length, getD}
 use Rattle.relations.specs.Select.{span, first-from, keep}
-use Rattle.relations.proofs.Select.{le-or, upto-mem}
+use Rattle.relations.proofs.Select.{le-or, upto-mem, keep-nothing}
 use Rattle.express.specs.syntax.NodeKind.{enumeration-item}
 use Rattle.express.specs.syntax.Tree.{Table, count, nodes, symbol, is, is-declaration, is-scope-member, owner, schema-of}
 use Rattle.express.specs.names.Scope as express
-use Rattle.express.specs.names.Scope.{declarations, items, own, items-of}
+use Rattle.express.specs.names.Scope.{declarations, own, items-of}
 use Rattle.express.proofs.names.Meaning.{meaning-first}
-use Rattle.index.specs.Dictionary.{has, first-with, among, Indexed, Holds, Finds, Continues}
+use Rattle.index.specs.Dictionary.{has, first-with, Indexed, Holds, Finds, Continues}
 use Rattle.index.specs.declared.dictionary.Found.{Found}
 use Rattle.index.specs.declared.dictionary.Found.the-variants as found
-use Rattle.scopes.specs.Entries.{declared, items-of-types, members, items-of-schemas, radix, key-of, entries, with-key}
+use Rattle.scopes.specs.Entries.{declared, items-of-types, members, sorts, radix, key-of, entries, with-key}
 use Rattle.scopes.specs.Preparation.{Consistent, Prepared}
-use Rattle.scopes.specs.LookUp.{numbers, entry-meant, node-meant, Within, Meant, Means, UnderKey}
+use Rattle.scopes.specs.LookUp.{numbers, node-meant, Meant, Means, UnderKey}
 use Rattle.scopes.specs.declared.look_ups.Meaning.{Meaning}
 use Rattle.scopes.specs.declared.look_ups.Meaning.the-variants.{Nothing, One, Several}
 use Rattle.scopes.proofs.Sorting.{key-some, key-within, owner-below, schema-below}
-use Rattle.scopes.proofs.WithKey.{keep-none, by-declaration, by-type, by-owner, by-schema}
+use Rattle.scopes.proofs.WithKey.{by-declaration, by-type, by-owner}
 use Rattle.scopes.proofs.Numbering.{meant-nodes}
 
 -- ---- the meaning, by the first entry and the next
@@ -88,7 +88,7 @@ module _ {keys heads next : List ℕ} {a g s : ℕ} where
   pub high-symbol : radix ≤ s → UnderKey keys heads next a g s Nothing
   high-symbol l = record { within = omega arith; is = λ h k I. absurd (omega arith); high-scope = λ h. refl; high-symbol = λ h. refl }
 
-  pub under-key : {k : ℕ} {r : Meaning} → a ≤ 6 → g < radix → s < radix → k ≡ key-of (a % 8) (g % radix) s → Meant keys heads next k r → UnderKey keys heads next a g s r
+  pub under-key : {k : ℕ} {r : Meaning} → a < sorts → g < radix → s < radix → k ≡ key-of (a % sorts) (g % radix) s → Meant keys heads next k r → UnderKey keys heads next a g s r
   under-key sorted gs ss e M =
       record {
         within = M .within;
@@ -101,7 +101,7 @@ module _ (t : Table) (ok : Consistent t) where
   -- no node has such a scope, or such a symbol
   no-scope : (s : ℕ) (p : ℕ → Bool) (c : ℕ → ℕ) (g : ℕ) → ((n : ℕ) → n ≤ count t → c n ≤ count t) → radix ≤ g → keep (λ k. eqb (symbol t k) s && (p k && eqb (c k) g)) (nodes t) ≡ []
   no-scope s p c g h l =
-      keep-none _ (nodes t) (λ n m. let i = upto-mem (count t) n m in rw (ne-eqb (c n) g (λ q. omega (arith, q, h n (omega arith), ok .few))) (none (eqb (symbol t n) s) (p n)))
+      keep-nothing _ (nodes t) (λ n m. let i = upto-mem (count t) n m in rw (ne-eqb (c n) g (λ q. omega (arith, q, h n (omega arith), ok .few))) (none (eqb (symbol t n) s) (p n)))
     where
       none : (a b : Bool) → (a && (b && false)) ≡ false
       none true true = refl
@@ -109,7 +109,7 @@ module _ (t : Table) (ok : Consistent t) where
       none false b = refl
 
   no-symbol : (s : ℕ) (p : ℕ → Bool) → radix ≤ s → keep (λ k. eqb (symbol t k) s && p k) (nodes t) ≡ []
-  no-symbol s p l = keep-none _ (nodes t) (λ n m. rw (ne-eqb (symbol t n) s (λ q. omega (arith, q, ok .small n (upto-mem (count t) n m)))))
+  no-symbol s p l = keep-nothing _ (nodes t) (λ n m. rw (ne-eqb (symbol t n) s (λ q. omega (arith, q, ok .small n (upto-mem (count t) n m)))))
 
 module _ {keys heads next : List ℕ} {a g s : ℕ} {r : Meaning} (U : UnderKey keys heads next a g s r) where
   -- where the candidates are what has the key, and there are none past the radix
@@ -152,10 +152,3 @@ module _ {keys heads next : List ℕ} {g s : ℕ} {r : Meaning} where
       candidates-meant U (λ t. items-of t g s) (omega arith) (λ t c h k. by-type t c g s h k)
       (λ t c. no-scope t c s (is t enumeration-item) (owner t) g (owner-below t))
       (λ t c. no-symbol t c s (λ k. is t enumeration-item k && eqb (owner t k) g))
-
-  pub schema-item-meant : UnderKey keys heads next items-of-schemas g s r → Means keys heads next (λ t. items t g s) r
-  unfolding items
-  schema-item-meant U =
-      candidates-meant U (λ t. items t g s) (omega arith) (λ t c h k. by-schema t c g s h k)
-      (λ t c. no-scope t c s (is t enumeration-item) (schema-of t) g (schema-below t))
-      (λ t c. no-symbol t c s (λ k. is t enumeration-item k && eqb (schema-of t k) g))

@@ -1,22 +1,21 @@
 -- The declarations by number, and the nodes of each: each node lies in the range of its owner.
 use mathlib.Core.Path.{_≡_, refl, sym, ap, _∙_}
-use mathlib.Core.Logic.{_⊎_, ⊎-elim}
+use mathlib.Core.Logic.{⊎-elim}
 use mathlib.Core.Bool.{Bool, true, false, cond, false≢true}
 use mathlib.Core.List.{List}
-use Prim.Native.Nat.{ℕ, zero, suc, _+_, _*_, _-_, _/_, _%_, _≤_, _<_}
+use Prim.Native.Nat.{ℕ, zero, suc, _+_, _-_, _/_, _%_, _≤_, _<_}
 use native.Mathlib.Omega.{arith}
 use native.Mathlib.Numerals.{add-one}
 use borrow.Author.Tests.{eqb-true, eqb-false, eq-eqb, ne-eqb}
 use lib.Dec.{eqb}
 use lib.ListN.{length, getD}
-use Rattle.relations.specs.Select.{first-from}
 use Rattle.relations.proofs.Select.{le-or, first-is, first-of, untrue, placed}
 use Rattle.express.specs.syntax.Tree.{Table, count, is-declaration, owner, schema-of, symbol}
 use Rattle.express.specs.names.Scope as express
 use Rattle.express.specs.names.Fault.{sort, scope}
 use Rattle.scopes.specs.Entries.{declared, radix, key-of, own-key, vertex}
 use Rattle.scopes.specs.Preparation.{Prepared}
-use Rattle.scopes.specs.LookUp.{node-meant, Means}
+use Rattle.scopes.specs.LookUp.{Means}
 use Rattle.scopes.specs.Range.{vertex-count, node-of, range-start, DeclarationAt}
 use Rattle.scopes.specs.declared.Extent.{Extent}
 use Rattle.scopes.specs.declared.look_ups.Meaning.{Meaning}
@@ -150,7 +149,7 @@ module _ {t : Table} {keys nodes heads next : List ℕ} (P : Prepared t keys nod
         let d = node-declares t v l in
         let e : sort t m ≡ declared = eqb-true (sort t m) declared (declared-sort t m ∙ d) in
         let k : getD keys (vertex t m) 0 ≡ own-key t m =
-        rw (declared-number t m d) at (number-key t m (node-below t v l) P (declared-some t m d)) in
+        rw (declared-number t m d) at (number-key P m (node-below t v l) (declared-some t m d)) in
         ap (λ (i : ℕ). getD keys i 0) (sym (node-number t v l)) ∙ k ∙ rw e
 
     pub column-schema : getD keys v 0 / radix % radix ≡ schema-of t m

@@ -1,27 +1,25 @@
 -- Declared twice: a node is repeated exactly if the first entry with its key is another's.
 use mathlib.Core.Path.{_≡_, refl, sym, ap, _∙_}
-use mathlib.Core.Logic.{_↔_, _⊎_, inl, inr, ⊎-elim, by-cases}
-use mathlib.Core.Bool.{Bool, true, false, cond, _&&_, not, false≢true}
+use mathlib.Core.Logic.{⊎-elim}
+use mathlib.Core.Bool.{Bool, true, false, cond, _&&_, false≢true}
 use mathlib.Core.List.{List, [], _∷_, map, List·Memᴰ, List·Memᴰ·head, List·Memᴰ·tail, List·Memᴰ·cases-cons, List·Memᴰ·not-nil}
 use Prim.Native.Nat.{ℕ, zero, suc, _+_, _-_, _≤_, _<_}
 use native.Mathlib.Omega.{arith}
-use native.Mathlib.Decide.{ℕ-discrete}
-use borrow.Author.Tests.{eqb-true, eq-eqb, ne-eqb, ltb-true, ltb-false, lt-ltb}
+use borrow.Author.Tests.{eq-eqb, ne-eqb, lt-ltb}
 use lib.Dec.{eqb, ltb}
 use lib.ListN.{length, getD}
 use Rattle.relations.specs.Select.{span, first-from, keep, any, Ascending, cons}
-use Rattle.relations.proofs.Select.{and-both, mem-upto, upto-mem, mem-keep, any-mem, mem-any, keep-first, First, first-is, ascending-from, ascending-keep, ascending-span, untrue, le-or}
+use Rattle.relations.proofs.Select.{keep-same, mem-upto, upto-mem, mem-keep, any-mem, mem-any, keep-first, first-is, ascending-from, ascending-keep, ascending-span, untrue, le-or}
 use Rattle.express.specs.syntax.Tree.{Table, count, symbol}
 use Rattle.express.specs.syntax.Tree as tree
 use Rattle.express.specs.names.Fault.{sort, scope, alike}
-use Rattle.index.specs.Dictionary.{has, first-with, among}
-use Rattle.index.specs.declared.dictionary.Found.{Found}
-use Rattle.index.specs.declared.dictionary.Found.the-variants.{At, Nothing}
-use Rattle.scopes.specs.Entries.{items-of-schemas, radix, key-of, own-key, entries, with-key, entry-number}
-use Rattle.scopes.specs.Preparation.{Consistent, Prepared}
+use Rattle.index.specs.Dictionary.{has, first-with}
+use Rattle.index.specs.declared.dictionary.Found.the-variants.{At}
+use Rattle.scopes.specs.Entries.{own-key, entry-number}
+use Rattle.scopes.specs.Preparation.{Prepared}
 use Rattle.scopes.specs.LookUp.{numbers}
-use Rattle.scopes.proofs.Sorting.{key-some, sort-below, scope-below}
-use Rattle.scopes.proofs.WithKey.{keep-same, by-sort, matches}
+use Rattle.scopes.proofs.Sorting.{key-some, scope-below}
+use Rattle.scopes.proofs.WithKey.{by-sort}
 use Rattle.scopes.proofs.Numbering.{prepared-numbers, number-key, number-node, number-below}
 
 pub map-mem : (f : ℕ → ℕ) (xs : List ℕ) {x : ℕ} → List·Memᴰ x xs → List·Memᴰ (f x) (map f xs)
@@ -79,8 +77,7 @@ module _ {t : Table} {keys nodes heads′ next : List ℕ} (P : Prepared t keys 
   pub alike-nodes : map (λ (e : ℕ). getD nodes e 0) (numbers keys key) ≡ keep (alike t n) (span 0 (count t))
   alike-nodes =
       prepared-numbers P key some
-      ∙ by-sort t (P .consistent) (sort t n) (scope t n) (symbol t n) (omega (arith, scope-below t n (omega arith), P .consistent .few)) (P .consistent .small n l)
-      z (λ (q : sort t n ≡ items-of-schemas). omega (arith, q, sort-below t n))
+      ∙ by-sort t (P .consistent) (sort t n) (scope t n) (symbol t n) (omega (arith, scope-below t n (omega arith), P .consistent .few)) (P .consistent .small n l) z
       ∙ keep-same _ _ (span 0 (count t)) (λ k m. turned (eqb (sort t k) (sort t n)) (eqb (scope t k) (scope t n)) (eqb (symbol t k) (symbol t n)))
 
   itself : alike t n n ≡ true
@@ -90,7 +87,7 @@ module _ {t : Table} {keys nodes heads′ next : List ℕ} (P : Prepared t keys 
   number = entry-number t n
 
   pub has-key : has keys key number ≡ true
-  has-key = rw (ne-eqb key 0 (λ q. omega (arith, q, some)), eq-eqb (getD keys number 0) key (number-key t n l P z))
+  has-key = rw (ne-eqb key 0 (λ q. omega (arith, q, some)), eq-eqb (getD keys number 0) key (number-key P n l z))
 
   -- the first entry with the key, and the first node that is alike
   abbrev first-entry : ℕ
@@ -100,7 +97,7 @@ module _ {t : Table} {keys nodes heads′ next : List ℕ} (P : Prepared t keys 
   first-node = first-from (alike t n) 0 (count t - 0)
 
   E : Heads (has keys key) (length keys) first-entry
-  E = heads (has keys key) (length keys) number (number-below t n l P z) has-key
+  E = heads (has keys key) (length keys) number (number-below P n l z) has-key
 
   N : Heads (alike t n) (count t) first-node
   N = heads (alike t n) (count t) n l itself
@@ -111,24 +108,24 @@ module _ {t : Table} {keys nodes heads′ next : List ℕ} (P : Prepared t keys 
 
   -- the first entry is its own: then so is the first node
   own-first : first-entry ≡ number → first-node ≡ n
-  own-first e = sym (both .0) ∙ ap (λ (i : ℕ). getD nodes i 0) e ∙ number-node t n l P z
+  own-first e = sym (both .0) ∙ ap (λ (i : ℕ). getD nodes i 0) e ∙ number-node P n l z
 
   other-first : (first-entry ≡ number → ⊥) → first-node < n
   other-first d =
-      ⊎-elim (λ q. absurd (d (sym q))) late (List·Memᴰ·cases-cons (rw (E .is) at (mem-keep (has keys key) (span 0 (length keys)) (mem-upto (length keys) number (number-below t n l P z)) has-key)))
+      ⊎-elim (λ q. absurd (d (sym q))) late (List·Memᴰ·cases-cons (rw (E .is) at (mem-keep (has keys key) (span 0 (length keys)) (mem-upto (length keys) number (number-below P n l z)) has-key)))
     where
       rises : Ascending 0 (first-node ∷ N .later)
       rises = rw (N .is) at (ascending-keep (alike t n) (ascending-span 0 (count t)))
 
       late : List·Memᴰ number (E .later) → first-node < n
       late m =
-          let m′ : List·Memᴰ n (N .later) = rw (both .1, number-node t n l P z) at (map-mem (λ (e : ℕ). getD nodes e 0) (E .later) m) in
+          let m′ : List·Memᴰ n (N .later) = rw (both .1, number-node P n l z) at (map-mem (λ (e : ℕ). getD nodes e 0) (E .later) m) in
           behind rises m′
 
   entry-low : first-entry < length keys
   entry-low =
       let F = first-is (has keys key) 0 (length keys - 0) in
-      ⊎-elim (λ (h : length keys ≤ first-entry). absurd (false≢true (sym (F .none number (omega arith) (omega (arith, number-below t n l P z))) ∙ has-key))) (λ h. h)
+      ⊎-elim (λ (h : length keys ≤ first-entry). absurd (false≢true (sym (F .none number (omega arith) (omega (arith, number-below P n l z))) ∙ has-key))) (λ h. h)
       (le-or (length keys) first-entry)
 
   -- STAGE 9: the look-up of its own key finds another entry exactly if an earlier node is alike

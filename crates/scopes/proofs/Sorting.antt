@@ -1,16 +1,16 @@
 -- Keys are equal exactly if their parts are; and what the sort of a node says of its kind.
 use mathlib.Core.Path.{_≡_, refl, sym, ap, _∙_}
 use mathlib.Core.Logic.{_⊎_, inl, inr, ⊎-elim}
-use mathlib.Core.Bool.{Bool, true, false, cond, _&&_, _||_, not, false≢true}
-use Prim.Native.Nat.{ℕ, zero, suc, _+_, _*_, _-_, _%_, _≤_, _<_}
+use mathlib.Core.Bool.{Bool, true, false, cond, _&&_, _||_, false≢true}
+use Prim.Native.Nat.{ℕ, _+_, _*_, _-_, _%_, _≤_, _<_}
 use native.Mathlib.Omega.{arith}
-use borrow.Author.Tests.{eqb-true, eqb-false, eq-eqb, ne-eqb}
+use borrow.Author.Tests.{eqb-true, eq-eqb}
 use lib.Dec.{eqb, leb}
-use Rattle.relations.proofs.Select.{and-fst, and-snd, and-both, or-cases, untrue, First, first-is}
+use Rattle.relations.proofs.Select.{and-fst, and-snd, and-both, or-cases, untrue, first-is}
 use Rattle.express.specs.syntax.NodeKind.{name, enumeration-item, constant, type, attribute-name, derived-attribute, rule, entity, schema, labelled, supertype-name}
 use Rattle.express.specs.syntax.Tree.{Table, count, kind, role, is, is-declaration, is-scope-member, owner, schema-of}
 use Rattle.express.specs.names.Fault.{sort, scope}
-use Rattle.scopes.specs.Entries.{schemas, declared, items-of-types, members, items-of-schemas, radix, key-of}
+use Rattle.scopes.specs.Entries.{schemas, declared, items-of-types, members, sorts, radix, key-of}
 use Rattle.scopes.specs.Standing.{declares, is-member, sort-by}
 
 pub same-test : (a b : Bool) → (a ≡ true → b ≡ true) → (b ≡ true → a ≡ true) → a ≡ b
@@ -36,17 +36,14 @@ module _ (a h s b g r : ℕ) (hs : h < radix) (ss : s < radix) (gs : g < radix) 
       let s′ : s ≡ r = eqb-true s r (and-snd (eqb h g) (eqb s r) q) in
       eq-eqb (key-of a h s) (key-of b g r) (cc))
 
-  pub key-differs : (a ≡ b → ⊥) → eqb (key-of a h s) (key-of b g r) ≡ false
-  key-differs n = ne-eqb _ _ (λ e. n (key-parts e .0))
-
--- the key of a sort is not 0
 -- within the bounds nothing is cut off
-pub key-within : (a h s : ℕ) {k : ℕ} → k ≡ key-of (a % 8) (h % radix) s → a ≤ 6 → h < radix → k ≡ key-of a h s
+pub key-within : (a h s : ℕ) {k : ℕ} → k ≡ key-of (a % sorts) (h % radix) s → a < sorts → h < radix → k ≡ key-of a h s
 key-within a h s e low small =
-    let p : a % 8 ≡ a = omega arith in
+    let p : a % sorts ≡ a = omega arith in
     let q : h % radix ≡ h = omega arith in
     e ∙ ap (λ (x : ℕ). key-of x (h % radix) s) p ∙ ap (λ (x : ℕ). key-of a x s) q
 
+-- the key of a sort is not 0
 pub key-some : (a h s : ℕ) → 0 < a → 0 < key-of a h s
 unfolding key-of
 key-some a h s l = omega arith

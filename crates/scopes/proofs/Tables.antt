@@ -4,16 +4,16 @@ use mathlib.Core.List.{List}
 use Prim.Native.Nat.{ℕ}
 use Rattle.express.specs.syntax.Tree.{Table, owner, schema-of}
 use Rattle.express.specs.names.Fault.{sort, scope}
-use Rattle.scopes.specs.Entries.{other-entries, entries, vertex, others-before}
+use Rattle.scopes.specs.Entries.{entries, vertex, others-before}
 use Rattle.scopes.specs.Standing.{table-of, Counted}
-use Rattle.scopes.specs.Preparation.{Consistent, Prepared, keys-of, nodes-of}
+use Rattle.scopes.specs.Preparation.{Prepared, keys-of, nodes-of}
 use Rattle.scopes.specs.declared.Counts.{Counts}
 
 abbrev pub columns-of : Table → Table
 columns-of t = table-of (t .kinds) (t .tokens) (t .roles) (t .symbols)
 
 pub same-entries : (t : Table) → entries (columns-of t) ≡ entries t
-unfolding entries other-entries sort scope owner schema-of
+unfolding entries sort scope owner schema-of
 same-entries t = refl
 
 pub prepared-for : (t : Table) {keys nodes heads next : List ℕ} → Prepared (columns-of t) keys nodes heads next → Prepared t keys nodes heads next
@@ -33,5 +33,5 @@ prepared-for t P =
     }
 
 pub counted-for : (t : Table) {n : ℕ} {c : Counts} → Counted (columns-of t) n c → Counted t n c
-unfolding vertex others-before other-entries sort scope owner schema-of
+unfolding vertex others-before sort scope owner schema-of
 counted-for t C = record { declarations-is = C .declarations-is; others-is = C .others-is }

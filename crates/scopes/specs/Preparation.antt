@@ -2,13 +2,13 @@
 use mathlib.Core.Path.{_≡_}
 use mathlib.Core.Bool.{Bool, true, false, cond}
 use mathlib.Core.List.{List, [], _∷_, map}
-use Prim.Native.Nat.{ℕ, _*_, _≤_, _<_}
+use Prim.Native.Nat.{ℕ, _≤_, _<_}
 use lib.Dec.{eqb, leb}
 use lib.ListN.{length, take}
 use lib.Seq.{sets}
 use Rattle.express.specs.syntax.Tree.{Table, count, token, symbol}
 use Rattle.index.specs.Dictionary.{Indexed}
-use Rattle.scopes.specs.Entries.{schemas, declared, items-of-schemas, radix, key-of, Entry, entries-by, entries}
+use Rattle.scopes.specs.Entries.{schemas, declared, sorts, radix, key-of, Entry, is-other, entries}
 use Rattle.scopes.specs.declared.dictionary.Preparation.{Preparation}
 use Rattle.scopes.specs.declared.dictionary.Preparation.the-variants.{Done, Unfit}
 
@@ -66,14 +66,11 @@ pub record Decides (P : Type 0) (r : Bool) : Type 0 where
   pub no : r ≡ false → P → ⊥
 
 -- where a node stands, small enough to be entered
-pub record Enterable (s schema owner vertex at symbol node : ℕ) : Type 0 where
-  pub sorted : s < items-of-schemas
+pub record Enterable (s schema owner node : ℕ) : Type 0 where
+  pub sorted : s < sorts
   pub schema-small : schema < radix
   pub owner-small : owner < radix
-  pub symbol-small : symbol < radix
   pub node-small : node < radix
-  pub vertex-small : vertex < radix
-  pub at-small : at < 8 * radix
 
 abbrev pub entry : ℕ → ℕ → Entry
 entry n k = record { node = n; key = k }
@@ -82,22 +79,18 @@ entry n k = record { node = n; key = k }
 abbrev pub scope-by : ℕ → ℕ → ℕ → ℕ
 scope-by s schema owner = cond (leb s schemas) 0 (cond (eqb s declared) schema owner)
 
--- the entries of a node of a sort: among the declarations, and behind them
-abbrev pub declared-by : ℕ → Entry → List Entry
-declared-by s own = cond (eqb s declared) (own ∷ []) []
+-- the entry of a node, where a test says that it has one
+abbrev pub entry-if : Bool → Entry → List Entry
+entry-if b e = cond b (e ∷ []) []
 
-module _ (s schema owner symbol node : ℕ) where
-  abbrev pub own-by : Entry
-  own-by = entry node (key-of s (scope-by s schema owner) symbol)
+abbrev pub own-by : ℕ → ℕ → ℕ → ℕ → ℕ → Entry
+own-by s schema owner symbol node = entry node (key-of s (scope-by s schema owner) symbol)
 
-  abbrev pub schema-by : Entry
-  schema-by = entry node (key-of items-of-schemas schema symbol)
-
--- a column after the stores of a node's entries: at its place among the declarations, and at its place behind them
+-- a column after the store of a node's entry: at its place among the declarations, or at its place behind them
 pub record Entered (f : Entry → ℕ) (s schema owner vertex at symbol node : ℕ) (column column′ : List ℕ) : Type 0 where
   pub is : column′
-      ≡ sets (sets column vertex (map f (declared-by s (own-by s schema owner symbol node)))) at
-      (map f (entries-by s (own-by s schema owner symbol node) (schema-by s schema owner symbol node)))
+      ≡ sets (sets column vertex (map f (entry-if (eqb s declared) (own-by s schema owner symbol node)))) at
+      (map f (entry-if (is-other s) (own-by s schema owner symbol node)))
 
 -- a column after the stores of all entries
 pub record Filled (f : Entry → ℕ) (t : Table) (column column′ : List ℕ) : Type 0 where

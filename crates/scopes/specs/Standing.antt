@@ -7,8 +7,8 @@ use lib.Dec.{eqb}
 use lib.ListN.{length}
 use Rattle.columns.specs.Column.{tabulated}
 use Rattle.express.specs.syntax.NodeKind.{name, enumeration-item, constant, type, attribute-name, derived-attribute, rule, entity, schema, labelled, supertype-name}
-use Rattle.express.specs.syntax.Tree.{Table, count, owner, schema-of}
-use Rattle.scopes.specs.Entries.{none, schemas, declared, items-of-types, members, supertypes, radix, vertex, others-before}
+use Rattle.express.specs.syntax.Tree.{Table, owner, schema-of}
+use Rattle.scopes.specs.Entries.{none, schemas, declared, items-of-types, members, supertypes, sorts, radix, is-other, vertex, others-before}
 use Rattle.scopes.specs.declared.Here.{Here}
 use Rattle.scopes.specs.declared.Counts.{Counts}
 
@@ -34,12 +34,12 @@ sort-by kind role =
 
 -- how many entries a node of a sort has behind the declarations
 abbrev pub entry-count : ℕ → ℕ
-entry-count s = cond (eqb s none || eqb s declared) 0 (cond (eqb s items-of-types) 2 1)
+entry-count s = cond (is-other s) 1 0
 
 -- ---- classes: a sort and the number of its entries behind the declarations, as one number
 
 abbrev pub class-of : ℕ → ℕ
-class-of s = s + 8 * entry-count s
+class-of s = s + sorts * entry-count s
 
 -- the letter that stands for class 0
 abbrev pub first-letter : ℕ

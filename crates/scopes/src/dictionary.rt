@@ -2,7 +2,7 @@
 ghost use mathlib.Core.Path.{_≡_};
 ghost use Prim.Native.Nat.{_%_};
 ghost use lib.ListN.{set};
-ghost use Rattle.scopes.specs.Entries.{radix, key-of};
+ghost use Rattle.scopes.specs.Entries.{sorts, radix, key-of};
 ghost use Rattle.scopes.specs.Preparation.{scope-by};
 use crate::Here;
 use crate::RADIX;
@@ -15,7 +15,7 @@ pub enum Preparation {
 
 // A sort, a scope and a symbol as one number, never 0 for a sort; sorts and scopes are below their bounds.
 pub fn key(sort: u64, scope: usize, symbol: u32) -> u64
-    ensures { λ r. ⌜ r ≡ key-of (sort % 8) (scope % radix) symbol ⌝ }
+    ensures { λ r. ⌜ r ≡ key-of (sort % sorts) (scope % radix) symbol ⌝ }
 {
     (sort % crate::SORTS * RADIX + scope as u64 % RADIX) * RADIX + symbol as u64
 }

@@ -20,8 +20,6 @@ pub const MEMBERS: u64 = 4;
 
 pub const SUPERTYPES: u64 = 5;
 
-pub const ITEMS_OF_SCHEMAS: u64 = 6;
-
 pub const SORTS: u64 = 8;
 
 // Nodes and symbols are below this number.

@@ -1,7 +1,8 @@
 // What a symbol means in a scope, by the dictionary of a file: its keys and their chains. (The node of an entry stands in
 // the column of nodes; a declaration's entry is its vertex.)
-ghost use Prim.Native.Nat.{_≤_};
-ghost use Rattle.express.specs.names.Scope.{declarations, items, own, items-of};
+ghost use Prim.Native.Nat.{_<_};
+ghost use Rattle.express.specs.names.Scope.{declarations, own, items-of};
+ghost use Rattle.scopes.specs.Entries.{sorts};
 ghost use Rattle.scopes.specs.LookUp.{Meant, Means, UnderKey};
 use crate::RADIX;
 use crate::dictionary::key;
@@ -40,7 +41,7 @@ fn looked_up(
     scope: usize,
     symbol: u32,
 ) -> Meaning
-    requires { ⌜ sort ≤ 6 ⌝ }
+    requires { ⌜ sort < sorts ⌝ }
     ensures { λ r. ⌜ UnderKey (now (keys .entry)) (now (heads .entry)) (now (next .entry)) sort scope symbol r ⌝ }
 {
     if RADIX <= scope as u64 {
@@ -90,17 +91,4 @@ pub fn item_meant(
         enumeration,
         symbol,
     )
-}
-
-// The item of some enumeration of a schema.
-pub fn schema_item_meant(
-    keys: &[u64],
-    heads: &[u32],
-    next: &[u32],
-    schema: usize,
-    symbol: u32,
-) -> Meaning
-    ensures { λ r. ⌜ Means (now (keys .entry)) (now (heads .entry)) (now (next .entry)) (λ t. items t schema symbol) r ⌝ }
-{
-    looked_up(keys, heads, next, crate::ITEMS_OF_SCHEMAS, schema, symbol)
 }

@@ -1,11 +1,12 @@
 // Reading the columns of a tree: an entry, a child of a node, the next node of a kind.
 ghost use mathlib.Core.Path.{_≡_};
-ghost use Prim.Native.Nat.{_-_};
+ghost use Prim.Native.Nat.{_+_, _-_, _≤_};
 ghost use lib.Dec.{eqb};
 ghost use lib.ListN.{length, getD};
-ghost use Rattle.relations.specs.Select.{first-from};
+ghost use Rattle.relations.specs.Select.{span, first-from, any};
 ghost use Rattle.express.specs.syntax.Tree as Tree;
 ghost use Rattle.tree.specs.Children.{Child};
+ghost use Rattle.tree.specs.Blocks.{block, Skips};
 
 // The number at an index; past the end of the column 0.
 pub fn at8(column: &[u8], i: usize) -> u8
@@ -69,11 +70,47 @@ pub fn low(sizes: &[u32], n: usize) -> usize
     before(sizes, lower(sizes, n))
 }
 
+// So many nodes are looked at together, and passed over where none is of the kind that is looked for.
+const BLOCK: usize = 64;
+
+// Is one of the block from a node on of a kind? All are looked at, without a jump, which the compiler does at once.
+fn in_block(kinds: &[u8], kind: u8, from: usize) -> bool
+    requires { ⌜ from + block ≤ length (now kinds) ⌝ }
+    ensures { λ r. ⌜ r ≡ any (λ n. eqb (getD (now (kinds .entry)) n 0) kind) (span from block) ⌝ }
+{
+    let mut found = false;
+    let mut i: usize = 0;
+    while i < BLOCK {
+        if kinds[from + i] == kind {
+            found = true;
+            i += 1;
+        } else {
+            i += 1;
+        }
+    }
+    found
+}
+
+// A node from which on the first of a kind is the same: blocks that have none are passed over.
+fn skip_blocks(kinds: &[u8], kind: u8, from: usize) -> usize
+    ensures { λ r. ⌜ Skips (λ n. eqb (getD (now (kinds .entry)) n 0) kind) (length (now (kinds .entry))) from r ⌝ }
+{
+    let whole = columns::saturating_sub(kinds.len(), BLOCK - 1);
+    let mut at = from;
+    while at < whole {
+        if in_block(kinds, kind, at) {
+            return at;
+        }
+        at += BLOCK;
+    }
+    at
+}
+
 // The first node of a kind from a node on; where there is none, the number of nodes or, past it, the node itself.
 pub fn next_of_kind(kinds: &[u8], kind: u8, from: usize) -> usize
     ensures { λ r. ⌜ r ≡ first-from (λ n. eqb (getD (now (kinds .entry)) n 0) kind) from (length (now (kinds .entry)) - from) ⌝ }
 {
-    let mut n = from;
+    let mut n = skip_blocks(kinds, kind, from);
     while n < kinds.len() {
         if kinds[n] == kind {
             return n;

@@ -148,7 +148,7 @@ fn type_name(
 fn node_finding(
     kinds: &[u8],
     tokens: &[u32],
-    roles: &[u32],
+    roles: &[u8],
     symbols: &[u32],
     starts: &[u32],
     keys: &[u64],
@@ -168,7 +168,7 @@ fn node_finding(
         nodes,
         heads,
         next,
-        at(roles, node),
+        at8(roles, node) as u32,
         schema,
         at(symbols, token),
         at(starts, token),
@@ -179,7 +179,7 @@ fn node_finding(
 fn bind_range(
     kinds: &[u8],
     tokens: &[u32],
-    roles: &[u32],
+    roles: &[u8],
     symbols: &[u32],
     starts: &[u32],
     keys: &[u64],
@@ -201,7 +201,7 @@ fn bind_range(
     let mut i = shorter(hi, shorter(kinds.len(), roles.len()));
     while lo < i {
         i -= 1;
-        if is_type_name(kinds[i], roles[i]) {
+        if is_type_name(kinds[i], roles[i] as u32) {
             let found = node_finding(
                 kinds,
                 tokens,
@@ -225,7 +225,7 @@ fn bind_range(
 pub fn bind_type_names(
     kinds: &[u8],
     tokens: &[u32],
-    roles: &[u32],
+    roles: &[u8],
     symbols: &[u32],
     starts: &[u32],
     keys: &[u64],

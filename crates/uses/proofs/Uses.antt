@@ -3,43 +3,50 @@ use mathlib.Core.Path.{_≡_, refl, sym, ap, ap₂, _∙_}
 use mathlib.Core.Logic.{⊎-elim}
 use mathlib.Core.Bool.{Bool, true, false, cond, not, _&&_, _||_, false≢true}
 use mathlib.Core.List.{List, [], _∷_}
-use Prim.Native.Nat.{ℕ, _+_, _-_, _≤_, _<_, min}
+use Prim.Native.Nat.{ℕ, _-_, _≤_, _<_, min}
 use native.Mathlib.Omega.{arith}
-use borrow.Author.Tests.{eqb-true, eq-eqb, lt-leb}
-use lib.Dec.{eqb, leb}
+use borrow.Author.Tests.{eqb-true, eq-eqb}
 use lib.ListN.{length, getD, set}
-use Rattle.ebnf.specs.Set.{mem, disjoint}
-use Rattle.relations.proofs.Select.{or-cases, or-left, or-right, and-fst, le-or, untrue}
+use Rattle.ebnf.specs.Set.{mem, disjoint, subset}
+use Rattle.ebnf.proofs.Sets.{in-more}
+use Rattle.relations.proofs.Select.{or-cases, and-fst, untrue}
 use Rattle.express.specs.syntax.NodeKind as node
 use Rattle.express.specs.syntax.Grammar.{file}
 use Rattle.express.specs.syntax.Syntax.{Read}
-use Rattle.express.specs.syntax.Tree.{Table, count, kind, role, symbol, is, is-declaration, is-scope-member, owner, schema-of, in-constant}
-use Rattle.express.specs.names.Scope.{Meaning, none, one, several, meaning, inherited, is-use, means, binding}
+use Rattle.express.specs.tokens.Scanned.{Scanned}
+use Rattle.express.specs.syntax.Tree.{Table, count, kind, symbol, is, is-declaration, is-scope-member, owner, schema-of, in-constant}
+use Rattle.express.specs.names.Scope.{Meaning, none, one, several, meaning, inherited, is-use, binding}
+use Rattle.express.specs.names.Scope as scope
 use Rattle.express.specs.names.Fault as express
-use Rattle.express.specs.names.Fault.{Fault, expression}
+use Rattle.express.specs.names.Fault.{expression}
 use Rattle.express.proofs.syntax.KindSets as set
-use Rattle.express.proofs.syntax.Within.{Over}
-use Rattle.express.proofs.names.Owned.{undeclared, in-owner, owner-schema}
-use Rattle.scopes.specs.Preparation.{Prepared}
-use Rattle.scopes.specs.Range.{node-of, DeclarationAt}
+use Rattle.express.proofs.syntax.Within.{schema-over}
+use Rattle.express.proofs.names.Owned.{declaring, declaring-kind, undeclared, in-schema, in-owner, owner-schema}
+use Rattle.scopes.specs.Entries.{radix}
+use Rattle.scopes.specs.Range.{vertex-count, node-of, DeclarationAt}
 use Rattle.scopes.specs.declared.Extent.{Extent}
-use Rattle.scopes.proofs.Ranges.{node-below, range-owner, range-end}
+use Rattle.scopes.proofs.Ranges.{node-below, node-declares, range-owner, range-end}
 use Rattle.faults.specs.Meaning.{fault-of}
-use Rattle.dependencies.specs.Target.{Targets, constant-target, behind-all}
+use Rattle.dependencies.specs.Target.{behind-all}
 use Rattle.dependencies.proofs.Instances.{constant-targets}
 use Rattle.type_names.specs.TypeName.{is-type-name}
 use Rattle.type_names.specs.Pass.{Finds, Skipped, RangeOf, WithinDeclarations}
 use Rattle.type_names.specs.declared.Finding.{Finding}
 use Rattle.type_names.specs.declared.Progress.{Progress}
 use Rattle.type_names.proofs.Passes.{PassingFile, file-starts, file-goes-on, file-ends}
-use Rattle.inheritance.specs.Inheritance.{several-code, code, inherited-code}
+use Rattle.inheritance.specs.Inheritance.{inherited-code}
+use Rattle.symbol_tables.specs.Entry.{several-code, code, stamp-count, says}
+use Rattle.symbol_tables.specs.Table.{symbol-in}
+use Rattle.symbol_tables.proofs.Symbols.{symbol-within}
+use Rattle.schema_items.specs.Items.{ItemsOf, SchemaOf, Tabling, Begins, Turns}
+use Rattle.schema_items.specs.declared.Tabled.{Tabled}
 use Rattle.meanings.specs.Use.{StandsFor}
-use Rattle.meanings.specs.Node.{asks, inherits, ColumnsOf, FoundAt, Standing, NodeFindings}
+use Rattle.meanings.specs.Node.{asks, inherits, ColumnsOf, Standing, NodeFindings}
 use Rattle.meanings.specs.declared.Use.{Use}
-use Rattle.meanings.specs.declared.Use.the-variants.{Nothing, Several, Node, Declaration}
-use Rattle.meanings.proofs.Nearest.{inherited-sort}
+use Rattle.meanings.specs.declared.Use.the-variants.{Nothing, Several, Node}
+use Rattle.meanings.proofs.Nearest.{item-sort, inherited-sort}
 use Rattle.meanings.proofs.NodeLaws.{asked, chosen, passed, both-false, unbound}
-use Rattle.uses.specs.Binding.{asks-by, Decodes, inherited-before, uses, FileOf, FindingAt, RangeAsked, FileAsked, BindsRange, BindsUses}
+use Rattle.uses.specs.Binding.{asks-by, Decodes, inherited-before, uses, FindingAt, RangeAsked, FileAsked, BindsRange, BindsUses}
 
 pub or-none : (b : Bool) → b ≡ b || false || false || false
 or-none true = refl
@@ -75,21 +82,23 @@ decodes-node {c} {j} {k} z y x e = record { stands = λ t nodes m few s q. by t 
 -- ---- what is found
 
 pub finding-found :
-    {kinds tokens sizes symbols starts keys nodes heads next : List ℕ} {k o h c n : ℕ} {u : Use} {f : Finding} → k ≡ getD kinds n 0 → Decodes c u →
-    NodeFindings kinds tokens sizes symbols starts keys nodes heads next k o h u n f → FindingAt kinds tokens sizes symbols starts keys nodes heads next o h c n f
+    {kinds tokens sizes symbols starts keys nodes heads next items : List ℕ} {k o h c d stamp n : ℕ} {u i : Use} {f : Finding} → k ≡ getD kinds n 0 → Decodes c u →
+    d ≡ says items stamp (symbol-in tokens symbols n) → Decodes d i → NodeFindings kinds tokens sizes symbols starts keys nodes heads next k o h u i n f →
+    FindingAt kinds tokens sizes symbols starts keys nodes heads next items stamp o h c n f
 unfolding inherited-code
-finding-found {nodes = nodes} {o = o} {n = n} {u = u} e D F = record {
-  is = λ t A l a p q r.
+finding-found {tokens = tokens} {symbols = symbols} {nodes = nodes} {items = items} {o = o} {h = h} {stamp = stamp} {n = n} {u = u} {i = i} e D L E F = record {
+  is = λ t A l a p q r low I.
       let few = A .prepared .consistent .few in
-      let S : Standing t nodes _ o _ u n = record {
+      let s : symbol-in tokens symbols n ≡ symbol t n = rw (A .columns .tokens-are, A .columns .symbols-are) in
+      let S : Standing t nodes _ o _ u i n = record {
         known = l;
         asked = a;
         kind-is = e ∙ ap (λ (l : List ℕ). getD l n 0) (A .columns .kinds-are);
         owner-is = p;
         schema-is = q;
         inherited-is = λ i.
-            D .stands t nodes (meaning (inherited t o (symbol t n))) (omega arith) (inherited-sort t o (symbol t n))
-            (r i ∙ ap (λ (x : ℕ). code (meaning (inherited t x (symbol t n)))) (sym p));
+            D .stands t nodes (meaning (inherited t o (symbol t n))) (omega arith) (inherited-sort t o (symbol t n)) (r i ∙ ap (λ (x : ℕ). code (meaning (inherited t x (symbol t n)))) (sym p));
+        item-is = λ _. E .stands t nodes (meaning (scope.items t h (symbol t n))) (omega arith) (item-sort t h (symbol t n)) (L ∙ ap (says items stamp) s ∙ I .is (symbol t n) low);
       } in
       let G = F .found t (A .read) (A .columns) (A .prepared) S in
       record { fault-is = G .fault-is; target-is = G .target-is; entry-is = G .binding-is };
@@ -193,64 +202,129 @@ asks-is :
     (kinds roles : List ℕ) (n : ℕ) {k r : ℕ} {b : Bool} → k ≡ getD kinds n 0 → r ≡ getD roles n 0 → b ≡ asks-by k r → (t : Table) → kinds ≡ t .kinds → roles ≡ t .roles → asks t n ≡ b
 asks-is kinds roles n K L B t x y = sym (B ∙ ap₂ asks-by (K ∙ ap (λ (l : List ℕ). getD l n 0) x) (L ∙ ap (λ (l : List ℕ). getD l n 0) y))
 
-module _ {kinds tokens sizes roles symbols starts keys nodes heads next : List ℕ} {schema k r : ℕ} {b : Bool} (i : ℕ)
+module _ {kinds tokens sizes roles symbols starts keys nodes heads next items : List ℕ} {stamp schema k r : ℕ} {b : Bool} (i : ℕ)
     (K : k ≡ getD kinds (i - 1) 0) (L : r ≡ getD roles (i - 1) 0) (B : b ≡ asks-by k r) where
-  tested : {t : Table} {v : ℕ} → RangeAsked kinds tokens sizes roles symbols starts keys nodes heads next schema t v → asks t (i - 1) ≡ b
+  tested : {t : Table} {v : ℕ} → RangeAsked kinds tokens sizes roles symbols starts keys nodes heads next items stamp schema t v → asks t (i - 1) ≡ b
   tested {t} A = asks-is kinds roles (i - 1) K L B t (A .of-file .columns .kinds-are) (A .roles-are)
 
   pub range-other :
-      {lo hi : ℕ} → b ≡ false → (t : Table) (v : ℕ) → RangeOf t v lo hi → RangeAsked kinds tokens sizes roles symbols starts keys nodes heads next schema t v →
+      {lo hi : ℕ} → b ≡ false → (t : Table) (v : ℕ) → RangeOf t v lo hi → RangeAsked kinds tokens sizes roles symbols starts keys nodes heads next items stamp schema t v →
       Skipped (uses t) (i - 1)
   range-other e t v R A = skipped t (i - 1) (tested A ∙ e)
 
   pub range-use :
       {lo hi c : ℕ} {f : Finding} (bound : List ℕ) → lo < i → i ≤ hi → b ≡ true → c ≡ getD bound (i - 1) 0 →
-      FindingAt kinds tokens sizes symbols starts keys nodes heads next hi schema c (i - 1) f → (t : Table) (v : ℕ) → RangeOf t v lo hi →
-      RangeAsked kinds tokens sizes roles symbols starts keys nodes heads next schema t v → getD bound (i - 1) 0 ≡ inherited-before t (i - 1) → Finds (uses t) (i - 1) f
+      FindingAt kinds tokens sizes symbols starts keys nodes heads next items stamp hi schema c (i - 1) f → (t : Table) (v : ℕ) → RangeOf t v lo hi →
+      RangeAsked kinds tokens sizes roles symbols starts keys nodes heads next items stamp schema t v → getD bound (i - 1) 0 ≡ inherited-before t (i - 1) → Finds (uses t) (i - 1) f
   range-use bound low high e C F t v R A w =
       let n = i - 1 in
       let a : asks t n ≡ true = tested A ∙ e in
       let o : owner t n ≡ node-of t v = range-owner t v n (R .number) (omega (arith, R .from-is)) (omega (arith, R .upto-is)) in
       let l : n < count t = omega (arith, R .upto-is, node-below t v (R .number)) in
       let s : _ ≡ schema-of t n = A .schema-is ∙ ap (schema-of t) (sym o) ∙ owner-schema (A .of-file .read) n l (asked-below t n a) in
-      F .is t (A .of-file) l a (R .upto-is ∙ sym o) s (λ h. C ∙ w ∙ chosen (inherits t n) _ _ h)
+      F .is t (A .of-file) l a (R .upto-is ∙ sym o) s (λ h. C ∙ w ∙ chosen (inherits t n) _ _ h) (A .items-room n l) (A .items-are)
 
 -- the columns of a file are as long as its range needs
 pub range-reached :
-    {kinds tokens sizes roles symbols starts keys nodes heads next : List ℕ} {schema lo hi i j : ℕ} → j ≡ min (length kinds) (length roles) → i ≡ min hi j → (t : Table) (v : ℕ) →
-    RangeOf t v lo hi → RangeAsked kinds tokens sizes roles symbols starts keys nodes heads next schema t v → hi ≤ i
+    {kinds tokens sizes roles symbols starts keys nodes heads next items : List ℕ} {stamp schema lo hi i j : ℕ} → j ≡ min (length kinds) (length roles) → i ≡ min hi j → (t : Table) (v : ℕ) →
+    RangeOf t v lo hi → RangeAsked kinds tokens sizes roles symbols starts keys nodes heads next items stamp schema t v → hi ≤ i
 range-reached a b t v R A =
     let F = A .of-file in
     omega (arith, R .upto-is, node-below t v (R .number), ap length (F .columns .kinds-are), ap length (A .roles-are), F .prepared .consistent .roles)
 
 -- ---- in the loop over the declarations
 
+-- the schema of a declaration
+declared-in :
+    {t : Table} {kinds tokens sizes symbols starts : List ℕ} → Read file t → ColumnsOf t kinds tokens sizes symbols starts → count t < radix → (u : ℕ) → u < vertex-count t →
+    SchemaOf t kinds tokens sizes symbols (schema-of t (node-of t u))
+unfolding mem subset
+declared-in {t} R C few u l =
+    let n = node-of t u in
+    let k = in-more (kind t n) set.declaration-kinds set.below-schema refl (declaring-kind (kind t n) (declaring t n (node-declares t u l))) in
+    let s = schema-over R n (in-schema R n (node-below t u l) k .0) in
+    record {
+      read = R;
+      kinds-are = C .kinds-are;
+      tokens-are = C .tokens-are;
+      sizes-are = C .sizes-are;
+      symbols-are = C .symbols-are;
+      known = s .0 .known;
+      a-schema = eq-eqb (kind t (schema-of t n)) node.schema (s .1);
+      held = omega (arith, s .0 .known, few);
+    }
+
+pub record Asked (kinds tokens sizes roles symbols starts keys nodes heads next bound : List ℕ) (offsets places slots : ℕ) (t : Table) : Type 0 where
+  pub scanned : Scanned t
+  pub file : FileAsked kinds tokens sizes roles symbols starts keys nodes heads next bound offsets places slots t
+
 module _ {kinds tokens sizes roles symbols starts keys nodes heads next : List ℕ} where
-  within-file : {b : List ℕ} {f a : ℕ} (t : Table) → FileAsked kinds tokens sizes roles symbols starts keys nodes heads next b f a t → WithinDeclarations t (uses t)
-  within-file t A = within t (A .of-file .read)
+  within-file : {b : List ℕ} {f a i : ℕ} (t : Table) → Asked kinds tokens sizes roles symbols starts keys nodes heads next b f a i t → WithinDeclarations t (uses t)
+  within-file t A = within t (A .file .of-file .read)
 
+-- the declarations from v on are passed, and the items of one schema stand in the table
+pub record PassingUses (kinds tokens sizes roles symbols starts keys nodes heads next bound₀ first₀ to₀ : List ℕ) (slots v : ℕ) (first : List ℕ) (so-far : Progress) (bound to : List ℕ)
+    (tabled : Tabled) (items : List ℕ) : Type 0 where
+  pub passing :
+      PassingFile (Asked kinds tokens sizes roles symbols starts keys nodes heads next bound₀ (length first₀) (length to₀) slots) uses bound₀ first₀ to₀ v first so-far
+      bound to
+  pub items-long : length items ≡ slots
+  pub tabling :
+      (t : Table) → Asked kinds tokens sizes roles symbols starts keys nodes heads next bound₀ (length first₀) (length to₀) slots t → Tabling t v tabled items
+
+module _ {kinds tokens sizes roles symbols starts keys nodes heads next bound₀ first₀ to₀ : List ℕ} where
   pub uses-start :
-      {first bound to : List ℕ} {v : ℕ} {so-far : Progress} → v ≡ length first - 1 → so-far .arcs ≡ length to → fault-of (so-far .least) ≡ express.fine →
-      PassingFile (FileAsked kinds tokens sizes roles symbols starts keys nodes heads next bound (length first) (length to)) uses bound first to v first so-far bound to
-  uses-start e a f = file-starts within-file e a f (λ t A. A .graph-room) (λ t A. A .bound-room) (λ t A n l. A .bound-is n l)
+      {v : ℕ} {so-far : Progress} {tabled : Tabled} {items : List ℕ} → v ≡ length first₀ - 1 → so-far .arcs ≡ length to₀ → fault-of (so-far .least) ≡ express.fine →
+      Begins (length kinds) tabled items → PassingUses kinds tokens sizes roles symbols starts keys nodes heads next bound₀ first₀ to₀ (length items) v first₀ so-far bound₀ to₀ tabled items
+  uses-start {v} e a f B = record {
+    passing = file-starts within-file e a f (λ t A. A .file .graph-room) (λ t A. A .file .bound-room) (λ t A n l. A .file .bound-is n l);
+    items-long = refl;
+    tabling = λ t A. B .is t (ap length (A .file .of-file .columns .kinds-are)) v;
+  }
 
-  module _ {bound₀ first₀ was : List ℕ} {b : List ℕ} {f a : ℕ} {v : ℕ} {first : List ℕ} {so-far : Progress} {bound to : List ℕ}
-      (G : PassingFile (FileAsked kinds tokens sizes roles symbols starts keys nodes heads next b f a) uses bound₀ first₀ was v first so-far bound to)
+  module _ {slots v : ℕ} {first : List ℕ} {so-far : Progress} {bound to : List ℕ} {tabled : Tabled} {items : List ℕ}
+      (G : PassingUses kinds tokens sizes roles symbols starts keys nodes heads next bound₀ first₀ to₀ slots v first so-far bound to tabled items)
       {x : ℕ} {first′ : List ℕ} (n : so-far .arcs < 4294967296 → x ≡ so-far .arcs) where
     pub uses-go-on :
-        {d : Extent} {after : Progress} {bound′ to′ : List ℕ} → first′ ≡ set first v x → 0 < v → DeclarationAt keys nodes (v - 1) d →
-        BindsRange kinds tokens sizes roles symbols starts keys nodes heads next (d .schema) (d .from) (d .node) so-far bound to (d .from) after bound′ to′ →
-        length bound′ ≡ length bound → length to′ ≡ length to →
-        PassingFile (FileAsked kinds tokens sizes roles symbols starts keys nodes heads next b f a) uses bound₀ first₀ was (v - 1) first′ after bound′ to′
-    uses-go-on s h D =
-        file-goes-on within-file G n s h
-        (λ t A l.
-        let P = A .of-file .prepared in (
-          record { number = l; from-is = D .from-is t heads next P l; upto-is = D .node-is t heads next P l },
-          record { of-file = A .of-file; roles-are = A .roles-are; schema-is = D .schema-is t heads next P l },
-        ))
+        {y : ℕ} {d : Extent} {turned : Tabled} {after : Progress} {bound′ to′ items′ : List ℕ} → first′ ≡ set first v x → 0 < v → (v < 4294967296 → y ≡ v) →
+        DeclarationAt keys nodes (v - 1) d → Turns kinds tokens sizes symbols (d .schema) y tabled items turned items′ →
+        BindsRange kinds tokens sizes roles symbols starts keys nodes heads next items′ (turned .stamp) (d .schema) (d .from) (d .node) so-far bound to (d .from) after bound′ to′ →
+        length bound′ ≡ length bound → length to′ ≡ length to → length items′ ≡ length items →
+        PassingUses kinds tokens sizes roles symbols starts keys nodes heads next bound₀ first₀ to₀ slots (v - 1) first′ after bound′ to′ turned items′
+    uses-go-on {y} {d} {turned} {items′ = items′} s some z D W R bl tl il = record {
+      passing =
+          file-goes-on within-file (G .passing) n s some
+          (λ t A l.
+          let P = A .file .of-file .prepared in (
+            record { number = l; from-is = D .from-is t heads next P l; upto-is = D .node-is t heads next P l },
+            record {
+              of-file = A .file .of-file;
+              roles-are = A .file .roles-are;
+              schema-is = D .schema-is t heads next P l;
+              items-room = λ m h. omega (arith, A .file .items-room, symbol-within (A .scanned) (P .consistent) m h, long);
+              items-are = turns t A .0;
+            },
+          )) R bl tl;
+      items-long = long;
+      tabling = λ t A. turns t A .1;
+    }
+      where
+        long : length items′ ≡ slots
+        long = il ∙ G .items-long
+
+        turns :
+            (t : Table) → Asked kinds tokens sizes roles symbols starts keys nodes heads next bound₀ (length first₀) (length to₀) slots t →
+            ItemsOf t (d .schema) items′ (turned .stamp) × Tabling t (v - 1) turned items′
+        turns t A =
+            let F = A .file .of-file in
+            let w = G .passing .is t A .building .within in
+            let l : v - 1 < vertex-count t = omega (arith, w, some) in
+            let few : v < stamp-count = omega (arith, w, A .file .stamp-room) in
+            let e : y ≡ v = z (omega arith) in
+            let S = declared-in (F .read) (F .columns) (F .prepared .consistent .few) (v - 1) l in
+            rw e at (W .is t (rw (D .schema-is t heads next (F .prepared) l) S) (omega arith) (omega arith) (rw e (G .tabling t A)))
 
     pub uses-end :
-        {first-before to-before : List ℕ} → first′ ≡ set first 0 x → v ≤ 0 → f ≡ length first-before → a ≡ length to-before →
-        BindsUses kinds tokens sizes roles symbols starts keys nodes heads next b first-before to-before (so-far .least) bound first′ to
-    uses-end s h ef ea = record { is = λ t A. file-ends within-file G n s h t (rw (ef, ea) A) }
+        {items₀ : List ℕ} → slots ≡ length items₀ → first′ ≡ set first 0 x → v ≤ 0 →
+        BindsUses kinds tokens sizes roles symbols starts keys nodes heads next bound₀ first₀ to₀ items₀ (so-far .least) bound first′ to
+    uses-end e s h = record { is = λ t S A. file-ends within-file (G .passing) n s h t (record { scanned = S; file = rw e A }) }

@@ -9,12 +9,13 @@ use Rattle.express.specs.syntax.NodeKind.{name, qualified-item, self, in-expres
 use Rattle.express.specs.syntax.NodeKind as node
 use Rattle.express.specs.syntax.Grammar.{file}
 use Rattle.express.specs.syntax.Syntax.{Read}
-use Rattle.express.specs.syntax.Tree.{Table, count, is, owner, schema-of}
+use Rattle.express.specs.tokens.Scanned.{Scanned}
+use Rattle.express.specs.syntax.Tree.{Table, count, symbol, is, owner, schema-of}
 use Rattle.express.specs.names.Scope.{Meaning, one, binding}
 use Rattle.express.specs.names.Fault.{expression}
 use Rattle.scopes.specs.Preparation.{Prepared}
 use Rattle.scopes.specs.Standing.{is-member}
-use Rattle.scopes.specs.Range.{node-of}
+use Rattle.scopes.specs.Range.{vertex-count, node-of}
 use Rattle.faults.specs.declared.Fault.{Fault}
 use Rattle.dependencies.specs.Target.{constant-target}
 use Rattle.dependencies.specs.Graph.{Room}
@@ -22,7 +23,9 @@ use Rattle.type_names.specs.TypeName.{is-type-name}
 use Rattle.type_names.specs.Pass.{Pass, Finds, PassesRange, PassedAll}
 use Rattle.type_names.specs.declared.Finding.{Finding}
 use Rattle.type_names.specs.declared.Progress.{Progress}
-use Rattle.inheritance.specs.Inheritance.{several-code, code, inherited-code}
+use Rattle.inheritance.specs.Inheritance.{inherited-code}
+use Rattle.symbol_tables.specs.Entry.{several-code, code, stamp-count}
+use Rattle.schema_items.specs.Items.{ItemsOf}
 use Rattle.meanings.specs.Use.{StandsFor}
 use Rattle.meanings.specs.Node.{asks, inherits, ColumnsOf}
 use Rattle.meanings.specs.declared.Use.{Use}
@@ -31,7 +34,7 @@ use Rattle.meanings.specs.declared.Use.{Use}
 abbrev pub asks-by : ℕ → ℕ → Bool
 asks-by kind role = (eqb kind name && eqb role in-expression) || eqb kind qualified-item || eqb kind self || is-member kind role
 
--- what a code of inherited attributes stands for, in a file with fewer nodes than there are codes
+-- what a code of inherited attributes or of items stands for, in a file with fewer nodes than there are codes
 pub record Decodes (c : ℕ) (r : Use) : Type 0 where
   pub stands : (t : Table) (nodes : List ℕ) (m : Meaning) → count t < several-code → ((k : ℕ) → m ≡ one k → (k < count t) × (is t node.constant k ≡ false)) → c ≡ code m → StandsFor t nodes m r
 
@@ -51,28 +54,35 @@ module _ (kinds tokens sizes symbols starts keys nodes heads next : List ℕ) wh
     pub prepared : Prepared t keys nodes heads next
 
   -- `finding_at`
-  pub record FindingAt (o h c n : ℕ) (f : Finding) : Type 0 where
-    pub is : (t : Table) → FileOf t → n < count t → asks t n ≡ true → o ≡ owner t n → h ≡ schema-of t n → (inherits t n ≡ true → c ≡ inherited-code t n) → Finds (uses t) n f
+  pub record FindingAt (items : List ℕ) (stamp o h c n : ℕ) (f : Finding) : Type 0 where
+    pub is :
+        (t : Table) → FileOf t → n < count t → asks t n ≡ true → o ≡ owner t n → h ≡ schema-of t n → (inherits t n ≡ true → c ≡ inherited-code t n) →
+        symbol t n < length items → ItemsOf t h items stamp → Finds (uses t) n f
 
 module _ (kinds tokens sizes roles symbols starts keys nodes heads next : List ℕ) where
-  -- the schema of a declaration
-  pub record RangeAsked (schema : ℕ) (t : Table) (v : ℕ) : Type 0 where
+  -- the schema of a declaration, and its items in a table that has an entry for each symbol
+  pub record RangeAsked (items : List ℕ) (stamp schema : ℕ) (t : Table) (v : ℕ) : Type 0 where
     pub of-file : FileOf kinds tokens sizes symbols starts keys nodes heads next t
     pub roles-are : roles ≡ t .roles
     pub schema-is : schema ≡ schema-of t (node-of t v)
+    pub items-room : (n : ℕ) → n < count t → symbol t n < length items
+    pub items-are : ItemsOf t schema items stamp
 
   -- `bind_range`
-  abbrev pub BindsRange : ℕ → ℕ → ℕ → Progress → List ℕ → List ℕ → ℕ → Progress → List ℕ → List ℕ → Type 0
-  BindsRange schema lo hi = PassesRange (RangeAsked schema) uses lo hi
+  abbrev pub BindsRange : List ℕ → ℕ → ℕ → ℕ → ℕ → Progress → List ℕ → List ℕ → ℕ → Progress → List ℕ → List ℕ → Type 0
+  BindsRange items stamp schema lo hi = PassesRange (RangeAsked items stamp schema) uses lo hi
 
-  -- the columns are those of a file, there is room, and the column of bindings holds what is inherited
-  pub record FileAsked (bound : List ℕ) (offsets places : ℕ) (t : Table) : Type 0 where
+  -- the columns are those of a file, there is room (a place in the table of items for each symbol, a stamp for each declaration), and the column of bindings
+  -- holds what is inherited
+  pub record FileAsked (bound : List ℕ) (offsets places slots : ℕ) (t : Table) : Type 0 where
     pub of-file : FileOf kinds tokens sizes symbols starts keys nodes heads next t
     pub roles-are : roles ≡ t .roles
     pub bound-room : count t ≤ length bound
     pub bound-is : (n : ℕ) → n < count t → getD bound n 0 ≡ inherited-before t n
     pub graph-room : Room t (constant-target t) offsets places
+    pub items-room : length (t .symbols) ≤ slots
+    pub stamp-room : vertex-count t < stamp-count
 
   -- `bind_uses`: the fault of the stage of expressions, the bindings of all names, and the graph of N17
-  pub record BindsUses (bound first to : List ℕ) (r : Fault) (bound′ first′ to′ : List ℕ) : Type 0 where
-    pub is : (t : Table) → FileAsked bound (length first) (length to) t → PassedAll t (uses t) r bound′ first′ to′
+  pub record BindsUses (bound first to items : List ℕ) (r : Fault) (bound′ first′ to′ : List ℕ) : Type 0 where
+    pub is : (t : Table) → Scanned t → FileAsked bound (length first) (length to) (length items) t → PassedAll t (uses t) r bound′ first′ to′

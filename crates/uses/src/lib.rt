@@ -8,6 +8,8 @@ use columns::put32;
 use columns::shorter;
 use faults::Fault;
 use meanings::Use;
+use schema_items::item_at;
+use schema_items::turn_to;
 use scopes::at;
 use scopes::at8;
 use type_names::Finding;
@@ -30,20 +32,21 @@ fn asks(kind: u8, role: u32) -> bool
     scopes::is_scope_member(kind, role)
 }
 
-// What is inherited, from its code.
+// What is inherited, or meant among the items of a schema, from its code.
 fn decoded(code: u32) -> Use
     ensures { λ r. ⌜ Decodes code r ⌝ }
 {
     if code == 0 {
         return Use::Nothing;
     }
-    if code == inheritance::SEVERAL {
+    if code == symbol_tables::SEVERAL {
         return Use::Several;
     }
     Use::Node(index(code - 1))
 }
 
-// What is found of a node of an owner in a schema, given the code of what its symbol inherits there.
+// What is found of a node of an owner in a schema, given the code of what its symbol inherits there, and the items of the schema in a
+// table.
 fn finding_at(
     kinds: &[u8],
     tokens: &[u32],
@@ -54,16 +57,19 @@ fn finding_at(
     nodes: &[u32],
     heads: &[u32],
     next: &[u32],
+    items: &[u32],
+    stamp: u32,
     owner: usize,
     schema: usize,
     code: u32,
     node: usize,
 ) -> Finding
     ensures { λ r. ⌜ FindingAt (now (kinds .entry)) (now (tokens .entry)) (now (sizes .entry)) (now (symbols .entry)) (now (starts .entry))
-        (now (keys .entry)) (now (nodes .entry)) (now (heads .entry)) (now (next .entry)) owner schema code node r ⌝ }
+        (now (keys .entry)) (now (nodes .entry)) (now (heads .entry)) (now (next .entry)) (now (items .entry)) stamp owner schema code node r ⌝ }
 {
     let kind = at8(kinds, node);
     let inherited = decoded(code);
+    let item = decoded(item_at(tokens, symbols, items, stamp, node));
     findings::nodes::node_finding(
         kinds,
         tokens,
@@ -78,6 +84,7 @@ fn finding_at(
         owner,
         schema,
         inherited,
+        item,
         node,
     )
 }
@@ -87,13 +94,15 @@ fn bind_range(
     kinds: &[u8],
     tokens: &[u32],
     sizes: &[u32],
-    roles: &[u32],
+    roles: &[u8],
     symbols: &[u32],
     starts: &[u32],
     keys: &[u64],
     nodes: &[u32],
     heads: &[u32],
     next: &[u32],
+    items: &[u32],
+    stamp: u32,
     schema: usize,
     lo: usize,
     hi: usize,
@@ -102,14 +111,14 @@ fn bind_range(
     to: &mut [u32],
 ) -> Progress
     ensures { λ r. ⌜ BindsRange (now (kinds .entry)) (now (tokens .entry)) (now (sizes .entry)) (now (roles .entry)) (now (symbols .entry)) (now (starts .entry))
-        (now (keys .entry)) (now (nodes .entry)) (now (heads .entry)) (now (next .entry)) schema lo hi
+        (now (keys .entry)) (now (nodes .entry)) (now (heads .entry)) (now (next .entry)) (now (items .entry)) stamp schema lo hi
         before (now (bound .entry)) (now (to .entry)) lo r (now (bound .exit)) (now (to .exit)) ⌝ }
 {
     let mut so_far = before;
     let mut i = shorter(hi, shorter(kinds.len(), roles.len()));
     while lo < i {
         i -= 1;
-        if asks(kinds[i], roles[i]) {
+        if asks(kinds[i], roles[i] as u32) {
             let code = at(bound, i);
             let found = finding_at(
                 kinds,
@@ -121,6 +130,8 @@ fn bind_range(
                 nodes,
                 heads,
                 next,
+                items,
+                stamp,
                 hi,
                 schema,
                 code,
@@ -133,12 +144,13 @@ fn bind_range(
 }
 
 // Binds the names in expressions and stores the arcs; the fault with the smallest place. The column holds the bindings of names
-// of types and the codes of what other names inherit, and is left with the bindings of all names.
+// of types and the codes of what other names inherit, and is left with the bindings of all names. The items of one schema at a time stand
+// in a table by symbol.
 pub fn bind_uses(
     kinds: &[u8],
     tokens: &[u32],
     sizes: &[u32],
-    roles: &[u32],
+    roles: &[u8],
     symbols: &[u32],
     starts: &[u32],
     keys: &[u64],
@@ -148,20 +160,33 @@ pub fn bind_uses(
     bound: &mut [u32],
     first: &mut [u32],
     to: &mut [u32],
+    items: &mut [u32],
 ) -> Fault
     ensures { λ r. ⌜ BindsUses (now (kinds .entry)) (now (tokens .entry)) (now (sizes .entry)) (now (roles .entry)) (now (symbols .entry)) (now (starts .entry))
         (now (keys .entry)) (now (nodes .entry)) (now (heads .entry)) (now (next .entry))
-        (now (bound .entry)) (now (first .entry)) (now (to .entry)) r (now (bound .exit)) (now (first .exit)) (now (to .exit)) ⌝ }
+        (now (bound .entry)) (now (first .entry)) (now (to .entry)) (now (items .entry)) r (now (bound .exit)) (now (first .exit)) (now (to .exit)) ⌝ }
 {
     let mut so_far = Progress {
         arcs: to.len(),
         least: faults::fine(),
     };
+    let mut tabled = schema_items::begin(kinds.len(), items);
     let mut v = columns::saturating_sub(first.len(), 1);
     while 0 < v {
         put32(first, v, number(so_far.arcs));
+        let stamp = number(v);
         v -= 1;
         let d = scopes::declaration(keys, nodes, v);
+        tabled = turn_to(
+            kinds,
+            tokens,
+            sizes,
+            symbols,
+            d.schema,
+            stamp,
+            tabled,
+            items,
+        );
         so_far = bind_range(
             kinds,
             tokens,
@@ -173,6 +198,8 @@ pub fn bind_uses(
             nodes,
             heads,
             next,
+            items,
+            tabled.stamp,
             d.schema,
             d.from,
             d.node,

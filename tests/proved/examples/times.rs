@@ -139,49 +139,50 @@ fn kinds_of(bytes: &[u8]) -> Kinds {
     Kinds { proved: [declared, typed, evaluated], reference: [outlined, checked, answered] }
 }
 
-/// Nanoseconds for each byte of well-typed files of three sizes, and the proved time as a part of the reference's, without its
-/// outline and with it.
+/// Nanoseconds for each byte of well-typed files of three sizes and of one of many schemas, and the proved time as a part of the
+/// reference's, without its outline and with it.
 fn print_kinds() {
     println!("\nnanoseconds for each byte");
     println!("   bytes  declared    typing   answers |   outline     check   answers |   ratio  with outline");
+    let [clock, _] = best(|| (), || ());
     for size in [1_024, 16_384, LARGEST] {
         let sized = |file: &Vec<u8>| (size / 4 * 3..=size / 4 * 5).contains(&file.len());
         for file in (0..).map(|seed| well_typed(seed, size)).filter(sized).take(6) {
-            let Kinds { proved, reference } = kinds_of(&file);
-            let print = |times: [f64; 3]| times.map(|time| print!("{:10.3}", time / file.len() as f64));
-            print!("{:8}", file.len());
-            print(proved);
-            print!(" |");
-            print(reference);
-            let [proved, whole] = [proved, reference].map(|times| times.iter().sum::<f64>());
-            println!(" |{:8.2}{:14.2}", proved / (whole - reference[0]), proved / whole);
+            print_kinds_of(&file, clock);
         }
     }
+    let schema = |i: usize| format!("SCHEMA s{i};CONSTANT c:INTEGER:={i};END_CONSTANT;END_SCHEMA;");
+    print_kinds_of(&pieces("", schema, ""), clock);
+}
+
+/// Each call is timed by itself, and the clock's own time taken off.
+fn print_kinds_of(file: &[u8], clock: f64) {
+    let Kinds { proved, reference } = kinds_of(file);
+    let [proved, reference] = [proved, reference].map(|times| times.map(|time| (time - clock).max(0.0)));
+    let print = |times: [f64; 3]| times.map(|time| print!("{:10.3}", time / file.len() as f64));
+    print!("{:8}", file.len());
+    print(proved);
+    print!(" |");
+    print(reference);
+    let [proved, whole] = [proved, reference].map(|times| times.iter().sum::<f64>());
+    println!(" |{:8.2}{:14.2}", proved / (whole - reference[0]), proved / whole);
 }
 
 /// Columns for the names of a file with so many tokens.
 fn name_columns(tokens: usize) -> NameColumns {
-    let [narrow, wide] = [(); 2].map(|()| vec![0u32; tokens + 1]);
-    let column = || narrow.clone();
+    let column = |entries: usize| vec![0u32; entries + 2];
     NameColumns {
-        symbols: column(),
-        keys: vec![0; wide.len()],
-        nodes: column(),
+        roles: vec![0; tokens],
+        symbols: column(tokens),
+        keys: vec![0; tokens / 2],
+        nodes: column(tokens / 2),
         heads: vec![0; BUCKETS.min(tokens.next_power_of_two() / 2).max(1)],
-        next: column(),
-        bound: column(),
-        first: column(),
-        to: column(),
-        types: column(),
-        constants: column(),
-        scratch: vec![0; 6 * narrow.len()],
-        spellings: vec![0; wide.len()],
-        attributes: column(),
-        owners: column(),
-        attribute_heads: vec![0; BUCKETS.min(tokens.next_power_of_two() / 4).max(1)],
-        attribute_next: column(),
-        mark: column(),
-        queue: column(),
+        next: column(tokens / 2),
+        first: column(tokens / 5),
+        to: column(tokens / 2),
+        types: column(tokens / 5),
+        constants: column(tokens / 5),
+        scratch: column(6 * (tokens / 5 + 1)),
     }
 }
 
@@ -208,7 +209,14 @@ fn names_of(bytes: &[u8]) -> [f64; 3] {
         || {
             let symbols = symbols::intern(bytes, &tokens, &terminals);
             let outline = Outline::new(&nodes);
-            let file = File { bytes, tokens: &tokens, terminals: &terminals, nodes: &nodes, symbols: &symbols, outline: &outline };
+            let file = File {
+                bytes,
+                tokens: &tokens,
+                terminals: &terminals,
+                nodes: &nodes,
+                symbols: &symbols,
+                outline: &outline,
+            };
             names::bind(black_box(&file)).is_ok()
         },
     );
@@ -225,7 +233,12 @@ fn print_names() {
         let sized = |file: &Vec<u8>| (size / 4 * 3..=size / 4 * 5).contains(&file.len());
         for file in (0..).map(|seed| well_typed(seed, size)).filter(sized).take(6) {
             let [proved, bound, whole] = names_of(&file).map(|time| time / file.len() as f64);
-            println!("{:8}{proved:10.3} |{bound:10.3}{whole:14.3} |{:8.2}{:14.2}", file.len(), proved / bound, proved / whole);
+            println!(
+                "{:8}{proved:10.3} |{bound:10.3}{whole:14.3} |{:8.2}{:14.2}",
+                file.len(),
+                proved / bound,
+                proved / whole
+            );
         }
     }
 }
@@ -266,9 +279,18 @@ fn hostile() -> Vec<(&'static str, Vec<u8>)> {
         ("a chain, and many attributes below it", pieces(&wide, |i| format!("b{i}:REAL;"), "END_ENTITY;END_SCHEMA;")),
         ("constants in one chain", pieces("SCHEMA s;CONSTANT ", constant, "END_CONSTANT;END_SCHEMA;")),
         ("renamings in one chain", pieces("SCHEMA s;", |i| format!("TYPE t{i}=t{};END_TYPE;", i + 1), "END_SCHEMA;")),
-        ("items of one name", pieces("SCHEMA s;TYPE t=ENUMERATION OF(a", |_| ",a".to_string(), ");END_TYPE;END_SCHEMA;")),
-        ("items, all different", pieces("SCHEMA s;TYPE t=ENUMERATION OF(a", |i| format!(",a{i}"), ");END_TYPE;END_SCHEMA;")),
-        ("entities with a thousand supertypes", pieces("SCHEMA s;", |i| format!("ENTITY e{i};END_ENTITY;"), "END_SCHEMA;")),
+        (
+            "items of one name",
+            pieces("SCHEMA s;TYPE t=ENUMERATION OF(a", |_| ",a".to_string(), ");END_TYPE;END_SCHEMA;"),
+        ),
+        (
+            "items, all different",
+            pieces("SCHEMA s;TYPE t=ENUMERATION OF(a", |i| format!(",a{i}"), ");END_TYPE;END_SCHEMA;"),
+        ),
+        (
+            "entities with a thousand supertypes",
+            pieces("SCHEMA s;", |i| format!("ENTITY e{i};END_ENTITY;"), "END_SCHEMA;"),
+        ),
     ]
 }
 

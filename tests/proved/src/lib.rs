@@ -6,7 +6,10 @@ mod calls;
 pub use calls::{add, compare, div, modulo, multiply, negate, power, subtract};
 pub use calls::{and, not, or, relate, xor};
 pub use calls::{applied, between, combined, held, Operator};
-pub use calls::{binary, build, components, find, integer, intern, next_of, order, parse, reachable, scan, scan_to, symbol_of, terminals, Sorted};
+pub use calls::{
+    binary, build, components, find, integer, intern, next_of, order, parse, reachable, scan, scan_to, symbol_of,
+    terminals, Sorted,
+};
 pub use calls::{compare_binaries, join, Binary};
 pub use calls::{declared_types, evaluate_constants, resolve, type_constants, NameColumns, Nodes, Rows, Text};
 

@@ -19,7 +19,17 @@ fn least(words: &[Vec<u8>], terminals: &[u8]) -> Vec<u32> {
     let mut first = HashMap::new();
     let terminals = terminals.iter().copied().chain(std::iter::repeat(0));
     let entries = (0..).zip(words).zip(terminals);
-    entries.map(|((token, word), terminal)| if terminal == IDENTIFIER { *first.entry(word).or_insert(token) } else { token }).collect()
+    entries
+        .map(
+            |((token, word), terminal)| {
+                if terminal == IDENTIFIER {
+                    *first.entry(word).or_insert(token)
+                } else {
+                    token
+                }
+            },
+        )
+        .collect()
 }
 
 /// The same of identifiers alone, by the reference's symbols.
@@ -59,7 +69,8 @@ fn hold_with(bytes: &[u8], rows: &[TokenRow], terminals: &[u8], buckets: usize) 
 fn hold(bytes: &[u8], buckets: usize) {
     let Ok(rows) = tokens::read(bytes) else { return };
     let words = terminals::classify(bytes, &rows);
-    let codes: Vec<u8> = words.iter().map(|&word| if word == terminals::Terminal::Identifier { IDENTIFIER } else { 9 }).collect();
+    let codes: Vec<u8> =
+        words.iter().map(|&word| if word == terminals::Terminal::Identifier { IDENTIFIER } else { 9 }).collect();
     let symbols = hold_with(bytes, &rows, &codes, buckets);
     for (token, first) in least_by_reference(bytes, &rows) {
         assert_eq!(symbols[token], first, "token {token}: {}", bytes.escape_ascii());

@@ -17,30 +17,25 @@ fn before(i: usize) -> u32 {
 }
 
 /// Columns in the order of `NameColumns`.
-const COLUMNS: usize = 18;
+const COLUMNS: usize = 11;
+
+const BUCKETS: usize = 4;
 
 fn lent(lengths: [usize; COLUMNS]) -> NameColumns {
     let narrow = |column: usize| (0..lengths[column]).map(before).collect();
     let wide = |column: usize| (0..lengths[column]).map(|i| u64::from(before(i)) << 32).collect();
     NameColumns {
-        symbols: narrow(0),
-        keys: wide(1),
-        nodes: narrow(2),
-        heads: narrow(3),
-        next: narrow(4),
-        bound: narrow(5),
+        roles: (0..lengths[0]).map(|i| before(i) as u8).collect(),
+        symbols: narrow(1),
+        keys: wide(2),
+        nodes: narrow(3),
+        heads: narrow(BUCKETS),
+        next: narrow(5),
         first: narrow(6),
         to: narrow(7),
         types: narrow(8),
         constants: narrow(9),
         scratch: narrow(10),
-        spellings: wide(11),
-        attributes: narrow(12),
-        owners: narrow(13),
-        attribute_heads: narrow(14),
-        attribute_next: narrow(15),
-        mark: narrow(16),
-        queue: narrow(17),
     }
 }
 
@@ -92,11 +87,11 @@ impl Parsed {
         (0..).zip(&self.kinds).filter(|(_, &kind)| is_declaration(kind)).map(|(node, _)| node).collect()
     }
 
-    /// The entries of the dictionary: an item has two, a schema, a declaration, an attribute, a label and a supertype one.
+    /// The entries of the dictionary: one for a schema, a declaration, an item, an attribute, a label and a supertype.
     fn entries(&self) -> usize {
         let entries = |node: &SyntaxRow| match node.kind {
-            kind::ITEM => 2,
-            kind::SCHEMA | kind::CONSTANT | kind::TYPE | kind::ENTITY | kind::ATTRIBUTE | kind::DERIVED => 1,
+            kind::SCHEMA | kind::CONSTANT | kind::TYPE | kind::ENTITY => 1,
+            kind::ITEM | kind::ATTRIBUTE | kind::DERIVED => 1,
             kind::RULE => usize::from(node.role == role::LABELLED),
             kind::NAME => usize::from(node.role == role::SUPERTYPE),
             _ => 0,
@@ -108,11 +103,8 @@ impl Parsed {
     fn room(&self) -> [usize; COLUMNS] {
         let (tokens, nodes, entries, vertices) =
             (self.starts.len(), self.kinds.len(), self.entries(), self.declarations().len());
-        let next = tokens.max(entries);
-        [
-            tokens, entries, entries, 1, next, nodes, vertices + 1, nodes, vertices, vertices, 6 * vertices, nodes, nodes,
-            nodes, 1, nodes, vertices, vertices,
-        ]
+        let scratch = tokens.max(6 * vertices);
+        [nodes, tokens, entries, entries, 1, entries, vertices + 1, tokens.div_ceil(2), vertices, vertices, scratch]
     }
 
     fn resolved(&self, lent: &mut NameColumns) -> (Option<Result<(), Refusal>>, Vec<u32>) {
@@ -167,7 +159,7 @@ impl Parsed {
 fn hold(text: &[u8], buckets: usize) -> Option<u32> {
     let file = parsed(text)?;
     let mut room = file.room();
-    (room[3], room[14]) = (buckets, 1 + buckets / 2);
+    room[BUCKETS] = buckets;
     let mut columns = lent(room);
     let (answer, bindings) = file.resolved(&mut columns);
     let answer = answer.expect("room");
@@ -249,8 +241,10 @@ fn hierarchy(seed: u64) -> Vec<u8> {
             let (wide, many) = (rng.below(3), rng.below(3));
             let above = some(&mut rng, wide, if loose { count } else { entity });
             let own = some(&mut rng, many, 9);
-            let attributes =
-                own.into_iter().map(|own| if rng.one_in(2) { rng.below(shared) } else { 100 + 10 * entity + own }).collect();
+            let attributes = own
+                .into_iter()
+                .map(|own| if rng.one_in(2) { rng.below(shared) } else { 100 + 10 * entity + own })
+                .collect();
             Entity { above, attributes }
         })
         .collect();

@@ -2,28 +2,38 @@
 use Rattle.constants.proofs.evaluate_schemas.Statement.{statement}
 use Rattle.constants.proofs.evaluate_schemas.Tie as tie
 use borrow.Author.Needs.{needs}
-use Prim.Native.Nat.{_-_}
 use lib.ListN.{length}
-use native.Mathlib.Omega.{arith}
+use Prim.Native.Nat.{_-_}
 use Rattle.tree.proofs.Next.{next-beyond}
 use Rattle.constants.proofs.Schemas.{Here, filling-starts, filling-next, filling-schema, filling-ends}
+use Rattle.constants.proofs.Parted.{to-from, to-upto}
+use native.Mathlib.Omega.{arith}
 
 abbrev Inv-loop : tie.InvT-loop
 Inv-loop src starts lengths terminals kinds tokens sizes bindings declared order row-of answer-kinds₀ answer-numbers₀ answer-lengths₀ value-kinds₀
-    value-numbers₀ value-lengths₀ n₀ lo₀ at₀ answer-kinds answer-numbers answer-lengths value-kinds value-numbers value-lengths n lo at =
-    Here src starts lengths terminals kinds tokens sizes bindings declared order row-of answer-kinds₀ answer-numbers₀ answer-lengths₀ value-kinds₀
-    value-numbers₀ value-lengths₀ answer-kinds answer-numbers answer-lengths value-kinds value-numbers value-lengths n lo at
+    value-numbers₀ value-lengths₀ are-grouped n₀ lo₀ at₀ from₀ answer-kinds answer-numbers answer-lengths value-kinds value-numbers value-lengths n lo at from
+    = Here src starts lengths terminals kinds tokens sizes bindings declared order row-of answer-kinds₀ answer-numbers₀ answer-lengths₀ value-kinds₀
+    value-numbers₀ value-lengths₀ answer-kinds answer-numbers answer-lengths value-kinds value-numbers value-lengths n lo at from
 
 abbrev μ-loop : tie.MeasureT-loop
-μ-loop src starts lengths terminals kinds tokens sizes bindings declared order row-of answer-kinds₀ answer-numbers₀ answer-lengths₀ value-kinds₀
-    value-numbers₀ value-lengths₀ n₀ lo₀ at₀ answer-kinds answer-numbers answer-lengths value-kinds value-numbers value-lengths n lo at = length kinds
+μ-loop src starts lengths terminals kinds tokens sizes bindings declared order row-of answer-kinds₀ answer-numbers₀ answer-lengths₀ value-kinds₀ value-numbers₀
+    value-lengths₀ are-grouped n₀ lo₀ at₀ from₀ answer-kinds answer-numbers answer-lengths value-kinds value-numbers value-lengths n lo at from = length kinds
     - n
+
+is-grouped-requires : tie.Need-is-grouped-requires Inv-loop μ-loop
+is-grouped-requires c κs = search needs
 
 next-of-kind-requires : tie.Need-next-of-kind-requires Inv-loop μ-loop
 next-of-kind-requires c κs = search needs
 
 loop-holds : tie.Need-loop-holds Inv-loop μ-loop
 loop-holds c = filling-next filling-starts (c .next-of-kind .ensures)
+
+first-behind-requires : tie.Need-first-behind-requires Inv-loop μ-loop
+first-behind-requires c κs = search needs
+
+part-end-requires : tie.Need-part-end-requires Inv-loop μ-loop
+part-end-requires c κs = search needs
 
 shorter-requires : tie.Need-shorter-requires Inv-loop μ-loop
 shorter-requires c κs = search needs
@@ -34,24 +44,51 @@ shorter-requires-2 c κs = search needs
 shorter-requires-3 : tie.Need-shorter-requires-3 Inv-loop μ-loop
 shorter-requires-3 c κs = search needs
 
+mul-evaluate-schema : tie.Need-mul-evaluate-schema Inv-loop μ-loop
+mul-evaluate-schema c =
+    omega (
+      arith,
+      to-from (c .before .before .before .before .before .before .loop .inv .filling .begun) (c .before .before .before .before .before .before
+          .loop .n) (omega (arith, c .before .before .before .before .before .before .loop .inv .filling .ahead)) (c .before .before .before .before .first-behind
+          .ensures) (c .before .before .before .before .before .before .before .before .before .before .before .before .before .before .before .before .before
+          .before .before .before .before .before .before .before .args .kinds .now) (c .before .before .before .before .before .before .before .before .is-grouped
+          .ensures) (c .before .before .before .part-end .ensures),
+      to-upto (c .before .before .before .before .before .before .loop .inv .filling .begun) (c .before
+          .before .before .before .before .before .loop .n) (omega (arith, c .before .before .before .before .before .before .loop .inv .filling .ahead)) (c .before
+          .before .before .before .first-behind .ensures) (c .before .before .before .before .before .before .before .before .before .before .before .before .before
+          .before .before .before .before .before .before .before .before .before .before .before .args .kinds .now) (c .before .before .before .before .before
+          .before .before .before .is-grouped .ensures) (c .before .before .before .part-end .ensures),
+      c .before .before .before .before .before .before .before
+          .before .before .before .before .before .before .before .before .before .before .before .before .before .before .before .before .before .good,
+    )
+
 sub-evaluate-schema : tie.Need-sub-evaluate-schema Inv-loop μ-loop
-sub-evaluate-schema c = search needs
+sub-evaluate-schema c =
+    to-from (c .before .before .before .before .before .before .loop .inv .filling .begun) (c .before .before .before .before .before .before .loop .n) (omega
+    (arith, c .before .before .before .before .before .before .loop .inv .filling .ahead)) (c .before .before .before .before .first-behind .ensures) (c
+    .before .before .before .before .before .before .before .before .before .before .before .before .before .before .before .before .before .before .before
+    .before .before .before .before .before .args .kinds .now) (c .before .before .before .before .before .before .before .before .is-grouped .ensures) (c
+    .before .before .before .part-end .ensures)
 
 part-evaluate-schema-start : tie.Need-part-evaluate-schema-start Inv-loop μ-loop
-part-evaluate-schema-start c = search needs
+part-evaluate-schema-start c =
+    let f = to-from (c .before .before .before .before .before .before .loop .inv .filling .begun) (c .before .before .before .before .before .before .loop .n)
+    (omega (arith, c .before .before .before .before .before .before .loop .inv .filling .ahead)) (c .before .before .before .before .first-behind .ensures) (c
+    .before .before .before .before .before .before .before .before .before .before .before .before .before .before .before .before .before .before .before
+    .before .before .before .before .before .args .kinds .now) (c .before .before .before .before .before .before .before .before .is-grouped .ensures) (c
+    .before .before .before .part-end .ensures) in let u = to-upto (c .before .before .before .before .before .before .loop .inv .filling .begun) (c .before
+    .before .before .before .before .before .loop .n) (omega (arith, c .before .before .before .before .before .before .loop .inv .filling .ahead)) (c .before
+    .before .before .before .first-behind .ensures) (c .before .before .before .before .before .before .before .before .before .before .before .before .before
+    .before .before .before .before .before .before .before .before .before .before .before .args .kinds .now) (c .before .before .before .before .before
+    .before .before .before .is-grouped .ensures) (c .before .before .before .part-end .ensures) in omega (arith, f, u)
 
 part-evaluate-schema-end : tie.Need-part-evaluate-schema-end Inv-loop μ-loop
-part-evaluate-schema-end c = search needs
-
-mul-evaluate-schema : tie.Need-mul-evaluate-schema Inv-loop μ-loop
-mul-evaluate-schema c = omega (
-  arith,
-  c .before .before .shorter2 .ensures,
-  c .before .before .before .before .before .loop .inv .filling
-      .numbers-kept,
-  c .before .before .before .before .before .before .before .before .before .before .before .before .before .before .before .before
-      .before .before .before .before .before .before .good,
-)
+part-evaluate-schema-end c =
+    to-upto (c .before .before .before .before .before .before .loop .inv .filling .begun) (c .before .before .before .before .before .before .loop .n) (omega
+    (arith, c .before .before .before .before .before .before .loop .inv .filling .ahead)) (c .before .before .before .before .first-behind .ensures) (c
+    .before .before .before .before .before .before .before .before .before .before .before .before .before .before .before .before .before .before .before
+    .before .before .before .before .before .args .kinds .now) (c .before .before .before .before .before .before .before .before .is-grouped .ensures) (c
+    .before .before .before .part-end .ensures)
 
 sub-evaluate-schema-2 : tie.Need-sub-evaluate-schema-2 Inv-loop μ-loop
 sub-evaluate-schema-2 c = search needs
@@ -62,6 +99,17 @@ part-evaluate-schema-start-2 c = search needs
 part-evaluate-schema-end-2 : tie.Need-part-evaluate-schema-end-2 Inv-loop μ-loop
 part-evaluate-schema-end-2 c = search needs
 
+mul-evaluate-schema-2 : tie.Need-mul-evaluate-schema-2 Inv-loop μ-loop
+mul-evaluate-schema-2 c =
+    omega (
+      arith,
+      c .before .before .before .shorter2 .ensures,
+      c .before .before .before .before .before .before .before .before .loop .inv .filling
+          .numbers-kept,
+      c .before .before .before .before .before .before .before .before .before .before .before .before .before .before .before .before .before
+          .before .before .before .before .before .before .before .before .before .good,
+    )
+
 sub-evaluate-schema-3 : tie.Need-sub-evaluate-schema-3 Inv-loop μ-loop
 sub-evaluate-schema-3 c = search needs
 
@@ -71,6 +119,15 @@ part-evaluate-schema-start-3 c = search needs
 part-evaluate-schema-end-3 : tie.Need-part-evaluate-schema-end-3 Inv-loop μ-loop
 part-evaluate-schema-end-3 c = search needs
 
+sub-evaluate-schema-4 : tie.Need-sub-evaluate-schema-4 Inv-loop μ-loop
+sub-evaluate-schema-4 c = search needs
+
+part-evaluate-schema-start-4 : tie.Need-part-evaluate-schema-start-4 Inv-loop μ-loop
+part-evaluate-schema-start-4 c = search needs
+
+part-evaluate-schema-end-4 : tie.Need-part-evaluate-schema-end-4 Inv-loop μ-loop
+part-evaluate-schema-end-4 c = search needs
+
 evaluate-schema-requires : tie.Need-evaluate-schema-requires Inv-loop μ-loop
 evaluate-schema-requires c κs = search needs
 
@@ -78,41 +135,47 @@ index-at-requires : tie.Need-index-at-requires Inv-loop μ-loop
 index-at-requires c κs = search needs
 
 add-lo : tie.Need-add-lo Inv-loop μ-loop
-add-lo c = omega (
-  arith,
-  c .before .before .before .before .before .before .before .before .before .before .before .before .before .before .before
-      .before .before .before .before .before .before .loop-test .taken,
-  c .before .before .before .before .before .before .before .before .before
-      .before .before .before .before .before .before .before .before .before .before .before .before .before .before .before .before .before .before
-      .before .before .before .before .before .before .before .before .before .before .before .before .good,
-)
+add-lo c =
+    omega (
+      arith,
+      c .before .before .before .before .before .before .before .before .before .before .before .before .before .before .before .before .before
+          .before .before .before .before .before .before .before .loop-test .taken,
+      c .before .before .before .before .before .before .before .before .before
+          .before .before .before .before .before .before .before .before .before .before .before .before .before .before .before .before .before .before .before
+          .before .before .before .before .before .before .before .before .before .before .before .before .before .before .before .good,
+    )
 
 next-of-kind-requires-2 : tie.Need-next-of-kind-requires-2 Inv-loop μ-loop
 next-of-kind-requires-2 c κs = search needs
 
 loop-less : tie.Need-loop-less Inv-loop μ-loop
-loop-less c = let h = next-beyond _ _ _ (c .next-of-kind2 .ensures) in omega (
-  arith,
-  h,
-  c .before .before .before .before .before .before .before
-      .before .before .before .before .before .before .before .before .before .before .before .before .before .before .before .loop-test .taken,
-)
+loop-less c =
+    let h = next-beyond _ _ _ (c .next-of-kind2 .ensures) in omega (
+      arith,
+      h,
+      c .before .before .before .before .before .before .before .before .before .before
+          .before .before .before .before .before .before .before .before .before .before .before .before .before .before .before .loop-test .taken,
+    )
 
 loop-again : tie.Need-loop-again Inv-loop μ-loop
 loop-again c =
-    filling-next (filling-schema (c .before .before .before .before .before .before .before .before .before .before .before .before .before .before
-    .before .before .before .before .before .before .before .before .before .loop .inv .filling) (c .before .before .before .before .before .before
-    .before .before .before .before .before .before .before .before .before .before .before .before .before .before .before .before .loop-test .taken)
-    (c .before .before .before .before .before .before .before .before .before .before .before .before .before .before .before .before .before .before
-    .before .before .before .before .before .loop .inv .stands (c .before .before .before .before .before .before .before .before .before .before
-    .before .before .before .before .before .before .before .before .before .before .before .before .loop-test .taken)) (c .before .before .before
-    .before .before .before .before .before .before .before .before .before .before .before .before .before .before .before .before .before .before
-    .shorter .ensures)
-    (c .before .before .before .before .before .before .before .before .before .before .before .before .before .before .before .before .before .before
-    .before .before .shorter2 .ensures) (c .before .before .before .before .before .before .before .before .before .before .before .before .before
-    .before .before .before .before .before .before .shorter3 .ensures) (c .before .index-at .ensures) _ _ _ (c .before .before .before .before
-    .before .before .before .before .before .before .before .before .evaluate-schema .ensures) (search needs) (search needs) (search needs)
-    (search needs) (search needs) (search needs) (search needs) (search needs) (search needs)) (c .next-of-kind2 .ensures)
+    filling-next (filling-schema (c .before .before .before .before .before .before .before .before .before .before .before .before .before .before .before
+    .before .before .before .before .before .before .before .before .before .before .before .loop .inv .filling) (c .before .before .before .before .before
+    .before .before .before .before .before .before .before .before .before .before .before .before .before .before .before .before .before .before .before
+    .before .loop-test .taken) (c .before .before .before .before .before .before .before .before .before .before .before .before .before .before .before
+    .before .before .before .before .before .before .before .before .before .before .before .loop .inv .stands (c .before .before .before .before .before
+    .before .before .before .before .before .before .before .before .before .before .before .before .before .before .before .before .before .before .before
+    .before .loop-test .taken)) (c .before .before .before .before .before .before .before .before .before .before .before .before .before .before .before
+    .before .before .before .before .before .before .before .shorter .ensures) (c .before .before .before .before .before .before .before .before .before
+    .before .before .before .before .before .before .before .before .before .before .before .before .shorter2 .ensures) (c .before .before .before .before
+    .before .before .before .before .before .before .before .before .before .before .before .before .before .before .before .before .shorter3 .ensures) (c
+    .before .index-at .ensures) (c .before .before .before .before .before .before .before .before .before .before .before .before .before .before .before
+    .before .before .before .before .before .before .before .before .before .first-behind .ensures) (c .before .before .before .before .before .before .before
+    .before .before .before .before .before .before .before .before .before .before .before .before .before .before .before .before .before .before .before
+    .before .before .is-grouped .ensures) (c .before .before .before .before .before .before .before .before .before .before .before .before .before .before
+    .before .before .before .before .before .before .before .before .before .part-end .ensures) _ _ _ (c .before .before .before .before .before .before
+    .before .before .before .before .before .before .evaluate-schema .ensures) (search needs) (search needs) (search needs) (search needs) (search needs)
+    (search needs) (search needs) (search needs) (search needs)) (c .next-of-kind2 .ensures)
 
 same-length : tie.Need-same-length Inv-loop μ-loop
 same-length c = c .before .loop .inv .filling .kinds-kept
@@ -141,21 +204,28 @@ evaluate-schemas-spec =
     (tie.spec
     Inv-loop
     μ-loop
+    is-grouped-requires
     next-of-kind-requires
     loop-holds
+    first-behind-requires
+    part-end-requires
     shorter-requires
     shorter-requires-2
     shorter-requires-3
+    mul-evaluate-schema
     sub-evaluate-schema
     part-evaluate-schema-start
     part-evaluate-schema-end
-    mul-evaluate-schema
     sub-evaluate-schema-2
     part-evaluate-schema-start-2
     part-evaluate-schema-end-2
+    mul-evaluate-schema-2
     sub-evaluate-schema-3
     part-evaluate-schema-start-3
     part-evaluate-schema-end-3
+    sub-evaluate-schema-4
+    part-evaluate-schema-start-4
+    part-evaluate-schema-end-4
     evaluate-schema-requires
     index-at-requires
     add-lo

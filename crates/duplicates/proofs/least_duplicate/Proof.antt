@@ -2,7 +2,7 @@
 use Rattle.duplicates.proofs.least_duplicate.Statement.{statement}
 use Rattle.duplicates.proofs.least_duplicate.Tie as tie
 use borrow.Author.Needs.{needs}
-use Rattle.duplicates.proofs.Repeats.{LeastFrom, least-starts, least-more, least-same, least-all}
+use Rattle.duplicates.proofs.Repeats.{LeastFrom, least-starts, least-more, least-all}
 use mathlib.Core.Path.{_≡_}
 use native.Mathlib.Omega.{arith}
 
@@ -21,12 +21,6 @@ loop-holds c = least-starts _ _ _ _ _ (c .fine .ensures)
 sub-e : tie.Need-sub-e Inv-loop μ-loop
 sub-e c = search needs
 
-mul-if1 : tie.Need-mul-if1 Inv-loop μ-loop
-mul-if1 c = search needs
-
-shared-slice-read-if1 : tie.Need-shared-slice-read-if1 Inv-loop μ-loop
-shared-slice-read-if1 c = omega (arith, c .before .before .loop .inv .upto, c .before .loop-test .taken)
-
 repetition-requires : tie.Need-repetition-requires Inv-loop μ-loop
 repetition-requires c κs = search needs
 
@@ -37,15 +31,7 @@ loop-less : tie.Need-loop-less Inv-loop μ-loop
 loop-less c = search needs
 
 loop-again : tie.Need-loop-again Inv-loop μ-loop
-loop-again c =
-    least-more _ _ _ _ _ (c .before .before .before .before .loop-test .taken) (c .before .before .before .before .before .loop .inv) (c .before .before .if1
-    .taken) (c .before .repetition .ensures) (c .sooner .ensures)
-
-loop-less-2 : tie.Need-loop-less-2 Inv-loop μ-loop
-loop-less-2 c = search needs
-
-loop-again-2 : tie.Need-loop-again-2 Inv-loop μ-loop
-loop-again-2 c = least-same _ _ _ _ _ (c .before .before .loop-test .taken) (c .before .before .before .loop .inv) (c .if1 .left)
+loop-again c = least-more _ _ _ _ _ (omega (arith, c .before .before .loop-test .taken)) (c .before .before .before .loop .inv) (c .before .repetition .ensures) (c .sooner .ensures)
 
 returns : tie.Need-returns Inv-loop μ-loop
 returns c = let z : c .before .loop .e ≡ 0 = omega (arith, c .loop-test .left) in least-all _ _ _ _ _ (rw z at (c .before .loop .inv))
@@ -59,12 +45,8 @@ least-duplicate-spec =
     fine-requires
     loop-holds
     sub-e
-    mul-if1
-    shared-slice-read-if1
     repetition-requires
     sooner-requires
     loop-less
     loop-again
-    loop-less-2
-    loop-again-2
     returns)

@@ -1,7 +1,10 @@
 -- `evaluate::other` meets its contract: a constant, or a leaf. Assumes nothing.
+use mathlib.Core.Path.{refl}
+use native.Mathlib.Omega.{arith}
 use borrow.Author.Needs.{needs}
 use Rattle.evaluate.proofs.other.Statement.{statement}
 use Rattle.evaluate.proofs.other.Tie as tie
+use Rattle.evaluate.proofs.Literals.{leaf-other}
 use Rattle.evaluate.proofs.Assembled.{others-constant, others-leaf}
 
 last-requires : tie.Need-last-requires
@@ -17,6 +20,12 @@ returns : tie.Need-returns
 returns c =
     others-constant (c .before .before .before .if1 .taken) (c .before .before .last .ensures) (c .before .answer-at .ensures) (c .held .ensures)
 
+returns-2 : tie.Need-returns-2
+returns-2 c =
+    let h = c .if2 .taken in
+    others-leaf (c .before .if1 .left) refl refl refl
+    (leaf-other (λ q. omega (arith, h, q)) (λ q. omega (arith, h, q)) (λ q. omega (arith, h, q)))
+
 at8-requires : tie.Need-at8-requires
 at8-requires c κs = search needs
 
@@ -29,9 +38,9 @@ index-at-requires-2 c κs = search needs
 leaf-requires : tie.Need-leaf-requires
 leaf-requires c κs = search needs
 
-returns-2 : tie.Need-returns-2
-returns-2 c =
-    others-leaf (c .before .before .before .before .if1 .left) (c .before .before .before .at8 .ensures) (c .before .before .index-at .ensures) (c
+returns-3 : tie.Need-returns-3
+returns-3 c =
+    others-leaf (c .before .before .before .before .before .if1 .left) (c .before .before .before .at8 .ensures) (c .before .before .index-at .ensures) (c
     .before .index-at2 .ensures) (c .leaf .ensures)
 
 pub other-spec : {M : Type 1} → statement M
@@ -42,8 +51,9 @@ other-spec =
     answer-at-requires
     held-requires
     returns
+    returns-2
     at8-requires
     index-at-requires
     index-at-requires-2
     leaf-requires
-    returns-2)
+    returns-3)

@@ -1,90 +1,65 @@
 -- `inheritance::inherit_all` meets its contract. Assumes nothing.
+use borrow.Author.Needs.{needs}
 use Rattle.inheritance.proofs.inherit_all.Statement.{statement}
 use Rattle.inheritance.proofs.inherit_all.Tie as tie
-use borrow.Author.Needs.{needs}
-use Rattle.inheritance.proofs.Doing.{Doing, doing-starts, doing-goes, doing-ends}
-use Rattle.graph.proofs.Store.{zeros}
-use mathlib.Core.Path.{_∙_}
+use mathlib.Core.Path.{sym}
 use native.Mathlib.Omega.{arith}
+use lib.Seq.{length-take-le}
+use Rattle.inheritance.proofs.Doing.{inherits-in-parts}
 
-abbrev Inv-loop : tie.InvT-loop
-Inv-loop kinds tokens roles symbols entry-keys entry-nodes first to keys nodes owners heads next stamps₀ meanings₀ mark₀ queue₀ bound₀ v₀ stamps meanings mark queue bound
-    v = Doing kinds tokens roles symbols entry-keys entry-nodes first to keys nodes owners heads next stamps₀ meanings₀ mark₀ queue₀ bound₀ stamps meanings mark queue
-    bound v
+shorter-requires : tie.Need-shorter-requires
+shorter-requires c κs = search needs
 
-abbrev μ-loop : tie.MeasureT-loop
-μ-loop kinds tokens roles symbols entry-keys entry-nodes first to keys nodes owners heads next stamps₀ meanings₀ mark₀ queue₀ bound₀ v₀ stamps meanings mark queue bound v = v
+shorter-requires-2 : tie.Need-shorter-requires-2
+shorter-requires-2 c κs = search needs
 
-clear32-requires : tie.Need-clear32-requires Inv-loop μ-loop
-clear32-requires c κs = search needs
+slice-relend-prefix-inherit-declarations : tie.Need-slice-relend-prefix-inherit-declarations
+slice-relend-prefix-inherit-declarations c = search needs
 
-clear32-requires-2 : tie.Need-clear32-requires-2 Inv-loop μ-loop
-clear32-requires-2 c κs = search needs
+slice-aggregate-inherit-declarations : tie.Need-slice-aggregate-inherit-declarations
+slice-aggregate-inherit-declarations c = sym (length-take-le _ (c .before .before .before .before .before .before .before .before .before .before .before .before .before
+    .before .before .args .table .now) (omega (arith, c .before .before .shorter .ensures)))
 
-saturating-sub-requires : tie.Need-saturating-sub-requires Inv-loop μ-loop
-saturating-sub-requires c κs = search needs
+slice-relend-prefix-inherit-declarations-2 : tie.Need-slice-relend-prefix-inherit-declarations-2
+slice-relend-prefix-inherit-declarations-2 c = search needs
 
-loop-holds : tie.Need-loop-holds Inv-loop μ-loop
-loop-holds c = doing-starts (c .saturating-sub .ensures) (zeros (c .before .before .before .before .before .before .before .before .before .before .before .before .before
-    .before .before .before .before .before .before .before .before .before .before .before .before .before .before .args .stamps .now) _ (c .before .before .before
-    .before .before .before .before .clear32 .ensures)) (zeros (c .before .before .before .before .before .before .before .before .before .before .before .before .before
-    .before .before .before .before .before .before .before .before .before .before .before .before .before .before .args .mark .now) _ (c .before .before .before
-    .clear322 .ensures))
+slice-aggregate-inherit-declarations-2 : tie.Need-slice-aggregate-inherit-declarations-2
+slice-aggregate-inherit-declarations-2 c = sym (length-take-le _ (c .before .before .before .before .before .before .before .before .before .before .before .before
+    .before .before .before .before .args .mark .now) (omega (arith, c .before .before .shorter2 .ensures)))
 
-sub-v : tie.Need-sub-v Inv-loop μ-loop
-sub-v c = omega (arith, c .loop-test .taken)
+inherit-declarations-requires : tie.Need-inherit-declarations-requires
+inherit-declarations-requires c κs = search needs
 
-inherit-in-requires : tie.Need-inherit-in-requires Inv-loop μ-loop
-inherit-in-requires c κs = omega (arith, c .before .before .before .before .before .loop-test .taken, c .before .before .before .before .before .before .loop .inv .within)
+same-length : tie.Need-same-length
+same-length c = search needs
 
-loop-less : tie.Need-loop-less Inv-loop μ-loop
-loop-less c = omega (arith, c .before .before .before .before .before .before .before .before .before .before .before .before .before .before .before .before .loop-test .taken)
+same-length-2 : tie.Need-same-length-2
+same-length-2 c = search needs
 
-loop-again : tie.Need-loop-again Inv-loop μ-loop
-loop-again c = doing-goes (c .before .before .before .before .before .before .before .before .before .before .before .before .before .before .before .before .before .loop
-    .inv) (c .before .before .before .before .before .before .before .before .before .before .before .before .before .before .before .before .loop-test .taken) (c .before
-    .before .before .before .before .before .before .before .before .before .inherit-in .ensures) (c .before .before .before .before .before .before .before .before
-    .before .before .inherit-in .kept .1 .1 .1 .1 .1 .1 .1 .1 .1 .1 .1 .1 .1 .1 .0) (c .before .before .before .before .before .before .before .before .before .before
-    .inherit-in .kept .1 .1 .1 .1 .1 .1 .1 .1 .1 .1 .1 .1 .1 .1 .1 .0) (c .before .before .before .before .before .before .before .before .before .before .inherit-in
-    .kept .1 .1 .1 .1 .1 .1 .1 .1 .1 .1 .1 .1 .1 .1 .1 .1 .0) (c .before .before .before .before .before .before .before .before .before .before .inherit-in .kept .1 .1
-    .1 .1 .1 .1 .1 .1 .1 .1 .1 .1 .1 .1 .1 .1 .1 .0) (c .before .before .before .before .before .before .before .before .before .before .inherit-in .kept .1 .1 .1 .1 .1
-    .1 .1 .1 .1 .1 .1 .1 .1 .1 .1 .1 .1 .1 .0)
+same-length-3 : tie.Need-same-length-3
+same-length-3 c = search needs
 
-same-length : tie.Need-same-length Inv-loop μ-loop
-same-length c = c .before .loop .inv .stamps-long ∙ c .before .before .before .before .before .before .before .before .before .clear32 .kept .0
+same-length-4 : tie.Need-same-length-4
+same-length-4 c = search needs
 
-same-length-2 : tie.Need-same-length-2 Inv-loop μ-loop
-same-length-2 c = c .before .loop .inv .meanings-long
-
-same-length-3 : tie.Need-same-length-3 Inv-loop μ-loop
-same-length-3 c = c .before .loop .inv .mark-long ∙ c .before .before .before .before .before .clear322 .kept .0
-
-same-length-4 : tie.Need-same-length-4 Inv-loop μ-loop
-same-length-4 c = c .before .loop .inv .queue-long
-
-same-length-5 : tie.Need-same-length-5 Inv-loop μ-loop
-same-length-5 c = c .before .loop .inv .bound-long
-
-returns : tie.Need-returns Inv-loop μ-loop
-returns c = doing-ends (c .before .loop .inv) (c .before .before .before .before .before .clear322 .kept .0) (c .loop-test .left)
+returns : tie.Need-returns
+returns c = inherits-in-parts (c .before .before .before .before .before .before .before .before .before .before .before .before .before .before .shorter .ensures) (c
+    .before .before .before .before .before .before .before .before .before .before .before .before .before .shorter2 .ensures) (c .before .before .before .before .before
+    .before .before .before .inherit-declarations .ensures)
 
 pub inherit-all-spec : {M : Type 1} → statement M
 inherit-all-spec =
     tie.close
     (tie.spec
-    Inv-loop
-    μ-loop
-    clear32-requires
-    clear32-requires-2
-    saturating-sub-requires
-    loop-holds
-    sub-v
-    inherit-in-requires
-    loop-less
-    loop-again
+    shorter-requires
+    shorter-requires-2
+    slice-relend-prefix-inherit-declarations
+    slice-aggregate-inherit-declarations
+    slice-relend-prefix-inherit-declarations-2
+    slice-aggregate-inherit-declarations-2
+    inherit-declarations-requires
     same-length
     same-length-2
     same-length-3
     same-length-4
-    same-length-5
     returns)

@@ -2,16 +2,15 @@
 use Rattle.inheritance.proofs.store_inherited.Statement.{statement}
 use Rattle.inheritance.proofs.store_inherited.Tie as tie
 use borrow.Author.Needs.{needs}
-use Rattle.inheritance.proofs.Storing.{Storing, storing-starts, storing-ends, storing-skip, storing-more}
-use Rattle.inheritance.specs.Steps.{asks-by}
 use mathlib.Core.Path.{ap₂, sym, _∙_}
+use Rattle.inheritance.specs.Steps.{asks-by}
+use Rattle.inheritance.proofs.Storing.{Storing, storing-starts, storing-ends, storing-skip, storing-more}
 
 abbrev Inv-loop : tie.InvT-loop
-Inv-loop kinds tokens roles symbols keys nodes owners heads next mark stamp lo hi stamps₀ meanings₀ bound₀ i₀ stamps meanings bound i = Storing kinds tokens roles symbols
-    keys nodes owners heads next mark stamp lo hi stamps₀ meanings₀ bound₀ stamps meanings bound i
+Inv-loop kinds tokens roles symbols table stamp lo hi bound₀ i₀ bound i = Storing kinds tokens roles symbols table stamp lo hi bound₀ bound i
 
 abbrev μ-loop : tie.MeasureT-loop
-μ-loop kinds tokens roles symbols keys nodes owners heads next mark stamp lo hi stamps₀ meanings₀ bound₀ i₀ stamps meanings bound i = i
+μ-loop kinds tokens roles symbols table stamp lo hi bound₀ i₀ bound i = i
 
 loop-holds : tie.Need-loop-holds Inv-loop μ-loop
 loop-holds c = storing-starts
@@ -22,8 +21,11 @@ sub-i c = search needs
 at8-requires : tie.Need-at8-requires Inv-loop μ-loop
 at8-requires c κs = search needs
 
-at-requires : tie.Need-at-requires Inv-loop μ-loop
-at-requires c κs = search needs
+at8-requires-2 : tie.Need-at8-requires-2 Inv-loop μ-loop
+at8-requires-2 c κs = search needs
+
+cast-asks : tie.Need-cast-asks Inv-loop μ-loop
+cast-asks c = search needs
 
 asks-requires : tie.Need-asks-requires Inv-loop μ-loop
 asks-requires c κs = search needs
@@ -31,8 +33,8 @@ asks-requires c κs = search needs
 symbol-requires : tie.Need-symbol-requires Inv-loop μ-loop
 symbol-requires c κs = search needs
 
-recalled-requires : tie.Need-recalled-requires Inv-loop μ-loop
-recalled-requires c κs = search needs
+meaning-of-requires : tie.Need-meaning-of-requires Inv-loop μ-loop
+meaning-of-requires c κs = search needs
 
 put32-requires : tie.Need-put32-requires Inv-loop μ-loop
 put32-requires c κs = search needs
@@ -41,31 +43,21 @@ loop-less : tie.Need-loop-less Inv-loop μ-loop
 loop-less c = search needs
 
 loop-again : tie.Need-loop-again Inv-loop μ-loop
-loop-again c = storing-more (c .before .before .before .before .before .before .before .before .before .before .before .before .before .before .before .before .before
-    .loop .inv) (c .before .before .before .before .before .before .before .before .before .before .before .before .before .before .before .before .loop-test .taken) (ap₂
-    asks-by (sym (c .before .before .before .before .before .before .before .before .before .before .before .before .before .before .before .at8 .ensures)) (sym (c
-    .before .before .before .before .before .before .before .before .before .before .before .before .before .before .at .ensures)) ∙ sym (c .before .before .before
-    .before .before .before .before .before .before .before .before .before .before .asks .ensures) ∙ c .before .before .before .before .before .before .before .before
-    .before .before .before .before .if1 .taken) (c .before .before .before .before .before .before .before .before .before .before .before .symbol .ensures) (c .before
-    .before .before .before .before .before .before .before .recalled .ensures) (c .before .before .before .before .before .before .before .before .recalled .kept .1 .1
-    .1 .1 .1 .1 .1 .1 .0) (c .before .before .before .before .before .before .before .before .recalled .kept .1 .1 .1 .1 .1 .1 .1 .1 .1 .0) (c .before .before .put32
-    .ensures)
+loop-again c = storing-more (c .before .before .before .before .before .before .before .before .before .before .before .loop .inv) (c .before .before .before .before
+    .before .before .before .before .before .before .loop-test .taken) (ap₂ asks-by (sym (c .before .before .before .before .before .before .before .before .before .at8
+    .ensures)) (sym (c .before .before .before .before .before .before .before .before .at82 .ensures)) ∙ sym (c .before .before .before .before .before .before .before
+    .asks .ensures) ∙ c .before .before .before .before .before .before .if1 .taken) (c .before .before .before .before .before .symbol .ensures) (c .before .before
+    .before .before .meaning-of .ensures) (c .before .before .put32 .ensures)
 
 loop-less-2 : tie.Need-loop-less-2 Inv-loop μ-loop
 loop-less-2 c = search needs
 
 loop-again-2 : tie.Need-loop-again-2 Inv-loop μ-loop
 loop-again-2 c = storing-skip (c .before .before .before .before .before .loop .inv) (c .before .before .before .before .loop-test .taken) (ap₂ asks-by (sym (c .before
-    .before .before .at8 .ensures)) (sym (c .before .before .at .ensures)) ∙ sym (c .before .asks .ensures) ∙ c .if1 .left)
+    .before .before .at8 .ensures)) (sym (c .before .before .at82 .ensures)) ∙ sym (c .before .asks .ensures) ∙ c .if1 .left)
 
 same-length : tie.Need-same-length Inv-loop μ-loop
-same-length c = c .before .loop .inv .stamps-long
-
-same-length-2 : tie.Need-same-length-2 Inv-loop μ-loop
-same-length-2 c = c .before .loop .inv .meanings-long
-
-same-length-3 : tie.Need-same-length-3 Inv-loop μ-loop
-same-length-3 c = c .before .loop .inv .long
+same-length c = c .before .loop .inv .long
 
 returns : tie.Need-returns Inv-loop μ-loop
 returns c = storing-ends (c .before .loop .inv) (c .loop-test .left)
@@ -79,16 +71,15 @@ store-inherited-spec =
     loop-holds
     sub-i
     at8-requires
-    at-requires
+    at8-requires-2
+    cast-asks
     asks-requires
     symbol-requires
-    recalled-requires
+    meaning-of-requires
     put32-requires
     loop-less
     loop-again
     loop-less-2
     loop-again-2
     same-length
-    same-length-2
-    same-length-3
     returns)

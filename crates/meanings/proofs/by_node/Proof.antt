@@ -2,10 +2,6 @@
 use borrow.Author.Needs.{needs}
 use Rattle.meanings.proofs.by_node.Statement.{statement}
 use Rattle.meanings.proofs.by_node.Tie as tie
-use Rattle.meanings.proofs.by_node.Reads as reads
-use Rattle.meanings.proofs.by_node.Lts as lts
-use Rattle.columns.proofs.index.Reads as index-reads
-use Rattle.scopes.proofs.at.Reads as at-reads
 use Rattle.meanings.proofs.Nearest.{by-one}
 
 enum-told : tie.Need-enum-told

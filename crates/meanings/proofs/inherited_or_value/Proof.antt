@@ -3,9 +3,6 @@ use borrow.Author.Needs.{needs}
 use Rattle.meanings.proofs.inherited_or_value.Statement.{statement}
 use Rattle.meanings.proofs.inherited_or_value.Tie as tie
 use Rattle.meanings.proofs.Nearest.{meanings}
-use Rattle.meanings.proofs.inherited_or_value.Reads as reads
-use Rattle.meanings.proofs.inherited_or_value.Lts as lts
-use Rattle.meanings.proofs.value_meant.Reads as value-meant-reads
 
 enum-told : tie.Need-enum-told
 enum-told c = search needs

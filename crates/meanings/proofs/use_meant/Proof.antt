@@ -3,11 +3,6 @@ use borrow.Author.Needs.{needs}
 use Rattle.meanings.proofs.use_meant.Statement.{statement}
 use Rattle.meanings.proofs.use_meant.Tie as tie
 use Rattle.meanings.proofs.Nearest.{meanings}
-use Rattle.meanings.proofs.use_meant.Reads as reads
-use Rattle.meanings.proofs.use_meant.Lts as lts
-use Rattle.meanings.proofs.by_node.Reads as by-node-reads
-use Rattle.meanings.proofs.inherited_or_value.Reads as inherited-or-value-reads
-use Rattle.scopes.proofs.look_ups.own_meant.Reads as own-meant-reads
 
 own-meant-requires : tie.Need-own-meant-requires
 own-meant-requires c κs = search needs

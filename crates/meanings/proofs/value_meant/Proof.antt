@@ -3,23 +3,12 @@ use borrow.Author.Needs.{needs}
 use Rattle.meanings.proofs.value_meant.Statement.{statement}
 use Rattle.meanings.proofs.value_meant.Tie as tie
 use Rattle.meanings.proofs.Nearest.{meanings}
-use Rattle.meanings.proofs.value_meant.Reads as reads
-use Rattle.meanings.proofs.value_meant.Lts as lts
-use Rattle.meanings.proofs.by_node.Reads as by-node-reads
-use Rattle.scopes.proofs.look_ups.declaration_meant.Reads as declaration-meant-reads
-use Rattle.scopes.proofs.look_ups.schema_item_meant.Reads as schema-item-meant-reads
 
 declaration-meant-requires : tie.Need-declaration-meant-requires
 declaration-meant-requires c κs = search needs
 
 enum-told : tie.Need-enum-told
 enum-told c = search needs
-
-schema-item-meant-requires : tie.Need-schema-item-meant-requires
-schema-item-meant-requires c κs = search needs
-
-by-node-requires : tie.Need-by-node-requires
-by-node-requires c κs = search needs
 
 enum-known-declared : tie.Need-enum-known-declared
 enum-known-declared c = search needs
@@ -42,8 +31,6 @@ value-meant-spec =
     (tie.spec
     declaration-meant-requires
     enum-told
-    schema-item-meant-requires
-    by-node-requires
     enum-known-declared
     enum-told-2
     returns

@@ -11,12 +11,10 @@ enum-told : tie.Need-enum-told
 enum-told c = search needs
 
 slice-reshare-prefix-prepare : tie.Need-slice-reshare-prefix-prepare
-slice-reshare-prefix-prepare c = symbols-fit (c .before .before .before .before .before .before .before .before .intern .ensures) (c .enum-told .given .1) (c .before .before .before .before
-    .before .before .before .before .intern .kept .1 .1 .1 .1 .0)
+slice-reshare-prefix-prepare c = symbols-fit (c .before .before .before .before .before .before .before .before .intern .ensures) (c .enum-told .given .1) (c .before .before .before .before .before .before .before .before .intern .kept .1 .1 .1 .1 .0)
 
 slice-aggregate-prepare : tie.Need-slice-aggregate-prepare
-slice-aggregate-prepare c = symbols-long (c .before .before .before .before .before .before .before .before .before .intern .ensures) (c .before .enum-told .given .1) (c .before .before
-    .before .before .before .before .before .before .before .intern .kept .1 .1 .1 .1 .0)
+slice-aggregate-prepare c = symbols-long (c .before .before .before .before .before .before .before .before .before .intern .ensures) (c .before .enum-told .given .1) (c .before .before .before .before .before .before .before .before .before .intern .kept .1 .1 .1 .1 .0)
 
 prepare-requires : tie.Need-prepare-requires
 prepare-requires c κs = search needs
@@ -39,21 +37,20 @@ same-length-4 c = search needs
 same-length-5 : tie.Need-same-length-5
 same-length-5 c = search needs
 
-returns : tie.Need-returns
-returns c = file-prepared (c .before .before .before .before .before .before .before .before .before .before .before .before .before .before .before .before .before .before .before .before
-    .before .before .intern .ensures) (c .before .before .before .before .before .before .before .before .before .before .before .before .before .before .enum-told .given .1) (c .before
-    .before .before .before .before .before .before .before .before .before .before .before .before .before .before .before .before .before .before .before .before .before .intern .kept .1
-    .1 .1 .1 .1 .0) (c .before .before .before .before .before .before .before .before .before .before .before .before .before .before .before .before .before .before .before .before
-    .before .before .intern .kept .1 .1 .1 .1 .1 .1 .0) (c .before .before .before .before .before .before .before .before .prepare .ensures)
-
 same-length-6 : tie.Need-same-length-6
 same-length-6 c = search needs
+
+returns : tie.Need-returns
+returns c = file-prepared (c .before .before .before .before .before .before .before .before .before .before .before .before .before .before .before .before .before .before .before .before .before .before .intern .ensures) (c .before .before .before .before .before .before .before .before .before .before .before .before .before .before .enum-told .given .1) (c .before .before .before .before .before .before .before .before .before .before .before .before .before .before .before .before .before .before .before .before .before .before .intern .kept .1 .1 .1 .1 .1 .0) (c .before .before .before .before .before .before .before .before .prepare .ensures)
 
 same-length-7 : tie.Need-same-length-7
 same-length-7 c = search needs
 
 same-length-8 : tie.Need-same-length-8
 same-length-8 c = search needs
+
+same-length-9 : tie.Need-same-length-9
+same-length-9 c = search needs
 
 returns-2 : tie.Need-returns-2
 returns-2 c = short-prepared (c .before .before .before .before .before .before .before .before .intern .ensures) (c .enum-told2 .given .1)
@@ -73,8 +70,9 @@ prepare-spec =
     same-length-3
     same-length-4
     same-length-5
-    returns
     same-length-6
+    returns
     same-length-7
     same-length-8
+    same-length-9
     returns-2)

@@ -28,8 +28,11 @@ loop-holds c = (omega arith, c .if1 .left, λ k s. counted-starts _ refl refl)
 shared-slice-read-class : tie.Need-shared-slice-read-class Inv-loop μ-loop
 shared-slice-read-class c = search needs
 
-at-requires : tie.Need-at-requires Inv-loop μ-loop
-at-requires c κs = search needs
+at8-requires : tie.Need-at8-requires Inv-loop μ-loop
+at8-requires c κs = search needs
+
+cast-class : tie.Need-cast-class Inv-loop μ-loop
+cast-class c = search needs
 
 class-requires : tie.Need-class-requires Inv-loop μ-loop
 unfolding class-table tabulated
@@ -55,7 +58,7 @@ loop-again c = (
   omega (arith, c .before .before .before .before .before .loop-test .taken),
   c .before .before .before .before .before .before .loop .inv .1,
   λ k s.
-      counted-step (c .before .before .before .before .before .before .loop .inv .2 k s) (rw (c .before .before .at .ensures) at (c .before .class .ensures)) (c .more
+      counted-step (c .before .before .before .before .before .before .loop .inv .2 k s) (rw (c .before .before .at8 .ensures) at (c .before .class .ensures)) (c .more
       .ensures),
 )
 
@@ -79,7 +82,8 @@ count-entries-spec =
     returns
     loop-holds
     shared-slice-read-class
-    at-requires
+    at8-requires
+    cast-class
     class-requires
     more-requires
     add-i

@@ -28,9 +28,6 @@ sub-i c = search needs
 shared-slice-read-class : tie.Need-shared-slice-read-class Inv-loop μ-loop
 shared-slice-read-class c = omega (arith, c .before .before .before .loop .inv .within, c .before .before .loop-test .taken)
 
-mul-class : tie.Need-mul-class Inv-loop μ-loop
-mul-class c = search needs
-
 shared-slice-read-class-2 : tie.Need-shared-slice-read-class-2 Inv-loop μ-loop
 shared-slice-read-class-2 c = omega (
   arith,
@@ -39,6 +36,9 @@ shared-slice-read-class-2 c = omega (
   c .before .before .before
       .before .loop .inv .consistent .roles,
 )
+
+cast-class : tie.Need-cast-class Inv-loop μ-loop
+cast-class c = omega (arith, c .shared-slice-known6 .given (c .before .before .before .before .loop .i - 1))
 
 class-requires : tie.Need-class-requires Inv-loop μ-loop
 unfolding class-table tabulated
@@ -101,7 +101,7 @@ enter-node-requires c κs = entering-fits (c .before .before .before .before .be
     .before .before .before .before .before .before .before .before .before .before .before .before .before .loop-test .taken) (c .before .before .before .before .before
     .before .before .before .before .class .ensures) (c .before .before .before .before .before .passed .ensures) (c .before .sort-in .ensures) (ap (λ (x : ℕ). getD (c
     .before .before .before .before .before .before .before .before .before .before .before .before .before .before .before .before .before .before .before .before
-    .before .before .args .symbols .now) x 0) (c .before .before .before .before .before .before .index .ensures)) refl
+    .before .before .args .symbols .now) x 0) (c .before .before .before .before .before .before .index .ensures))
 
 loop-less : tie.Need-loop-less Inv-loop μ-loop
 loop-less c = omega (arith, c .before .before .before .before .before .before .before .before .before .before .before .before .before .before .before .before .before .before .loop-test .taken)
@@ -142,8 +142,8 @@ fill-spec =
     loop-holds
     sub-i
     shared-slice-read-class
-    mul-class
     shared-slice-read-class-2
+    cast-class
     class-requires
     mul-index
     shared-slice-read-index

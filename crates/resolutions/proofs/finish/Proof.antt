@@ -5,16 +5,16 @@ use Rattle.resolutions.proofs.finish.Tie as tie
 use Rattle.resolutions.proofs.Finishing.{finishes-faulty, finishes-bound}
 
 returns : tie.Need-returns
-returns c = finishes-faulty (c .if1 .taken)
+returns c = finishes-bound (c .if1 .taken)
 
-copy-requires : tie.Need-copy-requires
-copy-requires c κs = search needs
+widen-requires : tie.Need-widen-requires
+widen-requires c κs = search needs
 
 same-length : tie.Need-same-length
 same-length c = search needs
 
 returns-2 : tie.Need-returns-2
-returns-2 c = finishes-bound (c .before .before .before .before .if1 .left) (c .before .before .copy .ensures)
+returns-2 c = finishes-faulty (c .before .before .before .before .if1 .left) (c .before .before .widen .ensures)
 
 pub finish-spec : {M : Type 1} → statement M
-finish-spec = tie.close (tie.spec returns copy-requires same-length returns-2)
+finish-spec = tie.close (tie.spec returns widen-requires same-length returns-2)

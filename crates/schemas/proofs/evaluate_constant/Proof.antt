@@ -2,12 +2,8 @@
 use borrow.Author.Needs.{needs}
 use Rattle.schemas.proofs.evaluate_constant.Statement.{statement}
 use Rattle.schemas.proofs.evaluate_constant.Tie as tie
-use Rattle.schemas.proofs.OneConstant.{one-constant}
 use native.Mathlib.Omega.{arith}
-
-add-saturating-sub : tie.Need-add-saturating-sub
-add-saturating-sub c =
-    omega (arith, c .before .before .before .before .before .before .before .before .before .before .before .before .before .before .pre)
+use Rattle.schemas.proofs.OneConstant.{one-constant}
 
 index-at-requires : tie.Need-index-at-requires
 index-at-requires c κs = search needs
@@ -15,11 +11,14 @@ index-at-requires c κs = search needs
 saturating-sub-requires : tie.Need-saturating-sub-requires
 saturating-sub-requires c κs = search needs
 
+saturating-sub-requires-2 : tie.Need-saturating-sub-requires-2
+saturating-sub-requires-2 c κs = search needs
+
 add-evaluate-expression : tie.Need-add-evaluate-expression
 add-evaluate-expression c =
     omega (
       arith,
-      c .before .before .before .before .before .before .before .before .before .before .before .before .before .before .before .before
+      c .before .before .before .before .before .before .before .before .before .before .before .before .before .before .before .before .before
           .pre,
     )
 
@@ -29,8 +28,8 @@ evaluate-expression-requires c κs = search needs
 index-at-requires-2 : tie.Need-index-at-requires-2
 index-at-requires-2 c κs = search needs
 
-saturating-sub-requires-2 : tie.Need-saturating-sub-requires-2
-saturating-sub-requires-2 c κs = search needs
+saturating-sub-requires-3 : tie.Need-saturating-sub-requires-3
+saturating-sub-requires-3 c κs = search needs
 
 answer-at-requires : tie.Need-answer-at-requires
 answer-at-requires c κs = search needs
@@ -58,26 +57,28 @@ same-length-6 c = search needs
 
 returns : tie.Need-returns
 returns c =
-    one-constant (c .before .before .before .before .before .before .before .before .before .before .before .before .before .before .before .before
-    .before .before .before .before .before .before .before .before .before .before .before .before .index-at .ensures) (c .before .before .before
-    .before .before .before .before .before .before .before .before .before .before .before .before .before .before .before .before .before .before
-    .before .before .before .before .before .before .saturating-sub .ensures) (c .before .before .before .before .before .before .before .before
-    .before .before .before .before .before .before .before .before .before .before .before .before .evaluate-expression .ensures) (c .before .before
-    .before .before .before .before .before .before .before .before .before .before .before .before .index-at2 .ensures) (c .before .before .before
-    .before .before .before .before .before .before .before .before .before .before .saturating-sub2 .ensures) (c .before .before .before .before
-    .before .before .before .before .before .answer-at .ensures) (c .before .before .before .before .before .put-answer .ensures)
+    one-constant (c .before .before .before .before .before .before .before .before .before .before .before .before .before .before .before .before .before
+    .before .before .before .before .before .before .before .before .before .before .before .before .index-at .ensures) (c .before .before .before .before
+    .before .before .before .before .before .before .before .before .before .before .before .before .before .before .before .before .before .before .before
+    .before .before .before .before .before .saturating-sub .ensures) (c .before .before .before .before .before .before .before .before .before .before
+    .before .before .before .before .before .before .before .before .before .before .before .before .before .before .before .before .before .saturating-sub2
+    .ensures) (c .before .before .before .before .before .before .before .before .before .before .before .before .before .before .before .before .before
+    .before .before .before .evaluate-expression .ensures) (c .before .before .before .before .before .before .before .before .before .before .before .before
+    .before .before .index-at2 .ensures) (c .before .before .before .before .before .before .before .before .before .before .before .before .before
+    .saturating-sub3 .ensures) (c .before .before .before .before .before .before .before .before .before .answer-at .ensures) (c .before .before .before
+    .before .before .put-answer .ensures)
 
 pub evaluate-constant-spec : {M : Type 1} → statement M
 evaluate-constant-spec =
     tie.close
     (tie.spec
-    add-saturating-sub
     index-at-requires
     saturating-sub-requires
+    saturating-sub-requires-2
     add-evaluate-expression
     evaluate-expression-requires
     index-at-requires-2
-    saturating-sub-requires-2
+    saturating-sub-requires-3
     answer-at-requires
     put-answer-requires
     same-length

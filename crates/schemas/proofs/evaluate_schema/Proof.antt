@@ -8,14 +8,14 @@ use lib.ListN.{length}
 use native.Mathlib.Omega.{arith}
 
 abbrev Inv-loop : tie.InvT-loop
-Inv-loop src starts lengths terminals kinds tokens sizes bindings declared order row-of lo hi at answer-kinds₀ answer-numbers₀ answer-lengths₀
+Inv-loop src starts lengths terminals kinds tokens sizes bindings declared part row-of lo hi at answer-kinds₀ answer-numbers₀ answer-lengths₀
     value-kinds₀ value-numbers₀ value-lengths₀ i₀ answer-kinds answer-numbers answer-lengths value-kinds value-numbers value-lengths i = Passing src
-    starts lengths terminals kinds tokens sizes bindings declared order row-of lo hi at answer-kinds₀ answer-numbers₀ answer-lengths₀ value-kinds₀
+    starts lengths terminals kinds tokens sizes bindings declared part row-of lo hi at answer-kinds₀ answer-numbers₀ answer-lengths₀ value-kinds₀
     value-numbers₀ value-lengths₀ answer-kinds answer-numbers answer-lengths value-kinds value-numbers value-lengths i
 
 abbrev μ-loop : tie.MeasureT-loop
-μ-loop src starts lengths terminals kinds tokens sizes bindings declared order row-of lo hi at answer-kinds₀ answer-numbers₀ answer-lengths₀
-    value-kinds₀ value-numbers₀ value-lengths₀ i₀ answer-kinds answer-numbers answer-lengths value-kinds value-numbers value-lengths i = length order
+μ-loop src starts lengths terminals kinds tokens sizes bindings declared part row-of lo hi at answer-kinds₀ answer-numbers₀ answer-lengths₀
+    value-kinds₀ value-numbers₀ value-lengths₀ i₀ answer-kinds answer-numbers answer-lengths value-kinds value-numbers value-lengths i = length part
     - i
 
 loop-holds : tie.Need-loop-holds Inv-loop μ-loop

@@ -1,10 +1,12 @@
--- `schemas::number_rows` meets its contract: a count that goes with the nodes. Assumes nothing.
+-- `schemas::number_rows` meets its contract: up to the next constant all nodes have one row. Assumes nothing.
 use Rattle.schemas.proofs.number_rows.Statement.{statement}
 use Rattle.schemas.proofs.number_rows.Tie as tie
 use borrow.Author.Needs.{needs}
-use Rattle.schemas.proofs.Numbering.{Numbering, numbering-starts, numbering-constant, numbering-other, numbering-ends}
-use Prim.Native.Nat.{_-_}
+use mathlib.Core.Path.{refl}
 use lib.ListN.{length}
+use Prim.Native.Nat.{_-_}
+use Rattle.schemas.proofs.Numbering.{Numbering, numbering-starts, numbering-run, numbering-ends}
+use Rattle.tree.proofs.Next.{next-beyond}
 use native.Mathlib.Omega.{arith}
 
 abbrev Inv-loop : tie.InvT-loop
@@ -16,47 +18,49 @@ abbrev μ-loop : tie.MeasureT-loop
 loop-holds : tie.Need-loop-holds Inv-loop μ-loop
 loop-holds c = numbering-starts
 
+next-of-kind-requires : tie.Need-next-of-kind-requires Inv-loop μ-loop
+next-of-kind-requires c κs = search needs
+
+sub-shorter : tie.Need-sub-shorter Inv-loop μ-loop
+sub-shorter c = omega (arith, c .before .loop-test .taken)
+
+shorter-requires : tie.Need-shorter-requires Inv-loop μ-loop
+shorter-requires c κs = search needs
+
+add-end : tie.Need-add-end Inv-loop μ-loop
+add-end c = omega (arith, c .shorter .ensures, c .before .before .before .before .before .before .good)
+
 number-requires : tie.Need-number-requires Inv-loop μ-loop
 number-requires c κs = search needs
 
-put32-requires : tie.Need-put32-requires Inv-loop μ-loop
-put32-requires c κs = search needs
-
-shared-slice-read-if1 : tie.Need-shared-slice-read-if1 Inv-loop μ-loop
-shared-slice-read-if1 c = c .before .before .before .before .before .before .loop-test .taken
+fill-requires : tie.Need-fill-requires Inv-loop μ-loop
+fill-requires c κs = search needs
 
 add-rows : tie.Need-add-rows Inv-loop μ-loop
 add-rows c =
     omega (
       arith,
-      c .before .before .before .before .before .before .before .loop-test .taken,
-      c .before .before .before .before .before .before
-          .before .before .loop .inv .few,
+      c .before .before .before .before .before .before .before .before .loop .inv .few,
+      c .before .before .before .before .before .before .before
+          .before .loop .inv .low,
+      c .before .before .before .before .before .before .before .before .before .before .before .good,
     )
 
-add-n : tie.Need-add-n Inv-loop μ-loop
-add-n c = omega (arith, c .before .before .before .before .before .before .before .loop-test .taken)
-
 loop-less : tie.Need-loop-less Inv-loop μ-loop
-loop-less c = omega (arith, c .before .before .before .before .before .before .before .loop-test .taken)
+loop-less c =
+    let h = next-beyond _ _ _ (c .before .before .before .before .before .before .next-of-kind .ensures) in omega (
+      arith,
+      h,
+      c .before .before .before .before
+          .before .shorter .ensures,
+      c .before .before .before .before .before .before .before .loop-test .taken,
+    )
 
 loop-again : tie.Need-loop-again Inv-loop μ-loop
 loop-again c =
-    numbering-constant (c .before .before .before .before .before .before .before .before .loop .inv) (c .before .before .before .before .before
-    .before .before .loop-test .taken) (c .before .before .before .before .before .number .ensures) (c .before .before .before .before .put32
-    .ensures) (c .if1 .taken)
-
-add-n-2 : tie.Need-add-n-2 Inv-loop μ-loop
-add-n-2 c = omega (arith, c .before .before .before .before .before .before .before .loop-test .taken)
-
-loop-less-2 : tie.Need-loop-less-2 Inv-loop μ-loop
-loop-less-2 c = omega (arith, c .before .before .before .before .before .before .before .loop-test .taken)
-
-loop-again-2 : tie.Need-loop-again-2 Inv-loop μ-loop
-loop-again-2 c =
-    numbering-other (c .before .before .before .before .before .before .before .before .loop .inv) (c .before .before .before .before .before .before
-    .before .loop-test .taken) (c .before .before .before .before .before .number .ensures) (c .before .before .before .before .put32 .ensures) (c
-    .if1 .left)
+    numbering-run (c .before .before .before .before .before .before .before .before .loop .inv) (c .before .before .before .before .before .before .before
+    .loop-test .taken) (c .before .before .before .before .before .before .next-of-kind .ensures) (c .before .before .before .before .before .shorter .ensures)
+    refl (c .before .before .before .number .ensures) (c .before .before .fill .ensures) (search needs)
 
 same-length : tie.Need-same-length Inv-loop μ-loop
 same-length c = c .before .loop .inv .len
@@ -71,15 +75,14 @@ number-rows-spec =
     Inv-loop
     μ-loop
     loop-holds
+    next-of-kind-requires
+    sub-shorter
+    shorter-requires
+    add-end
     number-requires
-    put32-requires
-    shared-slice-read-if1
+    fill-requires
     add-rows
-    add-n
     loop-less
     loop-again
-    add-n-2
-    loop-less-2
-    loop-again-2
     same-length
     returns)

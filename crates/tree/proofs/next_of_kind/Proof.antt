@@ -1,7 +1,8 @@
 -- `tree::next_of_kind` meets its contract: the first from the node on is the first from the start on. Assumes nothing.
-use mathlib.Core.Path.{_≡_, refl, sym, _∙_}
+use mathlib.Core.Path.{_≡_, sym, _∙_}
 use Prim.Native.Nat.{_-_}
 use native.Mathlib.Omega.{arith}
+use borrow.Author.Needs.{needs}
 use borrow.Author.Tests.{eq-eqb, ne-eqb}
 use lib.Dec.{eqb}
 use lib.ListN.{length, getD}
@@ -17,8 +18,11 @@ Inv-loop kinds kind from n₀ n =
 abbrev μ-loop : tie.MeasureT-loop
 μ-loop kinds kind from n₀ n = length kinds - n
 
+skip-blocks-requires : tie.Need-skip-blocks-requires Inv-loop μ-loop
+skip-blocks-requires c κs = search needs
+
 loop-holds : tie.Need-loop-holds Inv-loop μ-loop
-loop-holds c = refl
+loop-holds c = c .skip-blocks .ensures .is
 
 shared-slice-read-if1 : tie.Need-shared-slice-read-if1 Inv-loop μ-loop
 shared-slice-read-if1 c = omega arith
@@ -39,4 +43,4 @@ returns-2 : tie.Need-returns-2 Inv-loop μ-loop
 returns-2 c = sym (first-end _ _ _ (c .loop-test .left)) ∙ c .before .loop .inv
 
 pub next-of-kind-spec : {M : Type 1} → statement M
-next-of-kind-spec = tie.close (tie.spec Inv-loop μ-loop loop-holds shared-slice-read-if1 returns add-n loop-less loop-again returns-2)
+next-of-kind-spec = tie.close (tie.spec Inv-loop μ-loop skip-blocks-requires loop-holds shared-slice-read-if1 returns add-n loop-less loop-again returns-2)

@@ -8,7 +8,7 @@ use Rattle.type_names.specs.TypeName.{type-names}
 use Rattle.type_names.proofs.TypeNames.{range-other, range-name, range-reached}
 use mathlib.Core.Path.{refl}
 use native.Mathlib.Omega.{arith}
-use Prim.Native.Nat.{_≤_}
+use Prim.Native.Nat.{_-_, _≤_}
 use lib.ListN.{length}
 
 abbrev Inv-loop : tie.InvT-loop
@@ -42,11 +42,11 @@ sub-i c = search needs
 shared-slice-read-is-type-name : tie.Need-shared-slice-read-is-type-name Inv-loop μ-loop
 shared-slice-read-is-type-name c = omega (arith, c .before .before .loop .inv .1, c .before .loop-test .taken)
 
-mul-is-type-name : tie.Need-mul-is-type-name Inv-loop μ-loop
-mul-is-type-name c = search needs
-
 shared-slice-read-is-type-name-2 : tie.Need-shared-slice-read-is-type-name-2 Inv-loop μ-loop
 shared-slice-read-is-type-name-2 c = omega (arith, c .before .before .before .loop .inv .2, c .before .before .loop-test .taken)
+
+cast-is-type-name : tie.Need-cast-is-type-name Inv-loop μ-loop
+cast-is-type-name c = omega (arith, c .shared-slice-known11 .given (c .before .before .before .loop .i - 1))
 
 is-type-name-requires : tie.Need-is-type-name-requires Inv-loop μ-loop
 is-type-name-requires c κs = search needs
@@ -112,8 +112,8 @@ bind-range-spec =
     loop-holds
     sub-i
     shared-slice-read-is-type-name
-    mul-is-type-name
     shared-slice-read-is-type-name-2
+    cast-is-type-name
     is-type-name-requires
     node-finding-requires
     store-requires

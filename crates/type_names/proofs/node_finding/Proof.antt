@@ -10,14 +10,17 @@ at-requires c κs = search needs
 index-requires : tie.Need-index-requires
 index-requires c κs = search needs
 
+at8-requires : tie.Need-at8-requires
+at8-requires c κs = search needs
+
+cast-type-name : tie.Need-cast-type-name
+cast-type-name c = search needs
+
 at-requires-2 : tie.Need-at-requires-2
 at-requires-2 c κs = search needs
 
 at-requires-3 : tie.Need-at-requires-3
 at-requires-3 c κs = search needs
-
-at-requires-4 : tie.Need-at-requires-4
-at-requires-4 c κs = search needs
 
 type-name-requires : tie.Need-type-name-requires
 type-name-requires c κs = search needs
@@ -25,7 +28,7 @@ type-name-requires c κs = search needs
 returns : tie.Need-returns
 returns c =
     type-name-found (c .before .before .before .before .before .at .ensures) (c .before .before .before .before .index .ensures)
-    (c .before .before .before .at2 .ensures) (c .before .before .at3 .ensures) (c .before .at4 .ensures) (c .type-name .ensures)
+    (c .before .before .before .at8 .ensures) (c .before .before .at2 .ensures) (c .before .at3 .ensures) (c .type-name .ensures)
 
 pub node-finding-spec : {M : Type 1} → statement M
 node-finding-spec =
@@ -33,8 +36,9 @@ node-finding-spec =
     (tie.spec
     at-requires
     index-requires
+    at8-requires
+    cast-type-name
     at-requires-2
     at-requires-3
-    at-requires-4
     type-name-requires
     returns)

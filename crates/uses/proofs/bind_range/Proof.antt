@@ -7,15 +7,15 @@ use Rattle.uses.specs.Binding.{uses, RangeAsked}
 use Rattle.uses.proofs.Uses.{range-other, range-use, range-reached}
 use mathlib.Core.Path.{refl}
 use native.Mathlib.Omega.{arith}
-use Prim.Native.Nat.{_≤_}
+use Prim.Native.Nat.{_-_, _≤_}
 use lib.ListN.{length}
 
 abbrev Inv-loop : tie.InvT-loop
-Inv-loop kinds tokens sizes roles symbols starts keys nodes heads next schema lo hi bound₀ to₀ so-far₀ i₀ bound to so-far i = PassingRange (RangeAsked kinds tokens sizes
-    roles symbols starts keys nodes heads next schema) uses lo hi so-far₀ bound₀ to₀ i so-far bound to × (i ≤ length kinds) × (i ≤ length roles)
+Inv-loop kinds tokens sizes roles symbols starts keys nodes heads next items stamp schema lo hi bound₀ to₀ so-far₀ i₀ bound to so-far i = PassingRange (RangeAsked kinds tokens sizes
+    roles symbols starts keys nodes heads next items stamp schema) uses lo hi so-far₀ bound₀ to₀ i so-far bound to × (i ≤ length kinds) × (i ≤ length roles)
 
 abbrev μ-loop : tie.MeasureT-loop
-μ-loop kinds tokens sizes roles symbols starts keys nodes heads next schema lo hi bound₀ to₀ so-far₀ i₀ bound to so-far i = i
+μ-loop kinds tokens sizes roles symbols starts keys nodes heads next items stamp schema lo hi bound₀ to₀ so-far₀ i₀ bound to so-far i = i
 
 shorter-requires : tie.Need-shorter-requires Inv-loop μ-loop
 shorter-requires c κs = search needs
@@ -41,11 +41,11 @@ sub-i c = search needs
 shared-slice-read-asks : tie.Need-shared-slice-read-asks Inv-loop μ-loop
 shared-slice-read-asks c = omega (arith, c .before .before .loop .inv .1, c .before .loop-test .taken)
 
-mul-asks : tie.Need-mul-asks Inv-loop μ-loop
-mul-asks c = search needs
-
 shared-slice-read-asks-2 : tie.Need-shared-slice-read-asks-2 Inv-loop μ-loop
 shared-slice-read-asks-2 c = omega (arith, c .before .before .before .loop .inv .2, c .before .before .loop-test .taken)
+
+cast-asks : tie.Need-cast-asks Inv-loop μ-loop
+cast-asks c = omega (arith, c .shared-slice-known13 .given (c .before .before .before .loop .i - 1))
 
 asks-requires : tie.Need-asks-requires Inv-loop μ-loop
 asks-requires c κs = search needs
@@ -116,8 +116,8 @@ bind-range-spec =
     loop-holds
     sub-i
     shared-slice-read-asks
-    mul-asks
     shared-slice-read-asks-2
+    cast-asks
     asks-requires
     at-requires
     finding-at-requires

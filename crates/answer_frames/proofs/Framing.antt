@@ -1,0 +1,80 @@
+-- Arrays for a file of so many nodes: the law of the three sizes, and of the choice among them.
+use mathlib.Core.Path.{_≡_, sym, ap, _∙_}
+use mathlib.Core.List.{List}
+use Prim.Native.Nat.{ℕ, _≤_}
+use native.Mathlib.Omega.{arith}
+use lib.IntN.{ℤ}
+use lib.ListN.{length, take, length-map}
+use Rattle.express.specs.tokens.Lexis.{TokenRow, most, lexed}
+use Rattle.express.specs.tokens.Scanned.{row-bytes}
+use Rattle.express.specs.tokens.Terminal.{terminal-of}
+use Rattle.express.specs.syntax.Tree.{Table, count}
+use Rattle.express.proofs.tokens.TokenRows.{tokens-of}
+use Rattle.scopes.specs.Range.{vertex-count}
+use Rattle.constants.specs.Constants.{Room}
+use Rattle.bounds.proofs.Bounds.{nodes-few}
+use Rattle.stages.specs.declared.Stage.{Stage}
+use Rattle.stages.specs.AnswerStage.{BoundColumns}
+use Rattle.pipeline.specs.Binding.{AnswersNamed}
+use Rattle.answer_frames.specs.AnswerFrame.{NamedFile, AnswersWithin}
+
+module _ {bytes starts lengths terminals kinds tokens sizes bindings types constants aks : List ℕ} {azs : List ℤ} {als : List ℕ} {t : Table}
+    (F : NamedFile bytes starts lengths terminals kinds tokens sizes bindings types constants aks azs als t) where
+  -- with room for a number and an answer of each node
+  bound-columns : {declared row-of vks : List ℕ} {vzs : List ℤ} {vls : List ℕ} → count t ≤ most → count t ≤ length declared → count t ≤ length row-of → Room t vks vzs vls →
+      BoundColumns bytes starts lengths terminals kinds tokens sizes bindings t (take (vertex-count t) types) (take (vertex-count t) constants) declared row-of aks azs als vks vzs vls
+  bound-columns few a b R =
+      record {
+        named = record {
+          columns = record {
+            terminals-are = sym (F .terminals-are);
+            kinds-are = sym (F .kinds-are);
+            tokens-are = sym (F .tokens-are);
+            sizes-are = sym (F .sizes-are);
+          };
+          starts-are = sym (F .starts-are);
+          accepted = record {
+            read = F .read;
+            named = F .named;
+            bound = F .bound;
+            arranged = F .types-arranged;
+            few = omega arith;
+            room = a;
+          };
+          room = b;
+        };
+        scanned = F .scanned;
+        bytes-are = sym (F .bytes-are);
+        lengths-are = sym (F .lengths-are);
+        arranged = F .constants-arranged;
+        value-room = R;
+        answer-room = F .answer-room;
+      }
+
+  -- no more nodes than tokens, and no more tokens than bytes
+  nodes-by-bytes : count t ≤ length bytes
+  nodes-by-bytes =
+      let k : length (t .terminals) ≡ length (lexed (t .bytes) .rows) =
+      ap length (F .scanned .terminals-are) ∙ length-map (lexed (t .bytes) .rows) (λ (r : TokenRow). terminal-of (r .kind) (row-bytes (t .bytes) r)) in
+      omega (arith, k, nodes-few (F .read), tokens-of (t .bytes) .few, ap length (F .bytes-are))
+
+module _ {before : Stage} {bytes starts lengths terminals kinds tokens sizes bindings types constants aks : List ℕ} {azs : List ℤ} {als : List ℕ} {r : Stage} {aks′ : List ℕ} {azs′ : List ℤ}
+    {als′ : List ℕ} where
+  -- an entry for each node
+  pub with-arrays : (n : ℕ) (declared row-of vks : List ℕ) (vzs : List ℤ) (vls : List ℕ) →
+      n ≤ most → n ≤ length declared → n ≤ length row-of → n ≤ length vks → n ≤ length vzs → n ≤ length vls →
+      AnswersNamed before bytes starts lengths terminals kinds tokens sizes bindings types constants declared row-of aks azs als vks vzs vls r aks′ azs′ als′ →
+      AnswersWithin n before bytes starts lengths terminals kinds tokens sizes bindings types constants aks azs als r aks′ azs′ als′
+  with-arrays n declared row-of vks vzs vls m d o k z l A =
+      record {
+        passed-on = A .passed-on;
+        is = λ t F few.
+            A .is t (F .kinds-are) (F .types-room) (F .constants-room) .is t (bound-columns F (omega arith) (omega arith) (omega arith)
+            (record { kinds-long = omega arith; numbers-long = omega arith; lengths-long = omega arith }));
+      }
+
+  -- a file has no more nodes than bytes
+  pub of-bytes : (n : ℕ) → length bytes ≤ n →
+      AnswersWithin n before bytes starts lengths terminals kinds tokens sizes bindings types constants aks azs als r aks′ azs′ als′ →
+      AnswersWithin most before bytes starts lengths terminals kinds tokens sizes bindings types constants aks azs als r aks′ azs′ als′
+  of-bytes n h A = record { passed-on = A .passed-on; is = λ t F few. A .is t F (omega (arith, nodes-by-bytes F)) }

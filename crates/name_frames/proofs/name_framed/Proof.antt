@@ -1,0 +1,73 @@
+-- `name_frames::name_framed` meets its contract: a file has no more tokens than bytes. Assumes nothing.
+use borrow.Author.Needs.{needs}
+use Rattle.name_frames.proofs.name_framed.Statement.{statement}
+use Rattle.name_frames.proofs.name_framed.Tie as tie
+use Rattle.reading.specs.FileReading.{small-bytes, middle-bytes}
+use Rattle.name_frames.proofs.Framing.{of-bytes}
+
+name-small-requires : tie.Need-name-small-requires
+name-small-requires c κs = search needs
+
+same-length : tie.Need-same-length
+same-length c = search needs
+
+same-length-2 : tie.Need-same-length-2
+same-length-2 c = search needs
+
+same-length-3 : tie.Need-same-length-3
+same-length-3 c = search needs
+
+returns : tie.Need-returns
+returns c = of-bytes small-bytes (c .before .before .before .before .before .before .before .before .before .before .if1 .taken) (c .before .before .before .before .before .before
+    .name-small .ensures)
+
+name-middle-requires : tie.Need-name-middle-requires
+name-middle-requires c κs = search needs
+
+same-length-4 : tie.Need-same-length-4
+same-length-4 c = search needs
+
+same-length-5 : tie.Need-same-length-5
+same-length-5 c = search needs
+
+same-length-6 : tie.Need-same-length-6
+same-length-6 c = search needs
+
+returns-2 : tie.Need-returns-2
+returns-2 c = of-bytes middle-bytes (c .before .before .before .before .before .before .before .before .before .before .if2 .taken) (c .before .before .before .before .before .before
+    .name-middle .ensures)
+
+name-large-requires : tie.Need-name-large-requires
+name-large-requires c κs = search needs
+
+same-length-7 : tie.Need-same-length-7
+same-length-7 c = search needs
+
+same-length-8 : tie.Need-same-length-8
+same-length-8 c = search needs
+
+same-length-9 : tie.Need-same-length-9
+same-length-9 c = search needs
+
+returns-3 : tie.Need-returns-3
+returns-3 c = c .before .before .before .before .before .before .name-large .ensures
+
+pub name-framed-spec : {M : Type 1} → statement M
+name-framed-spec =
+    tie.close
+    (tie.spec
+    name-small-requires
+    same-length
+    same-length-2
+    same-length-3
+    returns
+    name-middle-requires
+    same-length-4
+    same-length-5
+    same-length-6
+    returns-2
+    name-large-requires
+    same-length-7
+    same-length-8
+    same-length-9
+    returns-3)

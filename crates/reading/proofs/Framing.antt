@@ -1,0 +1,31 @@
+-- Words for as many tokens as a file has: the law of the three sizes, and of the choice among them.
+use mathlib.Core.Path.{_≡_, sym, _∙_}
+use mathlib.Core.List.{List}
+use Prim.Native.Nat.{ℕ, _≤_}
+use native.Mathlib.Omega.{arith}
+use lib.ListN.{length}
+use Rattle.express.specs.tokens.Lexis.{most, lexed}
+use Rattle.express.proofs.tokens.TokenRows.{tokens-of}
+use Rattle.stages.specs.declared.Stage.{Stage}
+use Rattle.stages.specs.Reading.{ReadsNodes}
+use Rattle.stages.proofs.Straight.{token-done}
+use Rattle.reading.specs.FileReading.{ReadsWithin}
+
+module _ {s : List ℕ} {before : Stage} {token-kinds starts lengths terminals kinds tokens sizes roles : List ℕ} {r : Stage} {terminals′ kinds′ tokens′ sizes′ roles′ : List ℕ} where
+  -- a word for each token
+  pub with-words : (n : ℕ) (words : List ℕ) → n ≤ length words →
+      ReadsNodes s before token-kinds starts lengths terminals words kinds tokens sizes roles r terminals′ kinds′ tokens′ sizes′ roles′ →
+      ReadsWithin n s before token-kinds starts lengths terminals kinds tokens sizes roles r terminals′ kinds′ tokens′ sizes′ roles′
+  with-words n words room R =
+      record {
+        is = λ few tr b columns. R .is tr b (λ i e.
+            let D = token-done s tr i (sym b ∙ e) in
+            let k = D .is in
+            columns i e words (omega arith));
+      }
+
+  -- a file has no more tokens than bytes
+  pub of-bytes : (n : ℕ) → length s ≤ n →
+      ReadsWithin n s before token-kinds starts lengths terminals kinds tokens sizes roles r terminals′ kinds′ tokens′ sizes′ roles′ →
+      ReadsWithin most s before token-kinds starts lengths terminals kinds tokens sizes roles r terminals′ kinds′ tokens′ sizes′ roles′
+  of-bytes n h R = record { is = λ few. R .is (omega (arith, tokens-of s .few)) }

@@ -1,0 +1,97 @@
+-- `reading::read_framed` meets its contract: a file has no more tokens than bytes. Assumes nothing.
+use borrow.Author.Needs.{needs}
+use Rattle.reading.proofs.read_framed.Statement.{statement}
+use Rattle.reading.proofs.read_framed.Tie as tie
+use Rattle.reading.specs.FileReading.{small-bytes, middle-bytes}
+use Rattle.reading.proofs.Framing.{of-bytes}
+
+read-small-requires : tie.Need-read-small-requires
+read-small-requires c κs = search needs
+
+same-length : tie.Need-same-length
+same-length c = search needs
+
+same-length-2 : tie.Need-same-length-2
+same-length-2 c = search needs
+
+same-length-3 : tie.Need-same-length-3
+same-length-3 c = search needs
+
+same-length-4 : tie.Need-same-length-4
+same-length-4 c = search needs
+
+same-length-5 : tie.Need-same-length-5
+same-length-5 c = search needs
+
+returns : tie.Need-returns
+returns c = of-bytes small-bytes (c .before .before .before .before .before .before .before .before .before .before .before .before .before .before .before .before .if1 .taken) (c .before
+    .before .before .before .before .before .before .before .before .before .read-small .ensures)
+
+read-middle-requires : tie.Need-read-middle-requires
+read-middle-requires c κs = search needs
+
+same-length-6 : tie.Need-same-length-6
+same-length-6 c = search needs
+
+same-length-7 : tie.Need-same-length-7
+same-length-7 c = search needs
+
+same-length-8 : tie.Need-same-length-8
+same-length-8 c = search needs
+
+same-length-9 : tie.Need-same-length-9
+same-length-9 c = search needs
+
+same-length-10 : tie.Need-same-length-10
+same-length-10 c = search needs
+
+returns-2 : tie.Need-returns-2
+returns-2 c = of-bytes middle-bytes (c .before .before .before .before .before .before .before .before .before .before .before .before .before .before .before .before .if2 .taken) (c
+    .before .before .before .before .before .before .before .before .before .before .read-middle .ensures)
+
+read-large-requires : tie.Need-read-large-requires
+read-large-requires c κs = search needs
+
+same-length-11 : tie.Need-same-length-11
+same-length-11 c = search needs
+
+same-length-12 : tie.Need-same-length-12
+same-length-12 c = search needs
+
+same-length-13 : tie.Need-same-length-13
+same-length-13 c = search needs
+
+same-length-14 : tie.Need-same-length-14
+same-length-14 c = search needs
+
+same-length-15 : tie.Need-same-length-15
+same-length-15 c = search needs
+
+returns-3 : tie.Need-returns-3
+returns-3 c = c .before .before .before .before .before .before .before .before .before .before .read-large .ensures
+
+pub read-framed-spec : {M : Type 1} → statement M
+read-framed-spec =
+    tie.close
+    (tie.spec
+    read-small-requires
+    same-length
+    same-length-2
+    same-length-3
+    same-length-4
+    same-length-5
+    returns
+    read-middle-requires
+    same-length-6
+    same-length-7
+    same-length-8
+    same-length-9
+    same-length-10
+    returns-2
+    read-large-requires
+    same-length-11
+    same-length-12
+    same-length-13
+    same-length-14
+    same-length-15
+    returns-3)

@@ -1,0 +1,5 @@
+pub mod Entries
+pub mod Tables
+pub mod Adding
+pub mod Orders
+pub mod Symbols

@@ -1,0 +1,82 @@
+//! The public call held to the reference: random and damaged files, the cases, and columns of every length.
+
+use compare::cases;
+use compare::random::{self, compare, needed};
+use product::{check, check_columns, columns_of, Lengths};
+use reference::Checked;
+
+const FILES: u64 = 200_000;
+/// How often each reply must occur at least.
+const FLOOR: u64 = 20;
+/// Files that are checked with columns of every length.
+const LENGTHS: usize = 200;
+/// Tables of every length take the square of a file's size.
+const LARGEST: usize = 600;
+
+fn by_reference(src: &[u8], [tokens, nodes, answers]: [usize; 3]) -> Checked {
+    reference::check(src, tokens, nodes, answers)
+}
+
+#[test]
+fn random_files_are_checked_as_the_reference_does() {
+    let tally = compare(FILES, 1, check, by_reference).unwrap_or_else(|difference| panic!("{difference}"));
+    println!("{tally}");
+    (0..16).for_each(|reply| assert!(tally.reply(reply) >= FLOOR, "reply {reply} is too rare\n{tally}"));
+}
+
+#[test]
+fn cases_are_checked_as_the_reference_does() {
+    for case in cases::all() {
+        let rows = needed(&case.input, &by_reference);
+        assert_eq!(check(&case.input, rows), by_reference(&case.input, rows), "{}", case.input.escape_ascii());
+    }
+}
+
+/// Each column by itself, with all others long enough, and all of a table together.
+fn lengths_of(needed: [usize; 3]) -> impl Iterator<Item = Lengths> {
+    let long = Lengths::even(needed.map(|rows| rows + 1));
+    let column = move |table: usize, column: usize, length: usize| {
+        let mut lengths = long;
+        [&mut lengths.tokens[..], &mut lengths.nodes[..], &mut lengths.answers[..]][table][column] = length;
+        lengths
+    };
+    let columns = [3, 4, 3];
+    let one = (0..3).flat_map(move |table| {
+        (0..columns[table]).flat_map(move |c| (0..=needed[table] + 1).map(move |length| column(table, c, length)))
+    });
+    let table = (0..3).flat_map(move |table| {
+        (0..=needed[table] + 1).map(move |rows| {
+            let mut even = needed.map(|rows| rows + 1);
+            even[table] = rows;
+            Lengths::even(even)
+        })
+    });
+    one.chain(table)
+}
+
+#[test]
+fn columns_of_every_length_hold_what_the_reference_s_do() {
+    let files = (0..).map(random::file).filter(|file| file.len() <= LARGEST).take(LENGTHS);
+    let mut calls = 0u32;
+    for (seed, file) in (0..).zip(files) {
+        for lengths in lengths_of(needed(&file, &by_reference)) {
+            let wanted = columns_of(&by_reference(&file, lengths.rows()), lengths);
+            assert_eq!(check_columns(&file, lengths, seed), wanted, "{lengths:?} {}", file.escape_ascii());
+            calls += 1;
+        }
+    }
+    println!("{calls} calls");
+    assert!(calls > 50_000);
+}
+
+/// Room on the stack for any file: less than 1.5 MiB, and what Rust itself needs.
+#[test]
+fn a_small_stack_is_enough() {
+    let deep =
+        [b"SCHEMA s;CONSTANT c:INTEGER:=".as_slice(), &b"1+".repeat(32_700), b"1;END_CONSTANT;END_SCHEMA;"].concat();
+    let run = std::thread::Builder::new().stack_size(3 << 19).spawn(move || {
+        let rows = [66_000; 3];
+        assert_eq!(check(&deep, rows), by_reference(&deep, rows));
+    });
+    run.expect("a thread").join().expect("no overflow");
+}
