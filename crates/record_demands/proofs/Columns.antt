@@ -52,3 +52,17 @@ filled-is xs m n h =
 -- and a column of it
 pub column-is : {B : Type 0} (f : Answer → B) (xs : List AnswerRow) (n : ℕ) → map f (padded zeros n (map record-of xs)) ≡ padded (f zeros) n (map (λ (r : AnswerRow). f (record-of r)) xs)
 column-is f xs n = map-padded f zeros n (map record-of xs) ∙ ap (padded (f zeros) n) (map-records f xs)
+
+-- ---- of the first n rows of the columns
+
+rows-front : (n c : ℕ) (ks : List ℕ) (ns : List ℤ) (ls : List ℕ) → take n (take c (rows (take n ks) (take n ns) (take n ls))) ≡ take n (take c (rows ks ns ls))
+unfolding rows
+rows-front zero c ks ns ls = refl
+rows-front (suc n) zero ks ns ls = refl
+rows-front (suc n) (suc c) [] ns ls = refl
+rows-front (suc n) (suc c) (k ∷ ks) [] ls = refl
+rows-front (suc n) (suc c) (k ∷ ks) (z ∷ ns) [] = refl
+rows-front (suc n) (suc c) (k ∷ ks) (z ∷ ns) (l ∷ ls) = ap (λ (rs : List Answer). record { kind = k; number = z; length = l } ∷ rs) (rows-front n c ks ns ls)
+
+pub filled-front : (n c : ℕ) (ks : List ℕ) (ns : List ℤ) (ls : List ℕ) → filled (take n ks) (take n ns) (take n ls) c n ≡ filled ks ns ls c n
+filled-front n c ks ns ls = ap (padded zeros n) (rows-front n c ks ns ls)

@@ -1,3 +1,4 @@
 pub mod Enough
 pub mod Columns
 pub mod Theorem
+pub mod Cutting

@@ -5,7 +5,7 @@ use mathlib.Core.List.{List, map}
 use Prim.Native.Nat.{ℕ, _-_, _≤_, min}
 use native.Mathlib.Omega.{arith}
 use lib.IntN.{ℤ, pos}
-use lib.ListN.{length, replicate, length-map}
+use lib.ListN.{length, take, replicate, length-map, length-take}
 use lib.Seq.{take-nil}
 use Rattle.columns.specs.Column.{padded}
 use Rattle.express.specs.kinds.AnswerRow.{AnswerRow, row-of}
@@ -16,9 +16,9 @@ use Rattle.demands.specs.Checks.{tables-of, Checks}
 use Rattle.demands.proofs.Theorem.{checks, tables-alike}
 use Rattle.records.specs.declared.Answer.{Answer}
 use Rattle.records.specs.Rows.{zeros, filled}
-use Rattle.record_demands.specs.Records.{record-tables, most-constants}
+use Rattle.record_demands.specs.Records.{record-tables, most-constants, ChecksRows}
 use Rattle.record_demands.proofs.Enough.{enough}
-use Rattle.record_demands.proofs.Columns.{record-of, map-zeros, filled-is, column-is}
+use Rattle.record_demands.proofs.Columns.{record-of, map-zeros, filled-is, column-is, filled-front}
 
 -- ---- records after an outcome
 
@@ -105,3 +105,17 @@ module _ (s tk ts tl nk nt ns nb ks : List ℕ) (zs : List ℤ) (ls : List ℕ) 
         (by-records (λ (r : Answer). r .kind) express.answer-kinds (λ a. refl))
         (by-records (λ (r : Answer). r .number) express.answer-numbers (λ a. refl))
         (by-records (λ (r : Answer). r .length) express.answer-lengths (λ a. refl)))
+
+-- THE SAME FROM LONG COLUMNS, of which the call was lent as many rows as there are records
+
+cut-long : {A : Type 0} (n : ℕ) (xs : List A) → length xs ≡ most-constants → length (take n xs) ≡ min n most-constants
+cut-long n xs e = omega (arith, length-take n xs, e)
+
+pub rows-check : (was have : List Answer) {s tk ts tl nk nt ns nb ks : List ℕ} {zs : List ℤ} {ls : List ℕ} {tk′ ts′ tl′ nk′ nt′ ns′ nb′ ks′ : List ℕ} {zs′ : List ℤ} {ls′ : List ℕ}
+    {r : Report} → length ks ≡ most-constants → length zs ≡ most-constants → length ls ≡ most-constants
+    → ChecksRows s (tables-of tk ts tl nk nt ns nb ks zs ls) (tables-of tk′ ts′ tl′ nk′ nt′ ns′ nb′ ks′ zs′ ls′) (length was) r
+    → have ≡ filled ks′ zs′ ls′ (r .constants) (length was) → Checks s (record-tables tk ts tl nk nt ns nb was) (record-tables tk′ ts′ tl′ nk′ nt′ ns′ nb′ have) r
+rows-check was have {s} {tk} {ts} {tl} {nk} {nt} {ns} {nb} {ks} {zs} {ls} {ks′ = ks′} {zs′} {ls′} {r} e f g c fills =
+    record-checks s tk ts tl nk nt ns nb (take (length was) ks) (take (length was) zs) (take (length was) ls) was
+    (cut-long (length was) ks e) (cut-long (length was) zs f) (cut-long (length was) ls g) (c .checks)
+    (fills ∙ sym (filled-front (length was) (r .constants) ks′ zs′ ls′))

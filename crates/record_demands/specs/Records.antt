@@ -1,8 +1,9 @@
 -- R11: tables of which the answers are lent as records. What is demanded of them is `Checks`, on the columns of the records.
 use mathlib.Core.List.{List, map}
 use Prim.Native.Nat.{ℕ}
-use Rattle.express.specs.whole.Reply.{Tables}
-use Rattle.demands.specs.Checks.{tables-of}
+use lib.ListN.{take}
+use Rattle.express.specs.whole.Reply.{Report, Tables}
+use Rattle.demands.specs.Checks.{tables-of, Checks}
 use Rattle.records.specs.declared.Answer.{Answer}
 
 -- seven columns, and the kinds, numbers and lengths of the records
@@ -14,3 +15,13 @@ record-tables token-kinds token-starts token-lengths node-kinds node-tokens node
 -- no file has more constants: six bytes or more for each
 abbrev pub most-constants : ℕ
 most-constants = 10922
+
+-- tables with the first rows of the answer columns alone
+abbrev pub cut : ℕ → Tables → Tables
+cut rows l =
+    tables-of (l .token-kinds) (l .token-starts) (l .token-lengths) (l .node-kinds) (l .node-tokens) (l .node-sizes) (l .node-bindings)
+    (take rows (l .answer-kinds)) (take rows (l .answer-numbers)) (take rows (l .answer-lengths))
+
+-- the public call, lent these alone
+pub record ChecksRows (s : List ℕ) (l m : Tables) (rows : ℕ) (r : Report) : Type 0 where
+  pub checks : Checks s (cut rows l) (cut rows m) r

@@ -1,6 +1,4 @@
 //! The proved program, run on files: what it writes is the listing, and it says so where it cannot read or write.
-//!
-//! The program waits for the public call; then `#[ignore]` goes.
 
 use compare::cases::{self, PROGRAM_LENGTHS};
 use compare::random::{damaged, file, well_typed, LARGEST};
@@ -62,7 +60,6 @@ fn expected(input: &[u8]) -> Vec<u8> {
 }
 
 #[test]
-#[ignore = "the program is not there yet"]
 fn every_case_has_its_listing() {
     let all: Vec<_> = cases::all().into_iter().filter(|case| case.lengths == PROGRAM_LENGTHS).collect();
     let wrong: Vec<_> =
@@ -71,7 +68,6 @@ fn every_case_has_its_listing() {
 }
 
 #[test]
-#[ignore = "the program is not there yet"]
 fn random_files_have_the_listing_of_the_reference() {
     for seed in 0..FILES {
         for input in [file(seed), damaged(seed, 300)] {
@@ -93,7 +89,6 @@ fn long_names(name: usize, constants: usize) -> Vec<u8> {
 }
 
 #[test]
-#[ignore = "the program is not there yet"]
 fn listings_longer_than_any_buffer_are_written_whole() {
     for (name, constants) in [(1, 1_024), (300, 1_024), (20_000, 1_024), (20_000, 3), (32_000, 1)] {
         let input = long_names(name, constants);
@@ -104,7 +99,6 @@ fn listings_longer_than_any_buffer_are_written_whole() {
 }
 
 #[test]
-#[ignore = "the program is not there yet"]
 fn an_input_without_end_is_too_long() {
     let endless = File::open("/dev/zero").expect("/dev/zero");
     let Output { status, stdout, stderr } = Command::new(program()).stdin(endless).output().expect("the program ends");
@@ -112,7 +106,6 @@ fn an_input_without_end_is_too_long() {
 }
 
 #[test]
-#[ignore = "the program is not there yet"]
 fn it_says_so_where_it_cannot_read_or_write() {
     let folder = File::open(env!("CARGO_MANIFEST_DIR")).expect("a folder opens");
     let unread = Command::new(program()).stdin(folder).output().expect("the program ends");
