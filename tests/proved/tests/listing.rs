@@ -9,8 +9,9 @@ use std::process::{Command, Output, Stdio};
 use std::sync::OnceLock;
 use std::thread;
 
-/// Random files, each run in a process of its own.
-const FILES: u64 = 1_000;
+/// Seeds of random files, two for each; each is run in a process of its own.
+const SEEDS: u64 = 1_000;
+const MANY_SEEDS: u64 = 100_000;
 
 /// The program, built where it is not there yet.
 fn program() -> &'static Path {
@@ -67,13 +68,26 @@ fn every_case_has_its_listing() {
     assert!(wrong.is_empty(), "{} of {}: {wrong:?}", wrong.len(), all.len());
 }
 
-#[test]
-fn random_files_have_the_listing_of_the_reference() {
-    for seed in 0..FILES {
+fn hold(seeds: impl Iterator<Item = u64>) {
+    for seed in seeds {
         for input in [file(seed), damaged(seed, 300)] {
             assert_eq!(listing(&input), expected(&input), "{}", String::from_utf8_lossy(&input));
         }
     }
+}
+
+#[test]
+#[ignore = "takes minutes"]
+fn many_random_files_have_the_listing_of_the_reference() {
+    let cores = thread::available_parallelism().map_or(1, usize::from);
+    thread::scope(|scope| {
+        (0..cores).for_each(|first| drop(scope.spawn(move || hold((first as u64..MANY_SEEDS).step_by(cores)))));
+    });
+}
+
+#[test]
+fn random_files_have_the_listing_of_the_reference() {
+    hold(0..SEEDS);
     let large = well_typed(1, LARGEST);
     assert_eq!(listing(&large), expected(&large));
 }
