@@ -15,7 +15,8 @@ use Rattle.name_binding.specs.Binding.{BindsNames}
 use Rattle.resolutions.specs.Answer.{StageRoom}
 use Rattle.names.specs.Resolution.{BindsPrepared}
 
-module _ {kinds tokens sizes roles symbols starts keys nodes heads next : List ℕ} {v entries : ℕ} {bound to types constants scratch : List ℕ} (first : List ℕ) {r : Fault} {bound′ types′ constants′ : List ℕ} where
+module _ {kinds tokens sizes roles symbols starts keys nodes heads next : List ℕ} {v entries : ℕ} {bound to types constants scratch : List ℕ} (first : List ℕ)
+    {r : Fault} {bound′ types′ constants′ : List ℕ} where
   pub prepared-bound :
       StageRoom (length starts) v (length first) (length to) (length types) (length constants) (length scratch) →
       BindsNames kinds tokens sizes roles symbols starts (take entries keys) (take entries nodes) heads next bound (take (v + 1) first) to types constants scratch r bound′ types′ constants′ →

@@ -279,7 +279,8 @@ module _ {src starts lengths terminals kinds tokens sizes bindings roles symbols
 
   pub narrow-resolved :
       {b : Bool} {r : Resolution} {bindings′ types′ constants′ : List ℕ} → Narrows bindings (length roles) b roles′ → not b ≡ false →
-      ResolvesRoles src starts lengths terminals kinds tokens sizes (take (length bindings) roles′) bindings symbols keys nodes heads next first to types constants scratch r bindings′ types′ constants′ →
+      ResolvesRoles src starts lengths terminals kinds tokens sizes (take (length bindings) roles′) bindings symbols keys nodes heads next first to types constants scratch r
+      bindings′ types′ constants′ →
       Resolves src starts lengths terminals kinds tokens sizes bindings roles symbols keys nodes heads next first to types constants scratch r bindings′ types′ constants′
   narrow-resolved {b} {r} {bindings′} {types′} {constants′} N n Q = record {
     kept = λ d. by-kept r refl d;

@@ -11,10 +11,12 @@ enum-told : tie.Need-enum-told
 enum-told c = search needs
 
 slice-reshare-prefix-prepare : tie.Need-slice-reshare-prefix-prepare
-slice-reshare-prefix-prepare c = symbols-fit (c .before .before .before .before .before .before .before .before .intern .ensures) (c .enum-told .given .1) (c .before .before .before .before .before .before .before .before .intern .kept .1 .1 .1 .1 .0)
+slice-reshare-prefix-prepare c = symbols-fit (c .before .before .before .before .before .before .before .before .intern .ensures) (c .enum-told .given .1) (c .before .before .before
+    .before .before .before .before .before .intern .kept .1 .1 .1 .1 .0)
 
 slice-aggregate-prepare : tie.Need-slice-aggregate-prepare
-slice-aggregate-prepare c = symbols-long (c .before .before .before .before .before .before .before .before .before .intern .ensures) (c .before .enum-told .given .1) (c .before .before .before .before .before .before .before .before .before .intern .kept .1 .1 .1 .1 .0)
+slice-aggregate-prepare c = symbols-long (c .before .before .before .before .before .before .before .before .before .intern .ensures) (c .before .enum-told .given .1) (c .before .before
+    .before .before .before .before .before .before .before .intern .kept .1 .1 .1 .1 .0)
 
 prepare-requires : tie.Need-prepare-requires
 prepare-requires c κs = search needs
@@ -41,7 +43,10 @@ same-length-6 : tie.Need-same-length-6
 same-length-6 c = search needs
 
 returns : tie.Need-returns
-returns c = file-prepared (c .before .before .before .before .before .before .before .before .before .before .before .before .before .before .before .before .before .before .before .before .before .before .intern .ensures) (c .before .before .before .before .before .before .before .before .before .before .before .before .before .before .enum-told .given .1) (c .before .before .before .before .before .before .before .before .before .before .before .before .before .before .before .before .before .before .before .before .before .before .intern .kept .1 .1 .1 .1 .1 .0) (c .before .before .before .before .before .before .before .before .prepare .ensures)
+returns c = file-prepared (c .before .before .before .before .before .before .before .before .before .before .before .before .before .before .before .before .before .before .before
+    .before .before .before .intern .ensures) (c .before .before .before .before .before .before .before .before .before .before .before .before .before .before .enum-told .given .1) (c
+    .before .before .before .before .before .before .before .before .before .before .before .before .before .before .before .before .before .before .before .before .before .before
+    .intern .kept .1 .1 .1 .1 .1 .0) (c .before .before .before .before .before .before .before .before .prepare .ensures)
 
 same-length-7 : tie.Need-same-length-7
 same-length-7 c = search needs

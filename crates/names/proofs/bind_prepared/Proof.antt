@@ -10,7 +10,8 @@ slice-aggregate-bind-names : tie.Need-slice-aggregate-bind-names
 slice-aggregate-bind-names c = part-long _ _ (c .before .before .before .before .before .before .before .before .before .before .before .before .before .before .before .before .before .pre .1)
 
 slice-aggregate-bind-names-2 : tie.Need-slice-aggregate-bind-names-2
-slice-aggregate-bind-names-2 c = part-long _ _ (c .before .before .before .before .before .before .before .before .before .before .before .before .before .before .before .before .before .before .pre .2)
+slice-aggregate-bind-names-2 c = part-long _ _ (c .before .before .before .before .before .before .before .before .before .before .before .before .before .before .before .before .before
+    .before .pre .2)
 
 add-bind-names : tie.Need-add-bind-names
 add-bind-names c = search needs
@@ -19,7 +20,11 @@ slice-relend-prefix-bind-names : tie.Need-slice-relend-prefix-bind-names
 slice-relend-prefix-bind-names c = search needs
 
 slice-aggregate-bind-names-3 : tie.Need-slice-aggregate-bind-names-3
-slice-aggregate-bind-names-3 c = part-long _ _ (omega (arith, c .before .before .before .before .before .before .before .before .before .before .before .before .before .before .before .before .before .before .before .before .pre .0 .first-room))
+slice-aggregate-bind-names-3 c = part-long _ _ (omega (
+  arith,
+  c .before .before .before .before .before .before .before .before .before .before .before .before .before .before .before
+      .before .before .before .before .before .pre .0 .first-room,
+))
 
 bind-names-requires : tie.Need-bind-names-requires
 bind-names-requires c κs = search needs
@@ -43,7 +48,9 @@ same-length-6 : tie.Need-same-length-6
 same-length-6 c = search needs
 
 returns : tie.Need-returns
-returns c = prepared-bound _ (c .before .before .before .before .before .before .before .before .before .before .before .before .before .before .before .before .before .before .before .before .before .before .before .before .before .before .before .before .before .before .before .before .before .before .before .before .before .pre .0) (c .before .before .before .before .before .before .before .before .before .before .before .before .bind-names .ensures)
+returns c = prepared-bound _ (c .before .before .before .before .before .before .before .before .before .before .before .before .before .before .before .before .before .before .before
+    .before .before .before .before .before .before .before .before .before .before .before .before .before .before .before .before .before .before .pre .0) (c .before .before .before
+    .before .before .before .before .before .before .before .before .before .bind-names .ensures)
 
 pub bind-prepared-spec : {M : Type 1} → statement M
 bind-prepared-spec =

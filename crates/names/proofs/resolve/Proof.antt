@@ -18,10 +18,14 @@ returns : tie.Need-returns
 returns c = wide-resolved (c .before .before .before .narrow .ensures) (c .if1 .taken)
 
 slice-reshare-prefix-resolve-roles : tie.Need-slice-reshare-prefix-resolve-roles
-slice-reshare-prefix-resolve-roles c = roles-fit (c .before .before .before .before .before .before .before .before .before .before .before .before .before .before .before .before .before .before .before .before .before .before .before .before .before .args .roles .now) (c .before .before .before .narrow .ensures) (c .if1 .left) (c .before .before .before .narrow .kept .1 .0)
+slice-reshare-prefix-resolve-roles c = roles-fit (c .before .before .before .before .before .before .before .before .before .before .before .before .before .before .before .before
+    .before .before .before .before .before .before .before .before .before .args .roles .now) (c .before .before .before .narrow .ensures) (c .if1 .left) (c .before .before .before
+    .narrow .kept .1 .0)
 
 slice-aggregate-resolve-roles : tie.Need-slice-aggregate-resolve-roles
-slice-aggregate-resolve-roles c = part-long _ _ (roles-fit (c .before .before .before .before .before .before .before .before .before .before .before .before .before .before .before .before .before .before .before .before .before .before .before .before .before .before .args .roles .now) (c .before .before .before .before .narrow .ensures) (c .before .if1 .left) (c .before .before .before .before .narrow .kept .1 .0))
+slice-aggregate-resolve-roles c = part-long _ _ (roles-fit (c .before .before .before .before .before .before .before .before .before .before .before .before .before .before .before
+    .before .before .before .before .before .before .before .before .before .before .before .args .roles .now) (c .before .before .before .before .narrow .ensures) (c .before .if1
+    .left) (c .before .before .before .before .narrow .kept .1 .0))
 
 resolve-roles-requires : tie.Need-resolve-roles-requires
 resolve-roles-requires c κs = search needs
@@ -63,7 +67,11 @@ same-length-14 : tie.Need-same-length-14
 same-length-14 c = search needs
 
 returns-2 : tie.Need-returns-2
-returns-2 c = narrow-resolved (c .before .before .before .before .before .before .before .before .before .before .before .before .before .before .before .before .before .before .before .before .before .before .before .before .before .before .before .before .before .before .before .before .before .before .before .before .before .before .narrow .ensures) (c .before .before .before .before .before .before .before .before .before .before .before .before .before .before .before .before .before .before .before .before .before .before .before .before .before .before .before .before .before .before .before .before .before .before .before .if1 .left) (c .before .before .before .before .before .before .before .before .before .before .before .before .before .before .before .before .before .before .before .before .before .before .resolve-roles .ensures)
+returns-2 c = narrow-resolved (c .before .before .before .before .before .before .before .before .before .before .before .before .before .before .before .before .before .before .before
+    .before .before .before .before .before .before .before .before .before .before .before .before .before .before .before .before .before .before .before .narrow .ensures) (c .before
+    .before .before .before .before .before .before .before .before .before .before .before .before .before .before .before .before .before .before .before .before .before .before
+    .before .before .before .before .before .before .before .before .before .before .before .before .if1 .left) (c .before .before .before .before .before .before .before .before
+    .before .before .before .before .before .before .before .before .before .before .before .before .before .before .resolve-roles .ensures)
 
 pub resolve-spec : {M : Type 1} → statement M
 resolve-spec =

@@ -44,7 +44,8 @@ loop-less : tie.Need-loop-less Inv-loop μ-loop
 loop-less c = omega (arith, c .before .before .loop-test .taken)
 
 loop-again : tie.Need-loop-again Inv-loop μ-loop
-loop-again c = copying-goes-on {end = length (c .before .before .before .before .before .args .roles .now)} (omega (arith, c .before .before .before .before .if1 .left)) (c .before .before .loop-test .taken) (c .before .before .before .loop .inv)
+loop-again c = copying-goes-on {end = length (c .before .before .before .before .before .args .roles .now)} (omega (arith, c .before .before .before .before .if1 .left)) (c .before
+    .before .loop-test .taken) (c .before .before .before .loop .inv)
 
 same-length-2 : tie.Need-same-length-2 Inv-loop μ-loop
 same-length-2 c = c .before .loop .inv .len

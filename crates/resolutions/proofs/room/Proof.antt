@@ -35,7 +35,10 @@ shorter-requires-2 c κs = search needs
 
 returns-6 : tie.Need-returns-6
 returns-6 c =
-    stage-room-decided (omega (arith, c .before .before .before .before .before .before .if1 .left)) (omega (arith, c .before .before .before .before .before .if2 .left)) (omega (arith, c .before .before .before .before .if3 .left)) (omega (arith, c .before .before .before .if4 .left)) (c .before .before .shorter .ensures) (omega (arith, c .before .if5 .left))
+    stage-room-decided (omega (arith, c .before .before .before .before .before .before .if1 .left)) (omega (arith, c .before .before .before .before .before .if2 .left)) (omega (
+      arith,
+      c .before .before .before .before .if3 .left,
+    )) (omega (arith, c .before .before .before .if4 .left)) (c .before .before .shorter .ensures) (omega (arith, c .before .if5 .left))
     (c .shorter2 .ensures)
 
 pub room-spec : {M : Type 1} → statement M

@@ -49,7 +49,15 @@ same-length-12 : tie.Need-same-length-12
 same-length-12 c = search needs
 
 returns : tie.Need-returns
-returns c = record { answer = c .before .before .before .before .before .before .before .before .before .before .before .before .before .before .before .before .before .before .before .before .before .before .before .before .before .before .resolve .result; promise = c .before .before .before .before .before .before .before .before .before .before .before .before .before .before .before .before .before .before .before .before .before .before .before .before .before .before .resolve .ensures; encodes = c .resolution-reply .ensures; number-is = c .before .resolution-place .ensures }
+returns c = record {
+  answer = c .before .before .before .before .before .before .before .before .before .before .before .before .before .before .before .before .before .before .before
+      .before .before .before .before .before .before .before .resolve .result;
+  promise = c .before .before .before .before .before .before .before .before .before .before .before .before
+      .before .before .before .before .before .before .before .before .before .before .before .before .before .before .resolve .ensures;
+  encodes = c .resolution-reply .ensures;
+  number-is
+      = c .before .resolution-place .ensures;
+}
 
 pub woffulent-resolve-spec : {M : Type 1} → statement M
 woffulent-resolve-spec =
