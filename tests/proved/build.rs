@@ -1,5 +1,5 @@
-//! Links the proved archive of the Rattle crate `exports`.
+//! Links the proved archive of the Rattle crate `test_exports`.
 
 fn main() {
-    archive::link("exports");
+    archive::link("test_exports");
 }

@@ -1,20 +1,16 @@
--- Arrays for a file of so many nodes: the law of the three sizes, and of the choice among them.
-use mathlib.Core.Path.{_≡_, sym, ap, _∙_}
+-- Arrays for a file of so many nodes: the law of all sizes, and of the choice among them.
+use mathlib.Core.Path.{sym, ap}
 use mathlib.Core.List.{List}
 use Prim.Native.Nat.{ℕ, _≤_}
 use native.Mathlib.Omega.{arith}
 use lib.IntN.{ℤ}
-use lib.ListN.{length, take, length-map}
-use Rattle.express.specs.tokens.Lexis.{TokenRow, most, lexed}
-use Rattle.express.specs.tokens.Scanned.{row-bytes}
-use Rattle.express.specs.tokens.Terminal.{terminal-of}
+use lib.ListN.{length, take}
+use Rattle.express.specs.tokens.Lexis.{most}
 use Rattle.express.specs.syntax.Tree.{Table, count}
-use Rattle.express.proofs.tokens.TokenRows.{tokens-of}
 use Rattle.scopes.specs.Range.{vertex-count}
 use Rattle.constants.specs.Constants.{Room}
-use Rattle.bounds.proofs.Bounds.{nodes-few}
 use Rattle.stages.specs.declared.Stage.{Stage}
-use Rattle.stages.specs.AnswerStage.{BoundColumns}
+use Rattle.answer_stages.specs.AnswerStage.{BoundColumns}
 use Rattle.pipeline.specs.Binding.{AnswersNamed}
 use Rattle.answer_frames.specs.AnswerFrame.{NamedFile, AnswersWithin}
 
@@ -51,13 +47,6 @@ module _ {bytes starts lengths terminals kinds tokens sizes bindings types const
         answer-room = F .answer-room;
       }
 
-  -- no more nodes than tokens, and no more tokens than bytes
-  nodes-by-bytes : count t ≤ length bytes
-  nodes-by-bytes =
-      let k : length (t .terminals) ≡ length (lexed (t .bytes) .rows) =
-      ap length (F .scanned .terminals-are) ∙ length-map (lexed (t .bytes) .rows) (λ (r : TokenRow). terminal-of (r .kind) (row-bytes (t .bytes) r)) in
-      omega (arith, k, nodes-few (F .read), tokens-of (t .bytes) .few, ap length (F .bytes-are))
-
 module _ {before : Stage} {bytes starts lengths terminals kinds tokens sizes bindings types constants aks : List ℕ} {azs : List ℤ} {als : List ℕ} {r : Stage} {aks′ : List ℕ} {azs′ : List ℤ}
     {als′ : List ℕ} where
   -- an entry for each node
@@ -73,8 +62,8 @@ module _ {before : Stage} {bytes starts lengths terminals kinds tokens sizes bin
             (record { kinds-long = omega arith; numbers-long = omega arith; lengths-long = omega arith }));
       }
 
-  -- a file has no more nodes than bytes
-  pub of-bytes : (n : ℕ) → length bytes ≤ n →
+  -- so many nodes, whatever is asked of them elsewhere
+  pub by-number : (n : ℕ) → length kinds ≤ n →
       AnswersWithin n before bytes starts lengths terminals kinds tokens sizes bindings types constants aks azs als r aks′ azs′ als′ →
       AnswersWithin most before bytes starts lengths terminals kinds tokens sizes bindings types constants aks azs als r aks′ azs′ als′
-  of-bytes n h A = record { passed-on = A .passed-on; is = λ t F few. A .is t F (omega (arith, nodes-by-bytes F)) }
+  by-number n h A = record { passed-on = A .passed-on; is = λ t F few. A .is t F (omega (arith, ap length (F .kinds-are))) }

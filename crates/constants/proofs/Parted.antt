@@ -1,5 +1,5 @@
 -- The part of the order that is lent for a schema has all of its constants, each after those that it names.
-use mathlib.Core.Path.{_≡_, sym, ap, subst, _∙_}
+use mathlib.Core.Path.{_≡_, refl, sym, ap, subst, _∙_}
 use mathlib.Core.Logic.{_⊎_, inl, inr, ⊎-elim}
 use mathlib.Core.Bool.{Bool, true, false, cond}
 use mathlib.Core.List.{List, [], _∷_, map, List·Memᴰ, List·Memᴰ·head, List·Memᴰ·tail, List·Memᴰ·not-nil}
@@ -79,27 +79,42 @@ pub record Started (order : List ℕ) (lo from : ℕ) : Type 0 where
 pub started : (order : List ℕ) → Started order 0 0
 started order = record { upto = omega arith; before = λ p h. absurd (omega arith) }
 
-module _ {order : List ℕ} {lo from : ℕ} (S : Started order lo from) (n : ℕ) {next : ℕ} (l : lo ≤ n + 1)
-    (next-is : next ≡ first-from (λ i. ltb n (getD order i 0)) from (length order - from)) where
-  first : First (λ i. ltb n (getD order i 0)) from (length order - from) next
-  first = subst (First (λ i. ltb n (getD order i 0)) from (length order - from)) (sym next-is) (first-is (λ i. ltb n (getD order i 0)) from (length order - from))
+module _ {order : List ℕ} {lo from : ℕ} (S : Started order lo from) (n : ℕ) (b : Bool) {next : ℕ} (l : lo ≤ n + 1)
+    (next-is : next ≡ cond b (first-from (λ i. ltb n (getD order i 0)) from (length order - from)) from) where
+  -- the next part starts with the first declaration behind n, or does not move
+  first : b ≡ true → First (λ i. ltb n (getD order i 0)) from (length order - from) next
+  first h =
+      subst (First (λ i. ltb n (getD order i 0)) from (length order - from)) (sym (rw h at next-is)) (first-is (λ i. ltb n (getD order i 0)) from (length order - from))
+
+  stays : b ≡ false → next ≡ from
+  stays h = rw h at next-is
 
   pub next-from : from ≤ next
-  next-from = first .from
+  next-from = by b refl
+    where
+      by : (q : Bool) → b ≡ q → from ≤ next
+      by true h = first h .from
+      by false h = omega (arith, stays h)
 
   pub next-upto : next ≤ length order
-  next-upto = omega (arith, first .upto, S .upto)
+  next-upto = by b refl
+    where
+      by : (q : Bool) → b ≡ q → next ≤ length order
+      by true h = omega (arith, first h .upto, S .upto)
+      by false h = omega (arith, stays h, S .upto)
 
   pub started-next : Started order (n + 1) next
-  started-next =
-      record {
-        upto = next-upto;
-        before = λ p h.
-            ⊎-elim (λ (a : from ≤ p). let b = ltb-false n (getD order p 0) (first .none p a h) in omega arith)
-            (λ (a : p < from). let b = S .before p a in omega arith) (le-or from p);
-      }
+  started-next = record { upto = next-upto; before = λ p h. by b refl p h }
+    where
+      earlier : (p : ℕ) → p < from → getD order p 0 < n + 1
+      earlier p a = let u = S .before p a in omega arith
 
-  module _ (kinds : List ℕ) {b : Bool} (b-is : b ≡ grouped kinds order) {to : ℕ} (to-is : to ≡ cond b next (length order)) where
+      by : (q : Bool) → b ≡ q → (p : ℕ) → p < next → getD order p 0 < n + 1
+      by true e p h =
+          ⊎-elim (λ (a : from ≤ p). let u = ltb-false n (getD order p 0) (first e .none p a h) in omega arith) (λ (a : p < from). earlier p a) (le-or from p)
+      by false e p h = earlier p (omega (arith, stays e))
+
+  module _ (kinds : List ℕ) (b-is : b ≡ true → grouped kinds order ≡ true) {to : ℕ} (to-is : to ≡ cond b next (length order)) where
     pub to-from : from ≤ to
     to-from = by b to-is
       where
@@ -116,17 +131,18 @@ module _ {order : List ℕ} {lo from : ℕ} (S : Started order lo from) (n : ℕ
 
     -- where it ends: what stands there, or further on, is of no schema up to n
     behind : (p : ℕ) → to ≤ p → p < length order → n < schema-in kinds (getD order p 0)
-    behind p a g = by b b-is to-is
+    behind p a g = by b refl
       where
-        by : (b : Bool) → b ≡ grouped kinds order → to ≡ cond b next (length order) → n < schema-in kinds (getD order p 0)
-        by true e f =
+        by : (q : Bool) → b ≡ q → n < schema-in kinds (getD order p 0)
+        by true h =
+            let f : to ≡ next = rw h at to-is in
             let s = length-map order (schema-in kinds) in
-            let u = falls-not (length kinds) 0 (map (schema-in kinds) order) (sym e) next p (omega (arith, f)) (omega (arith, s)) in
+            let u = falls-not (length kinds) 0 (map (schema-in kinds) order) (b-is h) next p (omega (arith, f)) (omega (arith, s)) in
             let v = map-there (schema-in kinds) order next 0 0 (omega (arith, f)) in
             let w = map-there (schema-in kinds) order p 0 0 g in
-            let x = ltb-true n (getD order next 0) (first .passes (omega (arith, f, next-from))) in
+            let x = ltb-true n (getD order next 0) (first h .passes (omega (arith, f, next-from))) in
             let y = schema-from kinds (getD order next 0) in omega (arith, u, v, w, x, y)
-        by false e f = absurd (omega (arith, f))
+        by false h = let f : to ≡ length order = rw h at to-is in absurd (omega (arith, f))
 
     -- THE PART OF A SCHEMA that ends with n
     pub parted :

@@ -1,7 +1,7 @@
 -- The schemas one after the other: the part of the answer columns after the earlier schemas is lent for each, and put together again.
 use mathlib.Core.Path.{_≡_, refl, sym, ap, subst, _∙_}
 use mathlib.Core.Logic.{_⊎_, inl, inr, ⊎-elim}
-use mathlib.Core.Bool.{Bool, cond}
+use mathlib.Core.Bool.{Bool, true, cond}
 use mathlib.Core.List.{List, _++_}
 use Prim.Native.Nat.{ℕ, min, suc, _+_, _-_, _≤_, _<_}
 use native.Mathlib.Omega.{arith}
@@ -179,6 +179,10 @@ in-a-schema : {t : Table} → Read file t → (c : ℕ) → c < count t → kind
 unfolding mem
 in-a-schema d c l k = schema-over d c (in-schema d c l (rw k) .0) .2
 
+-- the first schema stands among the nodes, or there is none
+pub schema-among : (kinds : List ℕ) {n : ℕ} → n ≡ first-from (λ j. eqb (getD kinds j 0) node.schema) 0 (length kinds - 0) → n ≤ length kinds
+schema-among kinds q = let u = first-is (λ j. eqb (getD kinds j 0) node.schema) 0 (length kinds - 0) .upto in omega (arith, q)
+
 -- ---- THE LOOP'S INVARIANT
 pub record Filling (bytes starts lengths terminals kinds tokens sizes bindings declared order row-of aks₀ : List ℕ) (azs₀ : List ℤ) (als₀ vks₀ : List ℕ) (vzs₀ : List ℤ)
     (vls₀ aks : List ℕ) (azs : List ℤ) (als vks : List ℕ) (vzs : List ℤ) (vls : List ℕ) (n lo at from : ℕ) : Type 0 where
@@ -256,7 +260,7 @@ module _ {bytes starts lengths terminals kinds tokens sizes bindings declared or
 
     module _ (l : n < length kinds) where
       module _ (k : getD kinds n 0 ≡ node.schema) {a b c o : ℕ} (a-is : a ≡ min at (length aks)) (b-is : b ≡ min at (length azs)) (c-is : c ≡ min at (length als)) (o-is : o ≡ getD row-of n 0)
-          {next to : ℕ} {g : Bool} (next-is : next ≡ first-from (λ i. ltb n (getD order i 0)) from (length order - from)) (g-is : g ≡ grouped kinds order)
+          {next to : ℕ} (g : Bool) (next-is : next ≡ cond g (first-from (λ i. ltb n (getD order i 0)) from (length order - from)) from) (g-is : g ≡ true → grouped kinds order ≡ true)
           (to-is : to ≡ cond g next (length order))
           {aks′ : List ℕ} {azs′ : List ℤ} {als′ : List ℕ} (post₁ : List ℕ) (post₂ : List ℤ) (post₃ : List ℕ) {vks′ : List ℕ} {vzs′ : List ℤ} {vls′ : List ℕ} where
         pub filling-schema :
@@ -277,7 +281,7 @@ module _ {bytes starts lengths terminals kinds tokens sizes bindings declared or
               value-numbers-kept = v₂ ∙ P .value-numbers-kept;
               value-lengths-kept = v₃ ∙ P .value-lengths-kept;
               ahead = omega arith;
-              begun = started-next (P .begun) n low next-is;
+              begun = started-next (P .begun) n g low next-is;
               is = rows;
             }
           where
@@ -305,7 +309,7 @@ module _ {bytes starts lengths terminals kinds tokens sizes bindings declared or
                   numbers-long = omega (arith, P .value-numbers-kept, M .numbers-long);
                   lengths-long = omega (arith, P .value-lengths-kept, M .lengths-long);
                 } in
-                let G = E .is t order O (parted (P .begun) n low next-is kinds g-is to-is O l′ k′) W (stage-part S l′ k′) Y
+                let G = E .is t order O (parted (P .begun) n g low next-is kinds g-is to-is O l′ k′) W (stage-part S l′ k′) Y
                 (record {
                   kinds-long = part-long t aks a-is (S .start) (S .from) u₁;
                   numbers-long = part-long t azs b-is (S .start) (S .from) u₂;

@@ -2,14 +2,14 @@
 ghost use Rattle.constants.specs.Constants.{FillsSchemas, EvaluatesConstants};
 use schemas::evaluate_schema;
 use schemas::number_rows;
-use schemas::parts::first_behind;
-use schemas::parts::is_grouped;
+use schemas::parts::has_parts;
+use schemas::parts::next_part;
 use schemas::parts::part_end;
 use tree::index_at;
 use tree::next_of_kind;
 
-// Each schema in the order of the text, into the part of the answer columns after those of the schemas before it. Its constants are looked for in the
-// part of the order behind the declarations of those schemas.
+// Each schema in the order of the text, into the part of the answer columns after those of the schemas before it. Its constants are looked for in its
+// part of the order, or in all of it.
 fn evaluate_schemas(
     src: &[u8],
     starts: &[u32],
@@ -35,14 +35,14 @@ fn evaluate_schemas(
         (now («value_kinds» .entry)) (now («value_numbers» .entry)) (now («value_lengths» .entry))
         (now («answer_kinds» .exit)) (now («answer_numbers» .exit)) (now («answer_lengths» .exit)) ⌝ }
 {
-    let are_grouped = is_grouped(kinds, order);
     let mut n = next_of_kind(kinds, codes::nodes::SCHEMA, 0);
+    let are_parted = has_parts(kinds, order, n + 1);
     let mut lo: usize = 0;
     let mut at: usize = 0;
     let mut from: usize = 0;
     while n < kinds.len() {
-        let next = first_behind(order, from, n);
-        let to = part_end(are_grouped, next, order.len());
+        let next = next_part(are_parted, order, from, n);
+        let to = part_end(are_parted, next, order.len());
         let a = columns::shorter(at, answer_kinds.len());
         let b = columns::shorter(at, answer_numbers.len());
         let c = columns::shorter(at, answer_lengths.len());

@@ -19,7 +19,7 @@ use Rattle.express.specs.names.Names.{WellNamed}
 use Rattle.express.specs.kinds.Declared.{simple}
 use Rattle.express.proofs.names.Meaning.{declarations-iff, edge-start, cyclic-fine}
 use Rattle.declared_types.specs.Storing.{table-of, enumeration-number, base-number, type-number}
-use Rattle.declared_types.specs.Storing.{type-items-stored, type-stored, constant-stored, items-stored, types-stored, constants-stored}
+use Rattle.declared_types.specs.Storing.{type-items-stored, type-stored, constant-stored, types-stored, constants-stored}
 
 -- node: 2 CONSTANT of the type 10; 6 CONSTANT of the type 16; 7 ENTITY; 10 TYPE, an enumeration; 12 TYPE, a renaming of 10; 16 TYPE, a select; 18 TYPE LOGICAL;
 -- 21 CONSTANT of the type 12
@@ -39,10 +39,9 @@ small-order : List ℕ
 small-order = 2 ∷ 6 ∷ 7 ∷ 10 ∷ 12 ∷ 16 ∷ 18 ∷ 21 ∷ []
 
 its-numbers :
-    constants-stored small-file small-bindings small-order
-    (types-stored small-file small-bindings small-order (items-stored small-file small-order (replicate 24 99)))
+    constants-stored small-file small-bindings small-order (types-stored small-file small-bindings small-order (replicate 24 99))
     ≡ 99 ∷ 99 ∷ 15 ∷ 99 ∷ 99 ∷ 99 ∷ 0 ∷ 99 ∷ 15 ∷ 99 ∷ 15 ∷ 99 ∷ 15 ∷ 99 ∷ 99 ∷ 99 ∷ 0 ∷ 99 ∷ 3 ∷ 99 ∷ 99 ∷ 15 ∷ 99 ∷ 99 ∷ []
-unfolding small-file small-bindings small-order constants-stored types-stored items-stored constant-stored type-stored type-items-stored type-number base-number
+unfolding small-file small-bindings small-order constants-stored types-stored constant-stored type-stored type-items-stored type-number base-number
     enumeration-number simple span
 its-numbers = refl
 

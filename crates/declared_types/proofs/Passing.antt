@@ -12,8 +12,8 @@ use Rattle.relations.specs.Select.{span}
 use Rattle.relations.proofs.Select.{span-step, span-end}
 use borrow.Author.Tests.{eq-eqb, ne-eqb}
 use Rattle.express.specs.syntax.NodeKind.{enumeration-item, type}
-use Rattle.express.specs.syntax.Tree.{Table, is}
-use Rattle.declared_types.specs.Storing.{table-of, store, enumeration-number, type-items-stored}
+use Rattle.express.specs.syntax.Tree.{Table, first, is}
+use Rattle.declared_types.specs.Storing.{table-of, store, enumeration-number, type-number, type-items-stored, type-stored}
 
 -- a step for each of a list, of which those from i on are left
 module _ (f : List ℕ → ℕ → List ℕ) (ns : List ℕ) where
@@ -69,15 +69,43 @@ module _ (kinds sizes : List ℕ) where
       up-goes-on (item-of d) lo d l U z (e ∙ ap (λ (j : ℕ). cond (eqb j enumeration-item) (set c i (enumeration-number d)) c) K)
 
   module _ (c : List ℕ) (node : ℕ) {d k : ℕ} (D : d ≡ node) (K : k ≡ getD kinds d 0) where
-    pub items-of-type :
-        k ≡ type → {lo : ℕ} → lo ≡ node + 1 - getD sizes node 0 → {c′ : List ℕ} → c′ ≡ foldl (item-of d) c (span lo (d - lo)) → c′ ≡ type-items-stored t c node
-    unfolding type-items-stored
-    items-of-type h L e =
-        let q : is t type node ≡ true = eq-eqb _ type (ap (λ (n : ℕ). getD kinds n 0) (sym D) ∙ (sym K ∙ h)) in
-        e ∙ rw (D, L, q)
-
     pub items-of-other : (k ≡ type → ⊥) → c ≡ type-items-stored t c node
     unfolding type-items-stored
     items-of-other h =
         let q : is t type node ≡ false = ne-eqb _ type (λ g. h (K ∙ (ap (λ (n : ℕ). getD kinds n 0) D ∙ g))) in
         rw q
+
+    module _ (h : k ≡ type) {lo : ℕ} (L : lo ≡ node + 1 - getD sizes node 0) {j : ℕ} (J : j ≡ getD kinds lo 0) where
+      a-type : is t type node ≡ true
+      a-type = eq-eqb _ type (ap (λ (n : ℕ). getD kinds n 0) (sym D) ∙ (sym K ∙ h))
+
+      pub items-of-type : j ≡ enumeration-item → {c′ : List ℕ} → c′ ≡ foldl (item-of d) c (span lo (d - lo)) → c′ ≡ type-items-stored t c node
+      unfolding type-items-stored
+      items-of-type g e =
+          let q : is t enumeration-item (first t node) ≡ true = eq-eqb _ enumeration-item (ap (λ (n : ℕ). getD kinds n 0) (sym L) ∙ (sym J ∙ g)) in
+          e ∙ rw (D, L, a-type, q)
+
+      pub items-of-none : (j ≡ enumeration-item → ⊥) → c ≡ type-items-stored t c node
+      unfolding type-items-stored
+      items-of-none g =
+          let q : is t enumeration-item (first t node) ≡ false = ne-eqb _ enumeration-item (λ z. g (J ∙ (ap (λ (n : ℕ). getD kinds n 0) L ∙ z))) in
+          rw (a-type, q)
+
+-- a type after its items, and nothing of what is no type
+module _ (terminals kinds tokens sizes b c : List ℕ) {node d k : ℕ} (D : d ≡ node) (K : k ≡ getD kinds d 0) where
+  abbrev whole : Table
+  whole = table-of terminals kinds tokens sizes
+
+  pub type-of-other : (k ≡ type → ⊥) → c ≡ type-stored whole b c node
+  unfolding type-stored type-items-stored
+  type-of-other h =
+      let q : is whole type node ≡ false = ne-eqb _ type (λ g. h (K ∙ (ap (λ (n : ℕ). getD kinds n 0) D ∙ g))) in
+      rw q
+
+  pub type-after-items :
+      k ≡ type → {c₁ c₂ : List ℕ} {m r : ℕ} → c₁ ≡ type-items-stored (table-of [] kinds [] sizes) c node → r ≡ type-number whole b c₁ node → m ≡ node →
+      c₂ ≡ set c₁ m r → c₂ ≡ type-stored whole b c node
+  unfolding type-stored type-items-stored
+  type-after-items h e₁ n M e₂ =
+      let q : is whole type node ≡ true = eq-eqb _ type (ap (λ (x : ℕ). getD kinds x 0) (sym D) ∙ (sym K ∙ h)) in
+      e₂ ∙ rw (M, n, e₁, q)

@@ -23,7 +23,8 @@ use Rattle.express.proofs.syntax.FormedRows.{formed-rows}
 use Rattle.express.proofs.syntax.KindSets as set
 use Rattle.express.proofs.kinds.Denotes.{denoted-step, bound-is, bound-name, type-below, renaming-edge, base-known}
 use Rattle.declared_types.specs.Storing.{last-node, enumeration-number, base-number, type-number}
-use Rattle.declared_types.specs.Storing.{type-stored, constant-stored, items-stored, types-stored, constants-stored}
+use Rattle.declared_types.specs.Storing.{constant-stored, constants-stored}
+use Rattle.declared_types.proofs.Apart.{items-stored, numbers-stored}
 use Rattle.declared_types.proofs.Sorting.{Stored, Sound, list-stored, independent}
 use Rattle.declared_types.proofs.Items.{item-stored, nodes-of-types, in-type, all-types, item-there, type-node-below}
 
@@ -108,7 +109,7 @@ module _ {t : Table} (R : Read file t) (W : WellNamed t) (few : count t + 5 < 42
     with-items = items-stored t order column
 
     abbrev with-types : List ℕ
-    with-types = types-stored t b order with-items
+    with-types = numbers-stored t b order with-items
 
     abbrev with-constants : List ℕ
     with-constants = constants-stored t b order with-types
@@ -136,7 +137,7 @@ module _ {t : Table} (R : Read file t) (W : WellNamed t) (few : count t + 5 < 42
     Types = Stored (Joins (type-edges t)) (is t node.type) (type-number t b) wanted with-items (λ n. List·Memᴰ n order)
 
     types-right : Types with-types
-    unfolding types-stored type-stored
+    unfolding numbers-stored
     types-right =
         list-stored (Joins (type-edges t)) (is t node.type) (type-number t b) wanted with-items (types-sound with-items) (A .sorted)
         (λ n m. let k = below n m in let g = items-right .long in omega arith)

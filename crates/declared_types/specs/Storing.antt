@@ -8,6 +8,7 @@ use lib.ListN.{getD, set}
 use Rattle.express.specs.syntax.NodeKind.{simple-type, enumeration-item, constant, type}
 use Rattle.relations.specs.Select.{span}
 use Rattle.express.specs.syntax.Tree.{Table, terminal, first, is, type-node}
+use Rattle.express.specs.names.Fault.{is-enumeration}
 use Rattle.express.specs.kinds.Declared.{declaration, bound, simple, renames}
 use Rattle.express.specs.kinds.DeclaredColumn.{declared-number}
 
@@ -38,21 +39,19 @@ type-number t b column d =
 abbrev pub store : (ℕ → Bool) → (List ℕ → ℕ → ℕ) → List ℕ → ℕ → List ℕ
 store p number column n = cond (p n) (set column n (number column n)) column
 
--- the items of a type d: all of its nodes that are some
+-- the items of a type d that is an enumeration: all of its nodes that are some
 unfoldable pub type-items-stored : Table → List ℕ → ℕ → List ℕ
 type-items-stored t column d =
-    cond (is t type d) (foldl (store (is t enumeration-item) (λ column n. enumeration-number d)) column (span (first t d) (d - first t d))) column
+    cond (is-enumeration t d) (foldl (store (is t enumeration-item) (λ column n. enumeration-number d)) column (span (first t d) (d - first t d))) column
 
+-- a type d, after its items
 unfoldable pub type-stored : Table → List ℕ → List ℕ → ℕ → List ℕ
-type-stored t b = store (is t type) (type-number t b)
+type-stored t b column d = store (is t type) (type-number t b) (type-items-stored t column d) d
 
 unfoldable pub constant-stored : Table → List ℕ → List ℕ → ℕ → List ℕ
 constant-stored t b = store (is t constant) (λ column c. base-number t b column (type-node t c))
 
--- all items, all types and all constants, as the declarations stand in an order
-unfoldable pub items-stored : Table → List ℕ → List ℕ → List ℕ
-items-stored t order column = foldl (type-items-stored t) column order
-
+-- all types with their items, and all constants, as the declarations stand in an order
 unfoldable pub types-stored : Table → List ℕ → List ℕ → List ℕ → List ℕ
 types-stored t b order column = foldl (type-stored t b) column order
 

@@ -11,7 +11,7 @@ ghost use Rattle.express.specs.syntax.NodeKind.{enumeration-item};
 ghost use Rattle.express.specs.kinds.Declared.{simple};
 ghost use Rattle.express.specs.kinds.DeclaredColumn.{declared-number};
 ghost use Rattle.declared_types.specs.Storing.{table-of, enumeration-number, base-number, type-number};
-ghost use Rattle.declared_types.specs.Storing.{type-items-stored, type-stored, constant-stored, items-stored, types-stored, constants-stored};
+ghost use Rattle.declared_types.specs.Storing.{type-items-stored, type-stored, constant-stored, types-stored, constants-stored};
 ghost use Rattle.declared_types.specs.Promise.{Declares};
 use columns::index;
 use columns::put32;
@@ -133,7 +133,7 @@ fn store_item(kind: u8, column: &mut [u32], i: usize, owner: usize)
     put32(column, i, enumeration(owner));
 }
 
-// The items of a type: all of its nodes that are some.
+// The items of a type whose first node is one: all of its nodes that are some.
 fn store_items_of(kinds: &[u8], sizes: &[u32], column: &mut [u32], node: u32)
     ensures { λ _. ⌜ now (column .exit) ≡ type-items-stored (table-of [] (now (kinds .entry)) [] (now (sizes .entry))) (now (column .entry)) node ⌝ }
 {
@@ -142,12 +142,16 @@ fn store_items_of(kinds: &[u8], sizes: &[u32], column: &mut [u32], node: u32)
         return;
     }
     let mut i = first_node(sizes, node);
+    if at8(kinds, i) != codes::nodes::ITEM {
+        return;
+    }
     while i < d {
         store_item(at8(kinds, i), column, i, d);
         i += 1;
     }
 }
 
+// A type, and its items.
 fn store_type(
     terminals: &[u8],
     kinds: &[u8],
@@ -164,6 +168,7 @@ fn store_type(
     if at8(kinds, index(node)) != codes::nodes::TYPE {
         return;
     }
+    store_items_of(kinds, sizes, column, node);
     let number = underlying(terminals, kinds, tokens, sizes, bindings, column, node);
     put32(column, index(node), number);
 }
@@ -195,18 +200,7 @@ fn store_constant(
     put32(column, i, number);
 }
 
-// The items of all types.
-fn store_items(kinds: &[u8], sizes: &[u32], order: &[u32], column: &mut [u32])
-    ensures { λ _. ⌜ now (column .exit) ≡ items-stored (table-of [] (now (kinds .entry)) [] (now (sizes .entry))) (now (order .entry)) (now (column .entry)) ⌝ }
-{
-    let mut i = 0;
-    while i < order.len() {
-        store_items_of(kinds, sizes, column, order[i]);
-        i += 1;
-    }
-}
-
-// The types, each after those that it renames.
+// The types, each after those that it renames, and their items.
 fn store_types(
     terminals: &[u8],
     kinds: &[u8],
@@ -262,7 +256,6 @@ pub fn declared_types(
     ensures { λ _. ⌜ Declares (now (terminals .entry)) (now (kinds .entry)) (now (tokens .entry)) (now (sizes .entry))
         (now (bindings .entry)) (now (order .entry)) (now (column .entry)) (now (column .exit)) ⌝ }
 {
-    store_items(kinds, sizes, order, column);
     store_types(terminals, kinds, tokens, sizes, bindings, order, column);
     store_constants(terminals, kinds, tokens, sizes, bindings, order, column);
 }

@@ -33,7 +33,7 @@ use Rattle.evaluate.specs.Operators.{reading-of, combined-by}
 use Rattle.answer_rows.specs.Stored.{stored}
 use Rattle.evaluate.specs.Answers.{answers-in, Gives, Stores, Keeps}
 use Rattle.tree.specs.Children.{Child}
-use Rattle.evaluate.specs.Evaluation.{part, known-in, LiteralBytes, Leaf, Named, Combines, Intervals, Operation, Operates, Plain, Others, Item, Answered, EvaluatesNode}
+use Rattle.evaluate.specs.Evaluation.{part, known-in, LiteralBytes, Leaf, Named, Combines, Intervals, Operation, Operates, Plain, HeldIn, Others, Item, Answered, EvaluatesNode}
 use Rattle.evaluate.proofs.Rows.{held-whole, same, nothing, whole-of, stored-rows}
 use Rattle.evaluate.proofs.Nodes.{at-sign, at-operator, at-interval, at-constant, at-name, at-item, at-leaf, unbound, bound-item, bound-constant, bound-other}
 
@@ -168,21 +168,26 @@ boolean-number BINARY = refl
 boolean-number (enumeration y) = sym (ne-eqb (y + 5) 1 (λ (h : y + 5 ≡ 1). omega arith))
 boolean-number other = refl
 
+pub held-in :
+    {declared : ℕ} {ks : List ℕ} {zs : List ℤ} {ls : List ℕ} {n m : ℕ} {v r : code.Answer} → m ≡ n - 1 → Gives v (answer-at (answers-in ks zs ls) m) →
+    Holds (eqb declared 1) v r → HeldIn declared ks zs ls n r
+held-in {declared} {ks} {zs} {ls} {n} {m} {v} {r} M U H =
+    record {
+      is = λ d D.
+          let f = answer-at (answers-in ks zs ls) in
+          let G : Gives v (f (last n)) = same (ap f M) U in
+          record {
+            is = H .is d (boolean-number d ∙ ap (λ (u : ℕ). eqb u 1) (sym D)) ∙ ap (held d) (G .is);
+            whole = held-storable d (whole-of G) .is;
+          };
+    }
+
 module _ {k : ℕ} {bytes starts lengths terminals : List ℕ} {token declared : ℕ} {ks : List ℕ} {zs : List ℤ} {ls : List ℕ} {n : ℕ} {r : code.Answer} where
-  pub others-constant :
-      k ≡ node.constant → {m : ℕ} {v : code.Answer} → m ≡ n - 1 → Gives v (answer-at (answers-in ks zs ls) m) → Holds (eqb declared 1) v r →
-      Others k bytes starts lengths terminals token declared ks zs ls n r
-  others-constant h {m} {v} M U H =
+  pub others-constant : k ≡ node.constant → HeldIn declared ks zs ls n r → Others k bytes starts lengths terminals token declared ks zs ls n r
+  others-constant h H =
       record {
         is = λ t e c g P i B S L T K D Y.
-            let d = declared-type e c n in
-            let f = answer-at (answers-in ks zs ls) in
-            let G : Gives v (f (last n)) = same (ap f M) U in
-            same (at-constant t e c f g n (i ∙ h))
-            (record {
-              is = H .is d (boolean-number d ∙ ap (λ (u : ℕ). eqb u 1) (sym (D h))) ∙ ap (held d) (G .is);
-              whole = held-storable d (whole-of G) .is;
-            });
+            same (at-constant t e c (answer-at (answers-in ks zs ls)) g n (i ∙ h)) (H .is (declared-type e c n) (D h));
       }
 
   pub others-leaf :

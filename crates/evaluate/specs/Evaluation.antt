@@ -14,10 +14,10 @@ use Rattle.express.specs.syntax.Tree.{Table, kind, terminal, last, upper, lower
 use Rattle.express.specs.kinds.Answer.{Answer, indeterminate, integer, logical, binary, item}
 use Rattle.express.specs.kinds.Bits.{number}
 use Rattle.express.specs.kinds.DeclaredColumn.{DeclaredColumn, declared-number}
-use Rattle.express.specs.kinds.Declared.{declared-type}
+use Rattle.express.specs.kinds.Declared.{Declared, declared-type}
 use Rattle.express.specs.kinds.Shape.{text, logical-of, operator-of, bound-of, name-shape-in, shape-in}
 use Rattle.express.specs.kinds.Operate.{between}
-use Rattle.express.specs.kinds.Evaluate.{answer-in, answer-at, run-in}
+use Rattle.express.specs.kinds.Evaluate.{held, answer-in, answer-at, run-in}
 use Rattle.operations.specs.declared.Answer as operations
 use Rattle.evaluate.specs.Operators.{combined-by}
 use Rattle.evaluate.specs.Answers.{answers-in, Gives, Keeps}
@@ -92,6 +92,10 @@ pub record Plain (k : ℕ) : Type 0 where
   pub no-unary : k ≡ node.unary → ⊥
   pub no-two : k ≡ node.two-operand → ⊥
   pub no-interval : k ≡ node.interval → ⊥
+
+-- K26: what a constant n holds, by the number of its declared type, from the answer that is kept for its expression
+pub record HeldIn (declared : ℕ) (kinds : List ℕ) (numbers : List ℤ) (lengths : List ℕ) (n : ℕ) (r : operations.Answer) : Type 0 where
+  pub is : (d : Declared) → declared ≡ declared-number d → Gives r (held d (answer-at (answers-in kinds numbers lengths) (last n)))
 
 -- K13, K26: a literal, or a constant from the answer of its expression
 pub record Others (k : ℕ) (bytes starts lengths terminals : List ℕ) (token declared : ℕ) (kinds : List ℕ) (numbers : List ℤ) (sizes : List ℕ) (n : ℕ) (r : operations.Answer) : Type 0 where

@@ -11,7 +11,7 @@ ghost use Rattle.express.specs.kinds.Evaluate.{answer-at};
 ghost use Rattle.operations.specs.Meaning.{answer-of};
 ghost use Rattle.answer_rows.specs.Stored.{stored};
 ghost use Rattle.evaluate.specs.Answers.{Gives, Stores, Keeps, answers-in};
-ghost use Rattle.evaluate.specs.Evaluation.{part, IntegerRead, BinaryRead, Leaf, Named, Combines, Intervals, Operates, Others, Item, Answered, EvaluatesNode, EvaluatesNodes};
+ghost use Rattle.evaluate.specs.Evaluation.{part, IntegerRead, BinaryRead, Leaf, Named, Combines, Intervals, Operates, HeldIn, Others, Item, Answered, EvaluatesNode, EvaluatesNodes};
 use crate::operators::Reading;
 use crate::operators::bound;
 use crate::operators::logical;
@@ -268,6 +268,22 @@ fn operation(
     Answer::Indeterminate
 }
 
+// What a constant holds, by the number of its declared type: from the answer of its expression, whose last node stands just before it.
+pub fn held_answer(
+    declared: u32,
+    kinds: &[u8],
+    numbers: &[i64],
+    lengths: &[u8],
+    constant: usize,
+) -> Answer
+    ensures { λ r. ⌜ HeldIn declared (now (kinds .entry)) (now (numbers .entry)) (now (lengths .entry)) constant r ⌝ }
+{
+    held(
+        declared == BOOLEAN,
+        answer_at(kinds, numbers, lengths, last(constant)),
+    )
+}
+
 // What is not an operation: literals, and a constant from the answer of its expression.
 fn other(
     kind: u8,
@@ -286,10 +302,7 @@ fn other(
         (now («value_kinds» .entry)) (now («value_numbers» .entry)) (now («value_lengths» .entry)) n r ⌝ }
 {
     if kind == codes::nodes::CONSTANT {
-        return held(
-            declared == BOOLEAN,
-            answer_at(value_kinds, value_numbers, value_lengths, last(n)),
-        );
+        return held_answer(declared, value_kinds, value_numbers, value_lengths, n);
     }
     // The kinds of literals are the first; of any other node no token is read.
     if kind > codes::nodes::LOGICAL {

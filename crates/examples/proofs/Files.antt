@@ -21,10 +21,10 @@ run t n a ls rest out = record { tokens = t; nodes = n; answers = a; text = line
 
 abbrev pub files : List File
 files =
-    -- listing-press
-    run 8192 8192 1024 ("SCHEMA Press;" ∷ "CONSTANT" ∷ "  stroke : INTEGER := step * 3;" ∷ "  step : INTEGER := -7 DIV 2;" ∷
-    "  safe : LOGICAL := {0 < step < 10} OR ?;" ∷ "  mask : BINARY := %10 + %011;" ∷ "END_CONSTANT;" ∷ "END_SCHEMA;" ∷ []) ""
-    ("accepted 4" ∷ "press.stroke = -12" ∷ "press.step = -4" ∷ "press.safe = UNKNOWN" ∷ "press.mask = %10011" ∷ []) ∷
+    -- listing-lathe
+    run 8192 8192 1024 ("SCHEMA Lathe;" ∷ "CONSTANT" ∷ "  travel : INTEGER := feed * 5;" ∷ "  feed : INTEGER := -9 DIV 2;" ∷
+    "  near : LOGICAL := {1 < feed < 40} OR ?;" ∷ "  tool : BINARY := %01 + %110;" ∷ "END_CONSTANT;" ∷ "END_SCHEMA;" ∷ []) ""
+    ("accepted 4" ∷ "lathe.travel = -25" ∷ "lathe.feed = -5" ∷ "lathe.near = UNKNOWN" ∷ "lathe.tool = %01110" ∷ []) ∷
     -- table-exact-minimal
     run 5 2 0 [] "SCHEMA s;END_SCHEMA;"
     ("accepted 0" ∷ []) ∷
@@ -127,8 +127,8 @@ files =
     run 8192 8192 1024 ("SCHEMA s;" ∷ "CONSTANT" ∷ "  a : REAL := 1.5;" ∷ "  b : INTEGER := TRUE;" ∷ "END_CONSTANT;" ∷ "END_SCHEMA;" ∷ []) ""
     ("refused 14 at 25" ∷ []) ∷
     -- entity-diamond
-    run 8192 8192 1024 ("SCHEMA s;" ∷ "ENTITY a;" ∷ "  x : INTEGER;" ∷ "END_ENTITY;" ∷ "ENTITY b SUBTYPE OF (a);" ∷ "END_ENTITY;" ∷
-    "ENTITY c SUBTYPE OF (a);" ∷ "END_ENTITY;" ∷ "ENTITY d SUBTYPE OF (b, c);" ∷ "WHERE" ∷ "  x = 1;" ∷ "END_ENTITY;" ∷ "END_SCHEMA;" ∷ []) ""
+    run 8192 8192 1024 ("SCHEMA s;" ∷ "ENTITY top;" ∷ "  x : INTEGER;" ∷ "END_ENTITY;" ∷ "ENTITY left SUBTYPE OF (top);" ∷ "END_ENTITY;" ∷
+    "ENTITY right SUBTYPE OF (top);" ∷ "END_ENTITY;" ∷ "ENTITY low SUBTYPE OF (left, right);" ∷ "WHERE" ∷ "  x = 1;" ∷ "END_ENTITY;" ∷ "END_SCHEMA;" ∷ []) ""
     ("accepted 0" ∷ []) ∷
     -- entity-two-inherited
     run 8192 8192 1024 ("SCHEMA s;" ∷ "ENTITY a;" ∷ "  x : INTEGER;" ∷ "END_ENTITY;" ∷ "ENTITY b;" ∷ "  x : INTEGER;" ∷ "END_ENTITY;" ∷

@@ -15,7 +15,7 @@ use Rattle.scopes.specs.Range.{vertex-count, node-of, range-start, DeclarationA
 use Rattle.scopes.specs.declared.Extent.{Extent}
 use Rattle.scopes.proofs.Ranges.{node-below}
 use Rattle.symbol_tables.specs.Entry.{code, stamp-count, node-limit}
-use Rattle.symbol_tables.specs.Table.{either-kind, symbol-in, kinds-between, Tabulated, OnlyStamped, AddsRange}
+use Rattle.symbol_tables.specs.Table.{either-kind, symbol-in, kinds-between, reach, Tabulated, OnlyStamped, AddsRange}
 use Rattle.symbol_tables.proofs.Tables.{only-same, only-then}
 use Rattle.inheritance.specs.Steps.{attributes-of, queued-attributes, Queued, CollectsQueued}
 
@@ -71,8 +71,10 @@ module _ {kinds tokens symbols entry-keys entry-nodes queue : List ℕ} {queued 
               let lo = D .from-is t (Q .heads) (Q .next) (Q .prepared) known in
               let hi = D .node-is t (Q .heads) (Q .next) (Q .prepared) known in
               let few : d .node ≤ node-limit = omega (arith, hi, node-below t w known, Q .prepared .consistent .few) in
-              let is : kinds-between kinds attribute-name derived-attribute (d .from) (d .node) ≡ attributes-of t (getD queue k 0) =
-              range-is Q w (d .from) (d .node) lo hi ∙ ap (attributes-of t) q in
+              let far : reach kinds tokens (d .node) ≡ d .node =
+              omega (arith, hi, node-below t w known, ap length (Q .kinds-are), ap length (Q .tokens-are), Q .prepared .consistent .tokens) in
+              let is : kinds-between kinds attribute-name derived-attribute (d .from) (reach kinds tokens (d .node)) ≡ attributes-of t (getD queue k 0) =
+              range-is Q w (d .from) (reach kinds tokens (d .node)) lo (far ∙ hi) ∙ ap (attributes-of t) q in
               let before = s .collects t Q l in (
                 only-then (before .0) (A .only l few),
                 λ T. rw (add-one k) (rw is at (of-file Q (A .is l few (queued-attributes t queue k) (in-columns Q (before .1 T))))),

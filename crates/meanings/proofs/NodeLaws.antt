@@ -88,7 +88,7 @@ module _ (t : Table) (n : ℕ) where
   no-use : (kind t n ≡ node.name → ⊥) → is-use t n ≡ false
   no-use d = both-false (is t node.name n) _ (kind-not node.name d)
 
-  no-member : (kind t n ≡ node.attribute-name → ⊥) → (kind t n ≡ node.derived-attribute → ⊥) → (kind t n ≡ node.rule → ⊥) → is-scope-member t n ≡ true → ⊥
+  pub no-member : (kind t n ≡ node.attribute-name → ⊥) → (kind t n ≡ node.derived-attribute → ⊥) → (kind t n ≡ node.rule → ⊥) → is-scope-member t n ≡ true → ⊥
   no-member a b c e =
       ⊎-elim (λ x. ⊎-elim (λ y. a (eqb-true (kind t n) node.attribute-name y)) (λ y. b (eqb-true (kind t n) node.derived-attribute y)) (or-cases _ _ x))
       (λ x. c (eqb-true (kind t n) node.rule (and-fst _ _ x))) (or-cases _ _ e)

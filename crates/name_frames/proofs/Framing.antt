@@ -1,12 +1,10 @@
--- Arrays for a file of so many tokens: the law of the three sizes, and of the choice among them.
-use mathlib.Core.Path.{_≡_, sym, ap, _∙_}
+-- Arrays for a file of so many tokens: the law of all sizes, and of the choice among them.
+use mathlib.Core.Path.{ap}
 use mathlib.Core.List.{List}
 use Prim.Native.Nat.{ℕ, _≤_}
 use native.Mathlib.Omega.{arith}
-use lib.ListN.{length, length-map}
-use Rattle.express.specs.tokens.Lexis.{TokenRow, most, lexed}
-use Rattle.express.specs.syntax.Tree.{Table}
-use Rattle.express.proofs.tokens.TokenRows.{tokens-of}
+use lib.ListN.{length}
+use Rattle.express.specs.tokens.Lexis.{most}
 use Rattle.bounds.proofs.Bounds.{entries-few}
 use Rattle.bounds.proofs.Roles.{roles-small}
 use Rattle.names.specs.Resolution.{FileRead}
@@ -29,15 +27,8 @@ module _ {before : Stage} {src starts lengths terminals kinds tokens sizes bindi
             N .is t F (names-room (F .read) (F .scanned) Z (omega arith) a b (entries-few (F .read)) (roles-small (F .read)));
       }
 
-  -- a file has no more tokens than bytes
-  pub of-bytes : (n : ℕ) → length src ≤ n →
+  -- so many tokens, whatever is asked of them elsewhere
+  pub by-number : (n : ℕ) → length starts ≤ n →
       NamesWithin n before src starts lengths terminals kinds tokens sizes bindings types constants r bindings′ types′ constants′ →
       NamesWithin most before src starts lengths terminals kinds tokens sizes bindings types constants r bindings′ types′ constants′
-  of-bytes n h N =
-      record {
-        passed-on = N .passed-on;
-        is = λ t F few a b.
-            let k : length starts ≡ length (lexed (t .bytes) .rows) =
-            ap length (F .starts-are ∙ F .scanned .starts-are) ∙ length-map (lexed (t .bytes) .rows) (λ (r : TokenRow). r .start) in
-            N .is t F (omega (arith, k, ap length (F .bytes-are), tokens-of (t .bytes) .few)) a b;
-      }
+  by-number n h N = record { passed-on = N .passed-on; is = λ t F few. N .is t F h }

@@ -13,7 +13,7 @@ use Rattle.scopes.specs.Range.{vertex-count}
 use Rattle.scopes.specs.Standing.{declares}
 use Rattle.schemas.proofs.Numbering.{next-one, next-none, none-yet}
 use Rattle.stages.specs.declared.Stage.{Stage}
-use Rattle.stages.specs.AnswerStage.{AnswersFile}
+use Rattle.answer_stages.specs.AnswerStage.{AnswersFile}
 use Rattle.pipeline.specs.Binding.{Declarations, AnswersNamed}
 
 -- ---- the declarations, counted from the first node on

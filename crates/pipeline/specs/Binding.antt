@@ -10,7 +10,7 @@ use Rattle.scopes.specs.Standing.{declares}
 use Rattle.scopes.specs.Range.{vertex-count}
 use Rattle.stages.specs.declared.Stage.{Stage}
 use Rattle.stages.specs.declared.Stage.the-variants.{Refused}
-use Rattle.stages.specs.AnswerStage.{AnswersFile}
+use Rattle.answer_stages.specs.AnswerStage.{AnswersFile}
 
 -- how many constants, types and entities there are among nodes of these kinds
 pub record Declarations (kinds : List ℕ) (n : ℕ) : Type 0 where

@@ -2,11 +2,11 @@
 ghost use mathlib.Core.Path.{_≡_};
 ghost use Rattle.pipeline.specs.Binding.{Declarations, AnswersNamed};
 ghost use Rattle.pipeline.specs.NameStage.{of-resolution, NamesFile};
+use answer_stages::answer_file;
 use columns::shorter;
 use names::resolve;
 use resolutions::Resolution;
 use stages::Stage;
-use stages::answer_file;
 
 // What a resolution comes to, of a file with n constants. Columns that do not fit are no file's.
 fn of_resolution(resolution: Resolution, n: usize) -> Stage

@@ -1,10 +1,11 @@
 // The dictionary of what a file declares is made: its nodes are classed and counted, and their entries stored.
 ghost use mathlib.Core.Path.{_≡_};
-ghost use mathlib.Core.Bool.{cond};
-ghost use Prim.Native.Nat.{_/_, _%_, _<_};
+ghost use mathlib.Core.Bool.{cond, _&&_};
+ghost use Prim.Native.Nat.{_+_, _/_, _%_, _≤_, _<_};
 ghost use lib.ListN.{length, set};
 ghost use Rattle.scopes.specs.Entries.{sorts, Entry, radix};
-ghost use Rattle.scopes.specs.Standing.{table-of, sort-by, class-of, class-table, PassedBy, Ended, MoreBy, Counted, Counting};
+ghost use Rattle.scopes.specs.Standing.{table-of, declares, sort-by, entry-count, class-of, class-table, PassedBy, Ended, MoreBy, Counted, Counting};
+ghost use Rattle.preparation.specs.Counting.{CountedTo};
 ghost use Rattle.scopes.specs.Preparation.{Consistent, Room, Answers, Decides, Enterable, Entered, Filled};
 use columns::index;
 use columns::shorter;
@@ -67,6 +68,9 @@ const NOTHING: u8 = 0;
 
 // In a class, the sort is what is below this number.
 const SORTS: u8 = 8;
+
+// So many nodes are counted at a time: a byte holds the number of their entries.
+const BLOCK: usize = 128;
 
 // The sort of a node and how many entries it has behind the declarations, as one number.
 fn class(classes: &[u8; 256], kind: u8, role: u32) -> u8
@@ -144,6 +148,85 @@ fn more(class: u8, before: Counts) -> Counts
     }
 }
 
+fn one(test: bool) -> u8
+    ensures { λ r. ⌜ (r ≡ cond test 1 0) × (r ≤ 1) ⌝ }
+{
+    if test {
+        return 1;
+    }
+    0
+}
+
+fn both(a: bool, b: bool) -> u8
+    ensures { λ r. ⌜ (r ≡ cond (a && b) 1 0) × (r ≤ 1) ⌝ }
+{
+    if a {
+        return one(b);
+    }
+    0
+}
+
+// How many declarations a node is, and how many entries it has behind these: sums of tests, so that the compiler counts many nodes at once.
+fn declarations_of(kind: u8) -> u8
+    ensures { λ r. ⌜ r ≡ cond (declares kind) 1 0 ⌝ }
+{
+    one(kind == codes::nodes::CONSTANT)
+        + one(kind == codes::nodes::TYPE)
+        + one(kind == codes::nodes::ENTITY)
+}
+
+fn others_of(kind: u8, role: u8) -> u8
+    ensures { λ r. ⌜ r ≡ entry-count (sort-by kind role) ⌝ }
+{
+    let named = one(kind == codes::nodes::SCHEMA) + one(kind == codes::nodes::ITEM);
+    let attributes = one(kind == codes::nodes::ATTRIBUTE_NAME)
+        + one(kind == codes::nodes::DERIVED_ATTRIBUTE);
+    let rules = both(
+        kind == codes::nodes::RULE,
+        role as u32 == codes::roles::LABELLED,
+    );
+    let supertypes = both(
+        kind == codes::nodes::NAME,
+        role as u32 == codes::roles::SUPERTYPE_NAME,
+    );
+    named + attributes + rules + supertypes
+}
+
+// The nodes of a block, counted in bytes.
+fn count_block(kinds: &[u8], roles: &[u8], from: usize, to: usize, before: Counts) -> Counts
+    requires { ⌜ (from ≤ to) × (to ≤ from + 128) × (to ≤ length (now kinds)) × (to ≤ length (now roles)) × (length (now kinds) < radix) ⌝ }
+    requires { ⌜ CountedTo (now kinds) (now roles) from before ⌝ }
+    ensures { λ r. ⌜ CountedTo (now (kinds .entry)) (now (roles .entry)) to r ⌝ }
+{
+    let mut declarations: u8 = 0;
+    let mut others: u8 = 0;
+    let mut i = from;
+    while i < to {
+        declarations += declarations_of(kinds[i]);
+        others += others_of(kinds[i], roles[i]);
+        i += 1;
+    }
+    Counts {
+        declarations: before.declarations + columns::byte_index(declarations),
+        others: before.others + columns::byte_index(others),
+    }
+}
+
+// The nodes from one on, whether or not they have roles.
+fn count_from(kinds: &[u8], roles: &[u8], from: usize, before: Counts) -> Counts
+    requires { ⌜ (from ≤ length (now kinds)) × (length (now kinds) < radix) × CountedTo (now kinds) (now roles) from before ⌝ }
+    ensures { λ r. ⌜ CountedTo (now (kinds .entry)) (now (roles .entry)) (length (now (kinds .entry))) r ⌝ }
+{
+    let classes = CLASSES;
+    let mut so_far = before;
+    let mut i = from;
+    while i < kinds.len() {
+        so_far = more(class(&classes, kinds[i], at8(roles, i) as u32), so_far);
+        i += 1;
+    }
+    so_far
+}
+
 // How many entries the nodes have: none where there are too many nodes.
 pub fn count_entries(kinds: &[u8], roles: &[u8]) -> Counts
     ensures { λ r. ⌜ Counting (now (kinds .entry)) (now (roles .entry)) r ⌝ }
@@ -155,13 +238,14 @@ pub fn count_entries(kinds: &[u8], roles: &[u8]) -> Counts
     if RADIX <= kinds.len() as u64 {
         return so_far;
     }
-    let classes = CLASSES;
+    let blocks = shorter(kinds.len(), roles.len());
     let mut i = 0;
-    while i < kinds.len() {
-        so_far = more(class(&classes, kinds[i], at8(roles, i) as u32), so_far);
-        i += 1;
+    while i < blocks {
+        let to = shorter(blocks, i + BLOCK);
+        so_far = count_block(kinds, roles, i, to, so_far);
+        i = to;
     }
-    so_far
+    count_from(kinds, roles, i, so_far)
 }
 
 // Do the columns of nodes and tokens fit each other?

@@ -1,11 +1,11 @@
--- Words for as many tokens as a file has: the law of the three sizes, and of the choice among them.
-use mathlib.Core.Path.{_≡_, sym, _∙_}
+-- Words for as many tokens as a file has: the law of all sizes, and of the choice among them.
+use mathlib.Core.Path.{sym, ap, _∙_}
 use mathlib.Core.List.{List}
 use Prim.Native.Nat.{ℕ, _≤_}
 use native.Mathlib.Omega.{arith}
-use lib.ListN.{length}
-use Rattle.express.specs.tokens.Lexis.{most, lexed}
-use Rattle.express.proofs.tokens.TokenRows.{tokens-of}
+use lib.ListN.{length, length-map}
+use Rattle.express.specs.tokens.Lexis as lexis
+use Rattle.express.specs.tokens.Lexis.{TokenRow, most, lexed}
 use Rattle.stages.specs.declared.Stage.{Stage}
 use Rattle.stages.specs.Reading.{ReadsNodes}
 use Rattle.stages.proofs.Straight.{token-done}
@@ -21,11 +21,13 @@ module _ {s : List ℕ} {before : Stage} {token-kinds starts lengths terminals k
         is = λ few tr b columns. R .is tr b (λ i e.
             let D = token-done s tr i (sym b ∙ e) in
             let k = D .is in
+            let l = length-map (lexed s .rows) (λ (r : TokenRow). r .kind) in
+            let all = ap length (columns i e (lexis.kinds (lexed s)) (omega arith) .kinds-are) in
             columns i e words (omega arith));
       }
 
-  -- a file has no more tokens than bytes
-  pub of-bytes : (n : ℕ) → length s ≤ n →
+  -- so many tokens, whatever is asked of them elsewhere
+  pub by-number : (n : ℕ) → length token-kinds ≤ n →
       ReadsWithin n s before token-kinds starts lengths terminals kinds tokens sizes roles r terminals′ kinds′ tokens′ sizes′ roles′ →
       ReadsWithin most s before token-kinds starts lengths terminals kinds tokens sizes roles r terminals′ kinds′ tokens′ sizes′ roles′
-  of-bytes n h R = record { is = λ few. R .is (omega (arith, tokens-of s .few)) }
+  by-number n h R = record { is = λ few. R .is h }

@@ -3,7 +3,7 @@ use mathlib.Core.Path.{_≡_, refl, sym, ap, _∙_}
 use mathlib.Core.List.{List}
 use Prim.Native.Nat.{ℕ, min, _≤_}
 use native.Mathlib.Omega.{arith}
-use lib.ListN.{length, take, length-map}
+use lib.ListN.{length, take, length-map, length-take}
 use lib.Seq.{sets}
 use Rattle.columns.proofs.Laws.{take-rows}
 use Rattle.express.specs.tokens.Lexis as lexis
@@ -104,7 +104,8 @@ module _ {s tk ts tl terms nk nt ns nb tk′ ts′ tl′ terms′ nk′ nt′ ns
     tokens-are = let b = tokens-bound s tr scanned (S .is) .1 in omega arith
 
     nodes-read : NodesRead s tr nr read terms′ nk′ nt′ ns′ nb′
-    nodes-read = R .is (tokens-few s) tr (S .is) (λ n e words l. token-columns S terms words tokens tokens-are (omega (arith, tokens-is, room-is)) n e l)
+    nodes-read = let b = tokens-bound s tr scanned (S .is) .1 in
+        R .is (omega (arith, tokens-few s, length-take tokens tk′)) tr (S .is) (λ n e words l. token-columns S terms words tokens tokens-are (omega (arith, tokens-is, room-is)) n e l)
 
     nodes-are : nodes ≡ count-of read
     nodes-are = let b = nodes-bound s tr nr read (nodes-read .is) in omega arith

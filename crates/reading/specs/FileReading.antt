@@ -20,11 +20,21 @@ small-bytes = 2048
 abbrev pub middle-bytes : ℕ
 middle-bytes = 16384
 
+-- tokens or nodes of files that have few, some and many of them
+abbrev pub few-rows : ℕ
+few-rows = 512
+
+abbrev pub some-rows : ℕ
+some-rows = 6144
+
+abbrev pub many-rows : ℕ
+many-rows = 20480
+
 -- `read_nodes` with words of its own, for files of at most so many tokens
 pub record ReadsWithin (tokens-most : ℕ) (s : List ℕ) (before : Stage) (token-kinds starts lengths terminals kinds tokens sizes roles : List ℕ) (r : Stage)
     (terminals′ kinds′ tokens′ sizes′ roles′ : List ℕ) : Type 0 where
   pub is :
-      length (lexed s .rows) ≤ tokens-most → (token-rows : ℕ) → before ≡ token-stage s token-rows →
+      length token-kinds ≤ tokens-most → (token-rows : ℕ) → before ≡ token-stage s token-rows →
       ((n : ℕ) → before ≡ Done n → (words : List ℕ) → n ≤ length words → TokenColumns s n token-kinds starts lengths terminals words) →
       NodesRead s token-rows (node-entries kinds tokens sizes roles) r terminals′ kinds′ tokens′ sizes′ roles′
 

@@ -1,6 +1,6 @@
-// The tokens and the nodes of a file, from its bytes. The words of the parser are in an array of the call, in one of three sizes, and gone after it.
+// The tokens and the nodes of a file, from its bytes. The words of the parser are in an array of the call, in one of four sizes, and gone after it.
 ghost use Rattle.express.specs.tokens.Lexis.{most};
-ghost use Rattle.reading.specs.FileReading.{small-bytes, middle-bytes, ReadsWithin, ReadsFile};
+ghost use Rattle.reading.specs.FileReading.{few-rows, some-rows, many-rows, ReadsWithin, ReadsFile};
 use columns::shorter;
 use stages::Stage;
 use stages::count;
@@ -15,6 +15,13 @@ pub const MIDDLE: usize = 16384;
 
 pub const LARGE: usize = 65536;
 
+// Once tokens and nodes are counted, arrays go by their number: most files have a token for three bytes or more. The largest file is LARGE here too.
+pub const FEW: usize = 512;
+
+pub const SOME: usize = 6144;
+
+pub const MANY: usize = 20480;
+
 // How many tokens and nodes there are, and how the stages end.
 pub struct Reading {
     pub tokens: usize,
@@ -22,7 +29,7 @@ pub struct Reading {
     pub stage: Stage,
 }
 
-fn read_small(
+fn read_few(
     before: Stage,
     src: &[u8],
     token_kinds: &[u8],
@@ -34,11 +41,11 @@ fn read_small(
     sizes: &mut [u32],
     roles: &mut [u32],
 ) -> Stage
-    ensures { λ r. ⌜ ReadsWithin small-bytes (now (src .entry)) before (now («token_kinds» .entry)) (now (starts .entry)) (now (lengths .entry)) (now (terminals .entry))
+    ensures { λ r. ⌜ ReadsWithin few-rows (now (src .entry)) before (now («token_kinds» .entry)) (now (starts .entry)) (now (lengths .entry)) (now (terminals .entry))
         (now (kinds .entry)) (now (tokens .entry)) (now (sizes .entry)) (now (roles .entry)) r
         (now (terminals .exit)) (now (kinds .exit)) (now (tokens .exit)) (now (sizes .exit)) (now (roles .exit)) ⌝ }
 {
-    let mut words = [0u64; SMALL];
+    let mut words = [0u64; FEW];
     read_nodes(
         before,
         src,
@@ -54,7 +61,7 @@ fn read_small(
     )
 }
 
-fn read_middle(
+fn read_some(
     before: Stage,
     src: &[u8],
     token_kinds: &[u8],
@@ -66,11 +73,43 @@ fn read_middle(
     sizes: &mut [u32],
     roles: &mut [u32],
 ) -> Stage
-    ensures { λ r. ⌜ ReadsWithin middle-bytes (now (src .entry)) before (now («token_kinds» .entry)) (now (starts .entry)) (now (lengths .entry)) (now (terminals .entry))
+    ensures { λ r. ⌜ ReadsWithin some-rows (now (src .entry)) before (now («token_kinds» .entry)) (now (starts .entry)) (now (lengths .entry)) (now (terminals .entry))
         (now (kinds .entry)) (now (tokens .entry)) (now (sizes .entry)) (now (roles .entry)) r
         (now (terminals .exit)) (now (kinds .exit)) (now (tokens .exit)) (now (sizes .exit)) (now (roles .exit)) ⌝ }
 {
-    let mut words = [0u64; MIDDLE];
+    let mut words = [0u64; SOME];
+    read_nodes(
+        before,
+        src,
+        token_kinds,
+        starts,
+        lengths,
+        terminals,
+        &mut words,
+        kinds,
+        tokens,
+        sizes,
+        roles,
+    )
+}
+
+fn read_many(
+    before: Stage,
+    src: &[u8],
+    token_kinds: &[u8],
+    starts: &[u32],
+    lengths: &[u32],
+    terminals: &mut [u8],
+    kinds: &mut [u8],
+    tokens: &mut [u32],
+    sizes: &mut [u32],
+    roles: &mut [u32],
+) -> Stage
+    ensures { λ r. ⌜ ReadsWithin many-rows (now (src .entry)) before (now («token_kinds» .entry)) (now (starts .entry)) (now (lengths .entry)) (now (terminals .entry))
+        (now (kinds .entry)) (now (tokens .entry)) (now (sizes .entry)) (now (roles .entry)) r
+        (now (terminals .exit)) (now (kinds .exit)) (now (tokens .exit)) (now (sizes .exit)) (now (roles .exit)) ⌝ }
+{
+    let mut words = [0u64; MANY];
     read_nodes(
         before,
         src,
@@ -118,7 +157,7 @@ fn read_large(
     )
 }
 
-// The arrays by the number of bytes, so that a small file clears little.
+// The array by the number of tokens, so that a small file clears little.
 fn read_framed(
     before: Stage,
     src: &[u8],
@@ -135,8 +174,8 @@ fn read_framed(
         (now (kinds .entry)) (now (tokens .entry)) (now (sizes .entry)) (now (roles .entry)) r
         (now (terminals .exit)) (now (kinds .exit)) (now (tokens .exit)) (now (sizes .exit)) (now (roles .exit)) ⌝ }
 {
-    if src.len() <= SMALL {
-        return read_small(
+    if token_kinds.len() <= FEW {
+        return read_few(
             before,
             src,
             token_kinds,
@@ -149,8 +188,22 @@ fn read_framed(
             roles,
         );
     }
-    if src.len() <= MIDDLE {
-        return read_middle(
+    if token_kinds.len() <= SOME {
+        return read_some(
+            before,
+            src,
+            token_kinds,
+            starts,
+            lengths,
+            terminals,
+            kinds,
+            tokens,
+            sizes,
+            roles,
+        );
+    }
+    if token_kinds.len() <= MANY {
+        return read_many(
             before,
             src,
             token_kinds,

@@ -2,21 +2,24 @@
 -- filled from them, to the same demands on the records (`record-checks`).
 use mathlib.Core.Path.{_≡_, refl, sym, ap, _∙_}
 use mathlib.Core.List.{List, map}
-use Prim.Native.Nat.{ℕ, _-_, _≤_, min}
+use Prim.Native.Nat.{ℕ, _+_, _-_, _*_, _≤_, _<_, min}
 use native.Mathlib.Omega.{arith}
 use lib.IntN.{ℤ, pos}
 use lib.ListN.{length, take, replicate, length-map, length-take}
 use lib.Seq.{take-nil}
 use Rattle.columns.specs.Column.{padded}
+use Rattle.express.specs.tokens.Lexis.{most, lexed}
 use Rattle.express.specs.kinds.AnswerRow.{AnswerRow, row-of}
 use Rattle.express.specs.whole.Reply.{Accepted, Checked, accepted, refused, checked, Report, report, column, Tables, token-entries, node-entries, outcome, tables-after}
 use Rattle.express.specs.whole.Reply as express
+use Rattle.express.proofs.tokens.TokenRows.{tokens-of}
 use Rattle.express.proofs.theorems.Acceptance.{accepted-iff}
+use Rattle.stages.proofs.Bounds.{tokens-few}
 use Rattle.demands.specs.Checks.{tables-of, Checks}
 use Rattle.demands.proofs.Theorem.{checks, tables-alike}
 use Rattle.records.specs.declared.Answer.{Answer}
 use Rattle.records.specs.Rows.{zeros, filled}
-use Rattle.record_demands.specs.Records.{record-tables, most-constants, ChecksRows}
+use Rattle.record_demands.specs.Records.{record-tables, ChecksRows, RecordsWithin}
 use Rattle.record_demands.proofs.Enough.{enough}
 use Rattle.record_demands.proofs.Columns.{record-of, map-zeros, filled-is, column-is, filled-front}
 
@@ -45,7 +48,7 @@ column-after : {B : Type 0} (f : Answer → B) (values : Accepted → List B)
 column-after f values e (accepted a) n = rw (e a) (column-is f (express.answer-rows a) n)
 column-after f values e (refused k p) n = map-zeros f n zeros
 
-module _ (s tk ts tl nk nt ns nb ks : List ℕ) (zs : List ℤ) (ls : List ℕ) (was : List Answer)
+module _ (most-constants : ℕ) (s tk ts tl nk nt ns nb ks : List ℕ) (few-tokens : length (lexed s .rows) < 6 * most-constants + 6) (zs : List ℤ) (ls : List ℕ) (was : List Answer)
     (kinds-long : length ks ≡ min (length was) most-constants) (numbers-long : length zs ≡ min (length was) most-constants)
     (lengths-long : length ls ≡ min (length was) most-constants) where
   abbrev l : Tables
@@ -60,7 +63,7 @@ module _ (s tk ts tl nk nt ns nb ks : List ℕ) (zs : List ℤ) (ls : List ℕ) 
       omega (arith, length-map was (λ (r : Answer). r .kind), length-map was (λ (r : Answer). r .number), length-map was (λ (r : Answer). r .length)) in
       let few : min (length was) most-constants ≡ min (length ks) (min (length zs) (length ls)) = omega (arith, kinds-long, numbers-long, lengths-long) in
       ap (checked s (token-entries tk ts tl) (node-entries nk nt ns nb)) all
-      ∙ enough s (token-entries tk ts tl) (node-entries nk nt ns nb) (length was)
+      ∙ enough s (token-entries tk ts tl) (node-entries nk nt ns nb) (length was) most-constants few-tokens
       ∙ ap (checked s (token-entries tk ts tl) (node-entries nk nt ns nb)) few
 
   room : (c : Checked) → outcome s l ≡ c → Room c (length was)
@@ -106,16 +109,29 @@ module _ (s tk ts tl nk nt ns nb ks : List ℕ) (zs : List ℤ) (ls : List ℕ) 
         (by-records (λ (r : Answer). r .number) express.answer-numbers (λ a. refl))
         (by-records (λ (r : Answer). r .length) express.answer-lengths (λ a. refl)))
 
--- THE SAME FROM LONG COLUMNS, of which the call was lent as many rows as there are records
+-- THE SAME FROM LONG COLUMNS, of which the call was lent as many rows as there are records, for files of so few tokens that the columns suffice
 
-cut-long : {A : Type 0} (n : ℕ) (xs : List A) → length xs ≡ most-constants → length (take n xs) ≡ min n most-constants
-cut-long n xs e = omega (arith, length-take n xs, e)
+cut-long : {A : Type 0} (n most-constants : ℕ) (xs : List A) → length xs ≡ most-constants → length (take n xs) ≡ min n most-constants
+cut-long n most-constants xs e = omega (arith, length-take n xs, e)
 
-pub rows-check : (was have : List Answer) {s tk ts tl nk nt ns nb ks : List ℕ} {zs : List ℤ} {ls : List ℕ} {tk′ ts′ tl′ nk′ nt′ ns′ nb′ ks′ : List ℕ} {zs′ : List ℤ} {ls′ : List ℕ}
-    {r : Report} → length ks ≡ most-constants → length zs ≡ most-constants → length ls ≡ most-constants
+pub rows-within : {tokens-most most-constants : ℕ} → tokens-most < 6 * most-constants + 6 → (was have : List Answer)
+    {s tk ts tl nk nt ns nb ks : List ℕ} {zs : List ℤ} {ls : List ℕ} {tk′ ts′ tl′ nk′ nt′ ns′ nb′ ks′ : List ℕ} {zs′ : List ℤ} {ls′ : List ℕ} {r : Report}
+    → length ks ≡ most-constants → length zs ≡ most-constants → length ls ≡ most-constants
     → ChecksRows s (tables-of tk ts tl nk nt ns nb ks zs ls) (tables-of tk′ ts′ tl′ nk′ nt′ ns′ nb′ ks′ zs′ ls′) (length was) r
-    → have ≡ filled ks′ zs′ ls′ (r .constants) (length was) → Checks s (record-tables tk ts tl nk nt ns nb was) (record-tables tk′ ts′ tl′ nk′ nt′ ns′ nb′ have) r
-rows-check was have {s} {tk} {ts} {tl} {nk} {nt} {ns} {nb} {ks} {zs} {ls} {ks′ = ks′} {zs′} {ls′} {r} e f g c fills =
-    record-checks s tk ts tl nk nt ns nb (take (length was) ks) (take (length was) zs) (take (length was) ls) was
-    (cut-long (length was) ks e) (cut-long (length was) zs f) (cut-long (length was) ls g) (c .checks)
-    (fills ∙ sym (filled-front (length was) (r .constants) ks′ zs′ ls′))
+    → have ≡ filled ks′ zs′ ls′ (r .constants) (length was)
+    → RecordsWithin tokens-most s (record-tables tk ts tl nk nt ns nb was) (record-tables tk′ ts′ tl′ nk′ nt′ ns′ nb′ have) r
+rows-within {tokens-most} {most-constants} many was have {s} {tk} {ts} {tl} {nk} {nt} {ns} {nb} {ks} {zs} {ls} {ks′ = ks′} {zs′} {ls′} {r} e f g c fills = record {
+  is = λ h.
+      let few : length (lexed s .rows) < 6 * most-constants + 6 = omega (arith, h, many) in
+      record-checks most-constants s tk ts tl nk nt ns nb (take (length was) ks) few (take (length was) zs) (take (length was) ls) was
+      (cut-long (length was) most-constants ks e) (cut-long (length was) most-constants zs f) (cut-long (length was) most-constants ls g) (c .checks)
+      (fills ∙ sym (filled-front (length was) (r .constants) ks′ zs′ ls′));
+}
+
+-- of a file that is not longer, and of any file
+
+pub by-bytes : {bytes : ℕ} {s : List ℕ} {l m : Tables} {r : Report} → length s ≤ bytes → RecordsWithin bytes s l m r → Checks s l m r
+by-bytes {bytes} {s} h w = w .is (omega (arith, h, tokens-of s .few))
+
+pub of-any : {s : List ℕ} {l m : Tables} {r : Report} → RecordsWithin most s l m r → Checks s l m r
+of-any {s} w = w .is (tokens-few s)

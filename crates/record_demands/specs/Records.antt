@@ -1,7 +1,8 @@
 -- R11: tables of which the answers are lent as records. What is demanded of them is `Checks`, on the columns of the records.
 use mathlib.Core.List.{List, map}
-use Prim.Native.Nat.{ℕ}
-use lib.ListN.{take}
+use Prim.Native.Nat.{ℕ, _≤_}
+use lib.ListN.{length, take}
+use Rattle.express.specs.tokens.Lexis.{lexed}
 use Rattle.express.specs.whole.Reply.{Report, Tables}
 use Rattle.demands.specs.Checks.{tables-of, Checks}
 use Rattle.records.specs.declared.Answer.{Answer}
@@ -12,10 +13,6 @@ record-tables token-kinds token-starts token-lengths node-kinds node-tokens node
     tables-of token-kinds token-starts token-lengths node-kinds node-tokens node-sizes node-bindings
     (map (λ (r : Answer). r .kind) rs) (map (λ (r : Answer). r .number) rs) (map (λ (r : Answer). r .length) rs)
 
--- no file has more constants: six bytes or more for each
-abbrev pub most-constants : ℕ
-most-constants = 10922
-
 -- tables with the first rows of the answer columns alone
 abbrev pub cut : ℕ → Tables → Tables
 cut rows l =
@@ -25,3 +22,7 @@ cut rows l =
 -- the public call, lent these alone
 pub record ChecksRows (s : List ℕ) (l m : Tables) (rows : ℕ) (r : Report) : Type 0 where
   pub checks : Checks s (cut rows l) (cut rows m) r
+
+-- the call with records, of files of at most so many tokens
+pub record RecordsWithin (tokens-most : ℕ) (s : List ℕ) (l m : Tables) (r : Report) : Type 0 where
+  pub is : length (lexed s .rows) ≤ tokens-most → Checks s l m r

@@ -3,7 +3,8 @@ ghost use mathlib.Core.Path.{_≡_};
 ghost use lib.ListN.{length, getD, take};
 ghost use Rattle.records.specs.Rows.{zeros, rows, filled};
 
-// A row of the answer table.
+// A row of the answer table, in memory as C lays it out.
+#[repr(C)]
 pub struct Answer {
     pub kind: u8,
     pub number: i64,

@@ -1,10 +1,13 @@
 -- One column is copied to the front of another, entry by entry, and roles into bytes.
 use mathlib.Core.Path.{_≡_, refl, sym, ap, _∙_}
-use mathlib.Core.Bool.{true, false, false≢true}
+use mathlib.Core.Bool.{Bool, true, false, false≢true}
 use mathlib.Core.List.{List}
-use Prim.Native.Nat.{ℕ, _+_, _≤_, _<_, min}
+use Prim.Native.Nat.{ℕ, _+_, _%_, _≤_, _<_, min}
 use native.Mathlib.Omega.{arith}
 use native.Mathlib.Numerals.{add-one}
+use borrow.Author.Tests.{ltb-true, ltb-false}
+use lib.Bits.{bitOr, or-add-and, and-le-l, and-le-r, or-lt}
+use lib.Dec.{ltb}
 use lib.ListN.{length, getD, set, take, length-set}
 use lib.Seq.{sets, take-suc, take-all, length-take-le}
 use Rattle.columns.proofs.Laws.{sets-snoc, take-rows}
@@ -53,3 +56,37 @@ narrowed {roles} {bytes₀} {bytes} {i} fit l C =
 -- false: a reason why not
 pub not-narrowed : {roles bytes : List ℕ} {room : ℕ} → (length roles ≤ room → ((n : ℕ) → n < length roles → getD roles n 0 < 256) → ⊥) → Narrows roles room false bytes
 not-narrowed w = record { fits = λ e. absurd (false≢true e); front = λ e. absurd (false≢true e); no = λ e. w }
+
+-- so many roles are copied, if they are bytes, and these are the bits of all of them
+pub record Gathering (roles bytes₀ bytes : List ℕ) (all i : ℕ) : Type 0 where
+  pub low : i ≤ length roles
+  pub len : length bytes ≡ length bytes₀
+  pub copied : all < 256 → Copying roles bytes₀ bytes i
+  pub few : ((j : ℕ) → j < i → getD roles j 0 < 256) → all < 256
+
+pub gathering-starts : {roles bytes : List ℕ} → Gathering roles bytes bytes 0 0
+gathering-starts = record { low = omega arith; len = refl; copied = λ _. copying-starts; few = λ _. omega arith }
+
+pub gathering-goes-on : {roles bytes₀ bytes : List ℕ} {all i : ℕ} → length roles ≤ length bytes₀ → i < length roles → Gathering roles bytes₀ bytes all i →
+    Gathering roles bytes₀ (set bytes i (getD roles i 0 % 256)) (bitOr all (getD roles i 0)) (i + 1)
+gathering-goes-on {roles} {bytes₀} {bytes} {all} {i} fit l G =
+    let x = getD roles i 0 in
+    record {
+      low = omega arith;
+      len = length-set bytes i (x % 256) ∙ G .len;
+      copied = λ h.
+          let s = or-add-and all x in
+          let a = and-le-l all x in
+          let b = and-le-r all x in
+          let e : x % 256 ≡ x = omega (arith, h, s, a, b) in
+          rw e (copying-goes-on {end = length roles} (omega arith) l (G .copied (omega (arith, h, s, a, b))));
+      few = λ h. or-lt 8 all x (G .few (λ j k. h j (omega arith))) (h i (omega arith));
+    }
+
+pub gathered : {roles bytes₀ bytes : List ℕ} {all i : ℕ} → length roles ≤ length bytes₀ → length roles ≤ i → Gathering roles bytes₀ bytes all i →
+    Narrows roles (length bytes₀) (ltb all 256) bytes
+gathered {roles} {bytes₀} {bytes} {all} {i} fit l G = by (ltb all 256) refl
+  where
+    by : (b : Bool) → ltb all 256 ≡ b → Narrows roles (length bytes₀) b bytes
+    by true e = narrowed fit l (G .copied (ltb-true all 256 e))
+    by false e = not-narrowed (λ _ h. let a = ltb-false all 256 e in let w = G .few (λ j k. h j (omega (arith, k, G .low))) in omega (arith, a, w))

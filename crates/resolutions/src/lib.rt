@@ -30,23 +30,22 @@ pub enum Resolution {
     Unfit,
 }
 
-// Copies roles to the front of a column of bytes: false where it is too short, or a role is no byte.
+// Copies roles to the front of a column of bytes: false where it is too short, or a role is no byte, which the bits of all of them tell at the end.
 pub fn narrow(roles: &[u32], bytes: &mut [u8]) -> bool
     ensures { λ r. ⌜ Narrows (now (roles .entry)) (length (now (bytes .entry))) r (now (bytes .exit)) ⌝ }
 {
     if bytes.len() < roles.len() {
         return false;
     }
+    let mut all: u32 = 0;
     let mut i = 0;
     while i < roles.len() {
         let role = roles[i];
-        if BYTE <= role {
-            return false;
-        }
-        bytes[i] = role as u8;
+        bytes[i] = (role % BYTE) as u8;
+        all = all | role;
         i += 1;
     }
-    true
+    all < BYTE
 }
 
 // Copies as many entries of a column of bytes as both have to the front of another column.

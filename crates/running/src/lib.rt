@@ -5,8 +5,10 @@ ghost use Rattle.demands.specs.Checks.{tables-of};
 ghost use Rattle.reading.specs.FileReading.{small-bytes, middle-bytes};
 ghost use Rattle.running.specs.Run.{Ran, RunsWithin};
 use answer_frames::answer_framed;
+use answer_frames::answer_short;
 use columns::shorter;
 use name_frames::name_framed;
+use name_frames::name_short;
 use reading::LARGE;
 use reading::MIDDLE;
 use reading::Reading;
@@ -57,7 +59,7 @@ fn run_small(
     let tokens = read.tokens;
     let nodes = read.nodes;
     let stage = read.stage;
-    let named = name_framed(
+    let named = name_short(
         stage,
         src,
         &token_starts[..tokens],
@@ -70,7 +72,7 @@ fn run_small(
         &mut types,
         &mut constants,
     );
-    let last = answer_framed(
+    let last = answer_short(
         named,
         src,
         &token_starts[..tokens],

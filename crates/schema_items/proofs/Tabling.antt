@@ -27,7 +27,7 @@ use Rattle.express.proofs.syntax.FormedRows.{sized}
 use Rattle.express.proofs.names.Meaning.{items-iff, spelled-ascending}
 use Rattle.express.proofs.names.Owned.{in-schema}
 use Rattle.symbol_tables.specs.Entry.{code, stamp-of, says}
-use Rattle.symbol_tables.specs.Table.{either-kind, symbol-in, kinds-between, OnlyStamped, AddsRange}
+use Rattle.symbol_tables.specs.Table.{either-kind, symbol-in, kinds-between, reach, OnlyStamped, AddsRange}
 use Rattle.symbol_tables.proofs.Tables.{untouched}
 use Rattle.symbol_tables.proofs.Orders.{ascending-distinct, distinct-keep, meaning-same}
 use Rattle.schema_items.specs.Items.{ItemsOf, Tabulates, Tabling, Begins, Turns}
@@ -108,7 +108,8 @@ module _ {kinds tokens sizes symbols : List ℕ} {h stamp x y z from : ℕ} {tab
     is = λ t S few free.
         let n : getD sizes h 0 ≡ size t h = ap (λ (l : List ℕ). getD l h 0) (S .sizes-are) in
         let from-is : from ≡ first t h = omega (arith, X, Y, Z, F, n, sized (S .read) h (S .known) .0) in
-        let T = A .is few (S .held) [] (untouched free) in (
+        let far : reach kinds tokens h ≡ h = omega (arith, S .known, ap length (S .kinds-are), S .tokened) in
+        let T = rw far at (A .is few (S .held) [] (untouched free)) in (
           record {
             is = λ s low.
                 T .is s low

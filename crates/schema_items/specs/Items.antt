@@ -18,13 +18,14 @@ use Rattle.schema_items.specs.declared.Tabled.{Tabled}
 pub record ItemsOf (t : Table) (h : ℕ) (table : List ℕ) (stamp : ℕ) : Type 0 where
   pub is : (s : ℕ) → s < length table → says table stamp s ≡ code (meaning (items t h s))
 
--- h is a schema of a file with these columns, whose nodes an entry can hold
+-- h is a schema of a file with these columns, with a token for each node, and nodes that an entry can hold
 pub record SchemaOf (t : Table) (kinds tokens sizes symbols : List ℕ) (h : ℕ) : Type 0 where
   pub read : Read file t
   pub kinds-are : kinds ≡ t .kinds
   pub tokens-are : tokens ≡ t .tokens
   pub sizes-are : sizes ≡ t .sizes
   pub symbols-are : symbols ≡ t .symbols
+  pub tokened : count t ≤ length tokens
   pub known : h < count t
   pub a-schema : is t schema h ≡ true
   pub held : h ≤ node-limit

@@ -5,13 +5,13 @@ use mathlib.Core.Bool.{Bool, true, false, false≢true}
 use mathlib.Core.List.{List, [], _∷_, map}
 use Prim.Native.Nat.{ℕ, zero, suc, _+_, _-_, _≤_, _<_}
 use native.Mathlib.Omega.{arith}
-use borrow.Author.Tests.{leb-true, le-leb, lt-leb}
-use lib.Dec.{eqb, leb}
+use borrow.Author.Tests.{leb-true, le-leb, lt-leb, le-ltb, lt-ltb}
+use lib.Dec.{eqb, leb, ltb}
 use lib.ListN.{length, getD, drop, drop-of-length-le}
 use lib.Seq.{drop-cons}
 use Rattle.relations.proofs.Select.{and-fst, and-snd, le-or, First, first-is, first-rises}
 use Rattle.express.specs.syntax.NodeKind as node
-use Rattle.schemas.specs.Parts.{schema-in, never-falls, grouped}
+use Rattle.schemas.specs.Parts.{schema-in, never-falls, grouped, parts}
 
 module _ (kinds : List ℕ) where
   abbrev is-schema : ℕ → Bool
@@ -145,3 +145,60 @@ falls-not n s (x ∷ xs) h zero zero a l = omega arith
 falls-not n s (x ∷ xs) h zero (suc j) a l = fall-from n x xs (and-snd (leb x n) _ (and-snd (leb s x) _ h)) j (omega arith)
 falls-not n s (x ∷ xs) h (suc i) zero a l = absurd (omega arith)
 falls-not n s (x ∷ xs) h (suc i) (suc j) a l = falls-not n x xs (and-snd (leb x n) _ (and-snd (leb s x) _ h)) i j (omega arith) (omega arith)
+
+-- ---- an order as in the text: what is left decides
+pub record Rising (n : ℕ) (order : List ℕ) (i last : ℕ) : Type 0 where
+  pub is : never-falls n last (drop i order) ≡ never-falls n 0 order
+
+module _ {n : ℕ} {order : List ℕ} where
+  pub rising-starts : Rising n order 0 0
+  rising-starts = record { is = refl }
+
+  pub rising-ends : {i last : ℕ} → Rising n order i last → length order ≤ i → true ≡ never-falls n 0 order
+  unfolding never-falls
+  rising-ends R l = rw (drop-of-length-le order l) at (R .is)
+
+  module _ {i last : ℕ} (R : Rising n order i last) (l : i < length order) {d : ℕ} (d-is : d ≡ getD order i 0) where
+    rising : never-falls n last (d ∷ drop (i + 1) order) ≡ never-falls n 0 order
+    rising = let f : i + 1 ≡ suc i = omega arith in rw (f, d-is) (rw (drop-cons order i 0 l) at (R .is))
+
+    pub rising-falls : d < last → false ≡ never-falls n 0 order
+    unfolding never-falls
+    rising-falls a = rw (lt-leb last d a) at rising
+
+    module _ (b : last ≤ d) where
+      pub rising-out : n < d → false ≡ never-falls n 0 order
+      unfolding never-falls
+      rising-out a = rw (le-leb last d b, lt-leb d n a) at rising
+
+      pub rising-on : d ≤ n → Rising n order (i + 1) d
+      unfolding never-falls
+      rising-on a = record { is = rw (le-leb last d b, le-leb d n a) at rising }
+
+-- then the schemas never fall either
+module _ (kinds : List ℕ) where
+  schemas-rise :
+      (s u : ℕ) → ((x : ℕ) → s ≤ x → x ≤ length kinds → u ≤ schema-in kinds x) → (xs : List ℕ) → never-falls (length kinds) s xs ≡ true →
+      never-falls (length kinds) u (map (schema-in kinds) xs) ≡ true
+  unfolding never-falls
+  schemas-rise s u h [] e = refl
+  schemas-rise s u h (x ∷ xs) e =
+      let a = leb-true s x (and-fst (leb s x) _ e) in
+      let b = leb-true x (length kinds) (and-fst (leb x (length kinds)) _ (and-snd (leb s x) _ e)) in
+      let later = schemas-rise x (schema-in kinds x) (λ y g k. schema-grows kinds x y g b) xs (and-snd (leb x (length kinds)) _ (and-snd (leb s x) _ e)) in
+      rw (le-leb u (schema-in kinds x) (h x a b), le-leb (schema-in kinds x) (length kinds) (within kinds x b)) later
+
+  pub text-grouped : (order : List ℕ) {b : Bool} → b ≡ never-falls (length kinds) 0 order → b ≡ true → true ≡ grouped kinds order
+  text-grouped order e h = sym (schemas-rise 0 0 (λ x a b. omega arith) order (sym e ∙ h))
+
+-- ---- whether the schemas have parts, by the first from a node on
+module _ (kinds order : List ℕ) (i : ℕ) {s : ℕ} (s-is : s ≡ schema-in kinds i) where
+  pub parts-none : length kinds ≤ s → false ≡ parts kinds order i
+  parts-none l = rw (le-ltb (schema-in kinds i) (length kinds) (omega (arith, s-is)))
+
+  pub parts-grouped : s < length kinds → {b : Bool} → b ≡ grouped kinds order → b ≡ parts kinds order i
+  parts-grouped l e = e ∙ rw (lt-ltb (schema-in kinds i) (length kinds) (omega (arith, s-is)))
+
+-- where they have, the order is grouped
+pub grouped-parts : (kinds order : List ℕ) (i : ℕ) {b : Bool} → b ≡ parts kinds order i → b ≡ true → grouped kinds order ≡ true
+grouped-parts kinds order i e h = and-snd (ltb (schema-in kinds i) (length kinds)) (grouped kinds order) (sym e ∙ h)

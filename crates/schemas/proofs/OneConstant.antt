@@ -1,4 +1,4 @@
--- One constant: the answer of its last node is its value, whatever the columns of values held, though its type is passed over.
+-- One constant: what is held from the answer of its expression is its value, whatever the columns of values held, though its type is passed over.
 use mathlib.Core.Path.{_≡_, refl, sym, ap, ap₂, subst, _∙_}
 use mathlib.Core.Logic.{inr}
 use mathlib.Core.List.{List, [], _∷_, _++_}
@@ -26,8 +26,8 @@ use Rattle.express.proofs.syntax.FormedRows.{formed-rows}
 use Rattle.operations.specs.Meaning.{answer-of}
 use Rattle.answer_rows.specs.Stored.{stored}
 use Rattle.operations.specs.declared.Answer as code
-use Rattle.evaluate.specs.Answers.{answers-in, Gives, Stores}
-use Rattle.evaluate.specs.Evaluation.{known-in, Against, EvaluatesNodes}
+use Rattle.evaluate.specs.Answers.{answers-in, Stores}
+use Rattle.evaluate.specs.Evaluation.{known-in, Against, HeldIn, EvaluatesNodes}
 use Rattle.evaluate.proofs.Literals.{spelled}
 use Rattle.evaluate.proofs.Nodes.{at-constant}
 use Rattle.evaluate.proofs.Rows.{same, made, rows-within}
@@ -103,17 +103,20 @@ module _ (t : Table) (c : List ℕ) (f : Formed t) (g : ℕ → Answer) where
         sym (at-constant t t c (answer-at zs) g d h) ∙
         ap (held (declared-type t c d)) (value-run t t c f g root is-root ys (omega (arith, long, ys-long)))
 
+    -- so it is held from the answer that the nodes from the first of the expression on leave at the last of them
     pub constant-value :
-        {lo : ℕ} → lo ≡ d - (size t d - 2) → (xs : List Answer) → d < length xs → answer-at (run-in t t c g (span lo (d + 1 - lo)) xs) d ≡ value t c g d
+        {lo : ℕ} → lo ≡ d - (size t d - 2) → (xs : List Answer) → d < length xs →
+        held (declared-type t c d) (answer-at (run-in t t c g (span lo (d - lo)) xs) root) ≡ value t c g d
     constant-value {lo} m xs long =
         let b = below in
         let z = pair .all in
         let i = f .inside d l in
-        let q : d + 1 - lo ≡ 0 + size t root + 1 = omega (arith, m, z, b .1) in
-        let u : lo + 0 ≡ first t root = omega (arith, m, z, b .1, b .0) in
+        let q : d - lo ≡ size t root = omega (arith, m, z, b .1) in
+        let u : lo ≡ first t root = omega (arith, m, z, b .1, b .0) in
         let v : first t d + 1 ≡ first t root = omega (arith, z, b .1, b .0, i) in
         let w : size t d ≡ 1 + size t root + 1 = z in
-        ap (λ (k : ℕ). answer-at (run-in t t c g (span lo k) xs) d) q ∙ from-before lo 0 u xs long ∙
+        ap (held (declared-type t c d))
+        (ap₂ (λ (x k : ℕ). answer-at (run-in t t c g (span x k) xs) root) u q ∙ value-run t t c f g root is-root xs (omega (arith, long))) ∙
         sym (ap (λ (k : ℕ). answer-at (run-in t t c g (span (first t d) k) (replicate (suc d) indeterminate)) d) w ∙
         from-before (first t d) 1 v (replicate (suc d) indeterminate) (omega (arith, length-replicate (suc d) indeterminate)))
 
@@ -126,11 +129,11 @@ stores-same {x = x} {y = y} {i = i} {j = j} {ks = ks} {zs = zs} {ls = ls} {ks′
 module _ {bytes starts lengths terminals kinds tokens sizes bindings declared row-of : List ℕ} {d at : ℕ} {aks : List ℕ} {azs : List ℤ} {als vks : List ℕ} {vzs : List ℤ}
     {vls vks′ : List ℕ} {vzs′ : List ℤ} {vls′ aks′ : List ℕ} {azs′ : List ℤ} {als′ : List ℕ} where
   pub one-constant :
-      {s k lo p j : ℕ} {r : code.Answer} → s ≡ getD sizes d 0 → k ≡ s - 2 → lo ≡ d - k →
-      EvaluatesNodes bytes starts lengths terminals kinds tokens sizes bindings lo (d + 1) kinds declared row-of at aks azs als vks vzs vls vks′ vzs′ vls′ →
-      p ≡ getD row-of d 0 → j ≡ p - at → Gives r (answer-at (answers-in vks′ vzs′ vls′) d) → Stores (stored (answer-of r)) j aks azs als aks′ azs′ als′ →
+      {s k lo p j y : ℕ} {r : code.Answer} → s ≡ getD sizes d 0 → k ≡ s - 2 → lo ≡ d - k →
+      EvaluatesNodes bytes starts lengths terminals kinds tokens sizes bindings lo d kinds declared row-of at aks azs als vks vzs vls vks′ vzs′ vls′ →
+      p ≡ getD row-of d 0 → j ≡ p - at → y ≡ getD declared d 0 → HeldIn y vks′ vzs′ vls′ d r → Stores (stored (answer-of r)) j aks azs als aks′ azs′ als′ →
       EvaluatesConstant bytes starts lengths terminals kinds tokens sizes bindings declared row-of d at aks azs als vks vzs vls aks′ azs′ als′
-  one-constant {s} {k = k} {lo} {p} {j} {r} S N L E P J G Q = record { is = evaluated }
+  one-constant {s} {k = k} {lo} {p} {j} {y} {r} S N L E P J Y G Q = record { is = evaluated }
     where
       evaluated :
           (t : Table) (order : List ℕ) → OfFile t bytes starts lengths terminals kinds tokens sizes bindings declared order → Room t vks vzs vls → d < count t →
@@ -139,8 +142,8 @@ module _ {bytes starts lengths terminals kinds tokens sizes bindings declared ro
           let q : size t d ≡ s = rw (O .sizes-are) (sym S) in
           let m : lo ≡ d - (size t d - 2) = L ∙ ap (λ (x : ℕ). d - x) (N ∙ ap (λ (x : ℕ). x - 2) (sym q)) in
           let known = known-in row-of at aks azs als in
-          let v : answer-at (answers-in vks′ vzs′ vls′) d ≡ value t bindings known d =
-          ap (λ (xs : List Answer). answer-at xs d) (E .is t t (against O)) ∙
+          let v : held (declared-type t bindings d) (answer-at (answers-in vks′ vzs′ vls′) (last d)) ≡ value t bindings known d =
+          ap (λ (xs : List Answer). held (declared-type t bindings d) (answer-at xs (last d))) (E .is t t (against O)) ∙
           constant-value t bindings (formed-rows (O .read)) known d l h m (answers-in vks vzs vls)
           (rows-within vks vzs vls d (omega (arith, M .kinds-long)) (omega (arith, M .numbers-long)) (omega (arith, M .lengths-long))) in
-          stores-same (made (same v G)) (J ∙ ap (λ (x : ℕ). x - at) P) Q
+          stores-same (made (same v (G .is (declared-type t bindings d) (Y ∙ O .declares .constants d l h)))) (J ∙ ap (λ (x : ℕ). x - at) P) Q

@@ -288,8 +288,3 @@ module _ {bytes starts lengths terminals kinds tokens sizes bindings declared pa
                   H .there c (rw (take-all i part e) (B .complete c lo hi k)) D;
               rest = H .rest;
             }
-
--- the node of a constant that is due is less than another number
-pub due-below : (kinds : List ℕ) (lo : ℕ) {hi d : ℕ} {b : Bool} → b ≡ due kinds lo hi d → b ≡ true → hi < 18446744073709551616 → d < 18446744073709551615
-due-below kinds lo {hi} {d} e h l =
-    let a = ltb-true d hi (and-fst (ltb d hi) _ (and-snd (leb lo d) _ (sym e ∙ h))) in omega arith

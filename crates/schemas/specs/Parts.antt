@@ -2,7 +2,7 @@
 use mathlib.Core.Bool.{Bool, true, _&&_}
 use mathlib.Core.List.{List, [], _∷_, map}
 use Prim.Native.Nat.{ℕ, _-_}
-use lib.Dec.{eqb, leb}
+use lib.Dec.{eqb, leb, ltb}
 use lib.ListN.{length, getD}
 use Rattle.relations.specs.Select.{first-from}
 use Rattle.express.specs.syntax.NodeKind as node
@@ -19,3 +19,7 @@ never-falls n s (x ∷ xs) = let later = never-falls n x xs in leb s x && (leb x
 -- the schemas of an order's declarations stand as in the text
 abbrev pub grouped : List ℕ → List ℕ → Bool
 grouped kinds order = never-falls (length kinds) 0 (map (schema-in kinds) order)
+
+-- there is a schema from a node on, and the order is grouped
+abbrev pub parts : List ℕ → List ℕ → ℕ → Bool
+parts kinds order behind = ltb (schema-in kinds behind) (length kinds) && grouped kinds order

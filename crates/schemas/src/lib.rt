@@ -4,10 +4,11 @@ pub mod parts;
 ghost use mathlib.Core.Path.{_≡_};
 ghost use Prim.Native.Nat.{_<_};
 ghost use Rattle.schemas.specs.Rows.{due, Fills, NumbersRows, EvaluatesConstant, FillsSchema};
-use evaluate::answer_at;
 use evaluate::evaluate_expression;
+use evaluate::held_answer;
 use evaluate::put_answer;
 use tree::at8;
+use tree::at32;
 use tree::index_at;
 use tree::next_of_kind;
 
@@ -54,7 +55,7 @@ fn is_due(kinds: &[u8], lo: usize, hi: usize, d: usize) -> bool
 // The nodes of a constant that are not of its expression: its own and, before the expression, that of its type, which has no answer.
 const BESIDES: usize = 2;
 
-// Evaluates one constant into its row, of columns that start with row `at`.
+// Evaluates one constant into its row, of columns that start with row `at`: the nodes of its expression, and what it holds of their answer.
 fn evaluate_constant(
     src: &[u8],
     starts: &[u32],
@@ -75,7 +76,6 @@ fn evaluate_constant(
     value_numbers: &mut [i64],
     value_lengths: &mut [u8],
 )
-    requires { ⌜ d < 18446744073709551615 ⌝ }
     ensures { λ _. ⌜ EvaluatesConstant (now (src .entry)) (now (starts .entry)) (now (lengths .entry)) (now (terminals .entry)) (now (kinds .entry))
         (now (tokens .entry)) (now (sizes .entry)) (now (bindings .entry)) (now (declared .entry)) (now («row_of» .entry)) d at
         (now («answer_kinds» .entry)) (now («answer_numbers» .entry)) (now («answer_lengths» .entry))
@@ -94,7 +94,7 @@ fn evaluate_constant(
         sizes,
         bindings,
         first,
-        d + 1,
+        d,
         kinds,
         declared,
         row_of,
@@ -107,7 +107,13 @@ fn evaluate_constant(
         value_lengths,
     );
     let row = columns::saturating_sub(index_at(row_of, d), at);
-    let answer = answer_at(value_kinds, value_numbers, value_lengths, d);
+    let answer = held_answer(
+        at32(declared, d),
+        value_kinds,
+        value_numbers,
+        value_lengths,
+        d,
+    );
     put_answer(answer_kinds, answer_numbers, answer_lengths, row, answer);
 }
 

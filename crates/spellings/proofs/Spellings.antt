@@ -1,21 +1,19 @@
 -- Laws of spellings: the part of the bytes that a token has, its hash, and words that are spelled alike.
 use mathlib.Core.Path.{_≡_, refl, sym, ap, _∙_}
-use mathlib.Core.Bool.{Bool, true, false, cond, _&&_, false≢true}
+use mathlib.Core.Bool.{Bool, true, false, cond, _&&_}
 use mathlib.Core.List.{List, map}
 use mathlib.Core.Logic.{by-cases}
-use Prim.Native.Nat.{ℕ, zero, suc, _+_, _*_, _-_, _/_, _%_, _≤_, _<_, min}
+use Prim.Native.Nat.{ℕ, suc, _+_, _*_, _-_, _/_, _%_, _≤_, _<_, min}
 use native.Mathlib.Decide.{decLt}
-use native.Mathlib.Numerals.{add-one}
 use native.Mathlib.Omega.{arith}
 use lib.ListN.{length, take, drop, getD, length-map, length-drop, drop-of-length-le, List·getD-map, List·getD-eq-default}
-use lib.Seq.{drop-cons, ext-getD, take-all, take-nil}
+use lib.Seq.{ext-getD, getD-drop, take-all, take-nil}
 use Rattle.express.specs.tokens.Bytes.{lower, same}
 use Rattle.express.specs.tokens.Spelling.{spelling}
-use Rattle.relations.proofs.Select.{untrue, and-snd, and-both}
+use Rattle.relations.proofs.Select.{untrue}
 use Rattle.express.proofs.tokens.Spelling.{same-true, same-refl}
 use lib.Bits.{bitAnd, and-block, and-mask}
-use lib.Dec.{eqb, leb}
-use borrow.Author.Tests.{eqb-true, eq-eqb, le-leb, lt-leb}
+use lib.Dec.{leb}
 use Rattle.spellings.specs.Hash.{block, joined, hash-blocks, hash-of, Four, IsBlock, Joins, Hashes}
 
 abbrev pub folded : List ℕ → List ℕ
@@ -95,7 +93,7 @@ block-folded : (xs : List ℕ) (k : ℕ) → block (folded xs) k ≡ block xs k
 block-folded xs k = rw (low-at xs k, low-at xs (k + 1), low-at xs (k + 2), low-at xs (k + 3))
 
 -- the mask of a block takes the low five bits of each byte
-mask-more : (x m r : ℕ) → r < 256 → bitAnd (x * 256 + r) (m * 256 + 31) ≡ bitAnd x m * 256 + r % 32
+pub mask-more : (x m r : ℕ) → r < 256 → bitAnd (x * 256 + r) (m * 256 + 31) ≡ bitAnd x m * 256 + r % 32
 mask-more x m r h = and-block 8 x m r 31 h (omega arith) ∙ ap (λ (y : ℕ). bitAnd x m * 256 + y) (and-mask r 5)
 
 masked : (a b c d : ℕ) → a < 256 → b < 256 → c < 256 → d < 256
@@ -118,6 +116,9 @@ module _ (xs : List ℕ) (k : ℕ) (small : (j : ℕ) → getD xs j 0 < 256) whe
       let e : bitAnd x 522133279 ≡ block xs k =
       ap (λ (y : ℕ). bitAnd y 522133279) (F .is) ∙ masked (getD xs k 0) (getD xs (k + 1) 0) (getD xs (k + 2) 0) (getD xs (k + 3) 0) a b c d in
       record { is = e ∙ sym (block-folded xs k); small = omega (arith, e) }
+
+pub block-is : (xs : List ℕ) (k : ℕ) {r : ℕ} → r ≡ block xs k → IsBlock xs k r
+block-is xs k e = record { is = e ∙ sym (block-folded xs k); small = omega (arith, e) }
 
 -- a word that is shorter than a block: what it does not have is 0
 past-low : (xs : List ℕ) (k : ℕ) → length xs ≤ k → 0 ≡ getD xs k 0 % 32
@@ -148,111 +149,57 @@ module _ (xs : List ℕ) (short : length xs < 4) where
       let l : length xs - 1 ≡ 2 = omega arith in
       short-block-is e (f ∙ ap (λ (j : ℕ). getD xs j 0 % 32) k) (g ∙ ap (λ (j : ℕ). getD xs j 0 % 32) l) refl
 
+-- the block of a word that ends before it, or within it
+pub past-block : (xs : List ℕ) (k : ℕ) → length xs ≤ k → IsBlock xs k 0
+past-block xs k l =
+    let a = past-low xs k (omega arith) in
+    let b = past-low xs (k + 1) (omega arith) in
+    let c = past-low xs (k + 2) (omega arith) in
+    let d = past-low xs (k + 3) (omega arith) in
+    let q : 0 ≡ block xs k = omega (arith, a, b, c, d) in
+    record { is = q ∙ sym (block-folded xs k); small = omega arith }
+
+pub rest-block : (xs : List ℕ) (k : ℕ) {r : ℕ} → IsBlock (take (length xs - k) (drop k xs)) 0 r → IsBlock xs k r
+rest-block xs k B =
+    let z : k + 0 ≡ k = omega arith in
+    let all : take (length xs - k) (drop k xs) ≡ drop k xs = take-all (length xs - k) (drop k xs) (simp length-drop (omega arith)) in
+    let C = rw all at B in
+    let e : block (drop k xs) 0 ≡ block xs k = rw (getD-drop k xs 0 0, getD-drop k xs 1 0, getD-drop k xs 2 0, getD-drop k xs 3 0, z) refl in
+    record { is = C .is ∙ block-folded (drop k xs) 0 ∙ e ∙ sym (block-folded xs k); small = C .small }
+
 -- ---- the hash: what is to come makes of the number so far what was wanted
 
 pub record Hashing (xs : List ℕ) (h i : ℕ) : Type 0 where
-  pub within : i ≤ length xs
   pub small : h < 4294967296
-  pub left : hash-blocks ((length xs - 1 - i) / 4) h i (map lower xs) ≡ hash-blocks ((length xs - 1) / 4) 0 0 (map lower xs)
+  pub left : hash-blocks ((length xs + 3 - i) / 4) h i (map lower xs) ≡ hash-of (map lower xs)
 
-pub hashing-starts : (xs : List ℕ) → Hashing xs 0 0
-hashing-starts xs =
-    let q : (length xs - 1 - 0) / 4 ≡ (length xs - 1) / 4 = omega arith in
-    record { within = omega arith; small = omega arith; left = ap (λ (n : ℕ). hash-blocks n 0 0 (folded xs)) q }
+pub hashing-starts : {xs : List ℕ} {x y g h : ℕ} → IsBlock xs 0 x → Joins 0 x g → IsBlock xs 4 y → Joins g y h → Hashing xs h 8
+unfolding hash-blocks hash-of
+hashing-starts {xs} {x} {y} {g} {h} A J B K =
+    let n : length (folded xs) ≡ length xs = length-folded xs in
+    let q : (length xs + 3 - 8) / 4 ≡ (length (folded xs) - 5) / 4 = omega (arith, n) in
+    let e : g ≡ joined 0 (block (folded xs) 0) = J .is ∙ ap (joined 0) (A .is) in
+    let f : h ≡ joined (joined 0 (block (folded xs) 0)) (block (folded xs) 4) = K .is ∙ ap (joined g) (B .is) ∙ ap (λ (z : ℕ). joined z (block (folded xs) 4)) e in
+    record { small = K .small; left = ap (λ (m : ℕ). hash-blocks m h 8 (folded xs)) q ∙ ap (λ (z : ℕ). hash-blocks ((length (folded xs) - 5) / 4) z 8 (folded xs)) f }
 
-pub hashing-goes-on : {xs : List ℕ} {h i x r : ℕ} → Hashing xs h i → i < length xs - 4 → IsBlock xs i x → Joins h x r → Hashing xs r (i + 4)
+pub hashing-goes-on : {xs : List ℕ} {h i x r : ℕ} → Hashing xs h i → i < length xs → IsBlock xs i x → Joins h x r → Hashing xs r (i + 4)
 unfolding hash-blocks
 hashing-goes-on {xs} {h} {i} {x} {r} w l B J =
-    let q : (length xs - 1 - i) / 4 ≡ suc ((length xs - 1 - (i + 4)) / 4) = omega arith in
+    let q : (length xs + 3 - i) / 4 ≡ suc ((length xs + 3 - (i + 4)) / 4) = omega arith in
     let e : joined h (block (folded xs) i) ≡ r = sym (J .is ∙ ap (joined h) (B .is)) in
     record {
-      within = omega arith;
       small = J .small;
       left =
-          ap (λ (y : ℕ). hash-blocks ((length xs - 1 - (i + 4)) / 4) y (i + 4) (folded xs)) (sym e)
+          ap (λ (y : ℕ). hash-blocks ((length xs + 3 - (i + 4)) / 4) y (i + 4) (folded xs)) (sym e)
           ∙ ap (λ (n : ℕ). hash-blocks n h i (folded xs)) (sym q)
           ∙ w .left;
     }
 
--- all blocks before the last one
-all-but-last : {xs : List ℕ} {h i : ℕ} → Hashing xs h i → length xs - 4 ≤ i → h ≡ hash-blocks ((length xs - 1) / 4) 0 0 (map lower xs)
+pub hashing-ends : {xs : List ℕ} {h i : ℕ} → Hashing xs h i → length xs ≤ i → Hashes xs h
 unfolding hash-blocks
-all-but-last {xs} {h} {i} w l =
-    let q : 0 ≡ (length xs - 1 - i) / 4 = omega arith in ap (λ (n : ℕ). hash-blocks n h i (folded xs)) q ∙ w .left
+hashing-ends {xs} {h} {i} w l =
+    let q : 0 ≡ (length xs + 3 - i) / 4 = omega arith in record { is = ap (λ (n : ℕ). hash-blocks n h i (folded xs)) q ∙ w .left; small = w .small }
 
-pub hashing-ends : {xs : List ℕ} {h i k x r : ℕ} → Hashing xs h i → length xs - 4 ≤ i → k ≡ length xs - 4 → IsBlock xs k x → Joins h x r → Hashes xs r
-unfolding hash-of
-hashing-ends {xs} {h} {i} {k} {x} {r} w l ek B J =
-    let e : x ≡ block (folded xs) (length xs - 4) = B .is ∙ ap (block (folded xs)) ek in
-    let n : length (folded xs) ≡ length xs = length-folded xs in
-    record {
-      is = J .is ∙ ap (λ (y : ℕ). joined y x) (all-but-last w l) ∙ ap (joined (hash-blocks ((length xs - 1) / 4) 0 0 (folded xs))) e ∙ rw n;
-      small = J .small;
-    }
-
--- ---- words that are the same, block by block
-
--- what `equal` answers: on words of two lengths, on words that are too short, where two blocks differ, and by the last block
-module _ (xs ys : List ℕ) where
-  pub equal-lengths : (length xs ≡ length ys → ⊥) → false ≡ leb 4 (length xs) && same xs ys
-  equal-lengths n = sym (untrue (leb 4 (length xs) && same xs ys) (λ e. n (ap length (same-true xs ys (and-snd (leb 4 (length xs)) (same xs ys) e)))))
-
-  pub equal-short : length xs < 4 → false ≡ leb 4 (length xs) && same xs ys
-  equal-short h = rw (lt-leb 4 (length xs) h)
-
-  pub equal-differs : {k x y : ℕ} → Four xs k x → Four ys k y → (x ≡ y → ⊥) → false ≡ leb 4 (length xs) && same xs ys
-  equal-differs {k} F G n =
-      sym (untrue (leb 4 (length xs) && same xs ys)
-      (λ e.
-      let q : xs ≡ ys = same-true xs ys (and-snd (leb 4 (length xs)) (same xs ys) e) in
-      n (F .is
-      ∙ ap (λ (zs : List ℕ). getD zs k 0 + getD zs (k + 1) 0 * 256 + getD zs (k + 2) 0 * 65536 + getD zs (k + 3) 0 * 16777216) q
-      ∙ sym (G .is))))
-
-bytes-same : (a b c d a′ b′ c′ d′ : ℕ) → a < 256 → b < 256 → c < 256 → d < 256 → a′ < 256 → b′ < 256 → c′ < 256 → d′ < 256
-    → a + b * 256 + c * 65536 + d * 16777216 ≡ a′ + b′ * 256 + c′ * 65536 + d′ * 16777216 → (a ≡ a′) × (b ≡ b′) × (c ≡ c′) × (d ≡ d′)
-bytes-same a b c d a′ b′ c′ d′ p q r s p′ q′ r′ s′ e = (omega arith, omega arith, omega arith, omega arith)
-
-module _ (xs ys : List ℕ) (small : (j : ℕ) → getD xs j 0 < 256) (small′ : (j : ℕ) → getD ys j 0 < 256) where
-  four-same : {k x y : ℕ} → Four xs k x → Four ys k y → x ≡ y → (j : ℕ) → k ≤ j → j < k + 4 → getD xs j 0 ≡ getD ys j 0
-  four-same {k} F G e j lo hi = by (j - k) refl
-    where
-      all :
-          (getD xs k 0 ≡ getD ys k 0) × (getD xs (k + 1) 0 ≡ getD ys (k + 1) 0) × (getD xs (k + 2) 0 ≡ getD ys (k + 2) 0) ×
-          (getD xs (k + 3) 0 ≡ getD ys (k + 3) 0)
-      all =
-          bytes-same _ _ _ _ _ _ _ _ (small k) (small (k + 1)) (small (k + 2)) (small (k + 3)) (small′ k) (small′ (k + 1)) (small′ (k + 2))
-          (small′ (k + 3)) (sym (F .is) ∙ e ∙ G .is)
-
-      at : (i : ℕ) → i ≡ j → getD xs i 0 ≡ getD ys i 0 → getD xs j 0 ≡ getD ys j 0
-      at i q h = rw q at h
-
-      by : (d : ℕ) → j - k ≡ d → getD xs j 0 ≡ getD ys j 0
-      by zero z = at k (omega arith) (all .0)
-      by (suc zero) z = at (k + 1) (omega arith) (all .1)
-      by (suc (suc zero)) z = at (k + 2) (omega arith) (all .2)
-      by (suc (suc (suc zero))) z = at (k + 3) (omega arith) (all .3)
-      by (suc (suc (suc (suc d)))) z = absurd (omega arith)
-
-  -- the bytes before i are the same
-  pub blocks-go-on : {i x y : ℕ} → ((j : ℕ) → j < i → getD xs j 0 ≡ getD ys j 0) → Four xs i x → Four ys i y → x ≡ y → (j : ℕ) → j < i + 4 → getD xs j 0 ≡ getD ys j 0
-  blocks-go-on {i} h F G e j l = by-cases (decLt j i) (λ a. h j a) (λ a. four-same F G e j (omega (arith, a)) l)
-
-  blocks-end : {i k x y : ℕ} → length xs ≡ length ys → ((j : ℕ) → j < i → getD xs j 0 ≡ getD ys j 0) → k ≤ i → length xs ≤ k + 4 → Four xs k x → Four ys k y → x ≡ y → xs ≡ ys
-  blocks-end {i} {k} n h lo hi F G e =
-      ext-getD 0 xs ys n (λ j l. by-cases (decLt j i) (λ a. h j a) (λ a. four-same F G e j (omega (arith, a)) (omega arith)))
-
-  pub equal-ends :
-      {i k x y : ℕ} → 4 ≤ length xs → length xs ≡ length ys → ((j : ℕ) → j < i → getD xs j 0 ≡ getD ys j 0) → k ≤ i → length xs ≤ k + 4 →
-      Four xs k x → Four ys k y → eqb x y ≡ leb 4 (length xs) && same xs ys
-  equal-ends {i} {k} {x} {y} m n h lo hi F G = by (eqb x y) refl
-    where
-      by : (b : Bool) → eqb x y ≡ b → b ≡ leb 4 (length xs) && same xs ys
-      by true e =
-          sym (and-both (leb 4 (length xs)) (same xs ys) (le-leb 4 (length xs) m) (same-is xs ys (blocks-end n h lo hi F G (eqb-true x y e))))
-      by false e = equal-differs xs ys F G (λ q. false≢true (sym e ∙ eq-eqb x y q))
-
--- words that are the same are spelled alike
-pub equal-alike : (xs ys : List ℕ) {r : Bool} → r ≡ leb 4 (length xs) && same xs ys → r ≡ true → same (map lower xs) (map lower ys) ≡ true
-equal-alike xs ys e f =
-    same-is (folded xs) (folded ys) (ap (λ (zs : List ℕ). map lower zs) (same-true xs ys (and-snd (leb 4 (length xs)) (same xs ys) (sym e ∙ f))))
+pub clipped-hash : (bytes : List ℕ) (s l : ℕ) {from m to r : ℕ} → from ≡ min s (length bytes) → m ≡ min l (length bytes - from) → to ≡ from + m →
+    Hashes (take (to - from) (drop from bytes)) r → Hashes (take l (drop s bytes)) r
+clipped-hash bytes s l {from} {m} {to} e f g H = rw (clip bytes s l from to e (omega (arith, e, f, g))) at H

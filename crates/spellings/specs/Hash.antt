@@ -19,9 +19,9 @@ unfoldable pub hash-blocks : ℕ → ℕ → ℕ → List ℕ → ℕ
 hash-blocks zero h k xs = h
 hash-blocks (suc n) h k xs = hash-blocks n (joined h (block xs k)) (k + 4) xs
 
--- a number of 32 bits for a word: its blocks, the last one being its last four bytes
+-- a number of 32 bits for a word: all its blocks, and two of them at least
 unfoldable pub hash-of : List ℕ → ℕ
-hash-of xs = joined (hash-blocks ((length xs - 1) / 4) 0 0 xs) (block xs (length xs - 4))
+hash-of xs = hash-blocks (suc (suc ((length xs - 5) / 4))) 0 0 xs
 
 -- ---- what inner functions give
 

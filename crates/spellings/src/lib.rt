@@ -1,12 +1,13 @@
-// Words as they are spelled, letters without case: the hash of one, and whether two are the same or spelled alike.
+// Words as they are spelled, letters without case: the hash of one, and whether two are spelled alike.
 ghost use mathlib.Core.Path.{_≡_};
 ghost use mathlib.Core.List.{map};
-ghost use mathlib.Core.Bool.{_&&_};
-ghost use lib.Dec.{leb};
-ghost use Prim.Native.Nat.{_+_, _≤_, _<_};
-ghost use lib.ListN.{length};
+ghost use mathlib.Core.Bool.{true};
+ghost use Prim.Native.Nat.{_+_, _%_, _^_, _≤_, _<_, min};
+ghost use lib.ListN.{length, take, drop};
 ghost use Rattle.express.specs.tokens.Bytes.{lower, same};
+ghost use Rattle.spellings.specs.Blocks.{no-letters, Eight, Agrees, SurelyAlike};
 ghost use Rattle.spellings.specs.Hash.{Four, IsBlock, Joins, Hashes};
+use columns::shorter;
 
 // What makes a capital letter small.
 const TO_LOWER: u8 = 32;
@@ -24,6 +25,29 @@ const FOURTH: u64 = 16777216;
 const LOW_BITS: u64 = 31 + 31 * SECOND + 31 * THIRD + 31 * FOURTH;
 
 const FIVE_BITS: u8 = 32;
+
+// Eight bytes are compared at once: how many they are, how many bits one has, and a one in each of them.
+const EIGHT: usize = 8;
+
+const BITS: u64 = 8;
+
+const EACH: u64 = 72340172838076673;
+
+// Of each of them: all bits; the low five; all but the one that the cases of a letter differ in; those that a capital letter has.
+const ALL_BITS: u64 = 255 * EACH;
+
+const LOW_OF_EACH: u64 = 31 * EACH;
+
+const NOT_CASE: u64 = 223 * EACH;
+
+const CAPITAL: u64 = 95 * EACH;
+
+// What makes the bit of the case the high bit of a byte; what sets the high bit from A on, and behind Z.
+const CASE_TO_HIGH: u64 = 4;
+
+const BEFORE_A: u64 = 63 * EACH;
+
+const BEHIND_Z: u64 = 37 * EACH;
 
 // A letter in lower case.
 fn lower_case(b: u8) -> u8
@@ -89,43 +113,123 @@ fn join(h: u64, x: u64) -> u64
     (h + x) % index::WORD * index::FIRST_FACTOR % index::WORD
 }
 
+// The block of a word at a place, as far as the word goes.
+fn part(word: &[u8], i: usize) -> u64
+    ensures { λ r. ⌜ IsBlock (now (word .entry)) i r ⌝ }
+{
+    if word.len() <= i {
+        return 0;
+    }
+    if BLOCK <= word.len() - i {
+        return block(word, i);
+    }
+    short_block(&word[i..])
+}
+
 // A number for a spelling.
 pub fn hash(word: &[u8]) -> u64
     ensures { λ r. ⌜ Hashes (now (word .entry)) r ⌝ }
 {
-    let n = word.len();
-    if n < BLOCK {
-        return join(0, short_block(word));
-    }
-    let last = n - BLOCK;
-    let mut h: u64 = 0;
-    let mut i = 0;
-    while i < last {
-        h = join(h, block(word, i));
+    let mut h = join(join(0, part(word, 0)), part(word, BLOCK));
+    let mut i = EIGHT;
+    while i < word.len() {
+        h = join(h, part(word, i));
         i += BLOCK;
     }
-    join(h, block(word, last))
+    h
 }
 
-// Are two words the same, byte by byte, and as long as a block or longer?
-pub fn equal(a: &[u8], b: &[u8]) -> bool
-    ensures { λ r. ⌜ r ≡ leb 4 (length (now (a .entry))) && same (now (a .entry)) (now (b .entry)) ⌝ }
+// Eight bytes from a place on as one number.
+fn eight(s: &[u8], i: usize) -> u64
+    requires { ⌜ i + 8 ≤ length (now s) ⌝ }
+    ensures { λ r. ⌜ Eight (now (s .entry)) i r ⌝ }
 {
-    if a.len() != b.len() {
+    four(s, i) + four(s, i + BLOCK) * index::WORD
+}
+
+// The first n bytes of eight.
+fn first_bytes(x: u64, n: usize) -> u64
+    ensures { λ r. ⌜ r ≡ x % 256 ^ min n 8 ⌝ }
+{
+    if n < EIGHT {
+        return x % (1 << (BITS * n as u64));
+    }
+    x
+}
+
+// The high bit of each of eight bytes is set where it is no letter.
+fn high_at_others(a: u64) -> u64
+    ensures { λ r. ⌜ r ≡ no-letters 8 a ⌝ }
+{
+    let capital = a & CAPITAL;
+    (ALL_BITS - (capital + BEFORE_A)) | (capital + BEHIND_Z) | a
+}
+
+// Are the first n of eight bytes the same but for the case of letters? Then they differ in no other bit, and in that one in letters alone.
+fn agree(a: u64, b: u64, n: usize) -> bool
+    ensures { λ r. ⌜ Agrees a b n r ⌝ }
+{
+    let differing = first_bytes(a ^ b, n);
+    if differing & NOT_CASE != 0 {
         return false;
     }
-    if a.len() < BLOCK {
+    (differing * CASE_TO_HIGH) & high_at_others(a) == 0
+}
+
+// Do n bytes from a place on lie eight bytes or more before the end?
+fn inside(length: usize, at: usize, n: usize) -> bool
+    ensures { λ r. ⌜ (r ≡ true → at + n + 8 ≤ length) ⌝ }
+{
+    if length < EIGHT {
         return false;
     }
-    let last = a.len() - BLOCK;
+    if length - EIGHT < n {
+        return false;
+    }
+    at <= length - EIGHT - n
+}
+
+// The number of n bytes from a place on, as far as they are there.
+fn hash_clipped(s: &[u8], at: usize, n: usize) -> u64
+    ensures { λ r. ⌜ Hashes (take n (drop at (now (s .entry)))) r ⌝ }
+{
+    let from = shorter(at, s.len());
+    let to = from + shorter(n, s.len() - from);
+    hash(&s[from..to])
+}
+
+// The number of n bytes from a place on: of a short word by one number of eight bytes.
+pub fn hash_at(s: &[u8], at: usize, n: usize) -> u64
+    ensures { λ r. ⌜ Hashes (take n (drop at (now (s .entry)))) r ⌝ }
+{
+    if EIGHT < n {
+        return hash_clipped(s, at, n);
+    }
+    if !inside(s.len(), at, n) {
+        return hash_clipped(s, at, n);
+    }
+    let x = first_bytes(eight(s, at), n) & LOW_OF_EACH;
+    join(join(0, x % index::WORD), x / index::WORD)
+}
+
+// Are the n bytes from two places on spelled alike? No is said of the last bytes, whatever they are.
+pub fn surely_alike(s: &[u8], p: usize, q: usize, n: usize) -> bool
+    ensures { λ r. ⌜ SurelyAlike (now (s .entry)) p q n r ⌝ }
+{
+    if !inside(s.len(), p, n) {
+        return false;
+    }
+    if !inside(s.len(), q, n) {
+        return false;
+    }
     let mut i = 0;
-    while i < last {
-        if four(a, i) != four(b, i) {
+    while i < n {
+        if !agree(eight(s, p + i), eight(s, q + i), n - i) {
             return false;
         }
-        i += BLOCK;
+        i += EIGHT;
     }
-    four(a, last) == four(b, last)
+    true
 }
 
 // Are two words spelled alike?

@@ -3,5 +3,3 @@ pub mod Counting
 pub mod Laws
 pub mod Straight
 pub mod Nodes
-pub mod KindLaws
-pub mod AnswerLaws

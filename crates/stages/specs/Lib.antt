@@ -1,4 +1,2 @@
 pub mod Line
 pub mod Reading
-pub mod KindStage
-pub mod AnswerStage

@@ -2,14 +2,15 @@
 use mathlib.Core.Path.{_≡_, refl, sym, ap, _∙_}
 use mathlib.Core.Logic.{_⊎_, inl, inr}
 use mathlib.Core.Bool.{true, false, cond}
-use mathlib.Core.List.{List, [], _∷_}
+use mathlib.Core.List.{List, [], _∷_, _++_}
 use Prim.Native.Nat.{ℕ, _+_, _-_, _≤_, _<_}
 use native.Mathlib.Omega.{arith}
 use lib.ListN.{length, getD}
 use Rattle.relations.specs.Select.{keep}
 use Rattle.relations.proofs.Select.{span-end}
 use Rattle.express.proofs.kinds.Backward.{keep-step}
-use Rattle.symbol_tables.specs.Table.{Adds, either-kind, symbol-in, kinds-between, AddsRange}
+use Rattle.symbol_tables.specs.Entry.{stamp-count, node-limit}
+use Rattle.symbol_tables.specs.Table.{Tabulated, OnlyStamped, Adds, either-kind, symbol-in, kinds-between, reach, AddsRange}
 use Rattle.symbol_tables.proofs.Tables.{only-same, only-then, add-only, add-tabulates}
 
 module _ (kinds : List ℕ) (one other : ℕ) where
@@ -25,11 +26,17 @@ module _ (kinds : List ℕ) (one other : ℕ) where
       let back : i - 1 + 1 ≡ i = omega arith in
       rw back at (keep-step hi (λ n. either-kind one other (getD kinds n 0)) (i - 1) (omega arith))
 
+-- those from i up to hi are added
+pub record Added (kinds tokens symbols : List ℕ) (one other i hi stamp : ℕ) (table table′ : List ℕ) : Type 0 where
+  pub only : stamp < stamp-count → hi ≤ node-limit → OnlyStamped stamp table table′
+  pub is : stamp < stamp-count → hi ≤ node-limit → (ns : List ℕ) → Tabulated (symbol-in tokens symbols) table stamp ns
+      → Tabulated (symbol-in tokens symbols) table′ stamp (kinds-between kinds one other i hi ++ ns)
+
 pub record Adding (kinds tokens symbols : List ℕ) (one other lo hi stamp : ℕ) (table₁ table : List ℕ) (i : ℕ) : Type 0 where
   pub long : length table ≡ length table₁
   pub upto : i ≤ hi
   pub low : (lo ≤ i) ⊎ (i ≡ hi)
-  pub adds : AddsRange kinds tokens symbols one other i hi stamp table₁ table
+  pub adds : Added kinds tokens symbols one other i hi stamp table₁ table
 
 module _ {kinds tokens symbols : List ℕ} {one other lo hi stamp : ℕ} where
   pub adding-starts : {table : List ℕ} → Adding kinds tokens symbols one other lo hi stamp table table hi
@@ -42,11 +49,11 @@ module _ {kinds tokens symbols : List ℕ} {one other lo hi stamp : ℕ} where
       }
 
   module _ {table₁ table : List ℕ} {i : ℕ} (s : Adding kinds tokens symbols one other lo hi stamp table₁ table i) where
-    pub adding-ends : i ≤ lo → AddsRange kinds tokens symbols one other lo hi stamp table₁ table
-    adding-ends l =
+    pub adding-ends : {top : ℕ} → hi ≡ reach kinds tokens top → i ≤ lo → AddsRange kinds tokens symbols one other lo top stamp table₁ table
+    adding-ends {top} e l =
         record {
-          only = s .adds .only;
-          is = λ a b ns T. rw (by (s .low)) (s .adds .is a b ns T);
+          only = λ a b. s .adds .only a (omega (arith, e, b));
+          is = λ a b ns T. rw (sym e, by (s .low)) (s .adds .is a (omega (arith, e, b)) ns T);
         }
       where
         by : (lo ≤ i) ⊎ (i ≡ hi) → kinds-between kinds one other lo hi ≡ kinds-between kinds one other i hi

@@ -2,7 +2,7 @@
 use mathlib.Core.Path.{_≡_}
 use mathlib.Core.Bool.{Bool, _||_}
 use mathlib.Core.List.{List, _++_}
-use Prim.Native.Nat.{ℕ, _-_, _≤_, _<_}
+use Prim.Native.Nat.{ℕ, _-_, _≤_, _<_, min}
 use lib.Dec.{eqb}
 use lib.ListN.{length, getD, set}
 use Rattle.relations.specs.Select.{span, keep}
@@ -33,8 +33,12 @@ symbol-in tokens symbols n = getD symbols (getD tokens n 0) 0
 unfoldable pub kinds-between : List ℕ → ℕ → ℕ → ℕ → ℕ → List ℕ
 kinds-between kinds one other lo hi = keep (λ n. either-kind one other (getD kinds n 0)) (span lo (hi - lo))
 
+-- nodes up to hi, as far as each has a kind and a token
+abbrev pub reach : List ℕ → List ℕ → ℕ → ℕ
+reach kinds tokens hi = min hi (min (length kinds) (length tokens))
+
 -- they stand before those that the table has
 pub record AddsRange (kinds tokens symbols : List ℕ) (one other lo hi stamp : ℕ) (table table′ : List ℕ) : Type 0 where
   pub only : stamp < stamp-count → hi ≤ node-limit → OnlyStamped stamp table table′
   pub is : stamp < stamp-count → hi ≤ node-limit → (ns : List ℕ) → Tabulated (symbol-in tokens symbols) table stamp ns
-      → Tabulated (symbol-in tokens symbols) table′ stamp (kinds-between kinds one other lo hi ++ ns)
+      → Tabulated (symbol-in tokens symbols) table′ stamp (kinds-between kinds one other lo (reach kinds tokens hi) ++ ns)

@@ -7,8 +7,8 @@ ghost use Rattle.symbol_tables.specs.Table.{Adds, AddsRange, either-kind
 use columns::index;
 use columns::number;
 use columns::put32;
+use columns::shorter;
 use scopes::at;
-use scopes::at8;
 
 // Several meanings; one meaning is one more than a node, and 0 is none.
 pub const SEVERAL: u32 = 4294967295;
@@ -77,7 +77,8 @@ fn is_either(kind: u8, one: u8, other: u8) -> bool
     kind == other
 }
 
-// The nodes from lo up to hi that are of one of two kinds, each under its symbol.
+// The nodes from lo up to hi that are of one of two kinds, each under its symbol, as far as they have a kind and a token. Indices are
+// bounded before the loop: it goes over all nodes of what an entity inherits from.
 pub fn add_range(
     kinds: &[u8],
     tokens: &[u32],
@@ -91,11 +92,11 @@ pub fn add_range(
 )
     ensures { λ _. ⌜ AddsRange (now (kinds .entry)) (now (tokens .entry)) (now (symbols .entry)) one other lo hi stamp (now (table .entry)) (now (table .exit)) ⌝ }
 {
-    let mut i = hi;
+    let mut i = shorter(hi, shorter(kinds.len(), tokens.len()));
     while lo < i {
         i -= 1;
-        if is_either(at8(kinds, i), one, other) {
-            add(table, stamp, at(symbols, index(at(tokens, i))), i);
+        if is_either(kinds[i], one, other) {
+            add(table, stamp, at(symbols, index(tokens[i])), i);
         }
     }
 }

@@ -8,7 +8,7 @@ use native.Mathlib.Omega.{arith}
 use native.Mathlib.Numerals.{add-one}
 use native.Mathlib.Decide.{decLt}
 use lib.Dec.{eqb, leb}
-use lib.ListN.{length, getD, set, take, length-set, length-take, length-map}
+use lib.ListN.{length, getD, set, take, drop, length-set, length-take, length-map}
 use lib.Seq.{sets, take-suc, take-all, getD-set-other}
 use borrow.Author.Tests.{eqb-true, eq-eqb, ne-eqb, leb-true, lt-ltb, le-ltb, not-true, not-false}
 use Rattle.columns.specs.Column.{cleared}
@@ -19,10 +19,10 @@ use Rattle.express.specs.tokens.Spelling.{spelling, is-identifier, symbol-of, s
 use Rattle.relations.proofs.Select.{and-fst, and-snd, and-both, untrue, first-is, first-of}
 use Rattle.express.proofs.tokens.Spelling.{same-true, symbol-le, symbol-other, symbol-named, symbol-least, symbol-spelled, symbol-iff, symbols-at}
 use Rattle.index.specs.Bucket.{range-of, InRange}
-use Rattle.spellings.specs.Hash.{hash-of}
+use Rattle.spellings.specs.Hash.{hash-of, Hashes}
 use Rattle.index.specs.Link.{last-index-below}
 use Rattle.index.specs.Room.{done, fits, enough}
-use Rattle.symbols.specs.Interning.{bucket-at, chained, Links, Chained, Interns, spells, symbol-of-word, SpelledLike, FindsSymbol}
+use Rattle.symbols.specs.Interning.{bucket-at, bytes-at, chained, Links, Chained, Interns, spells, symbol-of-word, SpelledLike, FindsSymbol}
 use Rattle.symbols.specs.Interning.{word-bucket, wanted, at-link, Along, Lined, Linked, Leads, Least, ReadyToEnter, Enters, Fills, ReadyToFill}
 use Rattle.index.specs.Dictionary.{among}
 use Rattle.index.specs.declared.dictionary.Found.{Found}
@@ -30,7 +30,8 @@ use Rattle.index.specs.declared.dictionary.Found.the-variants.{At, Nothing}
 use Rattle.index.specs.declared.Outcome.{Outcome}
 use Rattle.index.specs.declared.Outcome.the-variants.{Done, Short}
 use Rattle.index.proofs.Search.{last-skip, last-next, last-none-yet, last-le, last-passes, last-none, at-set}
-use Rattle.spellings.proofs.Spellings.{same-is, equal-alike}
+use Rattle.spellings.specs.Blocks.{SurelyAlike}
+use Rattle.spellings.proofs.Spellings.{same-is}
 use Rattle.index.proofs.Entries.{fits-parts, zeros-at}
 
 -- the bucket of a number is that of an equal one
@@ -243,12 +244,24 @@ module _ (bytes starts lengths : List ℕ) where
     least-none {first} e A q =
         let B : Along bytes starts lengths next word i first Nothing = rw q at A in record { low = omega arith; is = λ t L. symbol-met e B t L }
 
-  -- the token that a link leads to is the word byte by byte
-  pub leads-to : {word : List ℕ} {limit first : ℕ} {r : Bool} (ws : List ℕ) → (first ≡ 0 → ⊥) → first ≤ limit → map lower ws ≡ spelling bytes starts lengths (first - 1)
-      → r ≡ leb 4 (length ws) && same ws word → r ≡ true → Leads bytes starts lengths word limit first
-  leads-to {word} {limit} {first} ws n l s e f =
-      let some : 0 < first = omega (arith, n) in
-      record { some = some; low = omega arith; alike = ap (λ (xs : List ℕ). same xs (map lower word)) (sym s) ∙ equal-alike ws word e f }
+  -- the bucket of a token, by its bytes
+  pub token-in :
+      (i : ℕ) {m p n h b : ℕ} → InRange m h b → Hashes (take n (drop p bytes)) h → p ≡ getD starts i 0 → n ≡ getD lengths i 0 → InRange m (hash-of (spelling bytes starts lengths i)) b
+  token-in i B H e f = let G = rw (e, f) at H in in-bucket B (G .is)
+
+  -- the token that a link leads to is as long as token i, and its bytes are surely spelled like it
+  pub leads-to :
+      {i first p q n : ℕ} {r : Bool} → (first ≡ 0 → ⊥) → first ≤ i → p ≡ getD starts (first - 1) 0 → q ≡ getD starts i 0 → n ≡ getD lengths i 0 → getD lengths (first - 1) 0 ≡ n →
+      SurelyAlike bytes p q n r → r ≡ true → Leads bytes starts lengths (bytes-at bytes starts lengths i) i first
+  leads-to {i} {first} {p} {q} {n} z l ep eq en ek S t =
+      let some : 0 < first = omega (arith, z) in
+      let m : n ≡ getD lengths (first - 1) 0 = sym ek in
+      let a = rw (ep, eq) at (S .is t) in
+      let b : same (map lower (take (getD lengths (first - 1) 0) (drop (getD starts (first - 1) 0) bytes))) (map lower (take (getD lengths i 0) (drop (getD starts i 0) bytes))) ≡ true =
+      ap (λ (x : ℕ). same (map lower (take x (drop (getD starts (first - 1) 0) bytes))) (map lower (take (getD lengths i 0) (drop (getD starts i 0) bytes)))) (sym m)
+      ∙ ap (λ (x : ℕ). same (map lower (take n (drop (getD starts (first - 1) 0) bytes))) (map lower (take x (drop (getD starts i 0) bytes)))) (sym en)
+      ∙ a in
+      record { some = some; low = omega arith; alike = b }
 
   pub no-heads : {heads next word : List ℕ} → length heads ≡ 0 → FindsSymbol bytes starts lengths heads next word Nothing
   no-heads z = record { holds = tt; is = λ t C. absurd (omega (arith, C .some)) }

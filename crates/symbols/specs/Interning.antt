@@ -8,7 +8,7 @@ use lib.Dec.{eqb}
 use lib.ListN.{length, getD, set}
 use lib.Seq.{sets}
 use Rattle.relations.specs.Select.{first-from}
-use Rattle.express.specs.tokens.Bytes.{lower, same}
+use Rattle.express.specs.tokens.Bytes.{lower, same, token-bytes}
 use Rattle.express.specs.tokens.Spelling.{spelling, is-identifier, symbol-of, symbols-of}
 use Rattle.index.specs.Bucket.{range-of, InRange}
 use Rattle.spellings.specs.Hash.{hash-of}
@@ -22,6 +22,10 @@ use Rattle.index.specs.declared.dictionary.Found.the-variants.{At, Nothing}
 module _ (bytes starts lengths : List ℕ) where
   abbrev pub bucket-at : ℕ → ℕ → ℕ
   bucket-at buckets i = range-of buckets (hash-of (spelling bytes starts lengths i))
+
+  -- the bytes of token i, as far as they are there
+  abbrev pub bytes-at : ℕ → List ℕ
+  bytes-at i = token-bytes bytes (getD starts i 0) (getD lengths i 0)
 
   -- token j is spelled like a word, which may stand in other bytes
   abbrev pub spells : List ℕ → ℕ → Bool

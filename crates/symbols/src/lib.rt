@@ -9,7 +9,7 @@ ghost use Rattle.express.specs.tokens.Spelling.{spelling};
 ghost use Rattle.index.specs.Bucket.{InRange};
 ghost use Rattle.index.specs.Room.{enough};
 ghost use Rattle.spellings.specs.Hash.{hash-of};
-ghost use Rattle.symbols.specs.Interning.{Along, Lined, Leads, Least, ReadyToEnter, Enters, Fills, ReadyToFill, Interns, FindsSymbol};
+ghost use Rattle.symbols.specs.Interning.{bytes-at, Along, Lined, Leads, Least, ReadyToEnter, Enters, Fills, ReadyToFill, Interns, FindsSymbol};
 use columns::clear32;
 use columns::index;
 use columns::number;
@@ -46,9 +46,10 @@ fn token_bucket(bytes: &[u8], starts: &[u32], lengths: &[u32], i: usize, buckets
     requires { ⌜ (i < length (now starts)) × (i < length (now lengths)) × (0 < buckets) ⌝ }
     ensures { λ r. ⌜ InRange buckets (hash-of (spelling (now (bytes .entry)) (now (starts .entry)) (now (lengths .entry)) i)) r ⌝ }
 {
-    let from = begin(bytes, starts, i);
-    let to = end(bytes, starts, lengths, i);
-    range(spellings::hash(&bytes[from..to]), buckets)
+    range(
+        spellings::hash_at(bytes, index(starts[i]), index(lengths[i])),
+        buckets,
+    )
 }
 
 // Is token k spelled like a word?
@@ -90,28 +91,24 @@ fn along(
     Found::Nothing
 }
 
-// Does a link lead to a token below the limit that is the same as a word, byte by byte? So does the head of a chain for most names.
-fn leads(
-    bytes: &[u8],
-    starts: &[u32],
-    lengths: &[u32],
-    word: &[u8],
-    limit: usize,
-    first: usize,
-) -> bool
-    requires { ⌜ (limit ≤ length (now starts)) × (limit ≤ length (now lengths)) ⌝ }
-    ensures { λ r. ⌜ (r ≡ true → Leads (now (bytes .entry)) (now (starts .entry)) (now (lengths .entry)) (now (word .entry)) limit first) ⌝ }
+// Does a link lead to a token before token i that is surely spelled like it? So does the head of a chain for most names.
+fn leads(bytes: &[u8], starts: &[u32], lengths: &[u32], i: usize, first: usize) -> bool
+    requires { ⌜ (i < length (now starts)) × (i < length (now lengths)) ⌝ }
+    ensures { λ r. ⌜ (r ≡ true → Leads (now (bytes .entry)) (now (starts .entry)) (now (lengths .entry))
+        (bytes-at (now (bytes .entry)) (now (starts .entry)) (now (lengths .entry)) i) i first) ⌝ }
 {
     if first == 0 {
         return false;
     }
-    if limit < first {
+    if i < first {
         return false;
     }
     let k = first - 1;
-    let from = begin(bytes, starts, k);
-    let to = end(bytes, starts, lengths, k);
-    spellings::equal(&bytes[from..to], word)
+    let n = index(lengths[i]);
+    if index(lengths[k]) != n {
+        return false;
+    }
+    spellings::surely_alike(bytes, index(starts[k]), index(starts[i]), n)
 }
 
 // The least identifier that is spelled like identifier i, among those on its bucket's chain; i, where there is none.
@@ -119,14 +116,13 @@ fn least(bytes: &[u8], starts: &[u32], lengths: &[u32], next: &[u32], head: u32,
     requires { ⌜ Lined (now bytes) (now starts) (now lengths) (now next) (i + 1) ⌝ }
     ensures { λ r. ⌜ Least (now (bytes .entry)) (now (starts .entry)) (now (lengths .entry)) (now (next .entry)) head i r ⌝ }
 {
-    let from = begin(bytes, starts, i);
-    let to = end(bytes, starts, lengths, i);
-    let word = &bytes[from..to];
     let first = index(head);
-    if leads(bytes, starts, lengths, word, i, first) {
+    if leads(bytes, starts, lengths, i, first) {
         return first - 1;
     }
-    let found = along(bytes, starts, lengths, next, word, i, first);
+    let from = begin(bytes, starts, i);
+    let to = end(bytes, starts, lengths, i);
+    let found = along(bytes, starts, lengths, next, &bytes[from..to], i, first);
     let Found::At(k) = found else {
         return i;
     };

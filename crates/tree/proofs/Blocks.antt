@@ -1,10 +1,11 @@
 -- A block in which no node passes the test is passed over: the first that passes stands behind it.
 use mathlib.Core.Path.{_≡_, refl, sym, ap, ap₂, _∙_}
+use mathlib.Core.Logic.{⊎-elim}
 use mathlib.Core.Bool.{Bool, true, false, _||_, false≢true}
 use Prim.Native.Nat.{ℕ, zero, suc, _+_, _-_, _≤_, _<_}
 use native.Mathlib.Omega.{arith}
 use Rattle.relations.specs.Select.{span, first-from, any}
-use Rattle.relations.proofs.Select.{untrue, mem-any, mem-span, first-step}
+use Rattle.relations.proofs.Select.{untrue, le-or, mem-any, mem-span, first-is, first-of, first-step}
 use Rattle.tree.specs.Blocks.{Skips}
 
 -- ---- one block: what was found, or is still to come
@@ -59,3 +60,22 @@ module _ (p : ℕ → Bool) (n : ℕ) where
   pub skips-block : {i at : ℕ} (block : ℕ) → Skips p n i at → at + block ≤ n → {b : Bool} → b ≡ any p (span at block) → b ≡ false → Skips p n i (at + block)
   skips-block {i} {at} block S l e f =
       record { is = past at block l (λ j a b. untrue (p j) (λ h. false≢true (sym f ∙ e ∙ mem-any p (span at block) (mem-span at block j a b) h))) ∙ S .is }
+
+  -- ---- the first before an end: it is the first of all, or there is none up to the end
+  pub first-before : (i e : ℕ) {f : ℕ} → f ≡ first-from p i (e - i) → f < e → e ≤ n → f ≡ first-from p i (n - i)
+  first-before i e {f} q l k =
+      let F = first-is p i (e - i) in
+      let a = F .from in
+      q ∙ sym (first-of p n i (first-from p i (e - i)) a (omega (arith, q)) (F .passes (omega (arith, q))) (F .none))
+
+  pub skips-near : (i e : ℕ) {f : ℕ} → f ≡ first-from p i (e - i) → e ≤ f → e ≤ n → Skips p n i f
+  skips-near i e {f} q l k =
+      let F = first-is p i (e - i) in
+      let a = F .from in
+      let u = F .upto in
+      ⊎-elim
+      (λ (b : i ≤ e).
+      let z : f ≡ i + (e - i) = omega (arith, q) in
+      record { is = rw z (past i (e - i) (omega arith) (λ j x y. F .none j x (omega (arith, q)))) })
+      (λ (b : e < i). let z : f ≡ i = omega (arith, q) in record { is = rw z })
+      (le-or i e)

@@ -70,10 +70,28 @@ pub fn low(sizes: &[u32], n: usize) -> usize
     before(sizes, lower(sizes, n))
 }
 
-// So many nodes are looked at together, and passed over where none is of the kind that is looked for: first many, then few.
+// So many nodes are looked at one by one, for the next of a kind is often near. Behind them nodes are looked at together, and passed over where none is
+// of the kind: first many, then few.
+const NEAR: usize = 8;
+
 const MANY: usize = 64;
 
 const FEW: usize = 16;
+
+// The first node of a kind from a node up to an end; where there is none, the end or, past it, the node itself.
+fn next_before(kinds: &[u8], kind: u8, from: usize, end: usize) -> usize
+    requires { ⌜ end ≤ length (now kinds) ⌝ }
+    ensures { λ r. ⌜ r ≡ first-from (λ n. eqb (getD (now (kinds .entry)) n 0) kind) from (end - from) ⌝ }
+{
+    let mut n = from;
+    while n < end {
+        if kinds[n] == kind {
+            return n;
+        }
+        n += 1;
+    }
+    n
+}
 
 // Is one of the block from a node on of a kind? All are looked at, without a jump, which the compiler does at once.
 fn in_block(kinds: &[u8], kind: u8, from: usize, block: usize) -> bool
@@ -113,13 +131,13 @@ fn skip_blocks(kinds: &[u8], kind: u8, from: usize, block: usize) -> usize
 pub fn next_of_kind(kinds: &[u8], kind: u8, from: usize) -> usize
     ensures { λ r. ⌜ r ≡ first-from (λ n. eqb (getD (now (kinds .entry)) n 0) kind) from (length (now (kinds .entry)) - from) ⌝ }
 {
-    let far = skip_blocks(kinds, kind, from, MANY);
-    let mut n = skip_blocks(kinds, kind, far, FEW);
-    while n < kinds.len() {
-        if kinds[n] == kind {
-            return n;
-        }
-        n += 1;
+    let left = columns::saturating_sub(kinds.len(), from);
+    let near = kinds.len() - columns::saturating_sub(left, NEAR);
+    let first = next_before(kinds, kind, from, near);
+    if first < near {
+        return first;
     }
-    n
+    let far = skip_blocks(kinds, kind, first, MANY);
+    let behind = skip_blocks(kinds, kind, far, FEW);
+    next_before(kinds, kind, behind, kinds.len())
 }

@@ -1,20 +1,23 @@
 -- What the stage of expressions finds of each node, and of which nodes it finds nothing.
 use mathlib.Core.Path.{_≡_, refl, sym, ap, ap₂, _∙_}
-use mathlib.Core.Logic.{⊎-elim}
+use mathlib.Core.Logic.{⊎-elim, by-cases}
 use mathlib.Core.Bool.{Bool, true, false, cond, not, _&&_, _||_, false≢true}
 use mathlib.Core.List.{List, [], _∷_}
 use Prim.Native.Nat.{ℕ, _-_, _≤_, _<_, min}
 use native.Mathlib.Omega.{arith}
-use borrow.Author.Tests.{eqb-true, eq-eqb}
+use native.Mathlib.Decide.{ℕ-discrete}
+use borrow.Author.Tests.{eqb-true, eq-eqb, ne-eqb}
+use lib.Dec.{eqb}
 use lib.ListN.{length, getD, set}
 use Rattle.ebnf.specs.Set.{mem, disjoint, subset}
 use Rattle.ebnf.proofs.Sets.{in-more}
-use Rattle.relations.proofs.Select.{or-cases, and-fst, untrue}
+use Rattle.relations.specs.Select.{empty}
+use Rattle.relations.proofs.Select.{or-cases, or-right, and-fst, untrue}
 use Rattle.express.specs.syntax.NodeKind as node
 use Rattle.express.specs.syntax.Grammar.{file}
 use Rattle.express.specs.syntax.Syntax.{Read}
 use Rattle.express.specs.tokens.Scanned.{Scanned}
-use Rattle.express.specs.syntax.Tree.{Table, count, kind, symbol, is, is-declaration, is-scope-member, owner, schema-of, in-constant}
+use Rattle.express.specs.syntax.Tree.{Table, count, kind, symbol, place, is, is-declaration, is-scope-member, owner, schema-of, in-constant}
 use Rattle.express.specs.names.Scope.{Meaning, none, one, several, meaning, inherited, is-use, binding}
 use Rattle.express.specs.names.Scope as scope
 use Rattle.express.specs.names.Fault as express
@@ -22,7 +25,8 @@ use Rattle.express.specs.names.Fault.{expression}
 use Rattle.express.proofs.syntax.KindSets as set
 use Rattle.express.proofs.syntax.Within.{schema-over}
 use Rattle.express.proofs.names.Owned.{declaring, declaring-kind, undeclared, in-schema, in-owner, owner-schema}
-use Rattle.scopes.specs.Entries.{radix}
+use Rattle.scopes.specs.Preparation.{Consistent}
+use Rattle.scopes.specs.Standing.{is-member}
 use Rattle.scopes.specs.Range.{vertex-count, node-of, DeclarationAt}
 use Rattle.scopes.specs.declared.Extent.{Extent}
 use Rattle.scopes.proofs.Ranges.{node-below, node-declares, range-owner, range-end}
@@ -30,10 +34,10 @@ use Rattle.faults.specs.Meaning.{fault-of}
 use Rattle.dependencies.specs.Target.{behind-all}
 use Rattle.dependencies.proofs.Instances.{constant-targets}
 use Rattle.type_names.specs.TypeName.{is-type-name}
-use Rattle.type_names.specs.Pass.{Finds, Skipped, RangeOf, WithinDeclarations}
+use Rattle.type_names.specs.Pass.{Pass, Finds, Skipped, RangeOf, WithinDeclarations}
 use Rattle.type_names.specs.declared.Finding.{Finding}
 use Rattle.type_names.specs.declared.Progress.{Progress}
-use Rattle.type_names.proofs.Passes.{PassingFile, file-starts, file-goes-on, file-ends}
+use Rattle.type_names.proofs.Passes.{passing-skips, entry-ahead, PassingRange, PassingFile, file-starts, file-goes-on, file-ends}
 use Rattle.inheritance.specs.Inheritance.{inherited-code}
 use Rattle.symbol_tables.specs.Entry.{several-code, code, stamp-count, says}
 use Rattle.symbol_tables.specs.Table.{symbol-in}
@@ -45,12 +49,20 @@ use Rattle.meanings.specs.Node.{asks, inherits, ColumnsOf, Standing, NodeFindin
 use Rattle.meanings.specs.declared.Use.{Use}
 use Rattle.meanings.specs.declared.Use.the-variants.{Nothing, Several, Node}
 use Rattle.meanings.proofs.Nearest.{item-sort, inherited-sort}
-use Rattle.meanings.proofs.NodeLaws.{asked, chosen, passed, both-false, unbound}
-use Rattle.uses.specs.Binding.{asks-by, Decodes, inherited-before, uses, FindingAt, RangeAsked, FileAsked, BindsRange, BindsUses}
+use Rattle.meanings.proofs.NodeLaws.{asked, no-member, chosen, passed, both-false, unbound, member-found}
+use Rattle.uses.specs.Binding.{finds-by, Decodes, inherited-before, uses, FindingAt, RangeAsked, FileAsked, BindsRange, BindsUses}
 
 pub or-none : (b : Bool) → b ≡ b || false || false || false
 or-none true = refl
 or-none false = refl
+
+pub and-none : (b : Bool) → false ≡ b && false
+and-none true = refl
+and-none false = refl
+
+pub and-all : (b : Bool) → b ≡ b && true
+and-all true = refl
+and-all false = refl
 
 -- ---- codes
 
@@ -163,6 +175,25 @@ module _ (t : Table) (n : ℕ) where
           let z : is t node.name n ≡ false = named (is t node.name n) (is-use t n) u e in
           sym (unbound t n (λ k. false≢true (sym z ∙ eq-eqb (kind t n) node.name k)) (λ k. false≢true (sym q ∙ eq-eqb (kind t n) node.qualified-item k)))
 
+  -- nor of an attribute or label that is not inherited
+  quiet : is-scope-member t n ≡ true → inherited-before t n ≡ 0 → Skipped (uses t) n
+  unfolding inherited-code
+  quiet m w =
+      let e : code (meaning (inherited t (owner t n) (symbol t n))) ≡ 0 = sym (chosen (inherits t n) _ _ (or-right (is-use t n) (is-scope-member t n) m)) ∙ w in
+      let F = member-found t n {f = nothing} (λ z. no-member t n (λ q. omega (arith, z, q)) (λ q. omega (arith, z, q)) (λ q. omega (arith, z, q)) m)
+      (λ z. no-member t n (λ q. omega (arith, z, q)) (λ q. omega (arith, z, q)) (λ q. omega (arith, z, q)) m)
+      (λ z. no-member t n (λ q. omega (arith, z, q)) (λ q. omega (arith, z, q)) (λ q. omega (arith, z, q)) m) m
+      (none-empty (inherited t (owner t n) (symbol t n)) e) (record { fault-is = refl; binding-is = refl; target-is = refl }) in
+      record { fault-none = sym (F .fault-is); target-none = sym (F .target-is); entry-kept = sym (F .binding-is) ∙ sym w }
+    where
+      nothing : Finding
+      nothing = record { fault = record { number = 0; place = 0 }; binding = 0; target = 0 }
+
+      none-empty : (ks : List ℕ) → code (meaning ks) ≡ 0 → express.fine ≡ cond (not (empty ks)) (express.fault 12 (place t n)) express.fine
+      none-empty [] q = refl
+      none-empty (k ∷ []) q = absurd (omega arith)
+      none-empty (k ∷ l ∷ ks) q = absurd (omega arith)
+
   -- the nodes that ask are of six kinds
   asked-kind :
       (p : ℕ → Bool) → p node.name ≡ true → p node.qualified-item ≡ true → p node.self ≡ true → p node.attribute-name ≡ true → p node.derived-attribute ≡ true → p node.rule ≡ true →
@@ -198,31 +229,82 @@ within t R = record {
 
 -- ---- in the range of a declaration
 
+-- a test that holds of less
+less-found : (x m n : Bool) → x || (m && n) ≡ true → x || m ≡ true
+less-found true m n e = refl
+less-found false true n e = refl
+less-found false false n e = e
+
+not-found : (x m n : Bool) → x || m ≡ true → x || (m && n) ≡ false → (m ≡ true) × (n ≡ false)
+not-found true m n a e = absurd (false≢true (sym e))
+not-found false true n a e = (refl, e)
+not-found false false n a e = absurd (false≢true a)
+
+no-code : (c : ℕ) → not (eqb c 0) ≡ false → c ≡ 0
+no-code c e = by-cases (ℕ-discrete c 0) (λ q. q) (λ q. absurd (false≢true (sym e ∙ ap not (ne-eqb c 0 q))))
+
+-- of a kind and a role: a name in an expression, `type.item` or SELF; and `asks` of meanings
+abbrev reads : ℕ → ℕ → Bool
+reads k r = (eqb k node.name && eqb r node.in-expression) || eqb k node.qualified-item || eqb k node.self
+
+abbrev asks-by : ℕ → ℕ → Bool
+asks-by k r = reads k r || is-member k r
+
 asks-is :
     (kinds roles : List ℕ) (n : ℕ) {k r : ℕ} {b : Bool} → k ≡ getD kinds n 0 → r ≡ getD roles n 0 → b ≡ asks-by k r → (t : Table) → kinds ≡ t .kinds → roles ≡ t .roles → asks t n ≡ b
 asks-is kinds roles n K L B t x y = sym (B ∙ ap₂ asks-by (K ∙ ap (λ (l : List ℕ). getD l n 0) x) (L ∙ ap (λ (l : List ℕ). getD l n 0) y))
 
-module _ {kinds tokens sizes roles symbols starts keys nodes heads next items : List ℕ} {stamp schema k r : ℕ} {b : Bool} (i : ℕ)
-    (K : k ≡ getD kinds (i - 1) 0) (L : r ≡ getD roles (i - 1) 0) (B : b ≡ asks-by k r) where
-  tested : {t : Table} {v : ℕ} → RangeAsked kinds tokens sizes roles symbols starts keys nodes heads next items stamp schema t v → asks t (i - 1) ≡ b
-  tested {t} A = asks-is kinds roles (i - 1) K L B t (A .of-file .columns .kinds-are) (A .roles-are)
+module _ {kinds tokens sizes roles symbols starts keys nodes heads next items : List ℕ} {stamp schema k r : ℕ} {b : Bool} (i c : ℕ)
+    (K : k ≡ getD kinds (i - 1) 0) (L : r ≡ getD roles (i - 1) 0) (B : b ≡ finds-by k r c) where
+  asked-by : {t : Table} {v : ℕ} → RangeAsked kinds tokens sizes roles symbols starts keys nodes heads next items stamp schema t v → asks t (i - 1) ≡ asks-by k r
+  asked-by {t} A = asks-is kinds roles (i - 1) K L refl t (A .of-file .columns .kinds-are) (A .roles-are)
+
+  tested : {t : Table} {v : ℕ} → RangeAsked kinds tokens sizes roles symbols starts keys nodes heads next items stamp schema t v → b ≡ true → asks t (i - 1) ≡ true
+  tested A e = asked-by A ∙ less-found (reads k r) (is-member k r) (not (eqb c 0)) (sym B ∙ e)
 
   pub range-other :
-      {lo hi : ℕ} → b ≡ false → (t : Table) (v : ℕ) → RangeOf t v lo hi → RangeAsked kinds tokens sizes roles symbols starts keys nodes heads next items stamp schema t v →
-      Skipped (uses t) (i - 1)
-  range-other e t v R A = skipped t (i - 1) (tested A ∙ e)
+      {lo hi : ℕ} (bound : List ℕ) → b ≡ false → c ≡ getD bound (i - 1) 0 → (t : Table) (v : ℕ) → RangeOf t v lo hi →
+      RangeAsked kinds tokens sizes roles symbols starts keys nodes heads next items stamp schema t v → getD bound (i - 1) 0 ≡ inherited-before t (i - 1) → Skipped (uses t) (i - 1)
+  range-other bound e C t v R A w = by (asks t (i - 1)) refl
+    where
+      by : (x : Bool) → asks t (i - 1) ≡ x → Skipped (uses t) (i - 1)
+      by false q = skipped t (i - 1) q
+      by true q =
+          let f = not-found (reads k r) (is-member k r) (not (eqb c 0)) (sym (asked-by A) ∙ q) (sym B ∙ e) in
+          let m : is-scope-member t (i - 1) ≡ true =
+          sym (ap₂ is-member (K ∙ ap (λ (l : List ℕ). getD l (i - 1) 0) (A .of-file .columns .kinds-are)) (L ∙ ap (λ (l : List ℕ). getD l (i - 1) 0) (A .roles-are))) ∙ f .0 in
+          quiet t (i - 1) m (sym w ∙ sym C ∙ no-code c (f .1))
 
   pub range-use :
-      {lo hi c : ℕ} {f : Finding} (bound : List ℕ) → lo < i → i ≤ hi → b ≡ true → c ≡ getD bound (i - 1) 0 →
+      {lo hi : ℕ} {f : Finding} (bound : List ℕ) → lo < i → i ≤ hi → b ≡ true → c ≡ getD bound (i - 1) 0 →
       FindingAt kinds tokens sizes symbols starts keys nodes heads next items stamp hi schema c (i - 1) f → (t : Table) (v : ℕ) → RangeOf t v lo hi →
       RangeAsked kinds tokens sizes roles symbols starts keys nodes heads next items stamp schema t v → getD bound (i - 1) 0 ≡ inherited-before t (i - 1) → Finds (uses t) (i - 1) f
   range-use bound low high e C F t v R A w =
       let n = i - 1 in
-      let a : asks t n ≡ true = tested A ∙ e in
+      let a : asks t n ≡ true = tested A e in
       let o : owner t n ≡ node-of t v = range-owner t v n (R .number) (omega (arith, R .from-is)) (omega (arith, R .upto-is)) in
       let l : n < count t = omega (arith, R .upto-is, node-below t v (R .number)) in
       let s : _ ≡ schema-of t n = A .schema-is ∙ ap (schema-of t) (sym o) ∙ owner-schema (A .of-file .read) n l (asked-below t n a) in
       F .is t (A .of-file) l a (R .upto-is ∙ sym o) s (λ h. C ∙ w ∙ chosen (inherits t n) _ _ h) (A .items-room n l) (A .items-are)
+
+-- a node of which nothing is to be found where its entry is as before the pass
+pub range-passes :
+    {Asked : Table → ℕ → Type 0} {pass : Table → Pass} {lo hi i : ℕ} {before so-far : Progress} {bound to bound′ to′ : List ℕ} →
+    PassingRange Asked pass lo hi before bound to i so-far bound′ to′ → lo < i →
+    ((t : Table) (v : ℕ) → RangeOf t v lo hi → Asked t v → getD bound′ (i - 1) 0 ≡ pass t .entry-before (i - 1) → Skipped (pass t) (i - 1)) →
+    PassingRange Asked pass lo hi before bound to (i - 1) so-far bound′ to′
+range-passes {i = i} G more K = record {
+  upto = omega (arith, G .upto);
+  from = λ t v R A. omega arith;
+  bound-long = G .bound-long;
+  to-long = G .to-long;
+  passes = record {
+    is = λ t was v R A P.
+        let Q = G .passes .is t was v R A P in
+        let u : i ≤ node-of t v = omega (arith, R .upto-is, G .upto) in
+        passing-skips Q (omega arith) v (R .number) u (K t v R A (entry-ahead Q (i - 1) (omega arith) (omega (arith, node-below t v (R .number)))));
+  };
+}
 
 -- the columns of a file are as long as its range needs
 pub range-reached :
@@ -236,10 +318,10 @@ range-reached a b t v R A =
 
 -- the schema of a declaration
 declared-in :
-    {t : Table} {kinds tokens sizes symbols starts : List ℕ} → Read file t → ColumnsOf t kinds tokens sizes symbols starts → count t < radix → (u : ℕ) → u < vertex-count t →
+    {t : Table} {kinds tokens sizes symbols starts : List ℕ} → Read file t → ColumnsOf t kinds tokens sizes symbols starts → Consistent t → (u : ℕ) → u < vertex-count t →
     SchemaOf t kinds tokens sizes symbols (schema-of t (node-of t u))
 unfolding mem subset
-declared-in {t} R C few u l =
+declared-in {t} R C fit u l =
     let n = node-of t u in
     let k = in-more (kind t n) set.declaration-kinds set.below-schema refl (declaring-kind (kind t n) (declaring t n (node-declares t u l))) in
     let s = schema-over R n (in-schema R n (node-below t u l) k .0) in
@@ -249,9 +331,10 @@ declared-in {t} R C few u l =
       tokens-are = C .tokens-are;
       sizes-are = C .sizes-are;
       symbols-are = C .symbols-are;
+      tokened = omega (arith, ap length (C .tokens-are), fit .tokens);
       known = s .0 .known;
       a-schema = eq-eqb (kind t (schema-of t n)) node.schema (s .1);
-      held = omega (arith, s .0 .known, few);
+      held = omega (arith, s .0 .known, fit .few);
     }
 
 pub record Asked (kinds tokens sizes roles symbols starts keys nodes heads next bound : List ℕ) (offsets places slots : ℕ) (t : Table) : Type 0 where
@@ -321,7 +404,7 @@ module _ {kinds tokens sizes roles symbols starts keys nodes heads next bound₀
             let l : v - 1 < vertex-count t = omega (arith, w, some) in
             let few : v < stamp-count = omega (arith, w, A .file .stamp-room) in
             let e : y ≡ v = z (omega arith) in
-            let S = declared-in (F .read) (F .columns) (F .prepared .consistent .few) (v - 1) l in
+            let S = declared-in (F .read) (F .columns) (F .prepared .consistent) (v - 1) l in
             rw e at (W .is t (rw (D .schema-is t heads next (F .prepared) l) S) (omega arith) (omega arith) (rw e (G .tabling t A)))
 
     pub uses-end :

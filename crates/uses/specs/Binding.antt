@@ -1,6 +1,6 @@
 -- The names in expressions of a file are bound: stage 4 of N19.
 use mathlib.Core.Path.{_≡_}
-use mathlib.Core.Bool.{Bool, true, false, cond, _&&_, _||_}
+use mathlib.Core.Bool.{Bool, true, false, cond, not, _&&_, _||_}
 use mathlib.Core.List.{List}
 use Prim.Native.Nat.{ℕ, _≤_, _<_}
 use lib.Dec.{eqb}
@@ -30,9 +30,10 @@ use Rattle.meanings.specs.Use.{StandsFor}
 use Rattle.meanings.specs.Node.{asks, inherits, ColumnsOf}
 use Rattle.meanings.specs.declared.Use.{Use}
 
--- `asks` of meanings, of a node of a kind and a role
-abbrev pub asks-by : ℕ → ℕ → Bool
-asks-by kind role = (eqb kind name && eqb role in-expression) || eqb kind qualified-item || eqb kind self || is-member kind role
+-- `asks` of meanings, of a node of a kind and a role, but for an attribute or label that inherits none, of which there is nothing to find (N16); the code
+-- says what the node's symbol inherits
+abbrev pub finds-by : ℕ → ℕ → ℕ → Bool
+finds-by kind role code = (eqb kind name && eqb role in-expression) || eqb kind qualified-item || eqb kind self || (is-member kind role && not (eqb code 0))
 
 -- what a code of inherited attributes or of items stands for, in a file with fewer nodes than there are codes
 pub record Decodes (c : ℕ) (r : Use) : Type 0 where

@@ -1,7 +1,7 @@
 // Replies 10 to 12 of names in expressions, of SELF in a constant and of own names that are inherited too; what each name is
 // bound to, and the graph of the declarations by the constants that they name.
 ghost use mathlib.Core.Path.{_≡_};
-ghost use Rattle.uses.specs.Binding.{asks-by, Decodes, FindingAt, BindsRange, BindsUses};
+ghost use Rattle.uses.specs.Binding.{finds-by, Decodes, FindingAt, BindsRange, BindsUses};
 use columns::index;
 use columns::number;
 use columns::put32;
@@ -16,9 +16,10 @@ use type_names::Finding;
 use type_names::Progress;
 use type_names::store;
 
-// Is it a name in an expression, `type.item`, SELF, an attribute or a label?
-fn asks(kind: u8, role: u32) -> bool
-    ensures { λ r. ⌜ r ≡ asks-by kind role ⌝ }
+// Is there something to find of a node: a name in an expression, `type.item`, SELF, or an attribute or label that is inherited too, as its
+// code says? Most other nodes have the code 0.
+fn has_finding(kind: u8, role: u32, code: u32) -> bool
+    ensures { λ r. ⌜ r ≡ finds-by kind role code ⌝ }
 {
     if kind == codes::nodes::NAME {
         return role == codes::roles::IN_EXPRESSION;
@@ -29,7 +30,10 @@ fn asks(kind: u8, role: u32) -> bool
     if kind == codes::nodes::SELF_REFERENCE {
         return true;
     }
-    scopes::is_scope_member(kind, role)
+    if code != 0 {
+        return scopes::is_scope_member(kind, role);
+    }
+    false
 }
 
 // What is inherited, or meant among the items of a schema, from its code.
@@ -118,8 +122,8 @@ fn bind_range(
     let mut i = shorter(hi, shorter(kinds.len(), roles.len()));
     while lo < i {
         i -= 1;
-        if asks(kinds[i], roles[i] as u32) {
-            let code = at(bound, i);
+        let code = at(bound, i);
+        if has_finding(kinds[i], roles[i] as u32, code) {
             let found = finding_at(
                 kinds,
                 tokens,

@@ -53,7 +53,7 @@ fn locked(folder: &Path) -> io::Result<File> {
 fn prove(root: &Path, name: &str) -> Result<(), String> {
     let run = Command::new("rt").args(["staticlib", name]).current_dir(root).output();
     let output = run.map_err(|error| match error.kind() {
-        io::ErrorKind::NotFound => "the tests of the proved functions need `rt` on the PATH".to_string(),
+        io::ErrorKind::NotFound => "the proved functions are built by `rt`, which is not on the PATH".to_string(),
         _ => format!("rt: {error}"),
     })?;
     if output.status.success() {

@@ -1,40 +1,42 @@
 //! Times the public call against the reference on generated files, side by side in one run, in nanoseconds for each byte.
 //!
-//! Both are lent tables of one row more than needed; the proved call clears what it does not fill, the reference allocates its rows.
+//! Both are lent tables of one row more than needed, which are filled anew before each run, outside of its time: the proved call clears
+//! what it does not fill, and the reference allocates its rows. An argument is the first seed.
 
-use compare::random::{needed, well_typed, LARGEST};
-use product::{Lengths, Tables};
-use reference::Checked;
+use compare::random::{needed, LARGEST};
+use compare::timing::{files_near, timed};
+use product::{by_reference, check, Lengths, Tables};
 use std::hint::black_box;
-use std::time::Instant;
 
 const RUNS: usize = 200;
-const FILES: usize = 6;
+const FILES: usize = 12;
 
-fn by_reference(src: &[u8], [tokens, nodes, answers]: [usize; 3]) -> Checked {
-    reference::check(src, tokens, nodes, answers)
-}
-
-fn timed<T>(run: &mut impl FnMut() -> T) -> f64 {
-    let start = Instant::now();
-    black_box(run());
-    start.elapsed().as_secs_f64() * 1e9
+/// The best times of both on a file, for which they leave the same.
+fn times(file: &[u8]) -> [f64; 2] {
+    let rows = needed(file, &by_reference).map(|rows| rows + 1);
+    assert_eq!(check(file, rows), by_reference(file, rows));
+    let lent = Tables::new(Lengths::even(rows), 1);
+    let mut best = [f64::INFINITY; 2];
+    for _ in 0..RUNS {
+        let mut tables = lent.clone();
+        let proved = timed(&mut || tables.check(black_box(file)));
+        let reference = timed(&mut || by_reference(black_box(file), rows));
+        best = [best[0].min(proved), best[1].min(reference)];
+    }
+    best
 }
 
 fn main() {
+    let first_seed = std::env::args().nth(1).map_or(0, |seed| seed.parse().expect("a seed"));
     println!("   bytes    proved  reference   ratio");
     for size in [1_024, 16_384, LARGEST] {
-        let sized = |file: &Vec<u8>| (size / 4 * 3..=size / 4 * 5).contains(&file.len());
-        for file in (0..).map(|seed| well_typed(seed, size)).filter(sized).take(FILES) {
-            let rows = needed(&file, &by_reference).map(|rows| rows + 1);
-            let mut tables = Tables::new(Lengths::even(rows), 1);
-            let (mut proved, mut reference) = (f64::INFINITY, f64::INFINITY);
-            for _ in 0..RUNS {
-                proved = proved.min(timed(&mut || tables.check(black_box(&file))));
-                reference = reference.min(timed(&mut || by_reference(black_box(&file), rows)));
-            }
-            let [proved, reference] = [proved, reference].map(|time| time / file.len() as f64);
+        let mut ratios = Vec::new();
+        for file in files_near(size, first_seed).take(FILES) {
+            let [proved, reference] = times(&file).map(|time| time / file.len() as f64);
             println!("{:8}{proved:10.3}{reference:11.3}{:8.2}", file.len(), proved / reference);
+            ratios.push(proved / reference);
         }
+        ratios.sort_by(f64::total_cmp);
+        println!("near {size}: {:.2} to {:.2}, in the middle {:.2}", ratios[0], ratios[FILES - 1], ratios[FILES / 2]);
     }
 }

@@ -1,6 +1,22 @@
-//! The public call from Rust, each lent column with entries before and behind it that must stay.
+//! The public calls from Rust, each lent column with entries before and behind it that must stay.
+
+mod stack;
+
+pub use stack::stack_of;
 
 use reference::{AnswerRow, Checked, NodeRow, Report, TokenRow};
+use std::fmt::Debug;
+// Brings the archive along; its own way to the call is not used here.
+use woffulent as _;
+
+/// An answer as the call with records lends it (R11): the fields in this order, each at the alignment that C gives it.
+#[repr(C)]
+#[derive(Clone, Copy, Debug, Default, PartialEq, Eq)]
+pub struct Answer {
+    pub kind: u8,
+    pub number: i64,
+    pub length: u8,
+}
 
 extern "C" {
     fn woffulent_check(
@@ -31,6 +47,78 @@ extern "C" {
         nodes: &mut u32,
         constants: &mut u32,
     ) -> u8;
+
+    fn woffulent_check_records(
+        src: *const u8,
+        src_length: usize,
+        token_kinds: *mut u8,
+        token_kinds_length: usize,
+        token_starts: *mut u32,
+        token_starts_length: usize,
+        token_lengths: *mut u32,
+        token_lengths_length: usize,
+        node_kinds: *mut u8,
+        node_kinds_length: usize,
+        node_tokens: *mut u32,
+        node_tokens_length: usize,
+        node_sizes: *mut u32,
+        node_sizes_length: usize,
+        node_bindings: *mut u32,
+        node_bindings_length: usize,
+        records: *mut Answer,
+        records_length: usize,
+        number: &mut u32,
+        tokens: &mut u32,
+        nodes: &mut u32,
+        constants: &mut u32,
+    ) -> u8;
+}
+
+/// Calls one of the two with columns lent; the places beside the reply hold no report before.
+macro_rules! call {
+    ($function:ident, $src:expr, $($column:expr),*) => {{
+        let mut counts = [u32::MAX; 4];
+        let [number, tokens, nodes, constants] = &mut counts;
+        // SAFETY: each column is lent with its own length, and no two overlap.
+        let reply = unsafe {
+            $function($src.as_ptr(), $src.len(), $($column.lent(), $column.length,)* number, tokens, nodes, constants)
+        };
+        let [number, tokens, nodes, constants] = counts;
+        Report { reply: reply.into(), number: number.into(), tokens, nodes, constants }
+    }};
+}
+
+/// What columns hold before a call, by a seed and an entry.
+trait Pattern: Copy + PartialEq + Debug + Default {
+    fn from_bits(bits: u64) -> Self;
+
+    fn at(seed: u64, i: usize) -> Self {
+        Self::from_bits((seed ^ i as u64).wrapping_mul(0x9e37_79b9_7f4a_7c15) >> 7)
+    }
+}
+
+impl Pattern for u8 {
+    fn from_bits(bits: u64) -> Self {
+        bits as u8
+    }
+}
+
+impl Pattern for u32 {
+    fn from_bits(bits: u64) -> Self {
+        bits as u32
+    }
+}
+
+impl Pattern for i64 {
+    fn from_bits(bits: u64) -> Self {
+        bits as i64
+    }
+}
+
+impl Pattern for Answer {
+    fn from_bits(bits: u64) -> Self {
+        Answer { kind: bits as u8, number: bits as i64, length: (bits >> 8) as u8 }
+    }
 }
 
 /// Entries before and behind a column.
@@ -41,11 +129,12 @@ const GUARD: usize = 8;
 struct Column<T> {
     entries: Vec<T>,
     length: usize,
+    seed: u64,
 }
 
-impl<T: Copy + PartialEq + std::fmt::Debug> Column<T> {
-    fn new(length: usize, pattern: impl Fn(usize) -> T) -> Self {
-        Column { entries: (0..length + 2 * GUARD).map(pattern).collect(), length }
+impl<T: Pattern> Column<T> {
+    fn new(length: usize, seed: u64) -> Self {
+        Column { entries: (0..length + 2 * GUARD).map(|i| T::at(seed, i)).collect(), length, seed }
     }
 
     fn lent(&mut self) -> *mut T {
@@ -53,10 +142,12 @@ impl<T: Copy + PartialEq + std::fmt::Debug> Column<T> {
     }
 
     /// What it holds, where the entries around it are the pattern still.
-    fn held(&self, pattern: impl Fn(usize) -> T) -> &[T] {
+    fn held(&self) -> Vec<T> {
         let outside = (0..GUARD).chain(GUARD + self.length..self.length + 2 * GUARD);
-        outside.for_each(|i| assert_eq!(self.entries[i], pattern(i), "entry {i} of {} around a column", self.length));
-        &self.entries[GUARD..GUARD + self.length]
+        outside.for_each(|i| {
+            assert_eq!(self.entries[i], T::at(self.seed, i), "entry {i} of {} around a column", self.length)
+        });
+        self.entries[GUARD..GUARD + self.length].to_vec()
     }
 }
 
@@ -80,10 +171,9 @@ impl Lengths {
     }
 }
 
-/// What a call leaves: the report, and each column as long as it was lent.
+/// The columns of tokens and of nodes, each as long as it was lent.
 #[derive(Clone, Debug, PartialEq, Eq)]
-pub struct Columns {
-    pub report: Report,
+pub struct Tree {
     pub token_kinds: Vec<u8>,
     pub token_starts: Vec<u32>,
     pub token_lengths: Vec<u32>,
@@ -91,20 +181,60 @@ pub struct Columns {
     pub node_tokens: Vec<u32>,
     pub node_sizes: Vec<u32>,
     pub node_bindings: Vec<u32>,
+}
+
+impl Tree {
+    /// What a result of the reference stands for.
+    fn of(Checked { tokens, nodes, .. }: &Checked, t: [usize; 3], n: [usize; 4]) -> Self {
+        Tree {
+            token_kinds: behind(tokens.iter().map(|row| row.kind), t[0]),
+            token_starts: behind(tokens.iter().map(|row| row.start), t[1]),
+            token_lengths: behind(tokens.iter().map(|row| row.length), t[2]),
+            node_kinds: behind(nodes.iter().map(|row| row.kind), n[0]),
+            node_tokens: behind(nodes.iter().map(|row| row.token), n[1]),
+            node_sizes: behind(nodes.iter().map(|row| row.size), n[2]),
+            node_bindings: behind(nodes.iter().map(|row| row.binding), n[3]),
+        }
+    }
+
+    fn tokens(&self) -> Vec<TokenRow> {
+        let row =
+            |i| TokenRow { kind: self.token_kinds[i], start: self.token_starts[i], length: self.token_lengths[i] };
+        (0..self.token_kinds.len()).map(row).collect()
+    }
+
+    fn nodes(&self) -> Vec<NodeRow> {
+        let row = |i: usize| NodeRow {
+            kind: self.node_kinds[i],
+            token: self.node_tokens[i],
+            size: self.node_sizes[i],
+            binding: self.node_bindings[i],
+        };
+        (0..self.node_kinds.len()).map(row).collect()
+    }
+}
+
+/// What the call leaves: the report, and each column.
+#[derive(Clone, Debug, PartialEq, Eq)]
+pub struct Columns {
+    pub report: Report,
+    pub tree: Tree,
     pub answer_kinds: Vec<u8>,
     pub answer_numbers: Vec<i64>,
     pub answer_lengths: Vec<u8>,
 }
 
-/// What columns hold before a call, by a seed and an entry.
-fn mixed(seed: u64, i: usize) -> u64 {
-    (seed ^ i as u64).wrapping_mul(0x9e37_79b9_7f4a_7c15) >> 7
+/// What the call with records leaves.
+#[derive(Clone, Debug, PartialEq, Eq)]
+pub struct Recorded {
+    pub report: Report,
+    pub tree: Tree,
+    pub records: Vec<Answer>,
 }
 
-/// Ten columns to lend, with a pattern in and around them.
+/// Columns of tokens and nodes to lend, with a pattern in and around them.
 #[derive(Clone, Debug)]
-pub struct Tables {
-    seed: u64,
+struct TreeTables {
     token_kinds: Column<u8>,
     token_starts: Column<u32>,
     token_lengths: Column<u32>,
@@ -112,6 +242,38 @@ pub struct Tables {
     node_tokens: Column<u32>,
     node_sizes: Column<u32>,
     node_bindings: Column<u32>,
+}
+
+impl TreeTables {
+    fn new(tokens: [usize; 3], nodes: [usize; 4], seed: u64) -> Self {
+        TreeTables {
+            token_kinds: Column::new(tokens[0], seed),
+            token_starts: Column::new(tokens[1], seed),
+            token_lengths: Column::new(tokens[2], seed),
+            node_kinds: Column::new(nodes[0], seed),
+            node_tokens: Column::new(nodes[1], seed),
+            node_sizes: Column::new(nodes[2], seed),
+            node_bindings: Column::new(nodes[3], seed),
+        }
+    }
+
+    fn held(&self) -> Tree {
+        Tree {
+            token_kinds: self.token_kinds.held(),
+            token_starts: self.token_starts.held(),
+            token_lengths: self.token_lengths.held(),
+            node_kinds: self.node_kinds.held(),
+            node_tokens: self.node_tokens.held(),
+            node_sizes: self.node_sizes.held(),
+            node_bindings: self.node_bindings.held(),
+        }
+    }
+}
+
+/// Ten columns to lend.
+#[derive(Clone, Debug)]
+pub struct Tables {
+    tree: TreeTables,
     answer_kinds: Column<u8>,
     answer_numbers: Column<i64>,
     answer_lengths: Column<u8>,
@@ -119,77 +281,61 @@ pub struct Tables {
 
 impl Tables {
     pub fn new(Lengths { tokens, nodes, answers }: Lengths, seed: u64) -> Self {
-        let (byte, word) = (|i: usize| mixed(seed, i) as u8, |i: usize| mixed(seed, i) as u32);
         Tables {
-            seed,
-            token_kinds: Column::new(tokens[0], byte),
-            token_starts: Column::new(tokens[1], word),
-            token_lengths: Column::new(tokens[2], word),
-            node_kinds: Column::new(nodes[0], byte),
-            node_tokens: Column::new(nodes[1], word),
-            node_sizes: Column::new(nodes[2], word),
-            node_bindings: Column::new(nodes[3], word),
-            answer_kinds: Column::new(answers[0], byte),
-            answer_numbers: Column::new(answers[1], |i: usize| mixed(seed, i) as i64),
-            answer_lengths: Column::new(answers[2], byte),
+            tree: TreeTables::new(tokens, nodes, seed),
+            answer_kinds: Column::new(answers[0], seed),
+            answer_numbers: Column::new(answers[1], seed),
+            answer_lengths: Column::new(answers[2], seed),
         }
     }
 
     /// Checks a file with these columns lent.
     pub fn check(&mut self, src: &[u8]) -> Report {
-        let mut counts = [u32::MAX; 4];
-        let [number, tokens, nodes, constants] = &mut counts;
-        // SAFETY: each column is lent with its own length, and no two overlap.
-        let reply = unsafe {
-            woffulent_check(
-                src.as_ptr(),
-                src.len(),
-                self.token_kinds.lent(),
-                self.token_kinds.length,
-                self.token_starts.lent(),
-                self.token_starts.length,
-                self.token_lengths.lent(),
-                self.token_lengths.length,
-                self.node_kinds.lent(),
-                self.node_kinds.length,
-                self.node_tokens.lent(),
-                self.node_tokens.length,
-                self.node_sizes.lent(),
-                self.node_sizes.length,
-                self.node_bindings.lent(),
-                self.node_bindings.length,
-                self.answer_kinds.lent(),
-                self.answer_kinds.length,
-                self.answer_numbers.lent(),
-                self.answer_numbers.length,
-                self.answer_lengths.lent(),
-                self.answer_lengths.length,
-                number,
-                tokens,
-                nodes,
-                constants,
-            )
-        };
-        let [number, tokens, nodes, constants] = counts;
-        Report { reply: reply.into(), number: number.into(), tokens, nodes, constants }
+        let tree = &mut self.tree;
+        call!(
+            woffulent_check,
+            src,
+            tree.token_kinds,
+            tree.token_starts,
+            tree.token_lengths,
+            tree.node_kinds,
+            tree.node_tokens,
+            tree.node_sizes,
+            tree.node_bindings,
+            self.answer_kinds,
+            self.answer_numbers,
+            self.answer_lengths
+        )
+    }
+}
+
+/// Seven columns and a slice of records to lend.
+#[derive(Clone, Debug)]
+pub struct RecordTables {
+    tree: TreeTables,
+    records: Column<Answer>,
+}
+
+impl RecordTables {
+    pub fn new([tokens, nodes, records]: [usize; 3], seed: u64) -> Self {
+        RecordTables { tree: TreeTables::new([tokens; 3], [nodes; 4], seed), records: Column::new(records, seed) }
     }
 
-    /// What the columns hold, where nothing around them has changed.
-    fn columns(&self, report: Report) -> Columns {
-        let (byte, word) = (|i: usize| mixed(self.seed, i) as u8, |i: usize| mixed(self.seed, i) as u32);
-        Columns {
-            report,
-            token_kinds: self.token_kinds.held(byte).to_vec(),
-            token_starts: self.token_starts.held(word).to_vec(),
-            token_lengths: self.token_lengths.held(word).to_vec(),
-            node_kinds: self.node_kinds.held(byte).to_vec(),
-            node_tokens: self.node_tokens.held(word).to_vec(),
-            node_sizes: self.node_sizes.held(word).to_vec(),
-            node_bindings: self.node_bindings.held(word).to_vec(),
-            answer_kinds: self.answer_kinds.held(byte).to_vec(),
-            answer_numbers: self.answer_numbers.held(|i: usize| mixed(self.seed, i) as i64).to_vec(),
-            answer_lengths: self.answer_lengths.held(byte).to_vec(),
-        }
+    /// Checks a file with these lent.
+    pub fn check(&mut self, src: &[u8]) -> Report {
+        let tree = &mut self.tree;
+        call!(
+            woffulent_check_records,
+            src,
+            tree.token_kinds,
+            tree.token_starts,
+            tree.token_lengths,
+            tree.node_kinds,
+            tree.node_tokens,
+            tree.node_sizes,
+            tree.node_bindings,
+            self.records
+        )
     }
 }
 
@@ -197,7 +343,20 @@ impl Tables {
 pub fn check_columns(src: &[u8], lengths: Lengths, seed: u64) -> Columns {
     let mut tables = Tables::new(lengths, seed);
     let report = tables.check(src);
-    tables.columns(report)
+    Columns {
+        report,
+        tree: tables.tree.held(),
+        answer_kinds: tables.answer_kinds.held(),
+        answer_numbers: tables.answer_numbers.held(),
+        answer_lengths: tables.answer_lengths.held(),
+    }
+}
+
+/// The same with tables of so many rows and records.
+pub fn record_columns(src: &[u8], rows: [usize; 3], seed: u64) -> Recorded {
+    let mut tables = RecordTables::new(rows, seed);
+    let report = tables.check(src);
+    Recorded { report, tree: tables.tree.held(), records: tables.records.held() }
 }
 
 /// Entries of a column behind the rows of its table.
@@ -206,48 +365,43 @@ fn behind<T: Copy + Default>(rows: impl Iterator<Item = T>, length: usize) -> Ve
 }
 
 /// The columns that a result of the reference stands for, each as long as it was lent.
-pub fn columns_of(checked: &Checked, lengths: Lengths) -> Columns {
-    let Checked { report, tokens, nodes, answers } = checked;
-    let Lengths { tokens: t, nodes: n, answers: a } = lengths;
+pub fn columns_of(checked: &Checked, Lengths { tokens, nodes, answers }: Lengths) -> Columns {
     Columns {
-        report: *report,
-        token_kinds: behind(tokens.iter().map(|row| row.kind), t[0]),
-        token_starts: behind(tokens.iter().map(|row| row.start), t[1]),
-        token_lengths: behind(tokens.iter().map(|row| row.length), t[2]),
-        node_kinds: behind(nodes.iter().map(|row| row.kind), n[0]),
-        node_tokens: behind(nodes.iter().map(|row| row.token), n[1]),
-        node_sizes: behind(nodes.iter().map(|row| row.size), n[2]),
-        node_bindings: behind(nodes.iter().map(|row| row.binding), n[3]),
-        answer_kinds: behind(answers.iter().map(|row| row.kind), a[0]),
-        answer_numbers: behind(answers.iter().map(|row| row.number), a[1]),
-        answer_lengths: behind(answers.iter().map(|row| row.length as u8), a[2]),
+        report: checked.report,
+        tree: Tree::of(checked, tokens, nodes),
+        answer_kinds: behind(checked.answers.iter().map(|row| row.kind), answers[0]),
+        answer_numbers: behind(checked.answers.iter().map(|row| row.number), answers[1]),
+        answer_lengths: behind(checked.answers.iter().map(|row| row.length as u8), answers[2]),
     }
+}
+
+/// The same with records.
+pub fn recorded(checked: &Checked, [tokens, nodes, records]: [usize; 3]) -> Recorded {
+    let answer = |row: &AnswerRow| Answer { kind: row.kind, number: row.number, length: row.length as u8 };
+    Recorded {
+        report: checked.report,
+        tree: Tree::of(checked, [tokens; 3], [nodes; 4]),
+        records: behind(checked.answers.iter().map(answer), records),
+    }
+}
+
+/// The reference's check with tables of so many rows.
+pub fn by_reference(src: &[u8], [tokens, nodes, answers]: [usize; 3]) -> Checked {
+    reference::check(src, tokens, nodes, answers)
 }
 
 /// Checks a file with tables of so many rows, as the reference does.
 pub fn check(src: &[u8], rows: [usize; 3]) -> Checked {
-    let columns = check_columns(src, Lengths::even(rows), src.len() as u64);
-    let [tokens, nodes, answers] = rows;
-    let token = |i: usize| TokenRow {
-        kind: columns.token_kinds[i],
-        start: columns.token_starts[i],
-        length: columns.token_lengths[i],
-    };
-    let node = |i: usize| NodeRow {
-        kind: columns.node_kinds[i],
-        token: columns.node_tokens[i],
-        size: columns.node_sizes[i],
-        binding: columns.node_bindings[i],
-    };
-    let answer = |i: usize| AnswerRow {
-        kind: columns.answer_kinds[i],
-        number: columns.answer_numbers[i],
-        length: columns.answer_lengths[i].into(),
-    };
-    Checked {
-        report: columns.report,
-        tokens: (0..tokens).map(token).collect(),
-        nodes: (0..nodes).map(node).collect(),
-        answers: (0..answers).map(answer).collect(),
-    }
+    let Columns { report, tree, answer_kinds, answer_numbers, answer_lengths } =
+        check_columns(src, Lengths::even(rows), src.len() as u64);
+    let answer =
+        |i: usize| AnswerRow { kind: answer_kinds[i], number: answer_numbers[i], length: answer_lengths[i].into() };
+    Checked { report, tokens: tree.tokens(), nodes: tree.nodes(), answers: (0..rows[2]).map(answer).collect() }
+}
+
+/// The same by the call with records.
+pub fn check_records(src: &[u8], rows: [usize; 3]) -> Checked {
+    let Recorded { report, tree, records } = record_columns(src, rows, src.len() as u64);
+    let answer = |Answer { kind, number, length }| AnswerRow { kind, number, length: length.into() };
+    Checked { report, tokens: tree.tokens(), nodes: tree.nodes(), answers: records.into_iter().map(answer).collect() }
 }

@@ -2,8 +2,7 @@
 
 use compare::cases;
 use compare::random::{self, compare, needed};
-use product::{check, check_columns, columns_of, Lengths};
-use reference::Checked;
+use product::{by_reference, check, check_columns, columns_of, Lengths};
 
 const FILES: u64 = 200_000;
 /// How often each reply must occur at least.
@@ -12,10 +11,6 @@ const FLOOR: u64 = 20;
 const LENGTHS: usize = 200;
 /// Tables of every length take the square of a file's size.
 const LARGEST: usize = 600;
-
-fn by_reference(src: &[u8], [tokens, nodes, answers]: [usize; 3]) -> Checked {
-    reference::check(src, tokens, nodes, answers)
-}
 
 #[test]
 fn random_files_are_checked_as_the_reference_does() {
@@ -67,16 +62,4 @@ fn columns_of_every_length_hold_what_the_reference_s_do() {
     }
     println!("{calls} calls");
     assert!(calls > 50_000);
-}
-
-/// Room on the stack for any file: less than 1.5 MiB, and what Rust itself needs.
-#[test]
-fn a_small_stack_is_enough() {
-    let deep =
-        [b"SCHEMA s;CONSTANT c:INTEGER:=".as_slice(), &b"1+".repeat(32_700), b"1;END_CONSTANT;END_SCHEMA;"].concat();
-    let run = std::thread::Builder::new().stack_size(3 << 19).spawn(move || {
-        let rows = [66_000; 3];
-        assert_eq!(check(&deep, rows), by_reference(&deep, rows));
-    });
-    run.expect("a thread").join().expect("no overflow");
 }

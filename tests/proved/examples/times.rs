@@ -3,7 +3,9 @@
 //! Columns are lent as long as needed and are not cleared between runs: the proved functions write over what they hold.
 //! The reference allocates its rows anew in each run, which is part of its time.
 
+use compare::hostile::{families, filled, Family};
 use compare::random::{well_typed, Rng, LARGEST};
+use compare::timing::{best_of, files_near};
 use proved::{codes, declared_types, evaluate_constants, intern, parse, resolve, scan, terminals, type_constants};
 use proved::{NameColumns, Nodes, Rows, Text};
 use reference::outline::Outline;
@@ -11,48 +13,37 @@ use reference::terminals::classify;
 use reference::{evaluation, kinds, names, parser};
 use reference::{symbols, tokens, AnswerRow, File, TokenRow, MAX_BYTES};
 use std::hint::black_box;
-use std::time::Instant;
 
 const RUNS: usize = 400;
 /// Of the chains that interning keeps: as many as lent for the largest files.
 const BUCKETS: usize = 16_384;
 
-/// The best of many runs each, in nanoseconds; the two take turns, so that what else the machine does falls on both.
-fn best<A, B>(mut first: impl FnMut() -> A, mut second: impl FnMut() -> B) -> [f64; 2] {
-    let mut best = [f64::INFINITY; 2];
-    for _ in 0..RUNS {
-        best = [best[0].min(timed(&mut first)), best[1].min(timed(&mut second))];
-    }
-    best
+/// The best of many runs each, in nanoseconds.
+fn best<A, B>(first: impl FnMut() -> A, second: impl FnMut() -> B) -> [f64; 2] {
+    best_of(RUNS, first, second)
 }
 
-fn timed<T>(run: &mut impl FnMut() -> T) -> f64 {
-    let start = Instant::now();
-    black_box(run());
-    start.elapsed().as_secs_f64() * 1e9
-}
-
-/// A file of the largest size of one byte between a head and a foot.
-fn filled(head: &str, byte: &str, foot: &str) -> Vec<u8> {
-    (head.to_string() + &byte.repeat((MAX_BYTES - head.len() - foot.len()) / byte.len()) + foot).into_bytes()
+/// A file of the largest size of one byte, or a few, between a head and a foot.
+fn uniform(head: &str, bytes: &str, foot: &str) -> Vec<u8> {
+    filled(MAX_BYTES, [head, foot], |_| bytes.to_string())
 }
 
 fn files() -> Vec<(String, Vec<u8>)> {
     let large = |seed| (format!("well typed, seed {seed}"), well_typed(seed, LARGEST));
     let generated = (0..).map(large).filter(|(_, file)| file.len() > LARGEST / 4 * 3).take(6);
-    let uniform = [
-        ("parentheses", filled("", "(", "")),
-        ("one remark", filled("(*", "x", "*)")),
-        ("one tail remark", filled("--", "x", "")),
-        ("one word", filled("", "x", "")),
-        ("one string", filled("'", "x", "'")),
-        ("one integer of zeros", filled("", "0", "")),
-        ("spaces", filled("", " ", "")),
-        ("short words", filled("", "ab ", "")),
-        ("short integers", filled("", "12 ", "")),
-        ("assignments", filled("", ":=", "")),
+    let of_one_sort = [
+        ("parentheses", uniform("", "(", "")),
+        ("one remark", uniform("(*", "x", "*)")),
+        ("one tail remark", uniform("--", "x", "")),
+        ("one word", uniform("", "x", "")),
+        ("one string", uniform("'", "x", "'")),
+        ("one integer of zeros", uniform("", "0", "")),
+        ("spaces", uniform("", " ", "")),
+        ("short words", uniform("", "ab ", "")),
+        ("short integers", uniform("", "12 ", "")),
+        ("assignments", uniform("", ":=", "")),
     ];
-    generated.chain(uniform.map(|(name, file)| (name.to_string(), file))).collect()
+    generated.chain(of_one_sort.map(|(name, file)| (name.to_string(), file))).collect()
 }
 
 /// What is timed of a file: the two ways to do one thing.
@@ -146,13 +137,12 @@ fn print_kinds() {
     println!("   bytes  declared    typing   answers |   outline     check   answers |   ratio  with outline");
     let [clock, _] = best(|| (), || ());
     for size in [1_024, 16_384, LARGEST] {
-        let sized = |file: &Vec<u8>| (size / 4 * 3..=size / 4 * 5).contains(&file.len());
-        for file in (0..).map(|seed| well_typed(seed, size)).filter(sized).take(6) {
+        for file in files_near(size, 0).take(6) {
             print_kinds_of(&file, clock);
         }
     }
     let schema = |i: usize| format!("SCHEMA s{i};CONSTANT c:INTEGER:={i};END_CONSTANT;END_SCHEMA;");
-    print_kinds_of(&pieces("", schema, ""), clock);
+    print_kinds_of(&filled(LARGEST, ["", ""], schema), clock);
 }
 
 /// Each call is timed by itself, and the clock's own time taken off.
@@ -230,8 +220,7 @@ fn print_names() {
     println!("\nnames, nanoseconds for each byte");
     println!("   bytes    proved | reference  with outline |   ratio  with outline");
     for size in [1_024, 16_384, LARGEST] {
-        let sized = |file: &Vec<u8>| (size / 4 * 3..=size / 4 * 5).contains(&file.len());
-        for file in (0..).map(|seed| well_typed(seed, size)).filter(sized).take(6) {
+        for file in files_near(size, 0).take(6) {
             let [proved, bound, whole] = names_of(&file).map(|time| time / file.len() as f64);
             println!(
                 "{:8}{proved:10.3} |{bound:10.3}{whole:14.3} |{:8.2}{:14.2}",
@@ -243,55 +232,43 @@ fn print_names() {
     }
 }
 
-/// Files of the largest size that are bad for names, in microseconds.
+/// Files of the largest size that are built to take long, as far as they are parsed, in microseconds.
 fn print_hostile_names() {
-    println!("\nnames of files built to be bad, microseconds\n{:44}{:>10}{:>12}", "", "proved", "reference");
-    for (name, text) in hostile() {
-        let [proved, _, reference] = names_of(&text).map(|time| time / 1e3);
-        println!("{name:44}{proved:10.0}{reference:12.0}");
-    }
-}
-
-/// As many pieces between a head and a foot as a file holds.
-fn pieces(head: &str, piece: impl Fn(usize) -> String, foot: &str) -> Vec<u8> {
-    let mut text = head.to_string();
-    for i in 0.. {
-        let more = piece(i);
-        if text.len() + more.len() + foot.len() > LARGEST {
-            break;
+    println!("\nnames of files built to take long, microseconds\n{:44}{:>10}{:>12}", "", "proved", "reference");
+    for Family { name, file } in families() {
+        let file = file(LARGEST);
+        if reference::check(&file, MAX_BYTES, MAX_BYTES, MAX_BYTES).report.reply != 4 {
+            let [proved, _, reference] = names_of(&file).map(|time| time / 1e3);
+            println!("{name:44}{proved:10.0}{reference:12.0}");
         }
-        text += &more;
     }
-    (text + foot).into_bytes()
 }
 
-fn hostile() -> Vec<(&'static str, Vec<u8>)> {
-    let above = |i: usize| if i == 0 { String::new() } else { format!("SUBTYPE OF(e{})", i - 1) };
-    let chain = |i: usize| format!("ENTITY e{i} {};a:REAL;END_ENTITY;", above(i));
-    let distinct = |i: usize| format!("ENTITY e{i} {};a{i}:REAL;WHERE a0>a{i};END_ENTITY;", above(i));
-    let half: String = (0..700).map(|i| format!("ENTITY e{i} {};a{i}:REAL;END_ENTITY;", above(i))).collect();
-    let wide = format!("SCHEMA s;{half}ENTITY z SUBTYPE OF(e699);");
-    let count = (LARGEST - 40) / 12;
-    let constant = |i: usize| format!("c{i}:REAL:=c{};", (i + 1) % count);
-    vec![
-        ("a chain of entities, attributes of one name", pieces("SCHEMA s;", chain, "END_SCHEMA;")),
-        ("a chain of entities, each with a rule", pieces("SCHEMA s;", distinct, "END_SCHEMA;")),
-        ("a chain, and many attributes below it", pieces(&wide, |i| format!("b{i}:REAL;"), "END_ENTITY;END_SCHEMA;")),
-        ("constants in one chain", pieces("SCHEMA s;CONSTANT ", constant, "END_CONSTANT;END_SCHEMA;")),
-        ("renamings in one chain", pieces("SCHEMA s;", |i| format!("TYPE t{i}=t{};END_TYPE;", i + 1), "END_SCHEMA;")),
-        (
-            "items of one name",
-            pieces("SCHEMA s;TYPE t=ENUMERATION OF(a", |_| ",a".to_string(), ");END_TYPE;END_SCHEMA;"),
-        ),
-        (
-            "items, all different",
-            pieces("SCHEMA s;TYPE t=ENUMERATION OF(a", |i| format!(",a{i}"), ");END_TYPE;END_SCHEMA;"),
-        ),
-        (
-            "entities with a thousand supertypes",
-            pieces("SCHEMA s;", |i| format!("ENTITY e{i};END_ENTITY;"), "END_SCHEMA;"),
-        ),
-    ]
+const STAGES: [&str; 6] = ["scan", "terminals", "parse", "names", "kinds", "answers"];
+
+/// Nanoseconds for each byte of each stage, the proved one and the reference's in its place, its outline with the names.
+fn stages(file: &[u8]) -> [[f64; 2]; STAGES.len()] {
+    let rows = tokens::read(file).expect("tokens");
+    let [scan, terminals, _, parse] = steps(file, &rows).map(|Timed { proved, reference, .. }| [proved, reference]);
+    let [names, _, bound] = names_of(file);
+    let Kinds { proved: [declared, typed, evaluated], reference: [_, checked, answered] } = kinds_of(file);
+    let times = [scan, terminals, parse, [names, bound], [declared + typed, checked], [evaluated, answered]];
+    times.map(|times| times.map(|time| time / file.len() as f64))
+}
+
+/// The stages of well-typed files of three sizes, the mean of a few files each, and all stages together.
+fn print_stages() {
+    println!(
+        "\nstages, nanoseconds for each byte\n   bytes  {:12}{:>8}{:>10}{:>8}",
+        "", "proved", "reference", "ratio"
+    );
+    for size in [1_024, 16_384, LARGEST] {
+        let times: Vec<_> = files_near(size, 0).take(6).map(|file| stages(&file)).collect();
+        let mean = |side: usize, stage: usize| times.iter().map(|of| of[stage][side]).sum::<f64>() / times.len() as f64;
+        let print = |name: &str, [a, b]: [f64; 2]| println!("{size:8}  {name:12}{a:8.3}{b:10.3}{:8.2}", a / b);
+        (0..STAGES.len()).for_each(|stage| print(STAGES[stage], [mean(0, stage), mean(1, stage)]));
+        print("all", [0, 1].map(|side| (0..STAGES.len()).map(|stage| mean(side, stage)).sum()));
+    }
 }
 
 type Operation = fn(i64, i64) -> AnswerRow;
@@ -346,6 +323,9 @@ fn main() {
             let [a, b] = [proved, reference].map(|time| time / file.len() as f64);
             println!("{name:24}{:8}{:8}  {step:12}{a:8.3}{b:10.3}{:8.2}", file.len(), rows.len(), a / b);
         }
+    }
+    if "stages".contains(&only) {
+        print_stages();
     }
     if "names".contains(&only) {
         print_names();

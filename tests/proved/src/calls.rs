@@ -8,7 +8,7 @@
 use reference::{AnswerRow, Refusal, MAX_BYTES};
 use std::cmp::Ordering;
 
-#[link(name = "exports", kind = "static")]
+#[link(name = "test_exports", kind = "static")]
 extern "C" {
     fn woffulent_scan(
         src: *const u8,

@@ -1,4 +1,4 @@
-//! The proved functions of the Rattle crate `exports`, as safe Rust.
+//! The proved functions of the Rattle crate `test_exports`, as safe Rust.
 #![deny(unsafe_code)]
 
 mod calls;

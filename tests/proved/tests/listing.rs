@@ -1,64 +1,15 @@
 //! The proved program, run on files: what it writes is the listing, and it says so where it cannot read or write.
 
 use compare::cases::{self, PROGRAM_LENGTHS};
+use compare::program::{expected, listing, program};
 use compare::random::{damaged, file, well_typed, LARGEST};
 use std::fs::{File, OpenOptions};
-use std::io::{ErrorKind, Write};
-use std::path::{Path, PathBuf};
 use std::process::{Command, Output, Stdio};
-use std::sync::OnceLock;
 use std::thread;
 
 /// Seeds of random files, two for each; each is run in a process of its own.
 const SEEDS: u64 = 1_000;
 const MANY_SEEDS: u64 = 100_000;
-
-/// The program, built where it is not there yet.
-fn program() -> &'static Path {
-    static PROGRAM: OnceLock<PathBuf> = OnceLock::new();
-    PROGRAM.get_or_init(|| {
-        let top = Path::new(env!("CARGO_MANIFEST_DIR")).join("../..");
-        let program = top.join("target/bin/listing");
-        if !program.exists() {
-            let built =
-                Command::new("rt").args(["check", "listing"]).current_dir(&top).output().expect("rt on the PATH");
-            assert!(built.status.success(), "{}", String::from_utf8_lossy(&built.stdout));
-        }
-        program
-    })
-}
-
-/// What it writes of an input that comes through a pipe, and how it ends.
-fn run(input: &[u8]) -> Output {
-    let mut child = Command::new(program())
-        .stdin(Stdio::piped())
-        .stdout(Stdio::piped())
-        .stderr(Stdio::piped())
-        .spawn()
-        .expect("the program starts");
-    let mut pipe = child.stdin.take().expect("a pipe");
-    thread::scope(|scope| {
-        // It stops reading one byte past the limit, so that the pipe may break.
-        scope.spawn(move || match pipe.write_all(input) {
-            Err(error) if error.kind() != ErrorKind::BrokenPipe => panic!("{error}"),
-            _ => drop(pipe),
-        });
-        child.wait_with_output().expect("the program ends")
-    })
-}
-
-/// The listing of an input, with nothing said beside it.
-fn listing(input: &[u8]) -> Vec<u8> {
-    let Output { status, stdout, stderr } = run(input);
-    assert!(status.success() && stderr.is_empty(), "{status}: {}", String::from_utf8_lossy(&stderr));
-    stdout
-}
-
-/// The reference's.
-fn expected(input: &[u8]) -> Vec<u8> {
-    let [tokens, nodes, answers] = PROGRAM_LENGTHS;
-    reference::listing(input, &reference::check(input, tokens, nodes, answers))
-}
 
 #[test]
 fn every_case_has_its_listing() {

@@ -1,8 +1,9 @@
 //! The proved interning and dictionary: the least identifier of a spelling, the least entry with a key and those after it.
 
 use compare::cases;
+use compare::hostile::{families, Family};
 use compare::random::{self, Rng};
-use proved::{build, find, intern, next_of, symbol_of};
+use proved::{build, codes, find, intern, next_of, symbol_of};
 use reference::{symbols, terminals, tokens, TokenRow};
 use std::collections::HashMap;
 
@@ -118,6 +119,25 @@ fn words_that_collide_are_told_apart() {
         }
         assert_eq!(tokens::read(&text).map(|rows| rows.len()), Ok(3_000));
         hold(&text, buckets);
+    }
+}
+
+/// The hostile files whose names are to fall together: all but a few do, so that they are as bad as they can be.
+#[test]
+fn hostile_names_fall_together() {
+    let together = families()
+        .into_iter()
+        .filter(|family| family.name.contains("of one hash") || family.name.contains("of one bucket"));
+    for Family { name, file } in together {
+        let file = file(random::LARGEST);
+        let rows = tokens::read(&file).expect("tokens");
+        let starts: Vec<u32> = rows.iter().map(|row| row.start).collect();
+        let lengths: Vec<u32> = rows.iter().map(|row| row.length).collect();
+        let codes = codes(&file, rows.len());
+        let (mut symbols, mut heads, mut next) = (vec![0; rows.len()], vec![0; 8_192], vec![0; rows.len()]);
+        assert!(intern(&file, &starts, &lengths, &codes, &mut symbols, &mut heads, &mut next));
+        let used = heads.iter().filter(|&&head| head != 0).count();
+        assert!(used <= 4, "{name}: {used} buckets");
     }
 }
 

@@ -1,12 +1,12 @@
--- `answer_frames::answer_framed` meets its contract: a file has no more nodes than bytes. Assumes nothing.
+-- `answer_frames::answer_framed` meets its contract: the arrays go by the number of nodes. Assumes nothing.
 use borrow.Author.Needs.{needs}
 use Rattle.answer_frames.proofs.answer_framed.Statement.{statement}
 use Rattle.answer_frames.proofs.answer_framed.Tie as tie
-use Rattle.reading.specs.FileReading.{small-bytes, middle-bytes}
-use Rattle.answer_frames.proofs.Framing.{of-bytes}
+use Rattle.reading.specs.FileReading.{some-rows, many-rows}
+use Rattle.answer_frames.proofs.Framing.{by-number}
 
-answer-small-requires : tie.Need-answer-small-requires
-answer-small-requires c κs = search needs
+answer-some-requires : tie.Need-answer-some-requires
+answer-some-requires c κs = search needs
 
 same-length : tie.Need-same-length
 same-length c = search needs
@@ -18,10 +18,11 @@ same-length-3 : tie.Need-same-length-3
 same-length-3 c = search needs
 
 returns : tie.Need-returns
-returns c = of-bytes small-bytes (c .before .before .before .before .before .before .before .before .before .if1 .taken) (c .before .before .before .before .before .answer-small .ensures)
+returns c = by-number some-rows (c .before .before .before .before .before .before .before .before .before .if1 .taken)
+    (c .before .before .before .before .before .answer-some .ensures)
 
-answer-middle-requires : tie.Need-answer-middle-requires
-answer-middle-requires c κs = search needs
+answer-many-requires : tie.Need-answer-many-requires
+answer-many-requires c κs = search needs
 
 same-length-4 : tie.Need-same-length-4
 same-length-4 c = search needs
@@ -33,8 +34,8 @@ same-length-6 : tie.Need-same-length-6
 same-length-6 c = search needs
 
 returns-2 : tie.Need-returns-2
-returns-2 c = of-bytes middle-bytes (c .before .before .before .before .before .before .before .before .before .if2 .taken) (c .before .before .before .before .before .answer-middle
-    .ensures)
+returns-2 c = by-number many-rows (c .before .before .before .before .before .before .before .before .before .if2 .taken)
+    (c .before .before .before .before .before .answer-many .ensures)
 
 answer-large-requires : tie.Need-answer-large-requires
 answer-large-requires c κs = search needs
@@ -55,12 +56,12 @@ pub answer-framed-spec : {M : Type 1} → statement M
 answer-framed-spec =
     tie.close
     (tie.spec
-    answer-small-requires
+    answer-some-requires
     same-length
     same-length-2
     same-length-3
     returns
-    answer-middle-requires
+    answer-many-requires
     same-length-4
     same-length-5
     same-length-6

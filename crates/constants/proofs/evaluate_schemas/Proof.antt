@@ -1,36 +1,46 @@
 -- `constants::evaluate_schemas` meets its contract: the schemas that have ended are filled. Assumes nothing.
 use Rattle.constants.proofs.evaluate_schemas.Statement.{statement}
 use Rattle.constants.proofs.evaluate_schemas.Tie as tie
-use borrow.Author.Needs.{needs}
 use lib.ListN.{length}
-use Prim.Native.Nat.{_-_}
+use Prim.Native.Nat.{_-_, _+_}
 use Rattle.tree.proofs.Next.{next-beyond}
-use Rattle.constants.proofs.Schemas.{Here, filling-starts, filling-next, filling-schema, filling-ends}
+use Rattle.schemas.proofs.Grouping.{grouped-parts}
+use Rattle.constants.proofs.Schemas.{Here, filling-starts, filling-next, filling-schema, filling-ends, schema-among}
 use Rattle.constants.proofs.Parted.{to-from, to-upto}
+use borrow.Author.Needs.{needs}
 use native.Mathlib.Omega.{arith}
 
 abbrev Inv-loop : tie.InvT-loop
 Inv-loop src starts lengths terminals kinds tokens sizes bindings declared order row-of answer-kinds₀ answer-numbers₀ answer-lengths₀ value-kinds₀
-    value-numbers₀ value-lengths₀ are-grouped n₀ lo₀ at₀ from₀ answer-kinds answer-numbers answer-lengths value-kinds value-numbers value-lengths n lo at from
-    = Here src starts lengths terminals kinds tokens sizes bindings declared order row-of answer-kinds₀ answer-numbers₀ answer-lengths₀ value-kinds₀
+    value-numbers₀ value-lengths₀ n₀ are-parted lo₀ at₀ from₀ answer-kinds answer-numbers answer-lengths value-kinds value-numbers value-lengths n lo at from =
+    Here src starts lengths terminals kinds tokens sizes bindings declared order row-of answer-kinds₀ answer-numbers₀ answer-lengths₀ value-kinds₀
     value-numbers₀ value-lengths₀ answer-kinds answer-numbers answer-lengths value-kinds value-numbers value-lengths n lo at from
 
 abbrev μ-loop : tie.MeasureT-loop
 μ-loop src starts lengths terminals kinds tokens sizes bindings declared order row-of answer-kinds₀ answer-numbers₀ answer-lengths₀ value-kinds₀ value-numbers₀
-    value-lengths₀ are-grouped n₀ lo₀ at₀ from₀ answer-kinds answer-numbers answer-lengths value-kinds value-numbers value-lengths n lo at from = length kinds
-    - n
-
-is-grouped-requires : tie.Need-is-grouped-requires Inv-loop μ-loop
-is-grouped-requires c κs = search needs
+    value-lengths₀ n₀ are-parted lo₀ at₀ from₀ answer-kinds answer-numbers answer-lengths value-kinds value-numbers value-lengths n lo at from = length kinds - n
 
 next-of-kind-requires : tie.Need-next-of-kind-requires Inv-loop μ-loop
 next-of-kind-requires c κs = search needs
 
-loop-holds : tie.Need-loop-holds Inv-loop μ-loop
-loop-holds c = filling-next filling-starts (c .next-of-kind .ensures)
+add-has-parts : tie.Need-add-has-parts Inv-loop μ-loop
+add-has-parts c =
+    omega (
+      arith,
+      schema-among (c .before .before .before .before .before .before .before .before .before .before .before .before .before .before .before
+          .before .args .kinds .now) (c .next-of-kind .ensures),
+      c .before .before .before .before .before .before .before .before .before .before .before .before
+          .before .before .before .before .good,
+    )
 
-first-behind-requires : tie.Need-first-behind-requires Inv-loop μ-loop
-first-behind-requires c κs = search needs
+has-parts-requires : tie.Need-has-parts-requires Inv-loop μ-loop
+has-parts-requires c κs = search needs
+
+loop-holds : tie.Need-loop-holds Inv-loop μ-loop
+loop-holds c = filling-next filling-starts (c .before .next-of-kind .ensures)
+
+next-part-requires : tie.Need-next-part-requires Inv-loop μ-loop
+next-part-requires c κs = search needs
 
 part-end-requires : tie.Need-part-end-requires Inv-loop μ-loop
 part-end-requires c κs = search needs
@@ -49,46 +59,89 @@ mul-evaluate-schema c =
     omega (
       arith,
       to-from (c .before .before .before .before .before .before .loop .inv .filling .begun) (c .before .before .before .before .before .before
-          .loop .n) (omega (arith, c .before .before .before .before .before .before .loop .inv .filling .ahead)) (c .before .before .before .before .first-behind
-          .ensures) (c .before .before .before .before .before .before .before .before .before .before .before .before .before .before .before .before .before
-          .before .before .before .before .before .before .before .args .kinds .now) (c .before .before .before .before .before .before .before .before .is-grouped
-          .ensures) (c .before .before .before .part-end .ensures),
-      to-upto (c .before .before .before .before .before .before .loop .inv .filling .begun) (c .before
-          .before .before .before .before .before .loop .n) (omega (arith, c .before .before .before .before .before .before .loop .inv .filling .ahead)) (c .before
-          .before .before .before .first-behind .ensures) (c .before .before .before .before .before .before .before .before .before .before .before .before .before
-          .before .before .before .before .before .before .before .before .before .before .before .args .kinds .now) (c .before .before .before .before .before
-          .before .before .before .is-grouped .ensures) (c .before .before .before .part-end .ensures),
-      c .before .before .before .before .before .before .before
-          .before .before .before .before .before .before .before .before .before .before .before .before .before .before .before .before .before .good,
+          .loop .n) (c .before .before .before .before .before .before .before .has-parts .result) (omega (
+            arith,
+            c .before .before .before .before .before .before
+                .loop .inv .filling .ahead,
+          )) (c .before .before .before .before .next-part .ensures) (c .before .before .before .before .before .before .before .before
+          .before .before .before .before .before .before .before .before .before .before .before .before .before .before .before .before .args .kinds .now)
+          (grouped-parts (c .before .before .before .before .before .before .before .before .before .before .before .before .before .before .before .before .before
+          .before .before .before .before .before .before .before .args .kinds .now) (c .before .before .before .before .before .before .before .before .before
+          .before .before .before .before .before .before .before .before .before .before .before .before .before .before .before .args .order .now) (c .before
+          .before .before .before .before .before .before .before .next-of-kind .result + 1) (c .before .before .before .before .before .before .before .has-parts
+          .ensures)) (c .before .before .before .part-end .ensures),
+      to-upto (c .before .before .before .before .before .before .loop .inv .filling .begun) (c .before .before .before .before .before .before .loop .n) (c
+          .before .before .before .before .before .before .before .has-parts .result) (omega (
+            arith,
+            c .before .before .before .before .before .before .loop .inv
+                .filling .ahead,
+          )) (c .before .before .before .before .next-part .ensures) (c .before .before .before .before .before .before .before .before .before
+          .before .before .before .before .before .before .before .before .before .before .before .before .before .before .before .args .kinds .now)
+          (grouped-parts (c .before .before .before .before .before .before .before .before .before .before .before .before .before .before .before .before .before
+          .before .before .before .before .before .before .before .args .kinds .now) (c .before .before .before .before .before .before .before .before .before
+          .before .before .before .before .before .before .before .before .before .before .before .before .before .before .before .args .order .now) (c .before
+          .before .before .before .before .before .before .before .next-of-kind .result + 1) (c .before .before .before .before .before .before .before .has-parts
+          .ensures)) (c .before .before .before .part-end .ensures),
+      c .before .before .before .before .before .before .before .before .before .before .before
+          .before .before .before .before .before .before .before .before .before .before .before .before .before .good,
     )
 
 sub-evaluate-schema : tie.Need-sub-evaluate-schema Inv-loop μ-loop
 sub-evaluate-schema c =
-    to-from (c .before .before .before .before .before .before .loop .inv .filling .begun) (c .before .before .before .before .before .before .loop .n) (omega
-    (arith, c .before .before .before .before .before .before .loop .inv .filling .ahead)) (c .before .before .before .before .first-behind .ensures) (c
-    .before .before .before .before .before .before .before .before .before .before .before .before .before .before .before .before .before .before .before
-    .before .before .before .before .before .args .kinds .now) (c .before .before .before .before .before .before .before .before .is-grouped .ensures) (c
-    .before .before .before .part-end .ensures)
+    to-from (c .before .before .before .before .before .before .loop .inv .filling .begun) (c .before .before .before .before .before .before .loop .n) (c
+    .before .before .before .before .before .before .before .has-parts .result) (omega (
+      arith,
+      c .before .before .before .before .before .before .loop .inv
+          .filling .ahead,
+    )) (c .before .before .before .before .next-part .ensures) (c .before .before .before .before .before .before .before .before .before .before
+    .before .before .before .before .before .before .before .before .before .before .before .before .before .before .args .kinds .now)
+    (grouped-parts (c .before .before .before .before .before .before .before .before .before .before .before .before .before .before .before .before .before
+    .before .before .before .before .before .before .before .args .kinds .now) (c .before .before .before .before .before .before .before .before .before
+    .before .before .before .before .before .before .before .before .before .before .before .before .before .before .before .args .order .now) (c .before
+    .before .before .before .before .before .before .before .next-of-kind .result + 1) (c .before .before .before .before .before .before .before .has-parts
+    .ensures)) (c .before .before .before .part-end .ensures)
 
 part-evaluate-schema-start : tie.Need-part-evaluate-schema-start Inv-loop μ-loop
 part-evaluate-schema-start c =
     let f = to-from (c .before .before .before .before .before .before .loop .inv .filling .begun) (c .before .before .before .before .before .before .loop .n)
-    (omega (arith, c .before .before .before .before .before .before .loop .inv .filling .ahead)) (c .before .before .before .before .first-behind .ensures) (c
-    .before .before .before .before .before .before .before .before .before .before .before .before .before .before .before .before .before .before .before
-    .before .before .before .before .before .args .kinds .now) (c .before .before .before .before .before .before .before .before .is-grouped .ensures) (c
-    .before .before .before .part-end .ensures) in let u = to-upto (c .before .before .before .before .before .before .loop .inv .filling .begun) (c .before
-    .before .before .before .before .before .loop .n) (omega (arith, c .before .before .before .before .before .before .loop .inv .filling .ahead)) (c .before
-    .before .before .before .first-behind .ensures) (c .before .before .before .before .before .before .before .before .before .before .before .before .before
-    .before .before .before .before .before .before .before .before .before .before .before .args .kinds .now) (c .before .before .before .before .before
-    .before .before .before .is-grouped .ensures) (c .before .before .before .part-end .ensures) in omega (arith, f, u)
+    (c .before .before .before .before .before .before .before .has-parts .result) (omega (
+      arith,
+      c .before .before .before .before .before .before .loop .inv
+          .filling .ahead,
+    )) (c .before .before .before .before .next-part .ensures) (c .before .before .before .before .before .before .before .before .before .before
+    .before .before .before .before .before .before .before .before .before .before .before .before .before .before .args .kinds .now)
+    (grouped-parts (c .before .before .before .before .before .before .before .before .before .before .before .before .before .before .before .before .before
+    .before .before .before .before .before .before .before .args .kinds .now) (c .before .before .before .before .before .before .before .before .before
+    .before .before .before .before .before .before .before .before .before .before .before .before .before .before .before .args .order .now) (c .before
+    .before .before .before .before .before .before .before .next-of-kind .result + 1) (c .before .before .before .before .before .before .before .has-parts
+    .ensures)) (c .before .before .before .part-end .ensures) in
+    let u = to-upto (c .before .before .before .before .before .before .loop .inv .filling .begun) (c .before .before .before .before .before .before .loop .n)
+    (c .before .before .before .before .before .before .before .has-parts .result) (omega (
+      arith,
+      c .before .before .before .before .before .before .loop .inv
+          .filling .ahead,
+    )) (c .before .before .before .before .next-part .ensures) (c .before .before .before .before .before .before .before .before .before .before
+    .before .before .before .before .before .before .before .before .before .before .before .before .before .before .args .kinds .now)
+    (grouped-parts (c .before .before .before .before .before .before .before .before .before .before .before .before .before .before .before .before .before
+    .before .before .before .before .before .before .before .args .kinds .now) (c .before .before .before .before .before .before .before .before .before
+    .before .before .before .before .before .before .before .before .before .before .before .before .before .before .before .args .order .now) (c .before
+    .before .before .before .before .before .before .before .next-of-kind .result + 1) (c .before .before .before .before .before .before .before .has-parts
+    .ensures)) (c .before .before .before .part-end .ensures) in omega (arith, f, u)
 
 part-evaluate-schema-end : tie.Need-part-evaluate-schema-end Inv-loop μ-loop
 part-evaluate-schema-end c =
-    to-upto (c .before .before .before .before .before .before .loop .inv .filling .begun) (c .before .before .before .before .before .before .loop .n) (omega
-    (arith, c .before .before .before .before .before .before .loop .inv .filling .ahead)) (c .before .before .before .before .first-behind .ensures) (c
-    .before .before .before .before .before .before .before .before .before .before .before .before .before .before .before .before .before .before .before
-    .before .before .before .before .before .args .kinds .now) (c .before .before .before .before .before .before .before .before .is-grouped .ensures) (c
-    .before .before .before .part-end .ensures)
+    to-upto (c .before .before .before .before .before .before .loop .inv .filling .begun) (c .before .before .before .before .before .before .loop .n) (c
+    .before .before .before .before .before .before .before .has-parts .result) (omega (
+      arith,
+      c .before .before .before .before .before .before .loop .inv
+          .filling .ahead,
+    )) (c .before .before .before .before .next-part .ensures) (c .before .before .before .before .before .before .before .before .before .before
+    .before .before .before .before .before .before .before .before .before .before .before .before .before .before .args .kinds .now)
+    (grouped-parts (c .before .before .before .before .before .before .before .before .before .before .before .before .before .before .before .before .before
+    .before .before .before .before .before .before .before .args .kinds .now) (c .before .before .before .before .before .before .before .before .before
+    .before .before .before .before .before .before .before .before .before .before .before .before .before .before .before .args .order .now) (c .before
+    .before .before .before .before .before .before .before .next-of-kind .result + 1) (c .before .before .before .before .before .before .before .has-parts
+    .ensures)) (c .before .before .before .part-end .ensures)
 
 sub-evaluate-schema-2 : tie.Need-sub-evaluate-schema-2 Inv-loop μ-loop
 sub-evaluate-schema-2 c = search needs
@@ -140,9 +193,9 @@ add-lo c =
       arith,
       c .before .before .before .before .before .before .before .before .before .before .before .before .before .before .before .before .before
           .before .before .before .before .before .before .before .loop-test .taken,
-      c .before .before .before .before .before .before .before .before .before
+      c .before .before .before .before .before .before .before .before .before .before
           .before .before .before .before .before .before .before .before .before .before .before .before .before .before .before .before .before .before .before
-          .before .before .before .before .before .before .before .before .before .before .before .before .before .before .before .good,
+          .before .before .before .before .before .before .before .before .before .before .before .before .before .before .good,
     )
 
 next-of-kind-requires-2 : tie.Need-next-of-kind-requires-2 Inv-loop μ-loop
@@ -167,14 +220,24 @@ loop-again c =
     .before .before .before .before .before .before .before .before .before .before .before .before .before .before .before .before .before .before .before
     .before .loop-test .taken)) (c .before .before .before .before .before .before .before .before .before .before .before .before .before .before .before
     .before .before .before .before .before .before .before .shorter .ensures) (c .before .before .before .before .before .before .before .before .before
-    .before .before .before .before .before .before .before .before .before .before .before .before .shorter2 .ensures) (c .before .before .before .before
-    .before .before .before .before .before .before .before .before .before .before .before .before .before .before .before .before .shorter3 .ensures) (c
-    .before .index-at .ensures) (c .before .before .before .before .before .before .before .before .before .before .before .before .before .before .before
-    .before .before .before .before .before .before .before .before .before .first-behind .ensures) (c .before .before .before .before .before .before .before
+    .before .before .before .before .before .before .before .before .before .before .before .before .shorter2 .ensures)
+    (c .before .before .before .before .before .before .before .before .before .before .before .before .before .before .before .before .before .before .before
+    .before .shorter3 .ensures) (c .before .index-at .ensures) (c .before .before .before .before .before .before .before .before .before .before .before
+    .before .before .before .before .before .before .before .before .before .before .before .before .before .before .before .before .has-parts .result) (c
     .before .before .before .before .before .before .before .before .before .before .before .before .before .before .before .before .before .before .before
-    .before .before .is-grouped .ensures) (c .before .before .before .before .before .before .before .before .before .before .before .before .before .before
-    .before .before .before .before .before .before .before .before .before .part-end .ensures) _ _ _ (c .before .before .before .before .before .before
-    .before .before .before .before .before .before .evaluate-schema .ensures) (search needs) (search needs) (search needs) (search needs) (search needs)
+    .before .before .before .before .before .next-part .ensures) (grouped-parts (c .before .before .before .before .before .before .before .before .before
+    .before .before .before .before .before .before .before .before .before .before .before .before .before .before .before .before .before .before .before
+    .before .before .before .before .before .before .before .before .before .before .before .before .before .before .before .before .args .kinds .now) (c
+    .before .before .before .before .before .before .before .before .before .before .before .before .before .before .before .before .before .before .before
+    .before .before .before .before .before .before .before .before .before .before .before .before .before .before .before .before .before .before .before
+    .before .before .before .before .before .before .args .order .now) (c .before .before .before .before .before .before .before .before .before .before
+    .before .before .before .before .before .before .before .before .before .before .before .before .before .before .before .before .before .before
+    .next-of-kind .result + 1) (c .before .before .before .before .before .before .before .before .before .before .before .before .before .before .before
+    .before .before .before .before .before .before .before .before .before .before .before .before .has-parts .ensures)) (c .before .before .before .before
+    .before .before .before .before .before .before .before .before .before .before .before .before .before .before .before .before .before .before .before
+    .part-end .ensures) _ _ _
+    (c .before .before .before .before .before .before .before .before .before .before .before .before .evaluate-schema .ensures) (search needs) (search
+    needs) (search needs) (search needs) (search needs)
     (search needs) (search needs) (search needs) (search needs)) (c .next-of-kind2 .ensures)
 
 same-length : tie.Need-same-length Inv-loop μ-loop
@@ -204,10 +267,11 @@ evaluate-schemas-spec =
     (tie.spec
     Inv-loop
     μ-loop
-    is-grouped-requires
     next-of-kind-requires
+    add-has-parts
+    has-parts-requires
     loop-holds
-    first-behind-requires
+    next-part-requires
     part-end-requires
     shorter-requires
     shorter-requires-2

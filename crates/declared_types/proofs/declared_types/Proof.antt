@@ -1,11 +1,8 @@
--- `declared_types::declared_types` meets its contract: its three passes keep the promise. Assumes nothing.
+-- `declared_types::declared_types` meets its contract: its two passes keep the promise. Assumes nothing.
 use borrow.Author.Needs.{needs}
 use Rattle.declared_types.proofs.declared_types.Statement.{statement}
 use Rattle.declared_types.proofs.declared_types.Tie as tie
 use Rattle.declared_types.proofs.Declaring.{declares}
-
-store-items-requires : tie.Need-store-items-requires
-store-items-requires c κs = search needs
 
 store-types-requires : tie.Need-store-types-requires
 store-types-requires c κs = search needs
@@ -17,16 +14,8 @@ same-length : tie.Need-same-length
 same-length c = search needs
 
 returns : tie.Need-returns
-returns c =
-    declares _ _ _ _ _ _ _ _ _ _ (c .before .before .before .before .before .before .before .before .before .before .store-items .ensures)
-    (c .before .before .before .before .before .before .store-types .ensures) (c .before .before .store-constants .ensures)
+returns c = declares _ _ _ _ _ _ _ _ _ (c .before .before .before .before .before .before .store-types .ensures) (c .before .before .store-constants .ensures)
 
 pub declared-types-spec : {M : Type 1} → statement M
 declared-types-spec =
-    tie.close
-    (tie.spec
-    store-items-requires
-    store-types-requires
-    store-constants-requires
-    same-length
-    returns)
+    tie.close (tie.spec store-types-requires store-constants-requires same-length returns)

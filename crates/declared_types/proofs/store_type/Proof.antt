@@ -1,9 +1,8 @@
--- `declared_types::store_type` meets its contract: the store is the definition's. Assumes nothing.
+-- `declared_types::store_type` meets its contract: the stores are the definition's. Assumes nothing.
 use borrow.Author.Needs.{needs}
 use Rattle.declared_types.proofs.store_type.Statement.{statement}
 use Rattle.declared_types.proofs.store_type.Tie as tie
-use Rattle.declared_types.specs.Storing.{type-stored}
-use borrow.Author.Tests.{eq-eqb, ne-eqb}
+use Rattle.declared_types.proofs.Passing.{type-of-other, type-after-items}
 
 index-requires : tie.Need-index-requires
 index-requires c κs = search needs
@@ -12,8 +11,10 @@ at8-requires : tie.Need-at8-requires
 at8-requires c κs = search needs
 
 returns : tie.Need-returns
-unfolding type-stored
-returns c = simp (ne-eqb _ _ (rw (c .before .at8 .ensures, c .before .before .index .ensures) at (c .if1 .taken)))
+returns c = type-of-other _ _ _ _ _ _ (c .before .before .index .ensures) (c .before .at8 .ensures) (c .if1 .taken)
+
+store-items-of-requires : tie.Need-store-items-of-requires
+store-items-of-requires c κs = search needs
 
 underlying-requires : tie.Need-underlying-requires
 underlying-requires c κs = search needs
@@ -28,15 +29,11 @@ same-length : tie.Need-same-length
 same-length c = search needs
 
 returns-2 : tie.Need-returns-2
-unfolding type-stored
 returns-2 c =
-    simp (
-      c .before .before .put32 .ensures,
-      c .before .before .before .index2 .ensures,
-      c .before .before .before .before .before .underlying .ensures,
-      eq-eqb _ _ (rw (c .before .before .before .before .before .before .before .before .at8 .ensures, c .before .before .before .before .before .before .before .before .before .index .ensures)
-          at (c .before .before .before .before .before .before .before .if1 .left)),
-    )
+    type-after-items _ _ _ _ _ _ (c .before .before .before .before .before .before .before .before .before .before .before .before .before .index .ensures) (c
+    .before .before .before .before .before .before .before .before .before .before .before .before .at8 .ensures) (c .before .before .before .before .before
+    .before .before .before .before .before .before .if1 .left) (c .before .before .before .before .before .before .before .before .before .store-items-of
+    .ensures) (c .before .before .before .before .before .underlying .ensures) (c .before .before .before .index2 .ensures) (c .before .before .put32 .ensures)
 
 pub store-type-spec : {M : Type 1} → statement M
 store-type-spec =
@@ -45,6 +42,7 @@ store-type-spec =
     index-requires
     at8-requires
     returns
+    store-items-of-requires
     underlying-requires
     index-requires-2
     put32-requires

@@ -7,18 +7,11 @@ use Rattle.evaluate.proofs.other.Tie as tie
 use Rattle.evaluate.proofs.Literals.{leaf-other}
 use Rattle.evaluate.proofs.Assembled.{others-constant, others-leaf}
 
-last-requires : tie.Need-last-requires
-last-requires c κs = search needs
-
-answer-at-requires : tie.Need-answer-at-requires
-answer-at-requires c κs = search needs
-
-held-requires : tie.Need-held-requires
-held-requires c κs = search needs
+held-answer-requires : tie.Need-held-answer-requires
+held-answer-requires c κs = search needs
 
 returns : tie.Need-returns
-returns c =
-    others-constant (c .before .before .before .if1 .taken) (c .before .before .last .ensures) (c .before .answer-at .ensures) (c .held .ensures)
+returns c = others-constant (c .before .if1 .taken) (c .held-answer .ensures)
 
 returns-2 : tie.Need-returns-2
 returns-2 c =
@@ -47,9 +40,7 @@ pub other-spec : {M : Type 1} → statement M
 other-spec =
     tie.close
     (tie.spec
-    last-requires
-    answer-at-requires
-    held-requires
+    held-answer-requires
     returns
     returns-2
     at8-requires

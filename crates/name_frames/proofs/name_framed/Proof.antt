@@ -1,12 +1,12 @@
--- `name_frames::name_framed` meets its contract: a file has no more tokens than bytes. Assumes nothing.
+-- `name_frames::name_framed` meets its contract: the arrays go by the number of tokens. Assumes nothing.
 use borrow.Author.Needs.{needs}
 use Rattle.name_frames.proofs.name_framed.Statement.{statement}
 use Rattle.name_frames.proofs.name_framed.Tie as tie
-use Rattle.reading.specs.FileReading.{small-bytes, middle-bytes}
-use Rattle.name_frames.proofs.Framing.{of-bytes}
+use Rattle.reading.specs.FileReading.{some-rows, many-rows}
+use Rattle.name_frames.proofs.Framing.{by-number}
 
-name-small-requires : tie.Need-name-small-requires
-name-small-requires c κs = search needs
+name-some-requires : tie.Need-name-some-requires
+name-some-requires c κs = search needs
 
 same-length : tie.Need-same-length
 same-length c = search needs
@@ -18,11 +18,11 @@ same-length-3 : tie.Need-same-length-3
 same-length-3 c = search needs
 
 returns : tie.Need-returns
-returns c = of-bytes small-bytes (c .before .before .before .before .before .before .before .before .before .before .if1 .taken) (c .before .before .before .before .before .before
-    .name-small .ensures)
+returns c = by-number some-rows (c .before .before .before .before .before .before .before .before .before .before .if1 .taken)
+    (c .before .before .before .before .before .before .name-some .ensures)
 
-name-middle-requires : tie.Need-name-middle-requires
-name-middle-requires c κs = search needs
+name-many-requires : tie.Need-name-many-requires
+name-many-requires c κs = search needs
 
 same-length-4 : tie.Need-same-length-4
 same-length-4 c = search needs
@@ -34,8 +34,8 @@ same-length-6 : tie.Need-same-length-6
 same-length-6 c = search needs
 
 returns-2 : tie.Need-returns-2
-returns-2 c = of-bytes middle-bytes (c .before .before .before .before .before .before .before .before .before .before .if2 .taken) (c .before .before .before .before .before .before
-    .name-middle .ensures)
+returns-2 c = by-number many-rows (c .before .before .before .before .before .before .before .before .before .before .if2 .taken)
+    (c .before .before .before .before .before .before .name-many .ensures)
 
 name-large-requires : tie.Need-name-large-requires
 name-large-requires c κs = search needs
@@ -56,12 +56,12 @@ pub name-framed-spec : {M : Type 1} → statement M
 name-framed-spec =
     tie.close
     (tie.spec
-    name-small-requires
+    name-some-requires
     same-length
     same-length-2
     same-length-3
     returns
-    name-middle-requires
+    name-many-requires
     same-length-4
     same-length-5
     same-length-6

@@ -1,12 +1,12 @@
--- `reading::read_framed` meets its contract: a file has no more tokens than bytes. Assumes nothing.
+-- `reading::read_framed` meets its contract: the array goes by the number of tokens. Assumes nothing.
 use borrow.Author.Needs.{needs}
 use Rattle.reading.proofs.read_framed.Statement.{statement}
 use Rattle.reading.proofs.read_framed.Tie as tie
-use Rattle.reading.specs.FileReading.{small-bytes, middle-bytes}
-use Rattle.reading.proofs.Framing.{of-bytes}
+use Rattle.reading.specs.FileReading.{few-rows, some-rows, many-rows}
+use Rattle.reading.proofs.Framing.{by-number}
 
-read-small-requires : tie.Need-read-small-requires
-read-small-requires c κs = search needs
+read-few-requires : tie.Need-read-few-requires
+read-few-requires c κs = search needs
 
 same-length : tie.Need-same-length
 same-length c = search needs
@@ -24,11 +24,11 @@ same-length-5 : tie.Need-same-length-5
 same-length-5 c = search needs
 
 returns : tie.Need-returns
-returns c = of-bytes small-bytes (c .before .before .before .before .before .before .before .before .before .before .before .before .before .before .before .before .if1 .taken) (c .before
-    .before .before .before .before .before .before .before .before .before .read-small .ensures)
+returns c = by-number few-rows (c .before .before .before .before .before .before .before .before .before .before .before .before .before .before .before .before .if1 .taken)
+    (c .before .before .before .before .before .before .before .before .before .before .read-few .ensures)
 
-read-middle-requires : tie.Need-read-middle-requires
-read-middle-requires c κs = search needs
+read-some-requires : tie.Need-read-some-requires
+read-some-requires c κs = search needs
 
 same-length-6 : tie.Need-same-length-6
 same-length-6 c = search needs
@@ -46,11 +46,11 @@ same-length-10 : tie.Need-same-length-10
 same-length-10 c = search needs
 
 returns-2 : tie.Need-returns-2
-returns-2 c = of-bytes middle-bytes (c .before .before .before .before .before .before .before .before .before .before .before .before .before .before .before .before .if2 .taken) (c
-    .before .before .before .before .before .before .before .before .before .before .read-middle .ensures)
+returns-2 c = by-number some-rows (c .before .before .before .before .before .before .before .before .before .before .before .before .before .before .before .before .if2 .taken)
+    (c .before .before .before .before .before .before .before .before .before .before .read-some .ensures)
 
-read-large-requires : tie.Need-read-large-requires
-read-large-requires c κs = search needs
+read-many-requires : tie.Need-read-many-requires
+read-many-requires c κs = search needs
 
 same-length-11 : tie.Need-same-length-11
 same-length-11 c = search needs
@@ -68,30 +68,59 @@ same-length-15 : tie.Need-same-length-15
 same-length-15 c = search needs
 
 returns-3 : tie.Need-returns-3
-returns-3 c = c .before .before .before .before .before .before .before .before .before .before .read-large .ensures
+returns-3 c = by-number many-rows (c .before .before .before .before .before .before .before .before .before .before .before .before .before .before .before .before .if3 .taken)
+    (c .before .before .before .before .before .before .before .before .before .before .read-many .ensures)
+
+read-large-requires : tie.Need-read-large-requires
+read-large-requires c κs = search needs
+
+same-length-16 : tie.Need-same-length-16
+same-length-16 c = search needs
+
+same-length-17 : tie.Need-same-length-17
+same-length-17 c = search needs
+
+same-length-18 : tie.Need-same-length-18
+same-length-18 c = search needs
+
+same-length-19 : tie.Need-same-length-19
+same-length-19 c = search needs
+
+same-length-20 : tie.Need-same-length-20
+same-length-20 c = search needs
+
+returns-4 : tie.Need-returns-4
+returns-4 c = c .before .before .before .before .before .before .before .before .before .before .read-large .ensures
 
 pub read-framed-spec : {M : Type 1} → statement M
 read-framed-spec =
     tie.close
     (tie.spec
-    read-small-requires
+    read-few-requires
     same-length
     same-length-2
     same-length-3
     same-length-4
     same-length-5
     returns
-    read-middle-requires
+    read-some-requires
     same-length-6
     same-length-7
     same-length-8
     same-length-9
     same-length-10
     returns-2
-    read-large-requires
+    read-many-requires
     same-length-11
     same-length-12
     same-length-13
     same-length-14
     same-length-15
-    returns-3)
+    returns-3
+    read-large-requires
+    same-length-16
+    same-length-17
+    same-length-18
+    same-length-19
+    same-length-20
+    returns-4)

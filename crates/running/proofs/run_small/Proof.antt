@@ -20,86 +20,86 @@ slice-aggregate-read-file c = search needs
 read-file-requires : tie.Need-read-file-requires
 read-file-requires c κs = search needs
 
-slice-reshare-prefix-name-framed : tie.Need-slice-reshare-prefix-name-framed
-slice-reshare-prefix-name-framed c = starts-fit (c .before .before .before .before .before .before .before .before .before .before .before .before .before .before .before .read-file
+slice-reshare-prefix-name-short : tie.Need-slice-reshare-prefix-name-short
+slice-reshare-prefix-name-short c = starts-fit (c .before .before .before .before .before .before .before .before .before .before .before .before .before .before .before .read-file
     .ensures) (c .before .before .before .before .before .before .before .before .before .before .before .before .before .before .before .read-file .kept .1 .1 .0)
 
-slice-aggregate-name-framed : tie.Need-slice-aggregate-name-framed
-slice-aggregate-name-framed c = sym (length-take-le _ _ (slice-reshare-prefix-name-framed (c .before)))
+slice-aggregate-name-short : tie.Need-slice-aggregate-name-short
+slice-aggregate-name-short c = sym (length-take-le _ _ (slice-reshare-prefix-name-short (c .before)))
 
-slice-reshare-prefix-name-framed-2 : tie.Need-slice-reshare-prefix-name-framed-2
-slice-reshare-prefix-name-framed-2 c = lengths-fit (c .before .before .before .before .before .before .before .before .before .before .before .before .before .before .before .before
+slice-reshare-prefix-name-short-2 : tie.Need-slice-reshare-prefix-name-short-2
+slice-reshare-prefix-name-short-2 c = lengths-fit (c .before .before .before .before .before .before .before .before .before .before .before .before .before .before .before .before
     .read-file .ensures) (c .before .before .before .before .before .before .before .before .before .before .before .before .before .before .before .before .read-file .kept .1 .1 .1 .0)
 
-slice-aggregate-name-framed-2 : tie.Need-slice-aggregate-name-framed-2
-slice-aggregate-name-framed-2 c = sym (length-take-le _ _ (slice-reshare-prefix-name-framed-2 (c .before)))
+slice-aggregate-name-short-2 : tie.Need-slice-aggregate-name-short-2
+slice-aggregate-name-short-2 c = sym (length-take-le _ _ (slice-reshare-prefix-name-short-2 (c .before)))
 
 array-share-prefix-terminals : tie.Need-array-share-prefix-terminals
 array-share-prefix-terminals c = terminals-fit (c .before .before .before .before .before .before .before .before .before .before .before .before .before .before .before .before .before
     .read-file .ensures) (c .before .before .before .before .before .before .before .before .before .before .before .before .before .before .before .before .before .read-file .kept .1 .1 .1
     .1 .0)
 
-slice-aggregate-name-framed-3 : tie.Need-slice-aggregate-name-framed-3
-slice-aggregate-name-framed-3 c = sym (length-take-le _ _ (array-share-prefix-terminals (c .before)))
+slice-aggregate-name-short-3 : tie.Need-slice-aggregate-name-short-3
+slice-aggregate-name-short-3 c = sym (length-take-le _ _ (array-share-prefix-terminals (c .before)))
 
-slice-reshare-prefix-name-framed-3 : tie.Need-slice-reshare-prefix-name-framed-3
-slice-reshare-prefix-name-framed-3 c = kinds-fit (c .before .before .before .before .before .before .before .before .before .before .before .before .before .before .before .before .before
+slice-reshare-prefix-name-short-3 : tie.Need-slice-reshare-prefix-name-short-3
+slice-reshare-prefix-name-short-3 c = kinds-fit (c .before .before .before .before .before .before .before .before .before .before .before .before .before .before .before .before .before
     .before .read-file .ensures) (c .before .before .before .before .before .before .before .before .before .before .before .before .before .before .before .before .before .before
     .read-file .kept .1 .1 .1 .1 .1 .0)
 
-slice-aggregate-name-framed-4 : tie.Need-slice-aggregate-name-framed-4
-slice-aggregate-name-framed-4 c = sym (length-take-le _ _ (slice-reshare-prefix-name-framed-3 (c .before)))
+slice-aggregate-name-short-4 : tie.Need-slice-aggregate-name-short-4
+slice-aggregate-name-short-4 c = sym (length-take-le _ _ (slice-reshare-prefix-name-short-3 (c .before)))
 
-slice-reshare-prefix-name-framed-4 : tie.Need-slice-reshare-prefix-name-framed-4
-slice-reshare-prefix-name-framed-4 c = tokens-fit (c .before .before .before .before .before .before .before .before .before .before .before .before .before .before .before .before .before
+slice-reshare-prefix-name-short-4 : tie.Need-slice-reshare-prefix-name-short-4
+slice-reshare-prefix-name-short-4 c = tokens-fit (c .before .before .before .before .before .before .before .before .before .before .before .before .before .before .before .before .before
     .before .before .read-file .ensures) (c .before .before .before .before .before .before .before .before .before .before .before .before .before .before .before .before .before .before
     .before .read-file .kept .1 .1 .1 .1 .1 .1 .0)
 
-slice-aggregate-name-framed-5 : tie.Need-slice-aggregate-name-framed-5
-slice-aggregate-name-framed-5 c = sym (length-take-le _ _ (slice-reshare-prefix-name-framed-4 (c .before)))
+slice-aggregate-name-short-5 : tie.Need-slice-aggregate-name-short-5
+slice-aggregate-name-short-5 c = sym (length-take-le _ _ (slice-reshare-prefix-name-short-4 (c .before)))
 
-slice-reshare-prefix-name-framed-5 : tie.Need-slice-reshare-prefix-name-framed-5
-slice-reshare-prefix-name-framed-5 c = sizes-fit (c .before .before .before .before .before .before .before .before .before .before .before .before .before .before .before .before .before
+slice-reshare-prefix-name-short-5 : tie.Need-slice-reshare-prefix-name-short-5
+slice-reshare-prefix-name-short-5 c = sizes-fit (c .before .before .before .before .before .before .before .before .before .before .before .before .before .before .before .before .before
     .before .before .before .read-file .ensures) (c .before .before .before .before .before .before .before .before .before .before .before .before .before .before .before .before .before
     .before .before .before .read-file .kept .1 .1 .1 .1 .1 .1 .1 .0)
 
-slice-aggregate-name-framed-6 : tie.Need-slice-aggregate-name-framed-6
-slice-aggregate-name-framed-6 c = sym (length-take-le _ _ (slice-reshare-prefix-name-framed-5 (c .before)))
+slice-aggregate-name-short-6 : tie.Need-slice-aggregate-name-short-6
+slice-aggregate-name-short-6 c = sym (length-take-le _ _ (slice-reshare-prefix-name-short-5 (c .before)))
 
-slice-relend-prefix-name-framed : tie.Need-slice-relend-prefix-name-framed
-slice-relend-prefix-name-framed c = bindings-fit (c .before .before .before .before .before .before .before .before .before .before .before .before .before .before .before .before .before
+slice-relend-prefix-name-short : tie.Need-slice-relend-prefix-name-short
+slice-relend-prefix-name-short c = bindings-fit (c .before .before .before .before .before .before .before .before .before .before .before .before .before .before .before .before .before
     .before .before .before .before .read-file .ensures) (c .before .before .before .before .before .before .before .before .before .before .before .before .before .before .before .before
     .before .before .before .before .before .read-file .kept .1 .1 .1 .1 .1 .1 .1 .1 .0)
 
-slice-aggregate-name-framed-7 : tie.Need-slice-aggregate-name-framed-7
-slice-aggregate-name-framed-7 c = sym (length-take-le _ _ (slice-relend-prefix-name-framed (c .before)))
+slice-aggregate-name-short-7 : tie.Need-slice-aggregate-name-short-7
+slice-aggregate-name-short-7 c = sym (length-take-le _ _ (slice-relend-prefix-name-short (c .before)))
 
-slice-aggregate-name-framed-8 : tie.Need-slice-aggregate-name-framed-8
-slice-aggregate-name-framed-8 c = search needs
+slice-aggregate-name-short-8 : tie.Need-slice-aggregate-name-short-8
+slice-aggregate-name-short-8 c = search needs
 
-slice-aggregate-name-framed-9 : tie.Need-slice-aggregate-name-framed-9
-slice-aggregate-name-framed-9 c = search needs
+slice-aggregate-name-short-9 : tie.Need-slice-aggregate-name-short-9
+slice-aggregate-name-short-9 c = search needs
 
-name-framed-requires : tie.Need-name-framed-requires
-name-framed-requires c κs = search needs
+name-short-requires : tie.Need-name-short-requires
+name-short-requires c κs = search needs
 
-slice-reshare-prefix-answer-framed : tie.Need-slice-reshare-prefix-answer-framed
-slice-reshare-prefix-answer-framed c = starts-fit (c .before .before .before .before .before .before .before .before .before .before .before .before .before .before .before .before .before
+slice-reshare-prefix-answer-short : tie.Need-slice-reshare-prefix-answer-short
+slice-reshare-prefix-answer-short c = starts-fit (c .before .before .before .before .before .before .before .before .before .before .before .before .before .before .before .before .before
     .before .before .before .before .before .before .before .before .before .before .before .before .read-file .ensures) (c .before .before .before .before .before .before .before .before
     .before .before .before .before .before .before .before .before .before .before .before .before .before .before .before .before .before .before .before .before .before .read-file .kept
     .1 .1 .0)
 
-slice-aggregate-answer-framed : tie.Need-slice-aggregate-answer-framed
-slice-aggregate-answer-framed c = sym (length-take-le _ _ (slice-reshare-prefix-answer-framed (c .before)))
+slice-aggregate-answer-short : tie.Need-slice-aggregate-answer-short
+slice-aggregate-answer-short c = sym (length-take-le _ _ (slice-reshare-prefix-answer-short (c .before)))
 
-slice-reshare-prefix-answer-framed-2 : tie.Need-slice-reshare-prefix-answer-framed-2
-slice-reshare-prefix-answer-framed-2 c = lengths-fit (c .before .before .before .before .before .before .before .before .before .before .before .before .before .before .before .before
+slice-reshare-prefix-answer-short-2 : tie.Need-slice-reshare-prefix-answer-short-2
+slice-reshare-prefix-answer-short-2 c = lengths-fit (c .before .before .before .before .before .before .before .before .before .before .before .before .before .before .before .before
     .before .before .before .before .before .before .before .before .before .before .before .before .before .before .read-file .ensures) (c .before .before .before .before .before .before
     .before .before .before .before .before .before .before .before .before .before .before .before .before .before .before .before .before .before .before .before .before .before .before
     .before .read-file .kept .1 .1 .1 .0)
 
-slice-aggregate-answer-framed-2 : tie.Need-slice-aggregate-answer-framed-2
-slice-aggregate-answer-framed-2 c = sym (length-take-le _ _ (slice-reshare-prefix-answer-framed-2 (c .before)))
+slice-aggregate-answer-short-2 : tie.Need-slice-aggregate-answer-short-2
+slice-aggregate-answer-short-2 c = sym (length-take-le _ _ (slice-reshare-prefix-answer-short-2 (c .before)))
 
 array-share-prefix-terminals-2 : tie.Need-array-share-prefix-terminals-2
 array-share-prefix-terminals-2 c = terminals-fit (c .before .before .before .before .before .before .before .before .before .before .before .before .before .before .before .before .before
@@ -107,59 +107,59 @@ array-share-prefix-terminals-2 c = terminals-fit (c .before .before .before .bef
     .before .before .before .before .before .before .before .before .before .before .before .before .before .before .before .before .before .before .before .before .before .before .before
     .before .before .read-file .kept .1 .1 .1 .1 .0)
 
-slice-aggregate-answer-framed-3 : tie.Need-slice-aggregate-answer-framed-3
-slice-aggregate-answer-framed-3 c = sym (length-take-le _ _ (array-share-prefix-terminals-2 (c .before)))
+slice-aggregate-answer-short-3 : tie.Need-slice-aggregate-answer-short-3
+slice-aggregate-answer-short-3 c = sym (length-take-le _ _ (array-share-prefix-terminals-2 (c .before)))
 
-slice-reshare-prefix-answer-framed-3 : tie.Need-slice-reshare-prefix-answer-framed-3
-slice-reshare-prefix-answer-framed-3 c = kinds-fit (c .before .before .before .before .before .before .before .before .before .before .before .before .before .before .before .before .before
+slice-reshare-prefix-answer-short-3 : tie.Need-slice-reshare-prefix-answer-short-3
+slice-reshare-prefix-answer-short-3 c = kinds-fit (c .before .before .before .before .before .before .before .before .before .before .before .before .before .before .before .before .before
     .before .before .before .before .before .before .before .before .before .before .before .before .before .before .before .read-file .ensures) (c .before .before .before .before .before
     .before .before .before .before .before .before .before .before .before .before .before .before .before .before .before .before .before .before .before .before .before .before .before
     .before .before .before .before .read-file .kept .1 .1 .1 .1 .1 .0)
 
-slice-aggregate-answer-framed-4 : tie.Need-slice-aggregate-answer-framed-4
-slice-aggregate-answer-framed-4 c = sym (length-take-le _ _ (slice-reshare-prefix-answer-framed-3 (c .before)))
+slice-aggregate-answer-short-4 : tie.Need-slice-aggregate-answer-short-4
+slice-aggregate-answer-short-4 c = sym (length-take-le _ _ (slice-reshare-prefix-answer-short-3 (c .before)))
 
-slice-reshare-prefix-answer-framed-4 : tie.Need-slice-reshare-prefix-answer-framed-4
-slice-reshare-prefix-answer-framed-4 c = tokens-fit (c .before .before .before .before .before .before .before .before .before .before .before .before .before .before .before .before
+slice-reshare-prefix-answer-short-4 : tie.Need-slice-reshare-prefix-answer-short-4
+slice-reshare-prefix-answer-short-4 c = tokens-fit (c .before .before .before .before .before .before .before .before .before .before .before .before .before .before .before .before
     .before .before .before .before .before .before .before .before .before .before .before .before .before .before .before .before .before .read-file .ensures) (c .before .before .before
     .before .before .before .before .before .before .before .before .before .before .before .before .before .before .before .before .before .before .before .before .before .before .before
     .before .before .before .before .before .before .before .read-file .kept .1 .1 .1 .1 .1 .1 .0)
 
-slice-aggregate-answer-framed-5 : tie.Need-slice-aggregate-answer-framed-5
-slice-aggregate-answer-framed-5 c = sym (length-take-le _ _ (slice-reshare-prefix-answer-framed-4 (c .before)))
+slice-aggregate-answer-short-5 : tie.Need-slice-aggregate-answer-short-5
+slice-aggregate-answer-short-5 c = sym (length-take-le _ _ (slice-reshare-prefix-answer-short-4 (c .before)))
 
-slice-reshare-prefix-answer-framed-5 : tie.Need-slice-reshare-prefix-answer-framed-5
-slice-reshare-prefix-answer-framed-5 c = sizes-fit (c .before .before .before .before .before .before .before .before .before .before .before .before .before .before .before .before .before
+slice-reshare-prefix-answer-short-5 : tie.Need-slice-reshare-prefix-answer-short-5
+slice-reshare-prefix-answer-short-5 c = sizes-fit (c .before .before .before .before .before .before .before .before .before .before .before .before .before .before .before .before .before
     .before .before .before .before .before .before .before .before .before .before .before .before .before .before .before .before .before .read-file .ensures) (c .before .before .before
     .before .before .before .before .before .before .before .before .before .before .before .before .before .before .before .before .before .before .before .before .before .before .before
     .before .before .before .before .before .before .before .before .read-file .kept .1 .1 .1 .1 .1 .1 .1 .0)
 
-slice-aggregate-answer-framed-6 : tie.Need-slice-aggregate-answer-framed-6
-slice-aggregate-answer-framed-6 c = sym (length-take-le _ _ (slice-reshare-prefix-answer-framed-5 (c .before)))
+slice-aggregate-answer-short-6 : tie.Need-slice-aggregate-answer-short-6
+slice-aggregate-answer-short-6 c = sym (length-take-le _ _ (slice-reshare-prefix-answer-short-5 (c .before)))
 
-slice-reshare-prefix-answer-framed-6 : tie.Need-slice-reshare-prefix-answer-framed-6
-slice-reshare-prefix-answer-framed-6 c = bindings-fit (c .before .before .before .before .before .before .before .before .before .before .before .before .before .before .before .before
+slice-reshare-prefix-answer-short-6 : tie.Need-slice-reshare-prefix-answer-short-6
+slice-reshare-prefix-answer-short-6 c = bindings-fit (c .before .before .before .before .before .before .before .before .before .before .before .before .before .before .before .before
     .before .before .before .before .before .before .before .before .before .before .before .before .before .before .before .before .before .before .before .read-file .ensures)
     (joined-length (c .before .before .before .before .before .before .before .before .before .before .before .before .before .before .before .before .before .before .before .before .before
     .before .before .before .before .before .before .before .before .before .before .before .before .before .before .read-file .result .nodes) (c .before .before .before .before .before
-    .before .before .before .before .before .name-framed .last .1 .1 .1 .1 .1 .1 .1 .1 .0) (c .before .before .before .before .before .before .before .before .before .before .before .before
+    .before .before .before .before .before .name-short .last .1 .1 .1 .1 .1 .1 .1 .1 .0) (c .before .before .before .before .before .before .before .before .before .before .before .before
     .before .before .before .before .before .before .before .before .before .before .before .before .before .before .before .before .before .before .before .before .before .before .before
-    .read-file .last .1 .1 .1 .1 .1 .1 .1 .1 .0) (c .before .before .before .before .before .before .before .before .before .before .name-framed .kept .1 .1 .1 .1 .1 .1 .1 .1 .0)
-    (slice-relend-prefix-name-framed (c .before .before .before .before .before .before .before .before .before .before .before .before .before .before)) ∙ c .before .before .before .before
+    .read-file .last .1 .1 .1 .1 .1 .1 .1 .1 .0) (c .before .before .before .before .before .before .before .before .before .before .name-short .kept .1 .1 .1 .1 .1 .1 .1 .1 .0)
+    (slice-relend-prefix-name-short (c .before .before .before .before .before .before .before .before .before .before .before .before .before .before)) ∙ c .before .before .before .before
     .before .before .before .before .before .before .before .before .before .before .before .before .before .before .before .before .before .before .before .before .before .before .before
     .before .before .before .before .before .before .before .before .read-file .kept .1 .1 .1 .1 .1 .1 .1 .1 .0)
 
-slice-aggregate-answer-framed-7 : tie.Need-slice-aggregate-answer-framed-7
-slice-aggregate-answer-framed-7 c = sym (length-take-le _ _ (slice-reshare-prefix-answer-framed-6 (c .before)))
+slice-aggregate-answer-short-7 : tie.Need-slice-aggregate-answer-short-7
+slice-aggregate-answer-short-7 c = sym (length-take-le _ _ (slice-reshare-prefix-answer-short-6 (c .before)))
 
-slice-aggregate-answer-framed-8 : tie.Need-slice-aggregate-answer-framed-8
-slice-aggregate-answer-framed-8 c = search needs
+slice-aggregate-answer-short-8 : tie.Need-slice-aggregate-answer-short-8
+slice-aggregate-answer-short-8 c = search needs
 
-slice-aggregate-answer-framed-9 : tie.Need-slice-aggregate-answer-framed-9
-slice-aggregate-answer-framed-9 c = search needs
+slice-aggregate-answer-short-9 : tie.Need-slice-aggregate-answer-short-9
+slice-aggregate-answer-short-9 c = search needs
 
-answer-framed-requires : tie.Need-answer-framed-requires
-answer-framed-requires c κs = search needs
+answer-short-requires : tie.Need-answer-short-requires
+answer-short-requires c κs = search needs
 
 same-length : tie.Need-same-length
 same-length c = c .before .before .before .before .before .before .before .before .before .before .before .before .before .before .before .before .before .before .before .before .before
@@ -195,23 +195,23 @@ same-length-7 : tie.Need-same-length-7
 same-length-7 c = joined-length (c .before .before .before .before .before .before .before .before .before .before .before .before .before .before .before .before .before .before .before
     .before .before .before .before .before .before .before .before .before .before .before .before .before .before .before .before .before .before .before .before .before .before .before
     .before .before .before .before .before .read-file .result .nodes) (c .before .before .before .before .before .before .before .before .before .before .before .before .before .before
-    .before .before .before .before .before .before .before .before .name-framed .last .1 .1 .1 .1 .1 .1 .1 .1 .0) (c .before .before .before .before .before .before .before .before .before
+    .before .before .before .before .before .before .before .before .name-short .last .1 .1 .1 .1 .1 .1 .1 .1 .0) (c .before .before .before .before .before .before .before .before .before
     .before .before .before .before .before .before .before .before .before .before .before .before .before .before .before .before .before .before .before .before .before .before .before
     .before .before .before .before .before .before .before .before .before .before .before .before .before .before .before .read-file .last .1 .1 .1 .1 .1 .1 .1 .1 .0) (c .before .before
-    .before .before .before .before .before .before .before .before .before .before .before .before .before .before .before .before .before .before .before .before .name-framed .kept .1 .1
-    .1 .1 .1 .1 .1 .1 .0) (slice-relend-prefix-name-framed (c .before .before .before .before .before .before .before .before .before .before .before .before .before .before .before .before
+    .before .before .before .before .before .before .before .before .before .before .before .before .before .before .before .before .before .before .before .before .name-short .kept .1 .1
+    .1 .1 .1 .1 .1 .1 .0) (slice-relend-prefix-name-short (c .before .before .before .before .before .before .before .before .before .before .before .before .before .before .before .before
     .before .before .before .before .before .before .before .before .before .before)) ∙ c .before .before .before .before .before .before .before .before .before .before .before .before
     .before .before .before .before .before .before .before .before .before .before .before .before .before .before .before .before .before .before .before .before .before .before .before
     .before .before .before .before .before .before .before .before .before .before .before .before .read-file .kept .1 .1 .1 .1 .1 .1 .1 .1 .0
 
 same-length-8 : tie.Need-same-length-8
-same-length-8 c = c .before .before .before .before .before .answer-framed .kept .1 .1 .1 .1 .1 .1 .1 .1 .1 .1 .1 .0
+same-length-8 c = c .before .before .before .before .before .answer-short .kept .1 .1 .1 .1 .1 .1 .1 .1 .1 .1 .1 .0
 
 same-length-9 : tie.Need-same-length-9
-same-length-9 c = c .before .before .before .before .before .answer-framed .kept .1 .1 .1 .1 .1 .1 .1 .1 .1 .1 .1 .1 .0
+same-length-9 c = c .before .before .before .before .before .answer-short .kept .1 .1 .1 .1 .1 .1 .1 .1 .1 .1 .1 .1 .0
 
 same-length-10 : tie.Need-same-length-10
-same-length-10 c = c .before .before .before .before .before .answer-framed .kept .1 .1 .1 .1 .1 .1 .1 .1 .1 .1 .1 .1 .1 .0
+same-length-10 c = c .before .before .before .before .before .answer-short .kept .1 .1 .1 .1 .1 .1 .1 .1 .1 .1 .1 .1 .1 .0
 
 returns : tie.Need-returns
 returns c =
@@ -223,16 +223,16 @@ returns c =
     .before .before .before .before .before .before .before .before .before .before .before .before .before .before .before .before .before .before .before .before .before .before
     .before .before .before .before .before .before .before .before .before .before .before .before .before .before .before .before .before .before .before .before .before .before
     .before .before .before .before .before .before .before .before .before .before .before .before .shorter2 .ensures) (c .before .before .before .before .before .before .before
-    .before .before .before .before .before .before .before .before .before .before .before .before .before .before .before .name-framed .ensures) (joined-front (c .before .before
+    .before .before .before .before .before .before .before .before .before .before .before .before .before .before .before .name-short .ensures) (joined-front (c .before .before
     .before .before .before .before .before .before .before .before .before .before .before .before .before .before .before .before .before .before .before .before .before .before
     .before .before .before .before .before .before .before .before .before .before .before .before .before .before .before .before .before .before .before .before .before .before
     .before .read-file .result .nodes) (c .before .before .before .before .before .before .before .before .before .before .before .before .before .before .before .before .before .before
-    .before .before .before .before .name-framed .last .1 .1 .1 .1 .1 .1 .1 .1 .0) (c .before .before .before .before .before .before .before .before .before .before .before .before
+    .before .before .before .before .name-short .last .1 .1 .1 .1 .1 .1 .1 .1 .0) (c .before .before .before .before .before .before .before .before .before .before .before .before
     .before .before .before .before .before .before .before .before .before .before .before .before .before .before .before .before .before .before .before .before .before .before
     .before .before .before .before .before .before .before .before .before .before .before .before .before .read-file .last .1 .1 .1 .1 .1 .1 .1 .1 .0) (c .before .before .before
-    .before .before .before .before .before .before .before .before .before .before .before .before .before .before .before .before .before .before .before .name-framed .kept .1 .1 .1
-    .1 .1 .1 .1 .1 .0) (slice-relend-prefix-name-framed (c .before .before .before .before .before .before .before .before .before .before .before .before .before .before .before
-    .before .before .before .before .before .before .before .before .before .before .before))) (c .before .before .before .before .before .answer-framed .ensures)
+    .before .before .before .before .before .before .before .before .before .before .before .before .before .before .before .before .before .before .before .name-short .kept .1 .1 .1
+    .1 .1 .1 .1 .1 .0) (slice-relend-prefix-name-short (c .before .before .before .before .before .before .before .before .before .before .before .before .before .before .before
+    .before .before .before .before .before .before .before .before .before .before .before))) (c .before .before .before .before .before .answer-short .ensures)
     (record {
       token-kinds = c .before .before .before .before .before .before .before .before .before .before .before .before .before .before .before .before .before .before .before .before
           .before .before .before .before .before .before .before .before .before .before .before .before .before .before .before .before .before .before .before .before .before .before
@@ -257,24 +257,24 @@ returns c =
       node-bindings = joined-length (c .before .before .before .before .before .before .before .before .before .before .before .before .before .before .before .before .before .before .before
           .before .before .before .before .before .before .before .before .before .before .before .before .before .before .before .before .before .before .before .before .before .before
           .before .before .before .before .before .before .read-file .result .nodes) (c .before .before .before .before .before .before .before .before .before .before .before .before .before
-          .before .before .before .before .before .before .before .before .before .name-framed .last .1 .1 .1 .1 .1 .1 .1 .1 .0) (c .before .before .before .before .before .before .before
+          .before .before .before .before .before .before .before .before .before .name-short .last .1 .1 .1 .1 .1 .1 .1 .1 .0) (c .before .before .before .before .before .before .before
           .before .before .before .before .before .before .before .before .before .before .before .before .before .before .before .before .before .before .before .before .before .before
           .before .before .before .before .before .before .before .before .before .before .before .before .before .before .before .before .before .before .read-file .last .1 .1 .1 .1 .1 .1 .1
           .1 .0) (c .before .before .before .before .before .before .before .before .before .before .before .before .before .before .before .before .before .before .before .before .before
-          .before .name-framed .kept .1 .1 .1 .1 .1 .1 .1 .1 .0) (slice-relend-prefix-name-framed (c .before .before .before .before .before .before .before .before .before .before .before
+          .before .name-short .kept .1 .1 .1 .1 .1 .1 .1 .1 .0) (slice-relend-prefix-name-short (c .before .before .before .before .before .before .before .before .before .before .before
           .before .before .before .before .before .before .before .before .before .before .before .before .before .before .before)) ∙ c .before .before .before .before .before .before .before
           .before .before .before .before .before .before .before .before .before .before .before .before .before .before .before .before .before .before .before .before .before .before
           .before .before .before .before .before .before .before .before .before .before .before .before .before .before .before .before .before .before .read-file .kept .1 .1 .1 .1 .1 .1 .1
           .1 .0;
-      answer-kinds = c .before .before .before .before .before .answer-framed .kept .1 .1 .1 .1 .1 .1 .1 .1 .1 .1 .1 .0;
+      answer-kinds = c .before .before .before .before .before .answer-short .kept .1 .1 .1 .1 .1 .1 .1 .1 .1 .1 .1 .0;
       answer-numbers = c .before .before .before .before .before
-          .answer-framed .kept .1 .1 .1 .1 .1 .1 .1 .1 .1 .1 .1 .1 .0;
-      answer-lengths = c .before .before .before .before .before .answer-framed .kept .1 .1 .1 .1 .1 .1 .1 .1 .1 .1 .1 .1 .1
+          .answer-short .kept .1 .1 .1 .1 .1 .1 .1 .1 .1 .1 .1 .1 .0;
+      answer-lengths = c .before .before .before .before .before .answer-short .kept .1 .1 .1 .1 .1 .1 .1 .1 .1 .1 .1 .1 .1
           .0;
     })
     (c .before .before .before .before .before .before .before .before .before .before .before .before .before .before .before .before .before .before .before .before .before .before
-    .name-framed .kept .1 .1 .1 .1 .1 .1 .1 .1 .1 .0) (c .before .before .before .before .before .before .before .before .before .before .before .before .before .before .before .before
-    .before .before .before .before .before .before .name-framed .kept .1 .1 .1 .1 .1 .1 .1 .1 .1 .1 .0) small-bytes (lit≤ tt) (lit≤ tt) (lit≤ tt)
+    .name-short .kept .1 .1 .1 .1 .1 .1 .1 .1 .1 .0) (c .before .before .before .before .before .before .before .before .before .before .before .before .before .before .before .before
+    .before .before .before .before .before .before .name-short .kept .1 .1 .1 .1 .1 .1 .1 .1 .1 .1 .0) small-bytes (lit≤ tt) (lit≤ tt) (lit≤ tt)
 
 pub run-small-spec : {M : Type 1} → statement M
 run-small-spec =
@@ -284,40 +284,40 @@ run-small-spec =
     shorter-requires-2
     slice-aggregate-read-file
     read-file-requires
-    slice-reshare-prefix-name-framed
-    slice-aggregate-name-framed
-    slice-reshare-prefix-name-framed-2
-    slice-aggregate-name-framed-2
+    slice-reshare-prefix-name-short
+    slice-aggregate-name-short
+    slice-reshare-prefix-name-short-2
+    slice-aggregate-name-short-2
     array-share-prefix-terminals
-    slice-aggregate-name-framed-3
-    slice-reshare-prefix-name-framed-3
-    slice-aggregate-name-framed-4
-    slice-reshare-prefix-name-framed-4
-    slice-aggregate-name-framed-5
-    slice-reshare-prefix-name-framed-5
-    slice-aggregate-name-framed-6
-    slice-relend-prefix-name-framed
-    slice-aggregate-name-framed-7
-    slice-aggregate-name-framed-8
-    slice-aggregate-name-framed-9
-    name-framed-requires
-    slice-reshare-prefix-answer-framed
-    slice-aggregate-answer-framed
-    slice-reshare-prefix-answer-framed-2
-    slice-aggregate-answer-framed-2
+    slice-aggregate-name-short-3
+    slice-reshare-prefix-name-short-3
+    slice-aggregate-name-short-4
+    slice-reshare-prefix-name-short-4
+    slice-aggregate-name-short-5
+    slice-reshare-prefix-name-short-5
+    slice-aggregate-name-short-6
+    slice-relend-prefix-name-short
+    slice-aggregate-name-short-7
+    slice-aggregate-name-short-8
+    slice-aggregate-name-short-9
+    name-short-requires
+    slice-reshare-prefix-answer-short
+    slice-aggregate-answer-short
+    slice-reshare-prefix-answer-short-2
+    slice-aggregate-answer-short-2
     array-share-prefix-terminals-2
-    slice-aggregate-answer-framed-3
-    slice-reshare-prefix-answer-framed-3
-    slice-aggregate-answer-framed-4
-    slice-reshare-prefix-answer-framed-4
-    slice-aggregate-answer-framed-5
-    slice-reshare-prefix-answer-framed-5
-    slice-aggregate-answer-framed-6
-    slice-reshare-prefix-answer-framed-6
-    slice-aggregate-answer-framed-7
-    slice-aggregate-answer-framed-8
-    slice-aggregate-answer-framed-9
-    answer-framed-requires
+    slice-aggregate-answer-short-3
+    slice-reshare-prefix-answer-short-3
+    slice-aggregate-answer-short-4
+    slice-reshare-prefix-answer-short-4
+    slice-aggregate-answer-short-5
+    slice-reshare-prefix-answer-short-5
+    slice-aggregate-answer-short-6
+    slice-reshare-prefix-answer-short-6
+    slice-aggregate-answer-short-7
+    slice-aggregate-answer-short-8
+    slice-aggregate-answer-short-9
+    answer-short-requires
     same-length
     same-length-2
     same-length-3

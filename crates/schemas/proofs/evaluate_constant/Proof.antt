@@ -1,8 +1,7 @@
--- `schemas::evaluate_constant` meets its contract: the answer of its last node is stored in its row. Assumes nothing.
+-- `schemas::evaluate_constant` meets its contract: what is held of its expression's answer is stored in its row. Assumes nothing.
 use borrow.Author.Needs.{needs}
 use Rattle.schemas.proofs.evaluate_constant.Statement.{statement}
 use Rattle.schemas.proofs.evaluate_constant.Tie as tie
-use native.Mathlib.Omega.{arith}
 use Rattle.schemas.proofs.OneConstant.{one-constant}
 
 index-at-requires : tie.Need-index-at-requires
@@ -14,14 +13,6 @@ saturating-sub-requires c κs = search needs
 saturating-sub-requires-2 : tie.Need-saturating-sub-requires-2
 saturating-sub-requires-2 c κs = search needs
 
-add-evaluate-expression : tie.Need-add-evaluate-expression
-add-evaluate-expression c =
-    omega (
-      arith,
-      c .before .before .before .before .before .before .before .before .before .before .before .before .before .before .before .before .before
-          .pre,
-    )
-
 evaluate-expression-requires : tie.Need-evaluate-expression-requires
 evaluate-expression-requires c κs = search needs
 
@@ -31,8 +22,11 @@ index-at-requires-2 c κs = search needs
 saturating-sub-requires-3 : tie.Need-saturating-sub-requires-3
 saturating-sub-requires-3 c κs = search needs
 
-answer-at-requires : tie.Need-answer-at-requires
-answer-at-requires c κs = search needs
+at32-requires : tie.Need-at32-requires
+at32-requires c κs = search needs
+
+held-answer-requires : tie.Need-held-answer-requires
+held-answer-requires c κs = search needs
 
 put-answer-requires : tie.Need-put-answer-requires
 put-answer-requires c κs = search needs
@@ -58,14 +52,15 @@ same-length-6 c = search needs
 returns : tie.Need-returns
 returns c =
     one-constant (c .before .before .before .before .before .before .before .before .before .before .before .before .before .before .before .before .before
-    .before .before .before .before .before .before .before .before .before .before .before .before .index-at .ensures) (c .before .before .before .before
+    .before .before .before .before .before .before .before .before .before .before .before .before .before .index-at .ensures) (c .before .before .before
     .before .before .before .before .before .before .before .before .before .before .before .before .before .before .before .before .before .before .before
-    .before .before .before .before .before .saturating-sub .ensures) (c .before .before .before .before .before .before .before .before .before .before
-    .before .before .before .before .before .before .before .before .before .before .before .before .before .before .before .before .before .saturating-sub2
-    .ensures) (c .before .before .before .before .before .before .before .before .before .before .before .before .before .before .before .before .before
-    .before .before .before .evaluate-expression .ensures) (c .before .before .before .before .before .before .before .before .before .before .before .before
-    .before .before .index-at2 .ensures) (c .before .before .before .before .before .before .before .before .before .before .before .before .before
-    .saturating-sub3 .ensures) (c .before .before .before .before .before .before .before .before .before .answer-at .ensures) (c .before .before .before
+    .before .before .before .before .before .before .before .saturating-sub .ensures) (c .before .before .before .before .before .before .before .before .before
+    .before .before .before .before .before .before .before .before .before .before .before .before .before .before .before .before .before .before .before
+    .saturating-sub2 .ensures) (c .before .before .before .before .before .before .before .before .before .before .before .before .before .before .before
+    .before .before .before .before .before .before .evaluate-expression .ensures) (c .before .before .before .before .before .before .before .before .before
+    .before .before .before .before .before .before .index-at2 .ensures) (c .before .before .before .before .before .before .before .before .before .before
+    .before .before .before .before .saturating-sub3 .ensures) (c .before .before .before .before .before .before .before .before .before .before .before
+    .before .before .at32 .ensures) (c .before .before .before .before .before .before .before .before .before .held-answer .ensures) (c .before .before .before
     .before .before .put-answer .ensures)
 
 pub evaluate-constant-spec : {M : Type 1} → statement M
@@ -75,11 +70,11 @@ evaluate-constant-spec =
     index-at-requires
     saturating-sub-requires
     saturating-sub-requires-2
-    add-evaluate-expression
     evaluate-expression-requires
     index-at-requires-2
     saturating-sub-requires-3
-    answer-at-requires
+    at32-requires
+    held-answer-requires
     put-answer-requires
     same-length
     same-length-2

@@ -2,7 +2,7 @@
 use Rattle.schemas.proofs.evaluate_schema.Statement.{statement}
 use Rattle.schemas.proofs.evaluate_schema.Tie as tie
 use borrow.Author.Needs.{needs}
-use Rattle.schemas.proofs.Passing.{Passing, passing-starts, passing-other, passing-due, passing-ends, due-below}
+use Rattle.schemas.proofs.Passing.{Passing, passing-starts, passing-other, passing-due, passing-ends}
 use Prim.Native.Nat.{_-_}
 use lib.ListN.{length}
 use native.Mathlib.Omega.{arith}
@@ -34,13 +34,7 @@ is-due-requires : tie.Need-is-due-requires Inv-loop μ-loop
 is-due-requires c κs = search needs
 
 evaluate-constant-requires : tie.Need-evaluate-constant-requires Inv-loop μ-loop
-evaluate-constant-requires c κs =
-    due-below (c .before .before .before .before .before .before .before .before .before .before .before .before .before .before .before .before
-    .before .before .before .before .before .before .before .before .before .before .before .args .kinds .now) (c .before .before .before .before
-    .before .before .before .before .before .before .before .before .before .before .before .before .before .before .before .before .before .before
-    .before .before .before .before .before .args .lo) (c .before .before .before .before .before .before .before .is-due .ensures) (c .before .before
-    .before .before .before .before .if1 .taken) (c .before .before .before .before .before .before .before .before .before .before .before .before
-    .before .before .before .before .before .before .before .before .before .before .before .before .before .before .before .fits .hi .fits)
+evaluate-constant-requires c κs = search needs
 
 add-i : tie.Need-add-i Inv-loop μ-loop
 add-i c =

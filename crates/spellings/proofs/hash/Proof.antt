@@ -1,54 +1,50 @@
 -- `spellings::hash` meets its contract: by the laws of `Hashing`. Assumes nothing.
 use Rattle.spellings.proofs.hash.Statement.{statement}
 use Rattle.spellings.proofs.hash.Tie as tie
-use borrow.Author.Needs.{needs}
 use Rattle.spellings.proofs.Spellings.{Hashing, hashing-starts, hashing-goes-on, hashing-ends}
-use mathlib.Core.Path.{refl}
 use lib.ListN.{length}
 use Prim.Native.Nat.{_-_}
 use native.Mathlib.Omega.{arith}
+use borrow.Author.Needs.{needs}
 
 abbrev Inv-loop : tie.InvT-loop
-Inv-loop word n last h₀ i₀ h i = Hashing word h i
+Inv-loop word h₀ i₀ h i = Hashing word h i
 
 abbrev μ-loop : tie.MeasureT-loop
-μ-loop word n last h₀ i₀ h i = length word - i
+μ-loop word h₀ i₀ h i = length word - i
 
-short-block-requires : tie.Need-short-block-requires Inv-loop μ-loop
-short-block-requires c κs = search needs
+part-requires : tie.Need-part-requires Inv-loop μ-loop
+part-requires c κs = search needs
 
 join-requires : tie.Need-join-requires Inv-loop μ-loop
-join-requires c κs = (omega arith, c .short-block .ensures .small)
+join-requires c κs = (omega arith, c .part .ensures .small)
 
-returns : tie.Need-returns Inv-loop μ-loop
-returns c = hashing-ends (hashing-starts _) (omega (arith, c .before .before .if1 .taken)) (omega (arith, c .before .before .if1 .taken)) (c .before .short-block .ensures) (c .join .ensures)
-
-loop-holds : tie.Need-loop-holds Inv-loop μ-loop
-loop-holds c = hashing-starts _
-
-block-requires : tie.Need-block-requires Inv-loop μ-loop
-block-requires c κs = omega (arith, c .loop-test .taken, c .before .before .if1 .left)
+part-requires-2 : tie.Need-part-requires-2 Inv-loop μ-loop
+part-requires-2 c κs = search needs
 
 join-requires-2 : tie.Need-join-requires-2 Inv-loop μ-loop
-join-requires-2 c κs = (c .before .before .loop .inv .small, c .block .ensures .small)
+join-requires-2 c κs = (c .before .join .ensures .small, c .part2 .ensures .small)
 
-add-i : tie.Need-add-i Inv-loop μ-loop
-add-i c = omega (arith, c .before .before .loop-test .taken, c .before .before .before .before .if1 .left)
+loop-holds : tie.Need-loop-holds Inv-loop μ-loop
+loop-holds c = hashing-starts (c .before .before .before .part .ensures) (c .before .before .join .ensures) (c .before .part2 .ensures) (c .join2 .ensures)
 
-loop-less : tie.Need-loop-less Inv-loop μ-loop
-loop-less c = omega (arith, c .before .before .loop-test .taken, c .before .before .before .before .if1 .left)
-
-loop-again : tie.Need-loop-again Inv-loop μ-loop
-loop-again c = hashing-goes-on (c .before .before .before .loop .inv) (c .before .before .loop-test .taken) (c .before .block .ensures) (c .join2 .ensures)
-
-block-requires-2 : tie.Need-block-requires-2 Inv-loop μ-loop
-block-requires-2 c κs = omega (arith, c .before .before .if1 .left)
+part-requires-3 : tie.Need-part-requires-3 Inv-loop μ-loop
+part-requires-3 c κs = search needs
 
 join-requires-3 : tie.Need-join-requires-3 Inv-loop μ-loop
-join-requires-3 c κs = (c .before .before .loop .inv .small, c .block2 .ensures .small)
+join-requires-3 c κs = (c .before .before .loop .inv .small, c .part3 .ensures .small)
 
-returns-2 : tie.Need-returns-2 Inv-loop μ-loop
-returns-2 c = hashing-ends (c .before .before .before .loop .inv) (c .before .before .loop-test .left) refl (c .before .block2 .ensures) (c .join3 .ensures)
+add-i : tie.Need-add-i Inv-loop μ-loop
+add-i c = search needs
+
+loop-less : tie.Need-loop-less Inv-loop μ-loop
+loop-less c = search needs
+
+loop-again : tie.Need-loop-again Inv-loop μ-loop
+loop-again c = hashing-goes-on (c .before .before .before .loop .inv) (c .before .before .loop-test .taken) (c .before .part3 .ensures) (c .join3 .ensures)
+
+returns : tie.Need-returns Inv-loop μ-loop
+returns c = hashing-ends (c .before .loop .inv) (c .loop-test .left)
 
 pub hash-spec : {M : Type 1} → statement M
 hash-spec =
@@ -56,15 +52,14 @@ hash-spec =
     (tie.spec
     Inv-loop
     μ-loop
-    short-block-requires
+    part-requires
     join-requires
-    returns
-    loop-holds
-    block-requires
+    part-requires-2
     join-requires-2
+    loop-holds
+    part-requires-3
+    join-requires-3
     add-i
     loop-less
     loop-again
-    block-requires-2
-    join-requires-3
-    returns-2)
+    returns)

@@ -1,12 +1,10 @@
--- `symbols::leads` meets its contract: the part of the bytes is the token's spelling. Assumes nothing.
+-- `symbols::leads` meets its contract: the two tokens are as long as each other, and surely spelled alike. Assumes nothing.
 use borrow.Author.Needs.{needs}
 use Rattle.symbols.proofs.leads.Statement.{statement}
 use Rattle.symbols.proofs.leads.Tie as tie
 use Rattle.symbols.proofs.Interning.{leads-to}
-use Rattle.spellings.proofs.Spellings.{part-spelling}
 use mathlib.Core.Bool.{false≢true}
-use lib.ListN.{take, drop}
-use Prim.Native.Nat.{_-_}
+use mathlib.Core.Path.{sym, _∙_}
 
 returns : tie.Need-returns
 returns c = λ z. absurd (false≢true z)
@@ -17,32 +15,57 @@ returns-2 c = λ z. absurd (false≢true z)
 sub-k : tie.Need-sub-k
 sub-k c = search needs
 
-begin-requires : tie.Need-begin-requires
-begin-requires c κs = search needs
+mul-index : tie.Need-mul-index
+mul-index c = search needs
 
-end-requires : tie.Need-end-requires
-end-requires c κs = search needs
+shared-slice-read-index : tie.Need-shared-slice-read-index
+shared-slice-read-index c = search needs
 
-sub-equal : tie.Need-sub-equal
-sub-equal c = search needs
+index-requires : tie.Need-index-requires
+index-requires c κs = search needs
 
-part-equal-start : tie.Need-part-equal-start
-part-equal-start c = search needs
+mul-index-2 : tie.Need-mul-index-2
+mul-index-2 c = search needs
 
-part-equal-end : tie.Need-part-equal-end
-part-equal-end c = search needs
+shared-slice-read-index-2 : tie.Need-shared-slice-read-index-2
+shared-slice-read-index-2 c = search needs
 
-equal-requires : tie.Need-equal-requires
-equal-requires c κs = search needs
+index-requires-2 : tie.Need-index-requires-2
+index-requires-2 c κs = search needs
 
 returns-3 : tie.Need-returns-3
-returns-3 c =
-    let s = c .before .before .before .before .before .before .before .before .before .before in
-    λ z. leads-to (s .args .bytes .now) (s .args .starts .now) (s .args .lengths .now)
-    (take (c .before .before .end .result - c .before .before .before .begin .result) (drop (c .before .before .before .begin .result) (s .args .bytes .now)))
-    (c .before .before .before .before .before .if1 .left) (c .before .before .before .before .if2 .left)
-    (part-spelling (s .args .bytes .now) (s .args .starts .now) (s .args .lengths .now) (s .args .first - 1) _ _ (c .before .before .before .begin .ensures) (c .before .before .end .ensures))
-    (c .equal .ensures) z
+returns-3 c = λ z. absurd (false≢true z)
+
+mul-index-3 : tie.Need-mul-index-3
+mul-index-3 c = search needs
+
+shared-slice-read-index-3 : tie.Need-shared-slice-read-index-3
+shared-slice-read-index-3 c = search needs
+
+index-requires-3 : tie.Need-index-requires-3
+index-requires-3 c κs = search needs
+
+mul-index-4 : tie.Need-mul-index-4
+mul-index-4 c = search needs
+
+shared-slice-read-index-4 : tie.Need-shared-slice-read-index-4
+shared-slice-read-index-4 c = search needs
+
+index-requires-4 : tie.Need-index-requires-4
+index-requires-4 c κs = search needs
+
+surely-alike-requires : tie.Need-surely-alike-requires
+surely-alike-requires c κs = search needs
+
+returns-4 : tie.Need-returns-4
+returns-4 c =
+    λ z. leads-to (c .before .before .before .before .before .before .before .before .before .before .before .before .before .before .before .args .bytes .now)
+    (c .before .before .before .before .before .before .before .before .before .before .before .before .before .before .before .args .starts .now)
+    (c .before .before .before .before .before .before .before .before .before .before .before .before .before .before .before .args .lengths .now)
+    (c .before .before .before .before .before .before .before .before .before .before .before .if1 .left)
+    (c .before .before .before .before .before .before .before .before .before .before .if2 .left) (c .before .before .before .index3 .ensures)
+    (c .before .index4 .ensures) (c .before .before .before .before .before .before .before .before .index .ensures) (sym
+    (c .before .before .before .before .before .before .index2 .ensures) ∙ c .before .before .before .before .before .if3 .left) (c .surely-alike .ensures) z
 
 pub leads-spec : {M : Type 1} → statement M
 leads-spec =
@@ -51,10 +74,18 @@ leads-spec =
     returns
     returns-2
     sub-k
-    begin-requires
-    end-requires
-    sub-equal
-    part-equal-start
-    part-equal-end
-    equal-requires
-    returns-3)
+    mul-index
+    shared-slice-read-index
+    index-requires
+    mul-index-2
+    shared-slice-read-index-2
+    index-requires-2
+    returns-3
+    mul-index-3
+    shared-slice-read-index-3
+    index-requires-3
+    mul-index-4
+    shared-slice-read-index-4
+    index-requires-4
+    surely-alike-requires
+    returns-4)

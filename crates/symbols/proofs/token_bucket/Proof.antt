@@ -1,49 +1,51 @@
--- `symbols::token_bucket` meets its contract: the part of the bytes is the token's spelling. Assumes nothing.
+-- `symbols::token_bucket` meets its contract: the hash is that of the token's bytes. Assumes nothing.
 use borrow.Author.Needs.{needs}
 use Rattle.symbols.proofs.token_bucket.Statement.{statement}
 use Rattle.symbols.proofs.token_bucket.Tie as tie
-use Rattle.symbols.proofs.Interning.{in-bucket}
-use Rattle.spellings.proofs.Spellings.{part-spelling}
-use Rattle.spellings.specs.Hash.{hash-of}
-use mathlib.Core.Path.{_∙_, ap}
+use Rattle.symbols.proofs.Interning.{token-in}
 
-begin-requires : tie.Need-begin-requires
-begin-requires c κs = search needs
+mul-index : tie.Need-mul-index
+mul-index c = search needs
 
-end-requires : tie.Need-end-requires
-end-requires c κs = search needs
+shared-slice-read-index : tie.Need-shared-slice-read-index
+shared-slice-read-index c = search needs
 
-sub-hash : tie.Need-sub-hash
-sub-hash c = search needs
+index-requires : tie.Need-index-requires
+index-requires c κs = search needs
 
-part-hash-start : tie.Need-part-hash-start
-part-hash-start c = search needs
+mul-index-2 : tie.Need-mul-index-2
+mul-index-2 c = search needs
 
-part-hash-end : tie.Need-part-hash-end
-part-hash-end c = search needs
+shared-slice-read-index-2 : tie.Need-shared-slice-read-index-2
+shared-slice-read-index-2 c = search needs
 
-hash-requires : tie.Need-hash-requires
-hash-requires c κs = search needs
+index-requires-2 : tie.Need-index-requires-2
+index-requires-2 c κs = search needs
+
+hash-at-requires : tie.Need-hash-at-requires
+hash-at-requires c κs = search needs
 
 range-requires : tie.Need-range-requires
 range-requires c κs = search needs
 
 returns : tie.Need-returns
 returns c =
-    let s = c .before .before .before .before .before .before .before .before in
-    in-bucket (c .range .ensures) (c .before .hash .ensures .is ∙ ap hash-of
-    (part-spelling (s .args .bytes .now) (s .args .starts .now) (s .args .lengths .now) (s .args .i) _ _ (c .before .before .before .before .begin .ensures)
-    (c .before .before .before .end .ensures)))
+    token-in (c .before .before .before .before .before .before .before .before .before .args .bytes .now)
+    (c .before .before .before .before .before .before .before .before .before .args .starts .now)
+    (c .before .before .before .before .before .before .before .before .before .args .lengths .now)
+    (c .before .before .before .before .before .before .before .before .before .args .i) (c .range .ensures) (c .before .hash-at .ensures)
+    (c .before .before .before .before .index .ensures) (c .before .before .index2 .ensures)
 
 pub token-bucket-spec : {M : Type 1} → statement M
 token-bucket-spec =
     tie.close
     (tie.spec
-    begin-requires
-    end-requires
-    sub-hash
-    part-hash-start
-    part-hash-end
-    hash-requires
+    mul-index
+    shared-slice-read-index
+    index-requires
+    mul-index-2
+    shared-slice-read-index-2
+    index-requires-2
+    hash-at-requires
     range-requires
     returns)

@@ -51,22 +51,22 @@ kinds-in (ill-typed k n) = []
 abbrev row : ℕ → ℕ → ℕ → ℕ → Row
 row k t n o = record { kind = k; token = t; size = n; role = o }
 
--- the listing of the scope
-abbrev press-text : String
-press-text = "SCHEMA Press; CONSTANT stroke : INTEGER := step * 3; step : INTEGER := -7 DIV 2; safe : LOGICAL := {0 < step < 10} OR ?; mask : BINARY := %10 + %011; END_CONSTANT; END_SCHEMA;"
+-- constants of three kinds, one of them before the one that it names
+abbrev lathe-text : String
+lathe-text = "SCHEMA Lathe; CONSTANT travel : INTEGER := feed * 5; feed : INTEGER := -9 DIV 2; near : LOGICAL := {1 < feed < 40} OR ?; tool : BINARY := %01 + %110; END_CONSTANT; END_SCHEMA;"
 
-abbrev press-rows : List Row
-press-rows =
+abbrev lathe-rows : List Row
+lathe-rows =
     row 13 6 1 0 ∷ row 6 8 1 1 ∷ row 1 10 1 0 ∷ row 10 9 3 0 ∷ row 17 4 5 0 ∷ row 13 14 1 0 ∷ row 1 17 1 0 ∷ row 9 16 2 0 ∷
     row 1 19 1 0 ∷ row 10 18 4 0 ∷ row 17 12 6 0 ∷ row 13 23 1 0 ∷ row 1 26 1 0 ∷ row 12 27 1 0 ∷ row 6 28 1 1 ∷ row 12 29 1 0 ∷
     row 1 30 1 0 ∷ row 11 25 6 0 ∷ row 4 33 1 0 ∷ row 10 32 8 0 ∷ row 17 21 10 0 ∷ row 13 37 1 0 ∷ row 2 39 1 0 ∷ row 2 41 1 0 ∷
     row 10 40 3 0 ∷ row 17 35 5 0 ∷ row 25 1 27 0 ∷ row 26 0 28 0 ∷ []
 
-abbrev pub press : Table
-press =
+abbrev pub lathe : Table
+lathe =
     with-rows
     (record {
-      bytes = bytes press-text;
+      bytes = bytes lathe-text;
       starts =
           0 ∷ 7 ∷ 12 ∷ 14 ∷ 23 ∷ 30 ∷ 32 ∷ 40 ∷ 43 ∷ 48 ∷ 50 ∷ 51 ∷ 53 ∷ 58 ∷ 60 ∷ 68 ∷ 71 ∷ 72 ∷ 74 ∷ 78 ∷ 79 ∷ 81 ∷ 86 ∷ 88 ∷ 96 ∷ 99 ∷
           100 ∷ 102 ∷ 104 ∷ 109 ∷ 111 ∷ 113 ∷ 115 ∷ 118 ∷ 119 ∷ 121 ∷ 126 ∷ 128 ∷ 135 ∷ 138 ∷ 142 ∷ 144 ∷ 148 ∷ 150 ∷ 162 ∷ 164 ∷ 174 ∷ [];
@@ -84,59 +84,59 @@ press =
       sizes = [];
       roles = [];
     })
-    press-rows
+    lathe-rows
 
-abbrev press-bindings : List ℕ
-press-bindings = 0 ∷ 11 ∷ 0 ∷ 0 ∷ 0 ∷ 0 ∷ 0 ∷ 0 ∷ 0 ∷ 0 ∷ 0 ∷ 0 ∷ 0 ∷ 0 ∷ 11 ∷ 0 ∷ 0 ∷ 0 ∷ 0 ∷ 0 ∷ 0 ∷ 0 ∷ 0 ∷ 0 ∷ 0 ∷ 0 ∷ 0 ∷ 0 ∷ []
+abbrev lathe-bindings : List ℕ
+lathe-bindings = 0 ∷ 11 ∷ 0 ∷ 0 ∷ 0 ∷ 0 ∷ 0 ∷ 0 ∷ 0 ∷ 0 ∷ 0 ∷ 0 ∷ 0 ∷ 0 ∷ 11 ∷ 0 ∷ 0 ∷ 0 ∷ 0 ∷ 0 ∷ 0 ∷ 0 ∷ 0 ∷ 0 ∷ 0 ∷ 0 ∷ 0 ∷ 0 ∷ []
 
-press-bound : bindings press ≡ press-bindings
+lathe-bound : bindings lathe ≡ lathe-bindings
 unfolding span first-from keep any owner schema-of added closure declarations items own super-edges renaming-edges type-edges inherited candidates
     type-meant items-of item-meant means binding bindings flatMap
-press-bound = refl
+lathe-bound = refl
 
 -- an order of its constants
-abbrev press-plan : List ℕ
-press-plan = 10 ∷ 4 ∷ 20 ∷ 25 ∷ []
+abbrev lathe-plan : List ℕ
+lathe-plan = 10 ∷ 4 ∷ 20 ∷ 25 ∷ []
 
-press-scanned : Scanned press
+lathe-scanned : Scanned lathe
 unfolding word-byte space upper end-of-run end-of-remark skipped-in skipped numeral end-of-integer end-of-exponent end-of-real end-of-string
     end-of-binary lone size-of-symbol end-of-symbol token-kind-at end-of-token lexed-in terminal-of among same lower symbol-of symbols-of span first-from
-press-scanned = scanned-by press refl refl refl refl
+lathe-scanned = scanned-by lathe refl refl refl refl
 
-press-parsed : parsed file (press .terminals) ≡ good (whole press-rows)
+lathe-parsed : parsed file (lathe .terminals) ≡ good (whole lathe-rows)
 unfolding parsed first-deep parse descend mem budget
-press-parsed = refl
+lathe-parsed = refl
 
-press-named : names press .number ≡ 0
+lathe-named : names lathe .number ≡ 0
 unfolding span first-from keep any owner schema-of added closure declarations items own super-edges renaming-edges type-edges inherited candidates
     type-meant items-of item-meant means binding bindings flatMap names stages least first-fault sort scope repeated type-name-fault cyclic qualified
     expression constant-edges
-press-named = refl
+lathe-named = refl
 
-press-typed : typing press press-bindings ≡ typed (kinds-in (typing press press-bindings))
+lathe-typed : typing lathe lathe-bindings ≡ typed (kinds-in (typing lathe lathe-bindings))
 unfolding typing type-constants type-nodes-in span keep flatMap numeral integer-value binary-bits exact quotient remainder DIV MOD power AND OR XOR
     join compare-lists simple denoted-in operator-of shape-in run-in evaluate answers owner first-from
-press-typed = refl
+lathe-typed = refl
 
-press-order : (in-order press press-bindings [] press-plan ≡ true) × (every (λ c. not (is press constant c) || order.among press-plan c) (nodes press) ≡ true)
+lathe-order : (in-order lathe lathe-bindings [] lathe-plan ≡ true) × (every (λ c. not (is lathe constant c) || order.among lathe-plan c) (nodes lathe) ≡ true)
 unfolding in-order every any span keep flatMap numeral integer-value binary-bits exact quotient remainder DIV MOD power AND OR XOR join compare-lists
     simple denoted-in operator-of shape-in run-in evaluate answers owner first-from
-press-order = (refl, refl)
+lathe-order = (refl, refl)
 
-press-file : (c : ℕ) → c < 28 → kind press c ≡ constant → Exactly press (bindings press) c (answer-at (answers press press-bindings press-plan) c)
-press-file c l e =
-    subst (λ (b : List ℕ). Exactly press (bindings press) c (answer-at (answers press b press-plan) c)) press-bound
-    (file-exact press press-scanned (read-good file press (whole press-rows) press-parsed) (names-passes press .0 press-named) (kinds-in (typing press press-bindings))
-    (rw press-bound press-typed) press-plan (rw press-bound (order-passes press press-bindings press-plan (press-order .0) (press-order .1))) c l e)
+lathe-file : (c : ℕ) → c < 28 → kind lathe c ≡ constant → Exactly lathe (bindings lathe) c (answer-at (answers lathe lathe-bindings lathe-plan) c)
+lathe-file c l e =
+    subst (λ (b : List ℕ). Exactly lathe (bindings lathe) c (answer-at (answers lathe b lathe-plan) c)) lathe-bound
+    (file-exact lathe lathe-scanned (read-good file lathe (whole lathe-rows) lathe-parsed) (names-passes lathe .0 lathe-named) (kinds-in (typing lathe lathe-bindings))
+    (rw lathe-bound lathe-typed) lathe-plan (rw lathe-bound (order-passes lathe lathe-bindings lathe-plan (lathe-order .0) (lathe-order .1))) c l e)
 
-pub press-exact :
-    Exactly press (bindings press) 4 (integer (negsuc 11)) ×
-    Exactly press (bindings press) 10 (integer (negsuc 3)) ×
-    Exactly press (bindings press) 20 (logical UNKNOWN) ×
-    Exactly press (bindings press) 25 (binary (true ∷ false ∷ false ∷ true ∷ true ∷ []))
+pub lathe-exact :
+    Exactly lathe (bindings lathe) 4 (integer (negsuc 24)) ×
+    Exactly lathe (bindings lathe) 10 (integer (negsuc 4)) ×
+    Exactly lathe (bindings lathe) 20 (logical UNKNOWN) ×
+    Exactly lathe (bindings lathe) 25 (binary (false ∷ true ∷ true ∷ true ∷ false ∷ []))
 unfolding span keep flatMap numeral integer-value binary-bits exact quotient remainder DIV MOD power AND OR XOR join compare-lists simple denoted-in
     operator-of shape-in run-in evaluate answers owner first-from
-press-exact = (press-file 4 (omega arith) refl, press-file 10 (omega arith) refl, press-file 20 (omega arith) refl, press-file 25 (omega arith) refl)
+lathe-exact = (lathe-file 4 (omega arith) refl, lathe-file 10 (omega arith) refl, lathe-file 20 (omega arith) refl, lathe-file 25 (omega arith) refl)
 
 -- an enumeration, a renaming of it, UNKNOWN for a BOOLEAN, and the first of two ends
 abbrev shade-text : List ℕ

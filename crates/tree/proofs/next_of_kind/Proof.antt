@@ -1,49 +1,51 @@
--- `tree::next_of_kind` meets its contract: the first from the node on is the first from the start on. Assumes nothing.
-use mathlib.Core.Path.{_≡_, sym, _∙_}
-use Prim.Native.Nat.{_-_}
-use native.Mathlib.Omega.{arith}
-use borrow.Author.Tests.{eq-eqb, ne-eqb}
-use lib.Dec.{eqb}
-use lib.ListN.{length, getD}
-use Rattle.relations.specs.Select.{first-from}
-use Rattle.relations.proofs.Select.{first-step, first-end}
-use Rattle.tree.proofs.Blocks.{skips-on}
+-- `tree::next_of_kind` meets its contract: what is passed over has none of the kind. Assumes nothing.
+use borrow.Author.Needs.{needs}
 use Rattle.tree.proofs.next_of_kind.Statement.{statement}
 use Rattle.tree.proofs.next_of_kind.Tie as tie
+use mathlib.Core.Path.{_∙_}
+use Rattle.tree.proofs.Blocks.{skips-on, skips-near, first-before}
+use native.Mathlib.Omega.{arith}
 
-abbrev Inv-loop : tie.InvT-loop
-Inv-loop kinds kind from far n₀ n =
-    first-from (λ m. eqb (getD kinds m 0) kind) n (length kinds - n) ≡ first-from (λ m. eqb (getD kinds m 0) kind) from (length kinds - from)
+saturating-sub-requires : tie.Need-saturating-sub-requires
+saturating-sub-requires c κs = search needs
 
-abbrev μ-loop : tie.MeasureT-loop
-μ-loop kinds kind from far n₀ n = length kinds - n
+saturating-sub-requires-2 : tie.Need-saturating-sub-requires-2
+saturating-sub-requires-2 c κs = search needs
 
-skip-blocks-requires : tie.Need-skip-blocks-requires Inv-loop μ-loop
-skip-blocks-requires c κs = omega arith
+sub-near : tie.Need-sub-near
+sub-near c = search needs
 
-skip-blocks-requires-2 : tie.Need-skip-blocks-requires-2 Inv-loop μ-loop
-skip-blocks-requires-2 c κs = omega arith
+next-before-requires : tie.Need-next-before-requires
+next-before-requires c κs = search needs
 
-loop-holds : tie.Need-loop-holds Inv-loop μ-loop
-loop-holds c = skips-on _ _ (c .before .skip-blocks .ensures) (c .skip-blocks2 .ensures) .is
+returns : tie.Need-returns
+returns c = first-before _ _ (c .before .before .before .before .before .args .from) _ (c .before .next-before .ensures) (c .if1 .taken) (omega arith)
 
-shared-slice-read-if1 : tie.Need-shared-slice-read-if1 Inv-loop μ-loop
-shared-slice-read-if1 c = omega arith
+skip-blocks-requires : tie.Need-skip-blocks-requires
+skip-blocks-requires c κs = search needs
 
-returns : tie.Need-returns Inv-loop μ-loop
-returns c = sym (first-step _ _ _ (c .before .before .loop-test .taken) ∙ rw (eq-eqb _ _ (c .if1 .taken))) ∙ c .before .before .before .loop .inv
+skip-blocks-requires-2 : tie.Need-skip-blocks-requires-2
+skip-blocks-requires-2 c κs = search needs
 
-add-n : tie.Need-add-n Inv-loop μ-loop
-add-n c = omega arith
+next-before-requires-2 : tie.Need-next-before-requires-2
+next-before-requires-2 c κs = search needs
 
-loop-less : tie.Need-loop-less Inv-loop μ-loop
-loop-less c = omega arith
-
-loop-again : tie.Need-loop-again Inv-loop μ-loop
-loop-again c = sym (first-step _ _ _ (c .before .before .loop-test .taken) ∙ rw (ne-eqb _ _ (c .if1 .left))) ∙ c .before .before .before .loop .inv
-
-returns-2 : tie.Need-returns-2 Inv-loop μ-loop
-returns-2 c = sym (first-end _ _ _ (c .loop-test .left)) ∙ c .before .loop .inv
+returns-2 : tie.Need-returns-2
+returns-2 c =
+    c .next-before2 .ensures ∙ (skips-on _ _ (skips-on _ _ (skips-near _ _ (c .before .before .before .before .before .before .before .before .args .from) _ (c
+    .before .before .before .before .next-before .ensures) (c .before .before .before .if1 .left) (omega arith)) (c .before .before .skip-blocks .ensures)) (c
+    .before .skip-blocks2 .ensures)) .is
 
 pub next-of-kind-spec : {M : Type 1} → statement M
-next-of-kind-spec = tie.close (tie.spec Inv-loop μ-loop skip-blocks-requires skip-blocks-requires-2 loop-holds shared-slice-read-if1 returns add-n loop-less loop-again returns-2)
+next-of-kind-spec =
+    tie.close
+    (tie.spec
+    saturating-sub-requires
+    saturating-sub-requires-2
+    sub-near
+    next-before-requires
+    returns
+    skip-blocks-requires
+    skip-blocks-requires-2
+    next-before-requires-2
+    returns-2)

@@ -2,17 +2,18 @@
 use Rattle.uses.proofs.bind_range.Statement.{statement}
 use Rattle.uses.proofs.bind_range.Tie as tie
 use borrow.Author.Needs.{needs}
-use Rattle.type_names.proofs.Passes.{PassingRange, range-starts, range-ends, range-skips, range-stores}
+use Rattle.type_names.proofs.Passes.{PassingRange, range-starts, range-ends, range-stores}
 use Rattle.uses.specs.Binding.{uses, RangeAsked}
-use Rattle.uses.proofs.Uses.{range-other, range-use, range-reached}
+use Rattle.uses.proofs.Uses.{range-other, range-use, range-passes, range-reached}
 use mathlib.Core.Path.{refl}
 use native.Mathlib.Omega.{arith}
 use Prim.Native.Nat.{_-_, _≤_}
 use lib.ListN.{length}
 
 abbrev Inv-loop : tie.InvT-loop
-Inv-loop kinds tokens sizes roles symbols starts keys nodes heads next items stamp schema lo hi bound₀ to₀ so-far₀ i₀ bound to so-far i = PassingRange (RangeAsked kinds tokens sizes
-    roles symbols starts keys nodes heads next items stamp schema) uses lo hi so-far₀ bound₀ to₀ i so-far bound to × (i ≤ length kinds) × (i ≤ length roles)
+Inv-loop kinds tokens sizes roles symbols starts keys nodes heads next items stamp schema lo hi bound₀ to₀ so-far₀ i₀ bound to so-far i =
+    PassingRange (RangeAsked kinds tokens sizes roles symbols starts keys nodes heads next items stamp schema) uses lo hi so-far₀ bound₀ to₀ i so-far bound to
+    × (i ≤ length kinds) × (i ≤ length roles)
 
 abbrev μ-loop : tie.MeasureT-loop
 μ-loop kinds tokens sizes roles symbols starts keys nodes heads next items stamp schema lo hi bound₀ to₀ so-far₀ i₀ bound to so-far i = i
@@ -28,8 +29,8 @@ loop-holds c = (
   range-starts (omega (arith, c .shorter2 .ensures)) (range-reached (c .before .shorter .ensures) (c .shorter2 .ensures)),
   omega (
     arith,
-    c .before .shorter
-        .ensures,
+    c .before
+        .shorter .ensures,
     c .shorter2 .ensures,
   ),
   omega (arith, c .before .shorter .ensures, c .shorter2 .ensures),
@@ -38,20 +39,20 @@ loop-holds c = (
 sub-i : tie.Need-sub-i Inv-loop μ-loop
 sub-i c = search needs
 
-shared-slice-read-asks : tie.Need-shared-slice-read-asks Inv-loop μ-loop
-shared-slice-read-asks c = omega (arith, c .before .before .loop .inv .1, c .before .loop-test .taken)
-
-shared-slice-read-asks-2 : tie.Need-shared-slice-read-asks-2 Inv-loop μ-loop
-shared-slice-read-asks-2 c = omega (arith, c .before .before .before .loop .inv .2, c .before .before .loop-test .taken)
-
-cast-asks : tie.Need-cast-asks Inv-loop μ-loop
-cast-asks c = omega (arith, c .shared-slice-known13 .given (c .before .before .before .loop .i - 1))
-
-asks-requires : tie.Need-asks-requires Inv-loop μ-loop
-asks-requires c κs = search needs
-
 at-requires : tie.Need-at-requires Inv-loop μ-loop
 at-requires c κs = search needs
+
+shared-slice-read-has-finding : tie.Need-shared-slice-read-has-finding Inv-loop μ-loop
+shared-slice-read-has-finding c = omega (arith, c .before .before .before .before .loop .inv .1, c .before .before .before .loop-test .taken)
+
+shared-slice-read-has-finding-2 : tie.Need-shared-slice-read-has-finding-2 Inv-loop μ-loop
+shared-slice-read-has-finding-2 c = omega (arith, c .before .before .before .before .before .loop .inv .2, c .before .before .before .before .loop-test .taken)
+
+cast-has-finding : tie.Need-cast-has-finding Inv-loop μ-loop
+cast-has-finding c = omega (arith, c .shared-slice-known13 .given ((c .before .before .before .before .before .loop .i) - 1))
+
+has-finding-requires : tie.Need-has-finding-requires Inv-loop μ-loop
+has-finding-requires c κs = search needs
 
 finding-at-requires : tie.Need-finding-at-requires Inv-loop μ-loop
 finding-at-requires c κs = search needs
@@ -64,20 +65,25 @@ loop-less c = search needs
 
 loop-again : tie.Need-loop-again Inv-loop μ-loop
 loop-again c = (
-  range-stores (c .before .before .before .before .before .before .before .before .before .before .before .before .before .before .before .loop .inv .0) (c
-      .before .before .before .before .before .before .before .before .before .before .before .before .before .before .loop-test .taken) (λ t v R A e. range-use (c .before
-      .before .before .before .before .before .before .before .before .before .before .before .before .before .before .loop .i) refl refl (c .before .before .before .before
-      .before .before .before .before .before .before .before .asks .ensures) (c .before .before .before .before .before .before .before .before .before .before .before
-      .before .before .before .before .loop .bound) (c .before .before .before .before .before .before .before .before .before .before .before .before .before .before
-      .loop-test .taken) (c .before .before .before .before .before .before .before .before .before .before .before .before .before .before .before .loop .inv .0 .upto) (c
-      .before .before .before .before .before .before .before .before .before .before .if1 .taken) (c .before .before .before .before .before .before .before .before .at
-      .ensures) (c .before .before .before .before .before .before .before .finding-at .ensures) t v R A e) (c .before .before .before .before .store .ensures),
-  omega
-      (arith, c .before .before .before .before .before .before .before .before .before .before .before .before .before .before .before .loop .inv .1),
+  range-stores (c .before .before .before .before .before .before .before .before .before .before .before .before .before .before .before .loop .inv
+      .0) (c .before .before .before .before .before .before .before .before .before .before .before .before .before .before .loop-test .taken) (λ t v R A e.
+      range-use (c .before .before .before .before .before .before .before .before .before .before .before .before .before .before .before .loop .i) (c .before
+      .before .before .before .before .before .before .before .before .before .before .before .at .result) refl refl (c .before .before .before .before .before
+      .before .before .before .before .has-finding .ensures) (c .before .before .before .before .before .before .before .before .before .before .before .before
+      .before .before .before .loop .bound) (c .before .before .before .before .before .before .before .before .before .before .before .before .before .before
+      .loop-test .taken) (c .before .before .before .before .before .before .before .before .before .before .before .before .before .before .before .loop .inv .0
+      .upto) (c .before .before .before .before .before .before .before .before .if1 .taken) (c .before .before .before .before .before .before .before .before
+      .before .before .before .before .at .ensures) (c .before .before .before .before .before .before .before .finding-at .ensures) t v R A e) (c .before .before
+      .before .before .store .ensures),
   omega (
     arith,
-    c
-        .before .before .before .before .before .before .before .before .before .before .before .before .before .before .before .loop .inv .2,
+    c .before .before .before .before .before .before .before .before .before .before .before .before .before
+        .before .before .loop .inv .1,
+  ),
+  omega (
+    arith,
+    c .before .before .before .before .before .before .before .before .before .before .before .before .before .before
+        .before .loop .inv .2,
   ),
 )
 
@@ -86,14 +92,16 @@ loop-less-2 c = search needs
 
 loop-again-2 : tie.Need-loop-again-2 Inv-loop μ-loop
 loop-again-2 c = (
-  range-skips (c .before .before .before .before .before .loop .inv .0) (c .before .before .before .before .loop-test .taken) (range-other (c .before
-      .before .before .before .before .loop .i) refl refl (c .before .asks .ensures) (c .if1 .left)),
+  range-passes (c .before .before .before .before .before .before .before .loop .inv .0) (c .before .before .before .before .before .before
+      .loop-test .taken) (λ t v R A e. range-other (c .before .before .before .before .before .before .before .loop .i) (c .before .before .before .before .at
+      .result) refl refl (c .before .has-finding .ensures) (c .before .before .before .before .before .before .before .loop .bound) (c .if1 .left) (c .before .before
+      .before .before .at .ensures) t v R A e),
+  omega (arith, c .before .before .before .before .before .before .before .loop .inv .1),
   omega (
     arith,
-    c .before .before .before .before .before .loop .inv
-        .1,
+    c .before
+        .before .before .before .before .before .before .loop .inv .2,
   ),
-  omega (arith, c .before .before .before .before .before .loop .inv .2),
 )
 
 same-length : tie.Need-same-length Inv-loop μ-loop
@@ -115,11 +123,11 @@ bind-range-spec =
     shorter-requires-2
     loop-holds
     sub-i
-    shared-slice-read-asks
-    shared-slice-read-asks-2
-    cast-asks
-    asks-requires
     at-requires
+    shared-slice-read-has-finding
+    shared-slice-read-has-finding-2
+    cast-has-finding
+    has-finding-requires
     finding-at-requires
     store-requires
     loop-less

@@ -1,0 +1,52 @@
+-- `answer_frames::answer_short` meets its contract: small arrays where there are few nodes. Assumes nothing.
+use borrow.Author.Needs.{needs}
+use Rattle.answer_frames.proofs.answer_short.Statement.{statement}
+use Rattle.answer_frames.proofs.answer_short.Tie as tie
+use Rattle.reading.specs.FileReading.{few-rows}
+use Rattle.answer_frames.proofs.Framing.{by-number}
+
+answer-few-requires : tie.Need-answer-few-requires
+answer-few-requires c κs = search needs
+
+same-length : tie.Need-same-length
+same-length c = search needs
+
+same-length-2 : tie.Need-same-length-2
+same-length-2 c = search needs
+
+same-length-3 : tie.Need-same-length-3
+same-length-3 c = search needs
+
+returns : tie.Need-returns
+returns c = by-number few-rows (c .before .before .before .before .before .before .before .before .before .if1 .taken)
+    (c .before .before .before .before .before .answer-few .ensures)
+
+answer-framed-requires : tie.Need-answer-framed-requires
+answer-framed-requires c κs = search needs
+
+same-length-4 : tie.Need-same-length-4
+same-length-4 c = search needs
+
+same-length-5 : tie.Need-same-length-5
+same-length-5 c = search needs
+
+same-length-6 : tie.Need-same-length-6
+same-length-6 c = search needs
+
+returns-2 : tie.Need-returns-2
+returns-2 c = c .before .before .before .before .before .answer-framed .ensures
+
+pub answer-short-spec : {M : Type 1} → statement M
+answer-short-spec =
+    tie.close
+    (tie.spec
+    answer-few-requires
+    same-length
+    same-length-2
+    same-length-3
+    returns
+    answer-framed-requires
+    same-length-4
+    same-length-5
+    same-length-6
+    returns-2)

@@ -1,0 +1,2 @@
+pub mod KindStage
+pub mod AnswerStage

@@ -1,8 +1,0 @@
-use mathlib.Core.Path.{_∙_, ap}
-use Rattle.exports.specs.Places.{order-place}
-use Rattle.exports.proofs.binaries.woffulent_compare_binaries.Statement.{statement}
-use Rattle.exports.proofs.binaries.woffulent_compare_binaries.Tie as tie
-
-pub woffulent-compare-binaries-spec : {M : Type 1} → statement M
-woffulent-compare-binaries-spec =
-    tie.close (tie.spec (λ c κs. tt) (λ c κs. tt) (λ c. c .order-place .ensures ∙ ap order-place (c .before .compare .ensures)))

@@ -1,0 +1,82 @@
+-- `name_frames::name_few` meets its contract: its arrays have room for the names of such a file. Assumes nothing.
+use borrow.Author.Needs.{needs}
+use Rattle.name_frames.proofs.name_few.Statement.{statement}
+use Rattle.name_frames.proofs.name_few.Tie as tie
+use lib.Dec.{lit≤}
+use Rattle.reading.specs.FileReading.{few-rows}
+use Rattle.name_frames.proofs.Framing.{with-arrays}
+
+slice-aggregate-name-file : tie.Need-slice-aggregate-name-file
+slice-aggregate-name-file c = search needs
+
+slice-aggregate-name-file-2 : tie.Need-slice-aggregate-name-file-2
+slice-aggregate-name-file-2 c = search needs
+
+slice-aggregate-name-file-3 : tie.Need-slice-aggregate-name-file-3
+slice-aggregate-name-file-3 c = search needs
+
+slice-aggregate-name-file-4 : tie.Need-slice-aggregate-name-file-4
+slice-aggregate-name-file-4 c = search needs
+
+slice-aggregate-name-file-5 : tie.Need-slice-aggregate-name-file-5
+slice-aggregate-name-file-5 c = search needs
+
+slice-aggregate-name-file-6 : tie.Need-slice-aggregate-name-file-6
+slice-aggregate-name-file-6 c = search needs
+
+slice-aggregate-name-file-7 : tie.Need-slice-aggregate-name-file-7
+slice-aggregate-name-file-7 c = search needs
+
+slice-aggregate-name-file-8 : tie.Need-slice-aggregate-name-file-8
+slice-aggregate-name-file-8 c = search needs
+
+slice-aggregate-name-file-9 : tie.Need-slice-aggregate-name-file-9
+slice-aggregate-name-file-9 c = search needs
+
+name-file-requires : tie.Need-name-file-requires
+name-file-requires c κs = search needs
+
+same-length : tie.Need-same-length
+same-length c = search needs
+
+same-length-2 : tie.Need-same-length-2
+same-length-2 c = search needs
+
+same-length-3 : tie.Need-same-length-3
+same-length-3 c = search needs
+
+returns : tie.Need-returns
+returns c = with-arrays few-rows _ _ _ _ _ _ _ _ _ (record {
+  small = lit≤ tt;
+  roles-fit = lit≤ tt;
+  symbols-fit = lit≤ tt;
+  keys-fit = lit≤ tt;
+  nodes-fit = lit≤ tt;
+  heads-fit = lit≤ tt;
+  next-fit = lit≤ tt;
+  first-fit = lit≤ tt;
+  to-fit = lit≤ tt;
+  to-small = lit≤ tt;
+  links-fit = lit≤ tt;
+  search-fit = lit≤ tt;
+}) (c .before .before .before .before .before .before .before
+    .before .before .before .before .before .before .before .before .name-file .ensures)
+
+pub name-few-spec : {M : Type 1} → statement M
+name-few-spec =
+    tie.close
+    (tie.spec
+    slice-aggregate-name-file
+    slice-aggregate-name-file-2
+    slice-aggregate-name-file-3
+    slice-aggregate-name-file-4
+    slice-aggregate-name-file-5
+    slice-aggregate-name-file-6
+    slice-aggregate-name-file-7
+    slice-aggregate-name-file-8
+    slice-aggregate-name-file-9
+    name-file-requires
+    same-length
+    same-length-2
+    same-length-3
+    returns)
