@@ -1,0 +1,46 @@
+//! A checker allocates when it is made, and never again.
+
+use compare::random::{damaged, well_typed};
+use std::alloc::{GlobalAlloc, Layout, System};
+use std::sync::atomic::{AtomicUsize, Ordering};
+use woffulent::Checker;
+
+/// The system's allocator, with a count of what is asked of it.
+struct Counted;
+
+static ALLOCATIONS: AtomicUsize = AtomicUsize::new(0);
+
+// SAFETY: all is passed on to the system's.
+unsafe impl GlobalAlloc for Counted {
+    unsafe fn alloc(&self, layout: Layout) -> *mut u8 {
+        ALLOCATIONS.fetch_add(1, Ordering::Relaxed);
+        System.alloc(layout)
+    }
+
+    unsafe fn dealloc(&self, block: *mut u8, layout: Layout) {
+        System.dealloc(block, layout)
+    }
+}
+
+#[global_allocator]
+static ALLOCATOR: Counted = Counted;
+
+#[test]
+fn a_thousand_files_allocate_once() {
+    let files: Vec<Vec<u8>> = (0..500).flat_map(|seed| [well_typed(seed, 3_000), damaged(seed, 300)]).collect();
+    let (mut checker, mut out) = (Checker::new(), Vec::with_capacity(1 << 20));
+    let before = ALLOCATIONS.load(Ordering::Relaxed);
+    let mut refused = 0;
+    for file in &files {
+        out.clear();
+        match checker.check(file) {
+            Ok(file) => file.list(&mut out),
+            Err(refusal) => {
+                refusal.list(&mut out);
+                refused += 1;
+            }
+        }
+    }
+    assert_eq!(ALLOCATIONS.load(Ordering::Relaxed), before);
+    assert!((200..800).contains(&refused), "{refused}");
+}
