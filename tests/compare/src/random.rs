@@ -13,7 +13,8 @@ mod tally;
 
 pub use damage::LARGEST;
 pub use demand::demand_one;
-pub use driver::{compare, needed, Difference, Outcome};
+pub use crate::difference::needed;
+pub use driver::{compare, compare_one};
 pub use tally::Tally;
 
 pub use rng::Rng;

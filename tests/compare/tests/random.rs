@@ -85,7 +85,7 @@ fn a_difference_is_found_and_made_small() {
     let difference = compare(1_000, 0, check, faulty).expect_err("some file has a cycle");
     let reply = difference.left.as_ref().map(|checked| checked.report.reply);
     assert_eq!(reply, Ok(13), "{difference}");
-    assert!(difference.file.len() < 120, "{difference}");
+    assert!(difference.file.len() < 100, "{difference}");
 }
 
 #[test]

@@ -20,8 +20,14 @@ impl Tally {
         }
     }
 
-    /// Adds another tally to this one.
-    pub fn join(&mut self, other: &Tally) {
+    /// All of these as one.
+    pub fn sum(tallies: Vec<Tally>) -> Tally {
+        let mut sum = Tally::default();
+        tallies.iter().for_each(|tally| sum.join(tally));
+        sum
+    }
+
+    fn join(&mut self, other: &Tally) {
         let mine = self.replies.as_flattened_mut().iter_mut().chain(&mut self.answers);
         mine.zip(other.replies.as_flattened().iter().chain(&other.answers)).for_each(|(sum, more)| *sum += more);
     }
