@@ -1,6 +1,6 @@
 //! Checking: the tables that are lent, kept from one file to the next.
 
-use crate::call::{self, Columns};
+use crate::call::{self, AnswerColumns, NodeColumns, TokenColumns};
 use crate::file::{File, Report};
 use crate::refusal::Refusal;
 use crate::{Reply, MAX_BYTES};
@@ -73,25 +73,28 @@ impl Tables {
         }
     }
 
-    /// The first rows of each table, of which it has as many at least.
-    fn lent(&mut self, Rows { tokens, nodes, answers }: Rows) -> Columns<'_> {
-        Columns {
-            token_kinds: &mut self.token_kinds[..tokens],
-            token_starts: &mut self.token_starts[..tokens],
-            token_lengths: &mut self.token_lengths[..tokens],
-            node_kinds: &mut self.node_kinds[..nodes],
-            node_tokens: &mut self.node_tokens[..nodes],
-            node_sizes: &mut self.node_sizes[..nodes],
-            node_bindings: &mut self.node_bindings[..nodes],
-            answer_kinds: &mut self.answer_kinds[..answers],
-            answer_numbers: &mut self.answer_numbers[..answers],
-            answer_lengths: &mut self.answer_lengths[..answers],
-        }
-    }
-
-    /// Checks a file with as many of the rows as it can need; the rows behind are never read.
+    /// Checks a file with as many of the first rows as it can need, of which there are as many at least; the rows behind are never read.
     fn check(&mut self, src: &[u8], rows: Rows) -> Report {
-        Report::new(call::check(src, self.lent(rows.least(Rows::for_bytes(src.len())))))
+        let Rows { tokens, nodes, answers } = rows.least(Rows::for_bytes(src.len()));
+        Report::new(call::check(
+            src,
+            TokenColumns {
+                kinds: &mut self.token_kinds[..tokens],
+                starts: &mut self.token_starts[..tokens],
+                lengths: &mut self.token_lengths[..tokens],
+            },
+            NodeColumns {
+                kinds: &mut self.node_kinds[..nodes],
+                tokens: &mut self.node_tokens[..nodes],
+                sizes: &mut self.node_sizes[..nodes],
+                bindings: &mut self.node_bindings[..nodes],
+            },
+            AnswerColumns {
+                kinds: &mut self.answer_kinds[..answers],
+                numbers: &mut self.answer_numbers[..answers],
+                lengths: &mut self.answer_lengths[..answers],
+            },
+        ))
     }
 }
 

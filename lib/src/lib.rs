@@ -2,7 +2,7 @@
 //!
 //! [`check`] takes the bytes of a file. An accepted [`File`] has its schemas, the [`Answer`] of each constant, and its tokens and
 //! nodes; a [`Refusal`] has its number and place, and says in a sentence what is wrong. [`Checker`] does the same with tables that it
-//! keeps, for those who check many files.
+//! keeps, for those who check many files. [`call`] has the proved calls as they are, on tables that the caller lends.
 //!
 //! ```
 //! let file = woffulent::check(b"SCHEMA s; CONSTANT a : INTEGER := 7 DIV -2; END_CONSTANT; END_SCHEMA;")?;
@@ -16,7 +16,7 @@
 #![warn(missing_docs)]
 
 mod answer;
-mod call;
+pub mod call;
 mod checker;
 mod codes;
 mod explain;

@@ -11,9 +11,9 @@ mod rng;
 mod source;
 mod tally;
 
+pub use crate::difference::needed;
 pub use damage::LARGEST;
 pub use demand::demand_one;
-pub use crate::difference::needed;
 pub use driver::{compare, compare_one};
 pub use tally::Tally;
 

@@ -39,7 +39,8 @@ fn listings_are_as_expected() {
             return Ok(());
         }
         // The lines in which the two differ, with their numbers.
-        let lines = |text: &[u8]| String::from_utf8_lossy(text).split_inclusive('\n').map(str::to_string).collect::<Vec<_>>();
+        let lines =
+            |text: &[u8]| String::from_utf8_lossy(text).split_inclusive('\n').map(str::to_string).collect::<Vec<_>>();
         let (want, got) = (lines(&case.expected), lines(&got));
         let mut said = String::from("another listing");
         for i in 0..want.len().max(got.len()) {
@@ -60,7 +61,11 @@ fn reports_are_as_expected() {
             0 => Report { reply, number: 0, tokens, nodes, constants: number as u32 },
             _ => Report { reply, number, tokens: 0, nodes: 0, constants: 0 },
         };
-        if checked.report == want { Ok(()) } else { Err(format!("expected {want:?}, got {:?}", checked.report)) }
+        if checked.report == want {
+            Ok(())
+        } else {
+            Err(format!("expected {want:?}, got {:?}", checked.report))
+        }
     });
 }
 
@@ -81,7 +86,11 @@ fn tables_are_zero_after_a_refusal_and_past_the_counts() {
         let zero = tokens[used[0]..].iter().all(|row| *row == TokenRow::default())
             && nodes[used[1]..].iter().all(|row| *row == NodeRow::default())
             && answers[used[2]..].iter().all(|row| *row == AnswerRow::default());
-        if zero { Ok(()) } else { Err(format!("an entry past {used:?} is not zero")) }
+        if zero {
+            Ok(())
+        } else {
+            Err(format!("an entry past {used:?} is not zero"))
+        }
     });
 }
 
@@ -91,9 +100,17 @@ fn rows_are_as_expected() {
         let Some(want) = cases::rows(case) else { return Ok(()) };
         let Checked { report, tokens, nodes, answers } = checked;
         let mut got: Vec<String> = Vec::new();
-        got.extend(tokens[..report.tokens as usize].iter().map(|r| format!("token {} {} {}", r.kind, r.start, r.length)));
-        got.extend(nodes[..report.nodes as usize].iter().map(|r| format!("node {} {} {} {}", r.kind, r.token, r.size, r.binding)));
-        got.extend(answers[..report.constants as usize].iter().map(|r| format!("answer {} {} {}", r.kind, r.number, r.length)));
+        got.extend(
+            tokens[..report.tokens as usize].iter().map(|r| format!("token {} {} {}", r.kind, r.start, r.length)),
+        );
+        got.extend(
+            nodes[..report.nodes as usize]
+                .iter()
+                .map(|r| format!("node {} {} {} {}", r.kind, r.token, r.size, r.binding)),
+        );
+        got.extend(
+            answers[..report.constants as usize].iter().map(|r| format!("answer {} {} {}", r.kind, r.number, r.length)),
+        );
         let mut faults = Vec::new();
         for table in ["token ", "node ", "answer "] {
             let want: Vec<&str> = want.lines().filter(|row| row.starts_with(table)).collect();
@@ -107,7 +124,11 @@ fn rows_are_as_expected() {
                 }
             }
         }
-        if faults.is_empty() { Ok(()) } else { Err(format!("other rows{}", faults.concat())) }
+        if faults.is_empty() {
+            Ok(())
+        } else {
+            Err(format!("other rows{}", faults.concat()))
+        }
     });
 }
 
@@ -159,7 +180,8 @@ fn index_and_files_agree() {
     for entry in std::fs::read_dir(cases::folder()).unwrap() {
         files.insert(entry.unwrap().file_name().into_string().unwrap());
     }
-    let mut want: BTreeSet<String> = names.iter().flat_map(|name| [format!("{name}.exp"), format!("{name}.out")]).collect();
+    let mut want: BTreeSet<String> =
+        names.iter().flat_map(|name| [format!("{name}.exp"), format!("{name}.out")]).collect();
     want.extend(["INDEX", "README.md", ".gitattributes"].map(str::to_string));
     let rows: BTreeSet<String> = files.iter().filter(|file| file.ends_with(".rows")).cloned().collect();
     assert!(rows.len() >= 5, "{} files of rows", rows.len());

@@ -59,7 +59,8 @@ fn each_rule_has_its_definition_and_no_other_is_cited() {
 fn file(module: &str) -> PathBuf {
     let mut parts: Vec<&str> = module.split('/').collect();
     let below = [
-        "ebnf", "relations", "columns", "examples", "theorems", "bounds", "demands", "record_demands", "stages", "listing_parts",
+        "ebnf", "relations", "columns", "examples", "theorems", "bounds", "demands", "record_demands", "stages",
+        "listing_parts",
     ];
     let library = if below.contains(&parts[0]) { parts.remove(0) } else { "express" };
     let folder = if parts[0] == "proofs" { parts.remove(0) } else { "specs" };

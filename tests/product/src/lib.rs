@@ -4,88 +4,16 @@ mod stack;
 
 pub use stack::stack_of;
 
+use compare::cases;
+use compare::difference::Checker;
+use compare::random::{compare, needed};
 use reference::{AnswerRow, Checked, NodeRow, Report, TokenRow};
 use std::fmt::Debug;
-// Brings the archive along; its own way to the call is not used here.
-use woffulent as _;
+use woffulent::call::{self, AnswerColumns, NodeColumns, Numbers, Record, TokenColumns};
 
-/// An answer as the call with records lends it (R11): the fields in this order, each at the alignment that C gives it.
-#[repr(C)]
-#[derive(Clone, Copy, Debug, Default, PartialEq, Eq)]
-pub struct Answer {
-    pub kind: u8,
-    pub number: i64,
-    pub length: u8,
-}
-
-extern "C" {
-    fn woffulent_check(
-        src: *const u8,
-        src_length: usize,
-        token_kinds: *mut u8,
-        token_kinds_length: usize,
-        token_starts: *mut u32,
-        token_starts_length: usize,
-        token_lengths: *mut u32,
-        token_lengths_length: usize,
-        node_kinds: *mut u8,
-        node_kinds_length: usize,
-        node_tokens: *mut u32,
-        node_tokens_length: usize,
-        node_sizes: *mut u32,
-        node_sizes_length: usize,
-        node_bindings: *mut u32,
-        node_bindings_length: usize,
-        answer_kinds: *mut u8,
-        answer_kinds_length: usize,
-        answer_numbers: *mut i64,
-        answer_numbers_length: usize,
-        answer_lengths: *mut u8,
-        answer_lengths_length: usize,
-        number: &mut u32,
-        tokens: &mut u32,
-        nodes: &mut u32,
-        constants: &mut u32,
-    ) -> u8;
-
-    fn woffulent_check_records(
-        src: *const u8,
-        src_length: usize,
-        token_kinds: *mut u8,
-        token_kinds_length: usize,
-        token_starts: *mut u32,
-        token_starts_length: usize,
-        token_lengths: *mut u32,
-        token_lengths_length: usize,
-        node_kinds: *mut u8,
-        node_kinds_length: usize,
-        node_tokens: *mut u32,
-        node_tokens_length: usize,
-        node_sizes: *mut u32,
-        node_sizes_length: usize,
-        node_bindings: *mut u32,
-        node_bindings_length: usize,
-        records: *mut Answer,
-        records_length: usize,
-        number: &mut u32,
-        tokens: &mut u32,
-        nodes: &mut u32,
-        constants: &mut u32,
-    ) -> u8;
-}
-
-/// Calls one of the two with columns lent; the places beside the reply hold no report before.
-macro_rules! call {
-    ($function:ident, $src:expr, $($column:expr),*) => {{
-        let mut counts = [u32::MAX; 4];
-        let [number, tokens, nodes, constants] = &mut counts;
-        // SAFETY: each column is lent with its own length, and no two overlap.
-        let reply = unsafe {
-            $function($src.as_ptr(), $src.len(), $($column.lent(), $column.length,)* number, tokens, nodes, constants)
-        };
-        let [number, tokens, nodes, constants] = counts;
-        Report { reply: reply.into(), number: number.into(), tokens, nodes, constants }
-    }};
+/// A report as the reference gives it.
+fn report(Numbers { reply, number, tokens, nodes, constants }: Numbers) -> Report {
+    Report { reply: reply.into(), number: number.into(), tokens, nodes, constants }
 }
 
 /// What columns hold before a call, by a seed and an entry.
@@ -115,9 +43,9 @@ impl Pattern for i64 {
     }
 }
 
-impl Pattern for Answer {
+impl Pattern for Record {
     fn from_bits(bits: u64) -> Self {
-        Answer { kind: bits as u8, number: bits as i64, length: (bits >> 8) as u8 }
+        Record { kind: bits as u8, number: bits as i64, length: (bits >> 8) as u8 }
     }
 }
 
@@ -137,8 +65,8 @@ impl<T: Pattern> Column<T> {
         Column { entries: (0..length + 2 * GUARD).map(|i| T::at(seed, i)).collect(), length, seed }
     }
 
-    fn lent(&mut self) -> *mut T {
-        self.entries[GUARD..].as_mut_ptr()
+    fn lent(&mut self) -> &mut [T] {
+        &mut self.entries[GUARD..GUARD + self.length]
     }
 
     /// What it holds, where the entries around it are the pattern still.
@@ -229,7 +157,7 @@ pub struct Columns {
 pub struct Recorded {
     pub report: Report,
     pub tree: Tree,
-    pub records: Vec<Answer>,
+    pub records: Vec<Record>,
 }
 
 /// Columns of tokens and nodes to lend, with a pattern in and around them.
@@ -255,6 +183,21 @@ impl TreeTables {
             node_sizes: Column::new(nodes[2], seed),
             node_bindings: Column::new(nodes[3], seed),
         }
+    }
+
+    fn lent(&mut self) -> (TokenColumns<'_>, NodeColumns<'_>) {
+        let tokens = TokenColumns {
+            kinds: self.token_kinds.lent(),
+            starts: self.token_starts.lent(),
+            lengths: self.token_lengths.lent(),
+        };
+        let nodes = NodeColumns {
+            kinds: self.node_kinds.lent(),
+            tokens: self.node_tokens.lent(),
+            sizes: self.node_sizes.lent(),
+            bindings: self.node_bindings.lent(),
+        };
+        (tokens, nodes)
     }
 
     fn held(&self) -> Tree {
@@ -291,21 +234,13 @@ impl Tables {
 
     /// Checks a file with these columns lent.
     pub fn check(&mut self, src: &[u8]) -> Report {
-        let tree = &mut self.tree;
-        call!(
-            woffulent_check,
-            src,
-            tree.token_kinds,
-            tree.token_starts,
-            tree.token_lengths,
-            tree.node_kinds,
-            tree.node_tokens,
-            tree.node_sizes,
-            tree.node_bindings,
-            self.answer_kinds,
-            self.answer_numbers,
-            self.answer_lengths
-        )
+        let (tokens, nodes) = self.tree.lent();
+        let answers = AnswerColumns {
+            kinds: self.answer_kinds.lent(),
+            numbers: self.answer_numbers.lent(),
+            lengths: self.answer_lengths.lent(),
+        };
+        report(call::check(src, tokens, nodes, answers))
     }
 }
 
@@ -313,7 +248,7 @@ impl Tables {
 #[derive(Clone, Debug)]
 pub struct RecordTables {
     tree: TreeTables,
-    records: Column<Answer>,
+    records: Column<Record>,
 }
 
 impl RecordTables {
@@ -323,19 +258,8 @@ impl RecordTables {
 
     /// Checks a file with these lent.
     pub fn check(&mut self, src: &[u8]) -> Report {
-        let tree = &mut self.tree;
-        call!(
-            woffulent_check_records,
-            src,
-            tree.token_kinds,
-            tree.token_starts,
-            tree.token_lengths,
-            tree.node_kinds,
-            tree.node_tokens,
-            tree.node_sizes,
-            tree.node_bindings,
-            self.records
-        )
+        let (tokens, nodes) = self.tree.lent();
+        report(call::check_records(src, tokens, nodes, self.records.lent()))
     }
 }
 
@@ -377,7 +301,7 @@ pub fn columns_of(checked: &Checked, Lengths { tokens, nodes, answers }: Lengths
 
 /// The same with records.
 pub fn recorded(checked: &Checked, [tokens, nodes, records]: [usize; 3]) -> Recorded {
-    let answer = |row: &AnswerRow| Answer { kind: row.kind, number: row.number, length: row.length as u8 };
+    let answer = |row: &AnswerRow| Record { kind: row.kind, number: row.number, length: row.length as u8 };
     Recorded {
         report: checked.report,
         tree: Tree::of(checked, [tokens; 3], [nodes; 4]),
@@ -402,6 +326,24 @@ pub fn check(src: &[u8], rows: [usize; 3]) -> Checked {
 /// The same by the call with records.
 pub fn check_records(src: &[u8], rows: [usize; 3]) -> Checked {
     let Recorded { report, tree, records } = record_columns(src, rows, src.len() as u64);
-    let answer = |Answer { kind, number, length }| AnswerRow { kind, number, length: length.into() };
+    let answer = |Record { kind, number, length }| AnswerRow { kind, number, length: length.into() };
     Checked { report, tokens: tree.tokens(), nodes: tree.nodes(), answers: records.into_iter().map(answer).collect() }
+}
+
+/// How often each reply must occur at least among random files.
+const FLOOR: u64 = 20;
+
+/// Holds a call to the reference on random and damaged files from a seed on.
+pub fn compare_random(files: u64, first_seed: u64, check: impl Checker) {
+    let tally = compare(files, first_seed, check, by_reference).unwrap_or_else(|difference| panic!("{difference}"));
+    println!("{tally}");
+    (0..16).for_each(|reply| assert!(tally.reply(reply) >= FLOOR, "reply {reply} is too rare\n{tally}"));
+}
+
+/// Holds a call to the reference on every case.
+pub fn compare_cases(check: impl Checker) {
+    for case in cases::all() {
+        let rows = needed(&case.input, &by_reference);
+        assert_eq!(check(&case.input, rows), by_reference(&case.input, rows), "{}", case.input.escape_ascii());
+    }
 }

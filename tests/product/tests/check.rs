@@ -1,12 +1,9 @@
 //! The public call held to the reference: random and damaged files, the cases, and columns of every length.
 
-use compare::cases;
-use compare::random::{self, compare, needed};
-use product::{by_reference, check, check_columns, columns_of, Lengths};
+use compare::random::{self, needed};
+use product::{by_reference, check, check_columns, columns_of, compare_cases, compare_random, Lengths};
 
 const FILES: u64 = 200_000;
-/// How often each reply must occur at least.
-const FLOOR: u64 = 20;
 /// Files that are checked with columns of every length.
 const LENGTHS: usize = 200;
 /// Tables of every length take the square of a file's size.
@@ -14,17 +11,12 @@ const LARGEST: usize = 600;
 
 #[test]
 fn random_files_are_checked_as_the_reference_does() {
-    let tally = compare(FILES, 1, check, by_reference).unwrap_or_else(|difference| panic!("{difference}"));
-    println!("{tally}");
-    (0..16).for_each(|reply| assert!(tally.reply(reply) >= FLOOR, "reply {reply} is too rare\n{tally}"));
+    compare_random(FILES, 1, check);
 }
 
 #[test]
 fn cases_are_checked_as_the_reference_does() {
-    for case in cases::all() {
-        let rows = needed(&case.input, &by_reference);
-        assert_eq!(check(&case.input, rows), by_reference(&case.input, rows), "{}", case.input.escape_ascii());
-    }
+    compare_cases(check);
 }
 
 /// Each column by itself, with all others long enough, and all of a table together.

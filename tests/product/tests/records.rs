@@ -1,13 +1,11 @@
 //! The call with records held to the reference: random and damaged files, the cases, and records of every length.
 
-use compare::cases;
-use compare::random::{self, compare, needed};
-use product::{by_reference, check_records, record_columns, recorded, Answer};
+use compare::random::{self, needed};
+use product::{by_reference, check_records, compare_cases, compare_random, record_columns, recorded};
 use std::mem::{offset_of, size_of};
+use woffulent::call::Record;
 
 const FILES: u64 = 50_000;
-/// How often each reply must occur at least.
-const FLOOR: u64 = 20;
 /// Files that are checked with records of every length.
 const LENGTHS: usize = 200;
 /// Files with fewer constants say little of lengths.
@@ -17,24 +15,18 @@ const FEWEST: usize = 3;
 #[test]
 fn a_record_lies_in_memory_as_in_c() {
     let places =
-        [offset_of!(Answer, kind), offset_of!(Answer, number), offset_of!(Answer, length), size_of::<Answer>()];
+        [offset_of!(Record, kind), offset_of!(Record, number), offset_of!(Record, length), size_of::<Record>()];
     assert_eq!(places, [0, 8, 16, 24]);
 }
 
 #[test]
 fn random_files_are_checked_as_the_reference_does() {
-    let tally =
-        compare(FILES, 1_000_000, check_records, by_reference).unwrap_or_else(|difference| panic!("{difference}"));
-    println!("{tally}");
-    (0..16).for_each(|reply| assert!(tally.reply(reply) >= FLOOR, "reply {reply} is too rare\n{tally}"));
+    compare_random(FILES, 1_000_000, check_records);
 }
 
 #[test]
 fn cases_are_checked_as_the_reference_does() {
-    for case in cases::all() {
-        let rows = needed(&case.input, &by_reference);
-        assert_eq!(check_records(&case.input, rows), by_reference(&case.input, rows), "{}", case.input.escape_ascii());
-    }
+    compare_cases(check_records);
 }
 
 /// From no record to one more than needed, with the other tables as long as needed.

@@ -8,16 +8,17 @@ pub const LARGEST: usize = 65_536;
 
 /// Tokens, and near-tokens, that stand where they should not.
 const ODD: [&str; 48] = [
-    "(", ")", "{", "}", "[", "]", ";", ":", ":=", ":=:", ":<>:", ":<>", ":<", "<*", "||", "|", "\\", ".", ",", "**", "*", "-", "--",
-    "+", "?", "%", "%2", "'", "\"00\"", "(*", "*)", "5.e", "1.e+", "12ab", "_a", "SELF", "NOT", "IN", "LIKE", "ANDOR", "END_SCHEMA",
-    "WHERE", "OPTIONAL", "LIST", "PI", "3.25", "'text'", "\u{e9}",
+    "(", ")", "{", "}", "[", "]", ";", ":", ":=", ":=:", ":<>:", ":<>", ":<", "<*", "||", "|", "\\", ".", ",", "**",
+    "*", "-", "--", "+", "?", "%", "%2", "'", "\"00\"", "(*", "*)", "5.e", "1.e+", "12ab", "_a", "SELF", "NOT", "IN",
+    "LIKE", "ANDOR", "END_SCHEMA", "WHERE", "OPTIONAL", "LIST", "PI", "3.25", "'text'", "\u{e9}",
 ];
-const OPERATORS: [&str; 18] = [
-    "<", ">", "<=", ">=", "<>", "=", ":<>:", ":=:", "+", "-", "OR", "XOR", "*", "/", "DIV", "MOD", "AND", "**",
-];
+const OPERATORS: [&str; 18] =
+    ["<", ">", "<=", ">=", "<>", "=", ":<>:", ":=:", "+", "-", "OR", "XOR", "*", "/", "DIV", "MOD", "AND", "**"];
 /// Integers at and beyond the largest.
-const LARGE: [&str; 5] =
-    ["9223372036854775807", "9223372036854775808", "18446744073709551616", "000000000000000000000001", "99999999999999999999"];
+const LARGE: [&str; 5] = [
+    "9223372036854775807", "9223372036854775808", "18446744073709551616", "000000000000000000000001",
+    "99999999999999999999",
+];
 /// Remarks, strings and other tokens that lack a part, or have one too many.
 const BROKEN: [&[u8]; 9] = [b"(*(*)*)", b"*)", b"--", b"'\t'", b"'\x7f'", b"'a\n", b"%", b"0.", b"\0"];
 
@@ -43,7 +44,8 @@ pub fn tokens(rng: &mut Rng, tokens: &mut Vec<String>) {
 
 /// Makes a literal too large, or just not.
 fn enlarge(rng: &mut Rng, tokens: &mut [String]) {
-    let literal = |token: &&mut String| token.starts_with(|c: char| c.is_ascii_digit() || c == '%') && !token.contains('.');
+    let literal =
+        |token: &&mut String| token.starts_with(|c: char| c.is_ascii_digit() || c == '%') && !token.contains('.');
     let mut literals: Vec<&mut String> = tokens.iter_mut().filter(literal).collect();
     if literals.is_empty() {
         return;
@@ -92,7 +94,8 @@ fn sign(rng: &mut Rng, tokens: &mut Vec<String>) {
 
 /// Exchanges an operator for another.
 fn operator(rng: &mut Rng, tokens: &mut [String]) {
-    let mut operators: Vec<&mut String> = tokens.iter_mut().filter(|token| OPERATORS.contains(&token.as_str())).collect();
+    let mut operators: Vec<&mut String> =
+        tokens.iter_mut().filter(|token| OPERATORS.contains(&token.as_str())).collect();
     if !operators.is_empty() {
         let at = rng.below(operators.len());
         *operators[at] = rng.pick(&OPERATORS).to_string();

@@ -74,7 +74,8 @@ fn mix(writer: &mut Writer, mut parts: Vec<Vec<String>>) {
 
 /// Each constant uses only those before it, but the text mixes them.
 fn constants(writer: &mut Writer, schema: &Schema, items: &[Named], ambiguous: &[&str]) {
-    let mut scope = Scope { schema, names: items.to_vec(), labels: Vec::new(), ambiguous: ambiguous.to_vec(), typed: true };
+    let mut scope =
+        Scope { schema, names: items.to_vec(), labels: Vec::new(), ambiguous: ambiguous.to_vec(), typed: true };
     let mut parts = Vec::new();
     for of in &schema.constants {
         let Constant { name, base, kind } = of;
@@ -117,7 +118,12 @@ fn list(writer: &mut Writer, names: &[String]) {
 }
 
 /// A scope of the names given, and of the outer ones that they do not hide.
-fn inner<'a>(outer: &Scope<'a>, mut names: Vec<Named<'a>>, labels: Vec<&'a str>, mut ambiguous: Vec<&'a str>) -> Scope<'a> {
+fn inner<'a>(
+    outer: &Scope<'a>,
+    mut names: Vec<Named<'a>>,
+    labels: Vec<&'a str>,
+    mut ambiguous: Vec<&'a str>,
+) -> Scope<'a> {
     let own = names.iter().map(|(_, name)| name);
     let hidden: BTreeSet<&str> = own.chain(&labels).chain(&ambiguous).copied().collect();
     names.extend(outer.names.iter().filter(|(_, name)| !hidden.contains(name)));

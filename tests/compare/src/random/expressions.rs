@@ -317,7 +317,11 @@ impl<'a> Writer<'a> {
     /// The kind asked for, or another where kinds do not count or by a slip.
     fn bend(&mut self, scope: &Scope, kind: Kind) -> Kind {
         let bent = !scope.typed && self.source.rng.one_in(3) || self.source.slip(Slip::Misfit);
-        if bent { self.any_kind(scope) } else { kind }
+        if bent {
+            self.any_kind(scope)
+        } else {
+            kind
+        }
     }
 
     fn any_kind(&mut self, scope: &Scope) -> Kind {

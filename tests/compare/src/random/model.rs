@@ -134,7 +134,8 @@ fn a_type(source: &mut Source, names: &Names, types: &[Type], i: usize) -> Type 
         4 if i > 0 || !names.entities.is_empty() => (Under::Select(select(source, names, i)), None),
         _ => (Under::Enumeration(items(source)), Some(Kind::Item(i))),
     };
-    let rules = if source.rng.one_in(3) { labels(source, &mut BTreeSet::new(), &mut Vec::new(), &[]) } else { Vec::new() };
+    let rules =
+        if source.rng.one_in(3) { labels(source, &mut BTreeSet::new(), &mut Vec::new(), &[]) } else { Vec::new() };
     Type { name: names.types[i].clone(), under, kind, rules }
 }
 
@@ -184,7 +185,9 @@ fn select(source: &mut Source, names: &Names, i: usize) -> Vec<String> {
     (0..source.rng.between(1, 4))
         .map(|_| match wrong_type(source, names) {
             Some(name) => name,
-            None if i == 0 || !names.entities.is_empty() && source.rng.one_in(3) => source.rng.pick(&names.entities).clone(),
+            None if i == 0 || !names.entities.is_empty() && source.rng.one_in(3) => {
+                source.rng.pick(&names.entities).clone()
+            }
             None => source.earlier(&names.types[..i]).clone(),
         })
         .collect()
@@ -200,8 +203,15 @@ fn items(source: &mut Source) -> Vec<String> {
 }
 
 /// Up to three rules, with or without a label.
-fn labels(source: &mut Source, taken: &mut BTreeSet<String>, own: &mut Vec<String>, inherited: &[String]) -> Vec<Option<String>> {
-    (0..source.rng.between(1, 3)).map(|_| (!source.rng.one_in(4)).then(|| member(source, taken, own, inherited))).collect()
+fn labels(
+    source: &mut Source,
+    taken: &mut BTreeSet<String>,
+    own: &mut Vec<String>,
+    inherited: &[String],
+) -> Vec<Option<String>> {
+    (0..source.rng.between(1, 3))
+        .map(|_| (!source.rng.one_in(4)).then(|| member(source, taken, own, inherited)))
+        .collect()
 }
 
 /// The name of an attribute or label of an entity's own.

@@ -20,8 +20,8 @@ pub enum Slip {
 const SLIPS: usize = 9;
 /// None of these, with any of the endings, is reserved.
 const STEMS: [&str; 20] = [
-    "a", "b", "c", "d", "e", "f", "x", "y", "z", "alpha", "step", "mask", "item_", "end_", "types", "pi_", "true_", "selfish",
-    "schema_", "a_rather_long_name_with_many_parts",
+    "a", "b", "c", "d", "e", "f", "x", "y", "z", "alpha", "step", "mask", "item_", "end_", "types", "pi_", "true_",
+    "selfish", "schema_", "a_rather_long_name_with_many_parts",
 ];
 const ENDINGS: [&str; 6] = ["", "", "1", "_2", "00", "_"];
 
