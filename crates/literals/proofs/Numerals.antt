@@ -1,9 +1,6 @@
 -- Numerals: what one digit more does, and the bound of 63 bits.
 use mathlib.Core.Path.{_≡_, refl, sym, ap, _∙_}
-use mathlib.Core.Bool.{Bool, true, _&&_, and-eq-true-iff}
 use mathlib.Core.List.{List, [], _∷_}
-use borrow.Author.Tests.{leb-true}
-use lib.Dec.{leb}
 use Prim.Native.Nat.{ℕ, suc, _+_, _-_, _*_, _/_, _^_, _≤_, _<_}
 use lib.Pow.{pow-mono, pow-add}
 use native.Mathlib.Omega.{arith}
@@ -12,7 +9,7 @@ use native.Mathlib.Decide.{decLt}
 use lib.ListN.{length, take, drop, getD}
 use lib.Seq.{take-nil}
 use Rattle.express.specs.tokens.Lexis.{numeral, greatest, integer-value, binary-value}
-use Rattle.literals.specs.Literal.{few, capped, Zeros}
+use Rattle.literals.specs.Literal.{few, capped, FewBits, Zeros}
 use lib.Seq.{drop-cons}
 use lib.ListN.{drop-of-length-le}
 use native.Mathlib.Numerals.{add-one}
@@ -106,24 +103,23 @@ module _ (s : List ℕ) (i n : ℕ) where
   unfolding binary-value
   binary-is h k = rw (part-more s i n h k)
 
-  -- by the end of the token
-  pub binary-upto : i < length s → (n ≡ 0 → ⊥) → capped (coming 2 s (i + 1) (i + n - (i + 1)) 0) ≡ capped (binary-value (take n (drop i s)))
-  binary-upto h k = let q : i + n - (i + 1) ≡ n - 1 = omega arith in rw q (binary-is h k)
-
-pub short : {b : Bool} (n left : ℕ) → b ≡ (leb n few && leb n left) → b ≡ true → (n ≤ few) × (n ≤ left)
-short n left e h =
-    let a = and-eq-true-iff (leb n few) (leb n left) .0 (sym e ∙ h) in (leb-true n few (a .0), leb-true n left (a .1))
+  -- a few digits first, and from their number on
+  pub binary-from : i < length s → (n ≡ 0 → ⊥) → {few v : ℕ} → few ≤ n - 1 → FewBits s (i + 1) (i + 1 + few) v
+      → capped (coming 2 s (i + 1 + few) (n - 1 - few) v) ≡ capped (binary-value (take n (drop i s)))
+  binary-from h k {few} l F =
+      let q : i + 1 + few - (i + 1) + (n - 1 - few) ≡ n - 1 = omega (arith, l) in
+      ap capped (F .is (n - 1 - few) ∙ ap (λ (x : ℕ). coming 2 s (i + 1) x 0) q) ∙ binary-is h k
 
 -- ---- A FEW DIGITS of base 2, each at most 255: their number, and 255 more, is at most 255 times the power of 2 of their count
 pub record Few (s : List ℕ) (start end i v : ℕ) : Type 0 where
   pub from : start ≤ i
   pub upto : i ≤ end
   pub small : v + 255 ≤ 255 * 2 ^ (i - start)
-  pub is : coming 2 s i (end - i) v ≡ coming 2 s start (end - start) 0
+  pub is : (more : ℕ) → coming 2 s i (end - i + more) v ≡ coming 2 s start (end - start + more) 0
 
 module _ {s : List ℕ} {start end : ℕ} where
   pub few-starts : start ≤ end → Few s start end start 0
-  few-starts l = let z : start - start ≡ 0 = omega arith in record { from = omega arith; upto = l; small = rw z (omega arith); is = refl }
+  few-starts l = let z : start - start ≡ 0 = omega arith in record { from = omega arith; upto = l; small = rw z (omega arith); is = λ more. refl }
 
   module _ {i v : ℕ} (F : Few s start end i v) where
     few-bound : (k : ℕ) → i - start ≤ k → v + 255 ≤ 255 * 2 ^ k
@@ -138,16 +134,22 @@ module _ {s : List ℕ} {start end : ℕ} where
         let f = F .from in
         let j : i + 1 - start ≡ 1 + (i - start) = omega arith in
         let w : 2 ^ (i + 1 - start) ≡ 2 * 2 ^ (i - start) = ap (λ (x : ℕ). 2 ^ x) j ∙ pow-add 2 1 (i - start) in
-        let z : end - (i + 1) ≡ end - i - 1 = omega arith in
+        let z : (more : ℕ) → end - (i + 1) + more ≡ end - i + more - 1 = λ more. omega arith in
         record {
           from = omega arith;
           upto = omega arith;
           small = omega (arith, F .small, w);
-          is = rw z (sym (numeral-more 2 s i (end - i) v d (omega arith) (λ (x : end - i ≡ 0). omega arith) e)) ∙ F .is;
+          is = λ more. ap (λ (x : ℕ). coming 2 s (i + 1) x (v * 2 + d)) (z more) ∙
+              sym (numeral-more 2 s i (end - i + more) v d (omega arith) (λ (x : end - i + more ≡ 0). omega arith) e) ∙ F .is more;
         }
 
-    pub few-ends : end ≤ i → end - start ≤ few → v ≡ capped (coming 2 s start (end - start) 0)
+    pub few-ends : end ≤ i → end - start ≤ few → FewBits s start end v
     few-ends l h =
         let u = F .upto in
         let b = few-bound 55 (omega arith) in
-        capped-fits v (omega (arith, b)) ∙ ap capped (sym (numeral-none 2 s i (end - i) v (omega arith)) ∙ F .is)
+        let q : i ≡ end = omega arith in
+        let z : (more : ℕ) → end - i + more ≡ more = λ more. omega arith in
+        record {
+          below = omega (arith, b);
+          is = λ more. ap (λ (x : ℕ). numeral 2 v (take more (drop x s))) (sym q) ∙ ap (λ (x : ℕ). coming 2 s i x v) (sym (z more)) ∙ F .is more;
+        }

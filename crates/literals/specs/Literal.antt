@@ -22,6 +22,11 @@ few = 55
 abbrev pub capped : ℕ → ℕ
 capped n = min n (greatest + 1)
 
+-- THE NUMBER of a few bytes in base 2: below 2 to the 63, and the digits of any longer part may go on from it
+pub record FewBits (s : List ℕ) (start end v : ℕ) : Type 0 where
+  pub below : v ≤ greatest
+  pub is : (more : ℕ) → numeral 2 v (take more (drop end s)) ≡ numeral 2 0 (take (end - start + more) (drop start s))
+
 -- the first n bytes of a part are zeros in front, which count for nothing
 pub record Zeros (s : List ℕ) (start size n : ℕ) : Type 0 where
   pub few : n ≤ size

@@ -1,11 +1,10 @@
 // The values of integer and binary literals, from the bytes of their tokens.
 ghost use mathlib.Core.Path.{_≡_};
 ghost use Prim.Native.Nat.{_-_, _≤_, _<_};
-ghost use mathlib.Core.Bool.{_&&_};
-ghost use lib.Dec.{leb};
 ghost use lib.ListN.{length as size, take, drop};
-ghost use Rattle.express.specs.tokens.Lexis.{numeral, integer-value, binary-value};
-ghost use Rattle.literals.specs.Literal.{digit-value, greatest-base, few, capped, Zeros};
+ghost use Rattle.express.specs.tokens.Lexis.{numeral, greatest, integer-value, binary-value};
+ghost use Rattle.literals.specs.Literal.{digit-value, greatest-base, few, capped, FewBits, Zeros};
+use columns::shorter;
 
 const DECIMAL: u64 = 10;
 
@@ -23,14 +22,14 @@ fn digit(b: u8) -> u64
     (b - b'0') as u64
 }
 
-// The number that bytes stand for in a base, as far as 2 to the 63.
-fn numeral_of(s: &[u8], start: usize, length: usize, base: u64) -> u64
-    requires { ⌜ (0 < base) × (base ≤ greatest-base) ⌝ }
-    ensures { λ r. ⌜ r ≡ capped (numeral base 0 (take length (drop start (now (s .entry))))) ⌝ }
+// The number that bytes stand for in a base behind digits that stand for `before`, as far as 2 to the 63.
+fn numeral_of(s: &[u8], start: usize, length: usize, base: u64, before: u64) -> u64
+    requires { ⌜ (0 < base) × (base ≤ greatest-base) × (before ≤ greatest) ⌝ }
+    ensures { λ r. ⌜ r ≡ capped (numeral base before (take length (drop start (now (s .entry))))) ⌝ }
 {
     let mut i = start;
     let mut left = length;
-    let mut v: u64 = 0;
+    let mut v = before;
     while i < s.len() {
         if left == 0 {
             return v;
@@ -52,7 +51,7 @@ const FEW: usize = 55;
 // The number that a few bytes stand for in base 2: no bound has to be looked at.
 fn few_bits(s: &[u8], start: usize, end: usize) -> u64
     requires { ⌜ (start ≤ end) × (end ≤ size (now s)) × (end - start ≤ few) ⌝ }
-    ensures { λ r. ⌜ r ≡ capped (numeral 2 0 (take (end - start) (drop start (now (s .entry))))) ⌝ }
+    ensures { λ r. ⌜ FewBits (now (s .entry)) start end r ⌝ }
 {
     let mut i = start;
     let mut v: u64 = 0;
@@ -61,16 +60,6 @@ fn few_bits(s: &[u8], start: usize, end: usize) -> u64
         i += 1;
     }
     v
-}
-
-// Are there no more than a few bytes, and all of them among those that are left?
-fn is_short(left: usize, length: usize) -> bool
-    ensures { λ r. ⌜ r ≡ (leb length few && leb length left) ⌝ }
-{
-    if length > FEW {
-        return false;
-    }
-    length <= left
 }
 
 // How many zeros a part starts with: none of them counts, and there may be a whole file of them.
@@ -95,7 +84,7 @@ pub fn integer(s: &[u8], start: usize, length: usize) -> u64
     ensures { λ r. ⌜ r ≡ capped (integer-value (take length (drop start (now (s .entry))))) ⌝ }
 {
     let n = zeros(s, start, length);
-    numeral_of(s, start + n, length - n, DECIMAL)
+    numeral_of(s, start + n, length - n, DECIMAL, 0)
 }
 
 // The bits of a binary literal as a number, its `%` passed over; there are as many as the token has bytes after that.
@@ -108,8 +97,8 @@ pub fn binary(s: &[u8], start: usize, length: usize) -> u64
     if length == 0 {
         return 0;
     }
-    if is_short(s.len() - start, length) {
-        return few_bits(s, start + 1, start + length);
-    }
-    numeral_of(s, start + 1, length - 1, BINARY)
+    let first = start + 1;
+    let few = shorter(shorter(length - 1, FEW), s.len() - first);
+    let v = few_bits(s, first, first + few);
+    numeral_of(s, first + few, length - 1 - few, BINARY, v)
 }

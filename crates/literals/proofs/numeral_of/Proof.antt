@@ -13,13 +13,13 @@ use Rattle.literals.proofs.Numerals.{coming, digit-over, digit-fits, ca
 use native.Mathlib.Omega.{arith}
 
 abbrev Inv-loop : tie.InvT-loop
-Inv-loop s start length base i₀ left₀ v₀ i left v = (v ≤ greatest) × (capped (coming base s i left v) ≡ capped (coming base s start length 0))
+Inv-loop s start length base before i₀ left₀ v₀ i left v = (v ≤ greatest) × (capped (coming base s i left v) ≡ capped (coming base s start length before))
 
 abbrev μ-loop : tie.MeasureT-loop
-μ-loop s start length base i₀ left₀ v₀ i left v = size s - i
+μ-loop s start length base before i₀ left₀ v₀ i left v = size s - i
 
 loop-holds : tie.Need-loop-holds Inv-loop μ-loop
-loop-holds c = (omega arith, refl)
+loop-holds c = (c .before .pre .2, refl)
 
 returns : tie.Need-returns Inv-loop μ-loop
 returns c =
