@@ -1,20 +1,22 @@
 -- The table of classes: what its entries say of a kind and a role.
 use mathlib.Core.Path.{_≡_, refl, ap, _∙_}
 use mathlib.Core.Logic.{⊎-elim}
-use mathlib.Core.Bool.{Bool, cond}
+use mathlib.Core.Bool.{Bool, false, cond}
 use mathlib.Core.List.{List}
 use Prim.Native.Nat.{ℕ, _+_, _*_, _-_, _/_, _%_, _≤_, _<_}
 use native.Mathlib.Omega.{arith}
-use borrow.Author.Tests.{ne-eqb}
-use lib.Dec.{eqb}
+use borrow.Author.Tests.{ne-eqb, leb-false}
+use lib.Dec.{eqb, leb}
 use lib.ListN.{getD}
 use Rattle.columns.proofs.Laws.{tabulated-at}
+use Rattle.ebnf.proofs.Sets.{or-none}
 use Rattle.relations.proofs.Select.{le-or}
 use Rattle.express.specs.syntax.NodeKind.{name, enumeration-item, constant, type, attribute-name, derived-attribute, rule, entity, schema, labelled, supertype-name}
 use Rattle.scopes.specs.Entries.{schemas, declared, sorts}
 use Rattle.scopes.specs.Standing.{declares, sort-by, entry-count, class-of, first-letter, class-table, PassedBy, MoreBy}
 use Rattle.scopes.specs.declared.Here.{Here}
 use Rattle.scopes.specs.declared.Counts.{Counts}
+use Rattle.preparation.specs.Declaring.{may-declare}
 use Rattle.scopes.proofs.Sorting.{sort-schema, sort-declares, sort-small}
 
 -- ---- the parts of a class
@@ -83,6 +85,23 @@ class-high k r l =
       ne-eqb k derived-attribute (λ q. omega (arith, q)),
       ne-eqb k rule (λ q. omega (arith, q)),
       ne-eqb k name (λ q. omega (arith, q)),
+    )
+
+-- what may not declare is of class 0
+pub class-plain : (k r : ℕ) → may-declare k ≡ false → 0 ≡ class-of (sort-by k r)
+class-plain k r e =
+    let o = or-none (eqb k name) (leb enumeration-item k) e in
+    let l = leb-false enumeration-item k (o .1) in
+    rw (
+      ne-eqb k schema (λ q. omega (arith, q, l)),
+      ne-eqb k constant (λ q. omega (arith, q, l)),
+      ne-eqb k type (λ q. omega (arith, q, l)),
+      ne-eqb k entity (λ q. omega (arith, q, l)),
+      ne-eqb k enumeration-item (λ q. omega (arith, q, l)),
+      ne-eqb k attribute-name (λ q. omega (arith, q, l)),
+      ne-eqb k derived-attribute (λ q. omega (arith, q, l)),
+      ne-eqb k rule (λ q. omega (arith, q, l)),
+      o .0,
     )
 
 module _ (t : List ℕ) (is : t ≡ class-table) (k : ℕ) (l : k < 32) where

@@ -2,11 +2,11 @@
 use mathlib.Core.Path.{_≡_, refl, sym, ap, _∙_}
 use mathlib.Core.Bool.{Bool, true, false, cond, not}
 use mathlib.Core.List.{List, [], _∷_, _++_, map, map-append}
-use Prim.Native.Nat.{ℕ, suc, _+_, _*_, _-_, _%_, _≤_, _<_}
+use Prim.Native.Nat.{ℕ, zero, suc, _+_, _*_, _-_, _%_, _≤_, _<_}
 use native.Mathlib.Omega.{arith}
 use borrow.Author.Tests.{ne-eqb}
 use lib.Dec.{eqb, leb}
-use lib.ListN.{length, length-map, set}
+use lib.ListN.{length, length-map, set, getD}
 use lib.Seq.{sets, set-comm, length-sets}
 use Rattle.columns.proofs.Laws.{sets-append}
 use Rattle.relations.specs.Select.{span, keep}
@@ -19,7 +19,8 @@ use Rattle.scopes.specs.Preparation.{Consistent, Enterable, Entered, Filled, sc
 use Rattle.scopes.specs.declared.Here.{Here}
 use Rattle.scopes.specs.declared.Counts.{Counts}
 use Rattle.scopes.proofs.Sorting.{key-within, sort-is, declared-sort, sort-below, owner-below, schema-below}
-use Rattle.preparation.proofs.Classes.{class-sort, passed-nothing}
+use Rattle.preparation.specs.Declaring.{may-declare, DeclaringBefore}
+use Rattle.preparation.proofs.Classes.{class-sort, class-plain, passed-nothing}
 use Rattle.scopes.proofs.Passing.{stands-end, stands-step, vertex-step, vertex-le, vertex-small, vertex-none, others-step, others-none, others-small}
 
 -- ---- stores, the later place first
@@ -263,3 +264,15 @@ module _ {t : Table} {keys₀ nodes₀ : List ℕ} where
   entering-skip E l C z =
       let s = ap (λ (x : ℕ). x % sorts) z in
       entering-goes-on E l C (passed-nothing z) refl refl refl (entered-none _ s) (entered-none _ s)
+
+  -- nor have nodes that may not declare
+  pub entering-passes :
+      {keys nodes : List ℕ} {here : Here} {d i r : ℕ} → Entering t d keys₀ nodes₀ keys nodes here i → DeclaringBefore (t .kinds) i r →
+      Entering t d keys₀ nodes₀ keys nodes here r
+  entering-passes {keys} {nodes} {here} {d} {i} {r} E D = go (i - r) i E (D .none) (omega (arith, D .low))
+    where
+      go : (k i : ℕ) → Entering t d keys₀ nodes₀ keys nodes here i → ((n : ℕ) → r ≤ n → n < i → may-declare (getD (t .kinds) n 0) ≡ false) → i ≡ k + r → Entering t d keys₀ nodes₀ keys nodes here r
+      go zero i E h e = let q : i ≡ r = omega (arith, e) in rw q at E
+      go (suc k) i E h e =
+          go k (i - 1) (entering-skip E (omega (arith, e)) (class-plain (kind t (i - 1)) (role t (i - 1)) (h (i - 1) (omega (arith, e)) (omega (arith, e)))) refl)
+          (λ n a b. h n a (omega (arith, b))) (omega (arith, e))

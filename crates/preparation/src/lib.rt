@@ -6,6 +6,7 @@ ghost use lib.ListN.{length, set};
 ghost use Rattle.scopes.specs.Entries.{sorts, Entry, radix};
 ghost use Rattle.scopes.specs.Standing.{table-of, declares, sort-by, entry-count, class-of, class-table, PassedBy, Ended, MoreBy, Counted, Counting};
 ghost use Rattle.preparation.specs.Counting.{CountedTo};
+ghost use Rattle.preparation.specs.Declaring.{may-declare, DeclaringBefore};
 ghost use Rattle.scopes.specs.Preparation.{Consistent, Room, Answers, Decides, Enterable, Entered, Filled};
 use columns::index;
 use columns::shorter;
@@ -192,6 +193,31 @@ fn others_of(kind: u8, role: u8) -> u8
     named + attributes + rules + supertypes
 }
 
+// May a node of this kind declare something? Most nodes are those of expressions.
+fn may_declare(kind: u8) -> bool
+    ensures { λ r. ⌜ r ≡ may-declare kind ⌝ }
+{
+    if kind == codes::nodes::NAME {
+        return true;
+    }
+    codes::nodes::ITEM <= kind
+}
+
+// The nodes before an end, without the last ones, of which none may declare something.
+fn declaring_before(kinds: &[u8], end: usize) -> usize
+    requires { ⌜ end ≤ length (now kinds) ⌝ }
+    ensures { λ r. ⌜ DeclaringBefore (now (kinds .entry)) end r ⌝ }
+{
+    let mut i = end;
+    while 0 < i {
+        if may_declare(kinds[i - 1]) {
+            return i;
+        }
+        i -= 1;
+    }
+    0
+}
+
 // The nodes of a block, counted in bytes.
 fn count_block(kinds: &[u8], roles: &[u8], from: usize, to: usize, before: Counts) -> Counts
     requires { ⌜ (from ≤ to) × (to ≤ from + 128) × (to ≤ length (now kinds)) × (to ≤ length (now roles)) × (length (now kinds) < radix) ⌝ }
@@ -330,13 +356,14 @@ fn fill(
     let classes = CLASSES;
     let declarations = counts.declarations;
     let mut here = ended(kinds.len(), counts);
-    let mut i = kinds.len();
+    let mut i = declaring_before(kinds, kinds.len());
     while 0 < i {
-        i -= 1;
-        let class = class(&classes, kinds[i], roles[i] as u32);
+        let n = i - 1;
+        i = declaring_before(kinds, n);
+        let class = class(&classes, kinds[n], roles[n] as u32);
         if class != NOTHING {
-            let k = index(tokens[i]);
-            here = passed(class, i, here);
+            let k = index(tokens[n]);
+            here = passed(class, n, here);
             enter_node(
                 keys,
                 nodes,
@@ -344,7 +371,7 @@ fn fill(
                 here,
                 sort_in(class),
                 symbols[k],
-                i,
+                n,
             );
         }
     }
