@@ -19,7 +19,8 @@ use Rattle.scopes.specs.Preparation.{Consistent, Enterable, Entered, Filled, sc
 use Rattle.scopes.specs.declared.Here.{Here}
 use Rattle.scopes.specs.declared.Counts.{Counts}
 use Rattle.scopes.proofs.Sorting.{key-within, sort-is, declared-sort, sort-below, owner-below, schema-below}
-use Rattle.preparation.specs.Declaring.{may-declare, DeclaringBefore}
+use Rattle.scopes.specs.NoneFrom.{NoneFrom}
+use Rattle.preparation.specs.Declaring.{may-declare}
 use Rattle.preparation.proofs.Classes.{class-sort, class-plain, passed-nothing}
 use Rattle.scopes.proofs.Passing.{stands-end, stands-step, vertex-step, vertex-le, vertex-small, vertex-none, others-step, others-none, others-small}
 
@@ -267,7 +268,7 @@ module _ {t : Table} {keys₀ nodes₀ : List ℕ} where
 
   -- nor have nodes that may not declare
   pub entering-passes :
-      {keys nodes : List ℕ} {here : Here} {d i r : ℕ} → Entering t d keys₀ nodes₀ keys nodes here i → DeclaringBefore (t .kinds) i r →
+      {keys nodes : List ℕ} {here : Here} {d i r : ℕ} → Entering t d keys₀ nodes₀ keys nodes here i → NoneFrom may-declare (t .kinds) 0 i r →
       Entering t d keys₀ nodes₀ keys nodes here r
   entering-passes {keys} {nodes} {here} {d} {i} {r} E D = go (i - r) i E (D .none) (omega (arith, D .low))
     where

@@ -1,6 +1,5 @@
 pub mod Filling
 pub mod Classes
 pub mod Counting
-pub mod Declaring
 pub mod Preparing
 pub mod Checking

@@ -6,7 +6,8 @@ ghost use lib.ListN.{length, set};
 ghost use Rattle.scopes.specs.Entries.{sorts, Entry, radix};
 ghost use Rattle.scopes.specs.Standing.{table-of, declares, sort-by, entry-count, class-of, class-table, PassedBy, Ended, MoreBy, Counted, Counting};
 ghost use Rattle.preparation.specs.Counting.{CountedTo};
-ghost use Rattle.preparation.specs.Declaring.{may-declare, DeclaringBefore};
+ghost use Rattle.preparation.specs.Declaring.{may-declare};
+ghost use Rattle.scopes.specs.NoneFrom.{NoneFrom};
 ghost use Rattle.scopes.specs.Preparation.{Consistent, Room, Answers, Decides, Enterable, Entered, Filled};
 use columns::index;
 use columns::shorter;
@@ -206,7 +207,7 @@ fn may_declare(kind: u8) -> bool
 // The nodes before an end, without the last ones, of which none may declare something.
 fn declaring_before(kinds: &[u8], end: usize) -> usize
     requires { ⌜ end ≤ length (now kinds) ⌝ }
-    ensures { λ r. ⌜ DeclaringBefore (now (kinds .entry)) end r ⌝ }
+    ensures { λ r. ⌜ NoneFrom may-declare (now (kinds .entry)) 0 end r ⌝ }
 {
     let mut i = end;
     while 0 < i {
@@ -215,7 +216,7 @@ fn declaring_before(kinds: &[u8], end: usize) -> usize
         }
         i -= 1;
     }
-    0
+    i
 }
 
 // The nodes of a block, counted in bytes.

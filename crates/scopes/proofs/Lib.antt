@@ -7,3 +7,4 @@ pub mod Repeated
 pub mod Looking
 pub mod Tables
 pub mod Examples
+pub mod NoneFrom

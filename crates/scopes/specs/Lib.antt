@@ -3,3 +3,4 @@ pub mod Standing
 pub mod Preparation
 pub mod LookUp
 pub mod Range
+pub mod NoneFrom

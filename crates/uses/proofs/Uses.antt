@@ -3,7 +3,7 @@ use mathlib.Core.Path.{_≡_, refl, sym, ap, ap₂, _∙_}
 use mathlib.Core.Logic.{⊎-elim, by-cases}
 use mathlib.Core.Bool.{Bool, true, false, cond, not, _&&_, _||_, false≢true}
 use mathlib.Core.List.{List, [], _∷_}
-use Prim.Native.Nat.{ℕ, _-_, _≤_, _<_, min}
+use Prim.Native.Nat.{ℕ, zero, suc, _+_, _-_, _≤_, _<_, min}
 use native.Mathlib.Omega.{arith}
 use native.Mathlib.Decide.{ℕ-discrete}
 use borrow.Author.Tests.{eqb-true, eq-eqb, ne-eqb}
@@ -25,6 +25,7 @@ use Rattle.express.specs.names.Fault.{expression}
 use Rattle.express.proofs.syntax.KindSets as set
 use Rattle.express.proofs.syntax.Within.{schema-over}
 use Rattle.express.proofs.names.Owned.{declaring, declaring-kind, undeclared, in-schema, in-owner, owner-schema}
+use Rattle.scopes.specs.NoneFrom.{NoneFrom}
 use Rattle.scopes.specs.Preparation.{Consistent}
 use Rattle.scopes.specs.Standing.{is-member}
 use Rattle.scopes.specs.Range.{vertex-count, node-of, DeclarationAt}
@@ -50,7 +51,7 @@ use Rattle.meanings.specs.declared.Use.{Use}
 use Rattle.meanings.specs.declared.Use.the-variants.{Nothing, Several, Node}
 use Rattle.meanings.proofs.Nearest.{item-sort, inherited-sort}
 use Rattle.meanings.proofs.NodeLaws.{asked, no-member, chosen, passed, both-false, unbound, member-found}
-use Rattle.uses.specs.Binding.{finds-by, Decodes, inherited-before, uses, FindingAt, RangeAsked, FileAsked, BindsRange, BindsUses}
+use Rattle.uses.specs.Binding.{finds-by, may-find, Decodes, inherited-before, uses, FindingAt, RangeAsked, FileAsked, BindsRange, BindsUses}
 
 pub or-none : (b : Bool) → b ≡ b || false || false || false
 or-none true = refl
@@ -305,6 +306,43 @@ range-passes {i = i} G more K = record {
         passing-skips Q (omega arith) v (R .number) u (K t v R A (entry-ahead Q (i - 1) (omega arith) (omega (arith, node-below t v (R .number)))));
   };
 }
+
+-- ---- nodes of kinds of which nothing is found
+
+other-kind : (k q : ℕ) → may-find k ≡ false → may-find q ≡ true → k ≡ q → ⊥
+other-kind k q h e x = false≢true (sym h ∙ ap may-find x ∙ e)
+
+finds-none : (k r c : ℕ) → may-find k ≡ false → false ≡ finds-by k r c
+finds-none k r c h =
+    rw (
+      ne-eqb k node.name (other-kind k node.name h refl),
+      ne-eqb k node.qualified-item (other-kind k node.qualified-item h refl),
+      ne-eqb k node.self (other-kind k node.self h refl),
+      ne-eqb k node.attribute-name (other-kind k node.attribute-name h refl),
+      ne-eqb k node.derived-attribute (other-kind k node.derived-attribute h refl),
+      ne-eqb k node.rule (other-kind k node.rule h refl),
+    )
+
+pub range-leaves-out :
+    {kinds tokens sizes roles symbols starts keys nodes heads next items : List ℕ} {stamp schema lo hi i j : ℕ} {before so-far : Progress} {bound to bound′ to′ : List ℕ} →
+    PassingRange (RangeAsked kinds tokens sizes roles symbols starts keys nodes heads next items stamp schema) uses lo hi before bound to i so-far bound′ to′ →
+    NoneFrom may-find kinds lo i j →
+    PassingRange (RangeAsked kinds tokens sizes roles symbols starts keys nodes heads next items stamp schema) uses lo hi before bound to j so-far bound′ to′
+range-leaves-out {kinds} {tokens} {sizes} {roles} {symbols} {starts} {keys} {nodes} {heads} {next} {items} {stamp} {schema} {lo} {hi} {i} {j} {before} {so-far} {bound} {to} {bound′} {to′} G N =
+    go (i - j) i G (omega arith) (omega (arith, N .low))
+  where
+    Passing : ℕ → Type 0
+    Passing m = PassingRange (RangeAsked kinds tokens sizes roles symbols starts keys nodes heads next items stamp schema) uses lo hi before bound to m so-far bound′ to′
+
+    go : (k m : ℕ) → Passing m → m ≤ i → m ≡ k + j → Passing j
+    go zero m G l e = let q : m ≡ j = omega (arith, e) in rw q at G
+    go (suc k) m G l e =
+        let n = m - 1 in
+        let none = N .none n (omega (arith, e)) (omega (arith, e, l)) in
+        go k n
+        (range-passes G (omega (arith, e, N .from (omega (arith, e, l))))
+        (range-other m (getD bound′ n 0) refl refl (finds-none (getD kinds n 0) (getD roles n 0) (getD bound′ n 0) none) bound′ refl refl))
+        (omega (arith, l)) (omega (arith, e))
 
 -- the columns of a file are as long as its range needs
 pub range-reached :

@@ -3,7 +3,7 @@ use mathlib.Core.Path.{_≡_}
 use mathlib.Core.Bool.{Bool, true, false, cond, not, _&&_, _||_}
 use mathlib.Core.List.{List}
 use Prim.Native.Nat.{ℕ, _≤_, _<_}
-use lib.Dec.{eqb}
+use lib.Dec.{eqb, leb}
 use lib.ListN.{length, getD}
 use Rattle.express.specs.syntax.NodeKind.{name, qualified-item, self, in-expression}
 use Rattle.express.specs.syntax.NodeKind as node
@@ -34,6 +34,10 @@ use Rattle.meanings.specs.declared.Use.{Use}
 -- says what the node's symbol inherits
 abbrev pub finds-by : ℕ → ℕ → ℕ → Bool
 finds-by kind role code = (eqb kind name && eqb role in-expression) || eqb kind qualified-item || eqb kind self || (is-member kind role && not (eqb code 0))
+
+-- the kinds of nodes of which it may hold: names, `type.item`, SELF, and those from attributes on
+abbrev pub may-find : ℕ → Bool
+may-find k = leb name k && (leb k self || leb node.attribute-name k)
 
 -- what a code of inherited attributes or of items stands for, in a file with fewer nodes than there are codes
 pub record Decodes (c : ℕ) (r : Use) : Type 0 where

@@ -1,7 +1,10 @@
 // Replies 10 to 12 of names in expressions, of SELF in a constant and of own names that are inherited too; what each name is
 // bound to, and the graph of the declarations by the constants that they name.
 ghost use mathlib.Core.Path.{_≡_};
-ghost use Rattle.uses.specs.Binding.{finds-by, Decodes, FindingAt, BindsRange, BindsUses};
+ghost use Prim.Native.Nat.{_≤_};
+ghost use lib.ListN.{length};
+ghost use Rattle.scopes.specs.NoneFrom.{NoneFrom};
+ghost use Rattle.uses.specs.Binding.{finds-by, may-find, Decodes, FindingAt, BindsRange, BindsUses};
 use columns::index;
 use columns::number;
 use columns::put32;
@@ -34,6 +37,34 @@ fn has_finding(kind: u8, role: u32, code: u32) -> bool
         return scopes::is_scope_member(kind, role);
     }
     false
+}
+
+// May something be found of a node of this kind? Most nodes are literals and operators.
+fn may_find(kind: u8) -> bool
+    ensures { λ r. ⌜ r ≡ may-find kind ⌝ }
+{
+    if kind < codes::nodes::NAME {
+        return false;
+    }
+    if kind <= codes::nodes::SELF_REFERENCE {
+        return true;
+    }
+    codes::nodes::ATTRIBUTE_NAME <= kind
+}
+
+// The nodes from lo up to an end, without the last ones, of which nothing can be found.
+fn found_before(kinds: &[u8], lo: usize, end: usize) -> usize
+    requires { ⌜ end ≤ length (now kinds) ⌝ }
+    ensures { λ r. ⌜ NoneFrom may-find (now (kinds .entry)) lo end r ⌝ }
+{
+    let mut i = end;
+    while lo < i {
+        if may_find(kinds[i - 1]) {
+            return i;
+        }
+        i -= 1;
+    }
+    i
 }
 
 // What is inherited, or meant among the items of a schema, from its code.
@@ -119,11 +150,13 @@ fn bind_range(
         before (now (bound .entry)) (now (to .entry)) lo r (now (bound .exit)) (now (to .exit)) ⌝ }
 {
     let mut so_far = before;
-    let mut i = shorter(hi, shorter(kinds.len(), roles.len()));
+    let reach = shorter(hi, shorter(kinds.len(), roles.len()));
+    let mut i = found_before(kinds, lo, reach);
     while lo < i {
-        i -= 1;
-        let code = at(bound, i);
-        if has_finding(kinds[i], roles[i] as u32, code) {
+        let n = i - 1;
+        i = found_before(kinds, lo, n);
+        let code = at(bound, n);
+        if has_finding(kinds[n], roles[n] as u32, code) {
             let found = finding_at(
                 kinds,
                 tokens,
@@ -139,9 +172,9 @@ fn bind_range(
                 hi,
                 schema,
                 code,
-                i,
+                n,
             );
-            so_far = store(bound, to, i, found, so_far);
+            so_far = store(bound, to, n, found, so_far);
         }
     }
     so_far

@@ -1,20 +1,21 @@
 -- None from i on may declare. Assumes nothing.
 use Rattle.preparation.proofs.declaring_before.Statement.{statement}
 use Rattle.preparation.proofs.declaring_before.Tie as tie
-use Rattle.preparation.specs.Declaring.{DeclaringBefore}
-use Rattle.preparation.proofs.Declaring.{none-passed, one-passed, all-passed}
+use Rattle.scopes.specs.NoneFrom.{NoneFrom}
+use Rattle.scopes.proofs.NoneFrom.{none-yet, none-more}
+use Rattle.preparation.specs.Declaring.{may-declare}
 use mathlib.Core.Path.{sym, _∙_}
 use native.Mathlib.Omega.{arith}
 use borrow.Author.Needs.{needs}
 
 abbrev Inv-loop : tie.InvT-loop
-Inv-loop kinds end i₀ i = DeclaringBefore kinds end i
+Inv-loop kinds end i₀ i = NoneFrom may-declare kinds 0 end i
 
 abbrev μ-loop : tie.MeasureT-loop
 μ-loop kinds end i₀ i = i
 
 loop-holds : tie.Need-loop-holds Inv-loop μ-loop
-loop-holds c = none-passed _ _
+loop-holds c = none-yet
 
 sub-may-declare : tie.Need-sub-may-declare Inv-loop μ-loop
 sub-may-declare c = search needs
@@ -36,10 +37,10 @@ loop-less c = omega (arith, c .before .before .before .loop-test .taken)
 
 loop-again : tie.Need-loop-again Inv-loop μ-loop
 loop-again c =
-    one-passed (c .before .before .before .before .loop .inv) (c .before .before .before .loop-test .taken) (sym (c .before .may-declare .ensures) ∙ c .if1 .left)
+    none-more (c .before .before .before .before .loop .inv) (c .before .before .before .loop-test .taken) (sym (c .before .may-declare .ensures) ∙ c .if1 .left)
 
 returns-2 : tie.Need-returns-2 Inv-loop μ-loop
-returns-2 c = all-passed (c .before .loop .inv) (c .loop-test .left)
+returns-2 c = c .before .loop .inv
 
 pub declaring-before-spec : {M : Type 1} → statement M
 declaring-before-spec =

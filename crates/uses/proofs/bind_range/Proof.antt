@@ -1,22 +1,22 @@
--- `uses::bind_range` meets its contract: each node is stored or skipped. Assumes nothing.
+-- `uses::bind_range` meets its contract: each node is stored, skipped or left out. Assumes nothing.
 use Rattle.uses.proofs.bind_range.Statement.{statement}
 use Rattle.uses.proofs.bind_range.Tie as tie
 use borrow.Author.Needs.{needs}
 use Rattle.type_names.proofs.Passes.{PassingRange, range-starts, range-ends, range-stores}
 use Rattle.uses.specs.Binding.{uses, RangeAsked}
-use Rattle.uses.proofs.Uses.{range-other, range-use, range-passes, range-reached}
+use Rattle.uses.proofs.Uses.{range-other, range-use, range-passes, range-leaves-out, range-reached}
 use mathlib.Core.Path.{refl}
 use native.Mathlib.Omega.{arith}
 use Prim.Native.Nat.{_-_, _≤_}
 use lib.ListN.{length}
 
 abbrev Inv-loop : tie.InvT-loop
-Inv-loop kinds tokens sizes roles symbols starts keys nodes heads next items stamp schema lo hi bound₀ to₀ so-far₀ i₀ bound to so-far i =
+Inv-loop kinds tokens sizes roles symbols starts keys nodes heads next items stamp schema lo hi bound₀ to₀ so-far₀ reach i₀ bound to so-far i =
     PassingRange (RangeAsked kinds tokens sizes roles symbols starts keys nodes heads next items stamp schema) uses lo hi so-far₀ bound₀ to₀ i so-far bound to
     × (i ≤ length kinds) × (i ≤ length roles)
 
 abbrev μ-loop : tie.MeasureT-loop
-μ-loop kinds tokens sizes roles symbols starts keys nodes heads next items stamp schema lo hi bound₀ to₀ so-far₀ i₀ bound to so-far i = i
+μ-loop kinds tokens sizes roles symbols starts keys nodes heads next items stamp schema lo hi bound₀ to₀ so-far₀ reach i₀ bound to so-far i = i
 
 shorter-requires : tie.Need-shorter-requires Inv-loop μ-loop
 shorter-requires c κs = search needs
@@ -24,32 +24,38 @@ shorter-requires c κs = search needs
 shorter-requires-2 : tie.Need-shorter-requires-2 Inv-loop μ-loop
 shorter-requires-2 c κs = search needs
 
-loop-holds : tie.Need-loop-holds Inv-loop μ-loop
-loop-holds c = (
-  range-starts (omega (arith, c .shorter2 .ensures)) (range-reached (c .before .shorter .ensures) (c .shorter2 .ensures)),
-  omega (
-    arith,
-    c .before
-        .shorter .ensures,
-    c .shorter2 .ensures,
-  ),
-  omega (arith, c .before .shorter .ensures, c .shorter2 .ensures),
-)
+found-before-requires : tie.Need-found-before-requires Inv-loop μ-loop
+found-before-requires c κs = omega (arith, c .before .shorter .ensures, c .shorter2 .ensures)
 
-sub-i : tie.Need-sub-i Inv-loop μ-loop
-sub-i c = search needs
+loop-holds : tie.Need-loop-holds Inv-loop μ-loop
+loop-holds c =
+    let N = c .found-before .ensures in
+    let r = c .before .shorter2 .ensures in
+    let w = c .before .before .shorter .ensures in (
+      range-leaves-out (range-starts (omega (arith, r)) (range-reached w r)) N,
+      omega (arith, w, r, N .low),
+      omega (arith, w, r, N .low),
+    )
+
+sub-n : tie.Need-sub-n Inv-loop μ-loop
+sub-n c = search needs
+
+found-before-requires-2 : tie.Need-found-before-requires-2 Inv-loop μ-loop
+found-before-requires-2 c κs = omega (arith, c .before .loop .inv .1)
 
 at-requires : tie.Need-at-requires Inv-loop μ-loop
 at-requires c κs = search needs
 
 shared-slice-read-has-finding : tie.Need-shared-slice-read-has-finding Inv-loop μ-loop
-shared-slice-read-has-finding c = omega (arith, c .before .before .before .before .loop .inv .1, c .before .before .before .loop-test .taken)
+shared-slice-read-has-finding c =
+    let l = c .before .before .before .before in omega (arith, l .before .loop .inv .1, l .loop-test .taken)
 
 shared-slice-read-has-finding-2 : tie.Need-shared-slice-read-has-finding-2 Inv-loop μ-loop
-shared-slice-read-has-finding-2 c = omega (arith, c .before .before .before .before .before .loop .inv .2, c .before .before .before .before .loop-test .taken)
+shared-slice-read-has-finding-2 c =
+    let l = c .before .before .before .before .before in omega (arith, l .before .loop .inv .2, l .loop-test .taken)
 
 cast-has-finding : tie.Need-cast-has-finding Inv-loop μ-loop
-cast-has-finding c = omega (arith, c .shared-slice-known13 .given ((c .before .before .before .before .before .loop .i) - 1))
+cast-has-finding c = omega (arith, c .shared-slice-known13 .given (c .before .before .before .before .before .before .loop .i - 1))
 
 has-finding-requires : tie.Need-has-finding-requires Inv-loop μ-loop
 has-finding-requires c κs = search needs
@@ -61,48 +67,39 @@ store-requires : tie.Need-store-requires Inv-loop μ-loop
 store-requires c κs = search needs
 
 loop-less : tie.Need-loop-less Inv-loop μ-loop
-loop-less c = search needs
+loop-less c =
+    omega (arith, c .before .before .before .before .before .before .before .before .before .before .before .before .before .before .before .loop-test .taken, c .before .before .before .before .before .before .before .before .before .before .before .before .before .before .found-before2 .ensures .low)
 
 loop-again : tie.Need-loop-again Inv-loop μ-loop
-loop-again c = (
-  range-stores (c .before .before .before .before .before .before .before .before .before .before .before .before .before .before .before .loop .inv
-      .0) (c .before .before .before .before .before .before .before .before .before .before .before .before .before .before .loop-test .taken) (λ t v R A e.
-      range-use (c .before .before .before .before .before .before .before .before .before .before .before .before .before .before .before .loop .i) (c .before
-      .before .before .before .before .before .before .before .before .before .before .before .at .result) refl refl (c .before .before .before .before .before
-      .before .before .before .before .has-finding .ensures) (c .before .before .before .before .before .before .before .before .before .before .before .before
-      .before .before .before .loop .bound) (c .before .before .before .before .before .before .before .before .before .before .before .before .before .before
-      .loop-test .taken) (c .before .before .before .before .before .before .before .before .before .before .before .before .before .before .before .loop .inv .0
-      .upto) (c .before .before .before .before .before .before .before .before .if1 .taken) (c .before .before .before .before .before .before .before .before
-      .before .before .before .before .at .ensures) (c .before .before .before .before .before .before .before .finding-at .ensures) t v R A e) (c .before .before
-      .before .before .store .ensures),
-  omega (
-    arith,
-    c .before .before .before .before .before .before .before .before .before .before .before .before .before
-        .before .before .loop .inv .1,
-  ),
-  omega (
-    arith,
-    c .before .before .before .before .before .before .before .before .before .before .before .before .before .before
-        .before .loop .inv .2,
-  ),
-)
+loop-again c =
+    let l = c .before .before .before .before .before .before .before .before .before .before .before .before .before .before .before in
+    let I = l .before .loop .inv in
+    let N = c .before .before .before .before .before .before .before .before .before .before .before .before .before .before .found-before2 .ensures in
+    let a = c .before .before .before .before .before .before .before .before .before .before .before .before .at in (
+      range-leaves-out
+          (range-stores (I .0) (l .loop-test .taken)
+          (range-use (l .before .loop .i) (a .result) refl refl (c .before .before .before .before .before .before .before .before .before .has-finding .ensures) (l .before .loop .bound) (l .loop-test .taken) (I .0 .upto)
+          (c .before .before .before .before .before .before .before .before .if1 .taken) (a .ensures) (c .before .before .before .before .before .before .before .finding-at .ensures)) (c .before .before .before .before .store .ensures)) N,
+      omega (arith, I .1, N .low),
+      omega (arith, I .2, N .low),
+    )
 
 loop-less-2 : tie.Need-loop-less-2 Inv-loop μ-loop
-loop-less-2 c = search needs
+loop-less-2 c =
+    omega (arith, c .before .before .before .before .before .before .before .loop-test .taken, c .before .before .before .before .before .before .found-before2 .ensures .low)
 
 loop-again-2 : tie.Need-loop-again-2 Inv-loop μ-loop
-loop-again-2 c = (
-  range-passes (c .before .before .before .before .before .before .before .loop .inv .0) (c .before .before .before .before .before .before
-      .loop-test .taken) (λ t v R A e. range-other (c .before .before .before .before .before .before .before .loop .i) (c .before .before .before .before .at
-      .result) refl refl (c .before .has-finding .ensures) (c .before .before .before .before .before .before .before .loop .bound) (c .if1 .left) (c .before .before
-      .before .before .at .ensures) t v R A e),
-  omega (arith, c .before .before .before .before .before .before .before .loop .inv .1),
-  omega (
-    arith,
-    c .before
-        .before .before .before .before .before .before .loop .inv .2,
-  ),
-)
+loop-again-2 c =
+    let l = c .before .before .before .before .before .before .before in
+    let I = l .before .loop .inv in
+    let N = c .before .before .before .before .before .before .found-before2 .ensures in
+    let a = c .before .before .before .before .at in (
+      range-leaves-out
+          (range-passes (I .0) (l .loop-test .taken)
+          (range-other (l .before .loop .i) (a .result) refl refl (c .before .has-finding .ensures) (l .before .loop .bound) (c .if1 .left) (a .ensures))) N,
+      omega (arith, I .1, N .low),
+      omega (arith, I .2, N .low),
+    )
 
 same-length : tie.Need-same-length Inv-loop μ-loop
 same-length c = c .before .loop .inv .0 .bound-long
@@ -121,8 +118,10 @@ bind-range-spec =
     μ-loop
     shorter-requires
     shorter-requires-2
+    found-before-requires
     loop-holds
-    sub-i
+    sub-n
+    found-before-requires-2
     at-requires
     shared-slice-read-has-finding
     shared-slice-read-has-finding-2
