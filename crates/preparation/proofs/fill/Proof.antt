@@ -76,53 +76,82 @@ passed-requires c κs = search needs
 
 add-enter-node : tie.Need-add-enter-node Inv-loop μ-loop
 add-enter-node c =
-    let l = c .before .before .before .before .before .before .before .before .before .before .before .before in
+    let c3 = c .before .before .before in
+    let c7 = c3 .before .before .before .before in
+    let c11 = c7 .before .before .before .before in
+    let c12 = c11 .before in
+    let l = c12 in
     let E = l .before .loop .inv in
-    omega (arith, entering-small E (l .loop-test .taken) (c .before .before .before .before .before .before .before .class .ensures) (c .before .before .before .passed .ensures) refl refl)
+    omega (arith, entering-small E (l .loop-test .taken) (c7 .class .ensures) (c3 .passed .ensures) refl refl)
 
 sort-in-requires : tie.Need-sort-in-requires Inv-loop μ-loop
 sort-in-requires c κs = search needs
 
 mul-enter-node : tie.Need-mul-enter-node Inv-loop μ-loop
 mul-enter-node c =
-    let k = c .before .before .before .before .before in omega (arith, k .index .ensures, k .before .shared-slice-known7 .given (c .before .before .before .before .before .before .before .before .before .before .before .before .before .before .loop .i - 1))
+    let c4 = c .before .before .before .before in
+    let c5 = c4 .before in
+    let c14 = c5 .before .before .before .before .before .before .before .before .before in
+    let k = c5 in omega (arith, k .index .ensures, k .before .shared-slice-known7 .given (c14 .loop .i - 1))
 
 shared-slice-read-enter-node : tie.Need-shared-slice-read-enter-node Inv-loop μ-loop
 shared-slice-read-enter-node c =
-    let l = c .before .before .before .before .before .before .before .before .before .before .before .before .before .before in
+    let c6 = c .before .before .before .before .before .before in
+    let c13 = c6 .before .before .before .before .before .before .before in
+    let c14 = c13 .before in
+    let l = c14 in
     let E = l .before .loop .inv in
-    omega (arith, c .before .before .before .before .before .before .index .ensures, E .consistent .inside (l .before .loop .i - 1) (omega (arith, E .within, l .loop-test .taken)))
+    omega (arith, c6 .index .ensures, E .consistent .inside (l .before .loop .i - 1) (omega (arith, E .within, l .loop-test .taken)))
 
 enter-node-requires : tie.Need-enter-node-requires Inv-loop μ-loop
 enter-node-requires c κs =
-    let l = c .before .before .before .before .before .before .before .before .before .before .before .before .before .before in
+    let c5 = c .before .before .before .before .before in
+    let c6 = c5 .before in
+    let c9 = c6 .before .before .before in
+    let c13 = c9 .before .before .before .before in
+    let c14 = c13 .before in
+    let l = c14 in
     let E = l .before .loop .inv in
     let s = l .before .before .before .before .before .before .before .before .before .before in
-    entering-fits E (l .loop-test .taken) (c .before .before .before .before .before .before .before .before .before .class .ensures) (c .before .before .before .before .before .passed .ensures) (c .before .sort-in .ensures)
-    (ap (λ (x : ℕ). getD (s .args .symbols .now) x 0) (c .before .before .before .before .before .before .index .ensures))
+    entering-fits E (l .loop-test .taken) (c9 .class .ensures) (c5 .passed .ensures) (c .before .sort-in .ensures)
+    (ap (λ (x : ℕ). getD (s .args .symbols .now) x 0) (c6 .index .ensures))
 
 loop-less : tie.Need-loop-less Inv-loop μ-loop
 loop-less c =
-    let l = c .before .before .before .before .before .before .before .before .before .before .before .before .before .before .before .before .before .before .before in omega (arith, l .loop-test .taken, c .before .before .before .before .before .before .before .before .before .before .before .before .before .before .before .before .before .before .declaring-before2 .ensures .low)
+    let c18 = c .before .before .before .before .before .before .before .before .before .before .before .before .before .before .before .before .before .before in
+    let c19 = c18 .before in
+    let l = c19 in omega (arith, l .loop-test .taken, c18 .declaring-before2 .ensures .low)
 
 loop-again : tie.Need-loop-again Inv-loop μ-loop
 loop-again c =
-    let e = c .before .before .before .before in
-    let l = c .before .before .before .before .before .before .before .before .before .before .before .before .before .before .before .before .before .before .before in
+    let c3 = c .before .before .before in
+    let c4 = c3 .before in
+    let c6 = c4 .before .before in
+    let c10 = c6 .before .before .before .before in
+    let c11 = c10 .before in
+    let c14 = c11 .before .before .before in
+    let c18 = c14 .before .before .before .before in
+    let c19 = c18 .before in
+    let e = c4 in
+    let l = c19 in
     let s = l .before .before .before .before .before .before .before .before .before .before in
     entering-passes
-    (entering-goes-on (l .before .loop .inv) (l .loop-test .taken) (c .before .before .before .before .before .before .before .before .before .before .before .before .before .before .class .ensures) (c .before .before .before .before .before .before .before .before .before .before .passed .ensures) (c .before .before .before .before .before .before .sort-in .ensures)
-    (ap (λ (x : ℕ). getD (s .args .symbols .now) x 0) (c .before .before .before .before .before .before .before .before .before .before .before .index .ensures)) refl (e .enter-node .ensures .0) (e .enter-node .ensures .1))
-    (c .before .before .before .before .before .before .before .before .before .before .before .before .before .before .before .before .before .before .declaring-before2 .ensures)
+    (entering-goes-on (l .before .loop .inv) (l .loop-test .taken) (c14 .class .ensures) (c10 .passed .ensures) (c6 .sort-in .ensures)
+    (ap (λ (x : ℕ). getD (s .args .symbols .now) x 0) (c11 .index .ensures)) refl (e .enter-node .ensures .0) (e .enter-node .ensures .1))
+    (c18 .declaring-before2 .ensures)
 
 loop-less-2 : tie.Need-loop-less-2 Inv-loop μ-loop
 loop-less-2 c =
-    let l = c .before .before .before .before .before .before in omega (arith, l .loop-test .taken, c .before .before .before .before .before .declaring-before2 .ensures .low)
+    let c5 = c .before .before .before .before .before in
+    let c6 = c5 .before in
+    let l = c6 in omega (arith, l .loop-test .taken, c5 .declaring-before2 .ensures .low)
 
 loop-again-2 : tie.Need-loop-again-2 Inv-loop μ-loop
 loop-again-2 c =
-    let l = c .before .before .before .before .before .before in
-    entering-passes (entering-skip (l .before .loop .inv) (l .loop-test .taken) (c .before .class .ensures) (c .if1 .left)) (c .before .before .before .before .before .declaring-before2 .ensures)
+    let c5 = c .before .before .before .before .before in
+    let c6 = c5 .before in
+    let l = c6 in
+    entering-passes (entering-skip (l .before .loop .inv) (l .loop-test .taken) (c .before .class .ensures) (c .if1 .left)) (c5 .declaring-before2 .ensures)
 
 same-length : tie.Need-same-length Inv-loop μ-loop
 same-length c = filling-long (c .before .loop .inv .keys-filling)

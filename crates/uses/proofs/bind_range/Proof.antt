@@ -68,32 +68,46 @@ store-requires c κs = search needs
 
 loop-less : tie.Need-loop-less Inv-loop μ-loop
 loop-less c =
-    omega (arith, c .before .before .before .before .before .before .before .before .before .before .before .before .before .before .before .loop-test .taken, c .before .before .before .before .before .before .before .before .before .before .before .before .before .before .found-before2 .ensures .low)
+    let c14 = c .before .before .before .before .before .before .before .before .before .before .before .before .before .before in
+    let c15 = c14 .before in
+    omega (arith, c15 .loop-test .taken, c14 .found-before2 .ensures .low)
 
 loop-again : tie.Need-loop-again Inv-loop μ-loop
 loop-again c =
-    let l = c .before .before .before .before .before .before .before .before .before .before .before .before .before .before .before in
+    let c4 = c .before .before .before .before in
+    let c7 = c4 .before .before .before in
+    let c8 = c7 .before in
+    let c9 = c8 .before in
+    let c12 = c9 .before .before .before in
+    let c14 = c12 .before .before in
+    let c15 = c14 .before in
+    let l = c15 in
     let I = l .before .loop .inv in
-    let N = c .before .before .before .before .before .before .before .before .before .before .before .before .before .before .found-before2 .ensures in
-    let a = c .before .before .before .before .before .before .before .before .before .before .before .before .at in (
+    let N = c14 .found-before2 .ensures in
+    let a = c12 .at in (
       range-leaves-out
           (range-stores (I .0) (l .loop-test .taken)
-          (range-use (l .before .loop .i) (a .result) refl refl (c .before .before .before .before .before .before .before .before .before .has-finding .ensures) (l .before .loop .bound) (l .loop-test .taken) (I .0 .upto)
-          (c .before .before .before .before .before .before .before .before .if1 .taken) (a .ensures) (c .before .before .before .before .before .before .before .finding-at .ensures)) (c .before .before .before .before .store .ensures)) N,
+          (range-use (l .before .loop .i) (a .result) refl refl (c9 .has-finding .ensures) (l .before .loop .bound) (l .loop-test .taken) (I .0 .upto)
+          (c8 .if1 .taken) (a .ensures) (c7 .finding-at .ensures)) (c4 .store .ensures)) N,
       omega (arith, I .1, N .low),
       omega (arith, I .2, N .low),
     )
 
 loop-less-2 : tie.Need-loop-less-2 Inv-loop μ-loop
 loop-less-2 c =
-    omega (arith, c .before .before .before .before .before .before .before .loop-test .taken, c .before .before .before .before .before .before .found-before2 .ensures .low)
+    let c6 = c .before .before .before .before .before .before in
+    let c7 = c6 .before in
+    omega (arith, c7 .loop-test .taken, c6 .found-before2 .ensures .low)
 
 loop-again-2 : tie.Need-loop-again-2 Inv-loop μ-loop
 loop-again-2 c =
-    let l = c .before .before .before .before .before .before .before in
+    let c4 = c .before .before .before .before in
+    let c6 = c4 .before .before in
+    let c7 = c6 .before in
+    let l = c7 in
     let I = l .before .loop .inv in
-    let N = c .before .before .before .before .before .before .found-before2 .ensures in
-    let a = c .before .before .before .before .at in (
+    let N = c6 .found-before2 .ensures in
+    let a = c4 .at in (
       range-leaves-out
           (range-passes (I .0) (l .loop-test .taken)
           (range-other (l .before .loop .i) (a .result) refl refl (c .before .has-finding .ensures) (l .before .loop .bound) (c .if1 .left) (a .ensures))) N,
