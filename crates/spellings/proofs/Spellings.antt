@@ -1,20 +1,22 @@
 -- Laws of spellings: the part of the bytes that a token has, its hash, and words that are spelled alike.
 use mathlib.Core.Path.{_≡_, refl, sym, ap, _∙_}
 use mathlib.Core.Bool.{Bool, true, false, cond, _&&_}
-use mathlib.Core.List.{List, map}
+use mathlib.Core.List.{List, _∷_, map}
 use mathlib.Core.Logic.{by-cases}
 use Prim.Native.Nat.{ℕ, suc, _+_, _*_, _-_, _/_, _%_, _≤_, _<_, min}
 use native.Mathlib.Decide.{decLt}
 use native.Mathlib.Omega.{arith}
 use lib.ListN.{length, take, drop, getD, length-map, length-drop, drop-of-length-le, List·getD-map, List·getD-eq-default}
-use lib.Seq.{ext-getD, getD-drop, take-all, take-nil}
+use lib.Seq.{ext-getD, getD-drop, take-all, take-nil, drop-cons}
+use native.Mathlib.Numerals.{add-one}
+use native.Mathlib.Nat.{mod-lt, mul-le-mul-right}
 use Rattle.express.specs.tokens.Bytes.{lower, same}
 use Rattle.express.specs.tokens.Spelling.{spelling}
 use Rattle.relations.proofs.Select.{untrue}
 use Rattle.express.proofs.tokens.Spelling.{same-true, same-refl}
 use lib.Bits.{bitAnd, and-block, and-mask}
 use lib.Dec.{leb}
-use Rattle.spellings.specs.Hash.{block, joined, hash-blocks, hash-of, Four, IsBlock, Joins, Hashes}
+use Rattle.spellings.specs.Hash.{block, joined, hash-blocks, hash-of, stirred, stirred-all, long-hash-of, Four, IsBlock, Joins, Hashes}
 
 abbrev pub folded : List ℕ → List ℕ
 folded xs = map lower xs
@@ -203,3 +205,46 @@ hashing-ends {xs} {h} {i} w l =
 pub clipped-hash : (bytes : List ℕ) (s l : ℕ) {from m to r : ℕ} → from ≡ min s (length bytes) → m ≡ min l (length bytes - from) → to ≡ from + m →
     Hashes (take (to - from) (drop from bytes)) r → Hashes (take l (drop s bytes)) r
 clipped-hash bytes s l {from} {m} {to} e f g H = rw (clip bytes s l from to e (omega (arith, e, f, g))) at H
+
+-- ---- the longer hash
+
+pub stirred-is : (h : ℕ) {b x : ℕ} → x ≡ b → (h % 4294967296 + x) * 2654435761 + h / 4294967296 ≡ stirred h b
+unfolding stirred
+stirred-is h e = ap (λ (y : ℕ). (h % 4294967296 + y) * 2654435761 + h / 4294967296) e
+
+stirred-small : (a x d : ℕ) → a < 4294967296 → x < 256 → d < 4294967296 → (a + x) * 2654435761 + d < 18446744073709551616
+stirred-small a x d la lx ld =
+    let sum : a + x ≤ 4294967550 = omega (arith, la, lx) in
+    let le : (a + x) * 2654435761 ≤ 4294967550 * 2654435761 = mul-le-mul-right 2654435761 sum in
+    omega (arith, le, ld)
+
+pub stirred-fits : (h x : ℕ) → h < 18446744073709551616 → x < 256 → (h % 4294967296 + x) * 2654435761 + h / 4294967296 < 18446744073709551616
+stirred-fits h x lh lx = stirred-small (h % 4294967296) x (h / 4294967296) (mod-lt h (omega arith)) lx (omega (arith, lh))
+
+-- what is left of the word, stirred into the number at hand, gives what the whole word gives
+pub record Stirring (word : List ℕ) (h i : ℕ) : Type 0 where
+  pub left : stirred-all h (drop i (map lower word)) ≡ stirred-all 0 (map lower word)
+
+pub stirring-starts : {word : List ℕ} → Stirring word 0 0
+stirring-starts = record { left = refl }
+
+pub stirring-goes-on : {word : List ℕ} {h i x r : ℕ} → Stirring word h i → i < length word → x ≡ lower (getD word i 0) → r ≡ stirred h x → Stirring word r (i + 1)
+unfolding stirred-all
+stirring-goes-on {word} {h} {i} {x} {r} w l e f =
+    let within : i < length (folded word) = omega (arith, length-folded word) in
+    let split : drop i (folded word) ≡ getD (folded word) i 0 ∷ drop (suc i) (folded word) = drop-cons (folded word) i 0 within in
+    let is : r ≡ stirred h (getD (folded word) i 0) = f ∙ ap (stirred h) (e ∙ sym (folded-at word i)) in
+    record {
+      left =
+          ap (λ (k : ℕ). stirred-all r (drop k (folded word))) (add-one i)
+          ∙ ap (λ (y : ℕ). stirred-all y (drop (suc i) (folded word))) is
+          ∙ ap (stirred-all h) (sym split)
+          ∙ w .left;
+    }
+
+pub stirring-ends : {word : List ℕ} {h i x r : ℕ} → Stirring word h i → length word ≤ i → x ≡ stirred h 0 → r ≡ stirred x 0 → r ≡ long-hash-of (map lower word)
+unfolding stirred-all long-hash-of
+stirring-ends {word} {h} {i} w l e f =
+    let none = drop-of-length-le (folded word) {i = i} (omega (arith, length-folded word)) in
+    let all : h ≡ stirred-all 0 (folded word) = sym (ap (stirred-all h) none) ∙ w .left in
+    f ∙ ap (λ (y : ℕ). stirred y 0) (e ∙ ap (λ (y : ℕ). stirred y 0) all)

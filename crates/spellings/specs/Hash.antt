@@ -1,6 +1,6 @@
--- The hash of a spelling, a number of 32 bits by which it falls into a bucket.
+-- The hash of a spelling, a number of 32 bits by which it falls into a bucket; and a longer one, of 64, for spellings whose hashes are alike.
 use mathlib.Core.Path.{_≡_}
-use mathlib.Core.List.{List, map}
+use mathlib.Core.List.{List, [], _∷_, map}
 use Prim.Native.Nat.{ℕ, zero, suc, _+_, _-_, _*_, _/_, _%_, _<_}
 use lib.ListN.{length, getD}
 use Rattle.express.specs.tokens.Bytes.{lower}
@@ -22,6 +22,18 @@ hash-blocks (suc n) h k xs = hash-blocks n (joined h (block xs k)) (k + 4) xs
 -- a number of 32 bits for a word: all its blocks, and two of them at least
 unfoldable pub hash-of : List ℕ → ℕ
 hash-of xs = hash-blocks (suc (suc ((length xs - 5) / 4))) 0 0 xs
+
+-- a number of 64 bits in which a byte has its say: a step of multiply with carry
+unfoldable pub stirred : ℕ → ℕ → ℕ
+stirred h b = (h % word + b) * first-factor + h / word
+
+unfoldable pub stirred-all : ℕ → List ℕ → ℕ
+stirred-all h [] = h
+stirred-all h (b ∷ xs) = stirred-all (stirred h b) xs
+
+-- a number of 64 bits for a word: all bits of all its bytes; two steps more spread the last ones
+unfoldable pub long-hash-of : List ℕ → ℕ
+long-hash-of xs = stirred (stirred (stirred-all 0 xs) 0) 0
 
 -- ---- what inner functions give
 

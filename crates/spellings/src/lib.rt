@@ -6,7 +6,7 @@ ghost use Prim.Native.Nat.{_+_, _%_, _^_, _≤_, _<_, min};
 ghost use lib.ListN.{length, take, drop};
 ghost use Rattle.express.specs.tokens.Bytes.{lower, same};
 ghost use Rattle.spellings.specs.Blocks.{no-letters, Eight, Agrees, SurelyAlike};
-ghost use Rattle.spellings.specs.Hash.{Four, IsBlock, Joins, Hashes};
+ghost use Rattle.spellings.specs.Hash.{Four, IsBlock, Joins, Hashes, stirred, long-hash-of};
 use columns::shorter;
 
 // What makes a capital letter small.
@@ -137,6 +137,26 @@ pub fn hash(word: &[u8]) -> u64
         i += BLOCK;
     }
     h
+}
+
+// A number of 64 bits in which a byte has its say: a step of multiply with carry.
+pub fn stir(h: u64, b: u8) -> u64
+    ensures { λ r. ⌜ r ≡ stirred h b ⌝ }
+{
+    (h % index::WORD + wide(b)) * index::FIRST_FACTOR + h / index::WORD
+}
+
+// A longer number for a spelling, in which all bits of its bytes have a say: for words whose hashes are alike.
+pub fn long_hash(word: &[u8]) -> u64
+    ensures { λ r. ⌜ r ≡ long-hash-of (map lower (now (word .entry))) ⌝ }
+{
+    let mut h = 0;
+    let mut i = 0;
+    while i < word.len() {
+        h = stir(h, lower_case(word[i]));
+        i += 1;
+    }
+    stir(stir(h, 0), 0)
 }
 
 // Eight bytes from a place on as one number.

@@ -1,1 +1,3 @@
 pub mod Interning
+pub mod Rounds
+pub mod Steps

@@ -9,7 +9,9 @@ ghost use Rattle.express.specs.tokens.Spelling.{spelling};
 ghost use Rattle.index.specs.Bucket.{InRange};
 ghost use Rattle.index.specs.Room.{enough};
 ghost use Rattle.spellings.specs.Hash.{hash-of};
-ghost use Rattle.symbols.specs.Interning.{bytes-at, Along, Lined, Leads, Least, ReadyToEnter, Enters, Fills, ReadyToFill, Interns, FindsSymbol};
+ghost use Rattle.symbols.specs.Rounds.{low-half};
+ghost use Rattle.symbols.specs.Interning.{Interns, FindsSymbol};
+ghost use Rattle.symbols.specs.Steps.{Along, Lined, Leads, place-by, Places, PlacesLater, ReadyToEnter, Enters, Fills, ReadyToFill};
 use columns::clear32;
 use columns::index;
 use columns::number;
@@ -17,6 +19,26 @@ use columns::shorter;
 use index::Outcome;
 use index::dictionary::Found;
 use index::scratch;
+
+// A chain with so many entries is full: whoever falls into its bucket goes on to that of the next round.
+const FULL: usize = 8;
+
+// So many of the later rounds come before the last, whose chain takes all that come to it. At most an eighth of the chains
+// is full where there are as many buckets as names: few names come that far, and to find them takes long.
+const LATER: usize = 6;
+
+// What a walk along a chain met: a token that is spelled like the word, or none, and whether the chain has room.
+enum Met {
+    At(usize),
+    Full,
+    Room,
+}
+
+// Where a word is: the token that is spelled so, or the bucket that it goes into.
+enum Place {
+    Known(usize),
+    Free(usize),
+}
 
 // The bucket of a number of 32 bits.
 fn range(h: u64, buckets: usize) -> usize
@@ -62,7 +84,7 @@ fn spelled(bytes: &[u8], starts: &[u32], lengths: &[u32], k: usize, word: &[u8])
     spellings::alike(&bytes[from..to], word)
 }
 
-// The token on a chain that is spelled like a word; links that do not fall, or lead past the limit, end the chain.
+// The token on a chain that is spelled like a word, or whether the chain has room; links that do not fall, or lead past the limit, end the chain.
 fn along(
     bytes: &[u8],
     starts: &[u32],
@@ -71,31 +93,126 @@ fn along(
     word: &[u8],
     limit: usize,
     first: usize,
-) -> Found
+) -> Met
     requires { ⌜ Lined (now bytes) (now starts) (now lengths) (now next) limit ⌝ }
-    ensures { λ r. ⌜ Along (now (bytes .entry)) (now (starts .entry)) (now (lengths .entry)) (now (next .entry)) (now (word .entry)) limit first r ⌝ }
+    ensures { λ r. ⌜ Along (now (bytes .entry)) (now (starts .entry)) (now (lengths .entry)) (now (next .entry)) (map lower (now (word .entry))) limit first r ⌝ }
 {
     let mut below = limit;
     let mut link = first;
+    let mut passed = 0;
     while 0 < link {
         let k = link - 1;
         if below <= k {
-            return Found::Nothing;
+            return Met::Room;
         }
         if spelled(bytes, starts, lengths, k, word) {
-            return Found::At(k);
+            return Met::At(k);
         }
         below = k;
         link = index(next[k]);
+        passed += 1;
     }
-    Found::Nothing
+    if passed < FULL {
+        return Met::Room;
+    }
+    Met::Full
+}
+
+// The same on the chain of a bucket.
+fn in_bucket(
+    bytes: &[u8],
+    starts: &[u32],
+    lengths: &[u32],
+    heads: &[u32],
+    next: &[u32],
+    word: &[u8],
+    limit: usize,
+    b: usize,
+) -> Met
+    requires { ⌜ Lined (now bytes) (now starts) (now lengths) (now next) limit × (b < length (now heads)) ⌝ }
+    ensures { λ r. ⌜ Along (now (bytes .entry)) (now (starts .entry)) (now (lengths .entry)) (now (next .entry)) (map lower (now (word .entry))) limit
+        (getD (now (heads .entry)) b 0) r ⌝ }
+{
+    along(bytes, starts, lengths, next, word, limit, index(heads[b]))
+}
+
+// Where a word is that fell into a bucket: it goes there, where it was not met.
+fn placed(met: Met, b: usize) -> Place
+    ensures { λ r. ⌜ r ≡ place-by met b ⌝ }
+{
+    match met {
+        Met::At(k) => Place::Known(k),
+        Met::Full | Met::Room => Place::Free(b),
+    }
+}
+
+// The bucket of a word in a later round, by its number there.
+fn later_bucket(h: u64, buckets: usize) -> usize
+    requires { ⌜ 0 < buckets ⌝ }
+    ensures { λ r. ⌜ InRange buckets (low-half h) r ⌝ }
+{
+    range(h % index::WORD, buckets)
+}
+
+// Where a word is, by the later rounds: its chain in the first one was full, and it was not on it.
+fn later_place(
+    bytes: &[u8],
+    starts: &[u32],
+    lengths: &[u32],
+    heads: &[u32],
+    next: &[u32],
+    word: &[u8],
+    limit: usize,
+) -> Place
+    requires { ⌜ Lined (now bytes) (now starts) (now lengths) (now next) limit × (0 < length (now heads)) ⌝ }
+    ensures { λ r. ⌜ PlacesLater (now (bytes .entry)) (now (starts .entry)) (now (lengths .entry)) (now (heads .entry)) (now (next .entry))
+        (map lower (now (word .entry))) limit r ⌝ }
+{
+    let mut h = spellings::long_hash(word);
+    let mut left = LATER;
+    while 0 < left {
+        let b = later_bucket(h, heads.len());
+        let met = in_bucket(bytes, starts, lengths, heads, next, word, limit, b);
+        let Met::Full = met else {
+            return placed(met, b);
+        };
+        h = spellings::stir(h, 0);
+        left -= 1;
+    }
+    let b = later_bucket(h, heads.len());
+    placed(
+        in_bucket(bytes, starts, lengths, heads, next, word, limit, b),
+        b,
+    )
+}
+
+// Where a word is that falls into a bucket in the first round.
+fn word_place(
+    bytes: &[u8],
+    starts: &[u32],
+    lengths: &[u32],
+    heads: &[u32],
+    next: &[u32],
+    word: &[u8],
+    limit: usize,
+    b: usize,
+) -> Place
+    requires { ⌜ Lined (now bytes) (now starts) (now lengths) (now next) limit × InRange (length (now heads)) (hash-of (map lower (now word))) b ⌝ }
+    ensures { λ r. ⌜ Places (now (bytes .entry)) (now (starts .entry)) (now (lengths .entry)) (now (heads .entry)) (now (next .entry))
+        (map lower (now (word .entry))) limit r ⌝ }
+{
+    let met = in_bucket(bytes, starts, lengths, heads, next, word, limit, b);
+    let Met::Full = met else {
+        return placed(met, b);
+    };
+    later_place(bytes, starts, lengths, heads, next, word, limit)
 }
 
 // Does a link lead to a token before token i that is surely spelled like it? So does the head of a chain for most names.
 fn leads(bytes: &[u8], starts: &[u32], lengths: &[u32], i: usize, first: usize) -> bool
     requires { ⌜ (i < length (now starts)) × (i < length (now lengths)) ⌝ }
     ensures { λ r. ⌜ (r ≡ true → Leads (now (bytes .entry)) (now (starts .entry)) (now (lengths .entry))
-        (bytes-at (now (bytes .entry)) (now (starts .entry)) (now (lengths .entry)) i) i first) ⌝ }
+        (spelling (now (bytes .entry)) (now (starts .entry)) (now (lengths .entry)) i) i first) ⌝ }
 {
     if first == 0 {
         return false;
@@ -111,25 +228,30 @@ fn leads(bytes: &[u8], starts: &[u32], lengths: &[u32], i: usize, first: usize) 
     spellings::surely_alike(bytes, index(starts[k]), index(starts[i]), n)
 }
 
-// The least identifier that is spelled like identifier i, among those on its bucket's chain; i, where there is none.
-fn least(bytes: &[u8], starts: &[u32], lengths: &[u32], next: &[u32], head: u32, i: usize) -> usize
-    requires { ⌜ Lined (now bytes) (now starts) (now lengths) (now next) (i + 1) ⌝ }
-    ensures { λ r. ⌜ Least (now (bytes .entry)) (now (starts .entry)) (now (lengths .entry)) (now (next .entry)) head i r ⌝ }
+// Where identifier i is: the least that is spelled like it, or the bucket that it goes into.
+fn token_place(
+    bytes: &[u8],
+    starts: &[u32],
+    lengths: &[u32],
+    heads: &[u32],
+    next: &[u32],
+    i: usize,
+) -> Place
+    requires { ⌜ Lined (now bytes) (now starts) (now lengths) (now next) (i + 1) × (0 < length (now heads)) ⌝ }
+    ensures { λ r. ⌜ Places (now (bytes .entry)) (now (starts .entry)) (now (lengths .entry)) (now (heads .entry)) (now (next .entry))
+        (spelling (now (bytes .entry)) (now (starts .entry)) (now (lengths .entry)) i) i r ⌝ }
 {
-    let first = index(head);
+    let b = token_bucket(bytes, starts, lengths, i, heads.len());
+    let first = index(heads[b]);
     if leads(bytes, starts, lengths, i, first) {
-        return first - 1;
+        return Place::Known(first - 1);
     }
     let from = begin(bytes, starts, i);
     let to = end(bytes, starts, lengths, i);
-    let found = along(bytes, starts, lengths, next, &bytes[from..to], i, first);
-    let Found::At(k) = found else {
-        return i;
-    };
-    k
+    word_place(bytes, starts, lengths, heads, next, &bytes[from..to], i, b)
 }
 
-// Stores the symbol of an identifier. Only the first of a spelling goes on a chain, so that a chain is as long as the
+// Stores the symbol of an identifier. Only the first of a spelling goes on a chain, so that a chain is no longer than the
 // spellings of its bucket.
 fn enter(
     bytes: &[u8],
@@ -144,13 +266,17 @@ fn enter(
     ensures { λ _. ⌜ Enters (now (bytes .entry)) (now (starts .entry)) (now (lengths .entry)) i (now (symbols .entry)) (now (heads .entry)) (now (next .entry))
         (now (symbols .exit)) (now (heads .exit)) (now (next .exit)) ⌝ }
 {
-    let b = token_bucket(bytes, starts, lengths, i, heads.len());
-    let head = heads[b];
-    let symbol = least(bytes, starts, lengths, next, head, i);
-    symbols[i] = number(symbol);
-    next[i] = head;
-    if symbol == i {
-        heads[b] = number(i + 1);
+    let place = token_place(bytes, starts, lengths, heads, next, i);
+    match place {
+        Place::Known(k) => {
+            symbols[i] = number(k);
+        }
+        Place::Free(b) => {
+            let head = heads[b];
+            symbols[i] = number(i);
+            next[i] = head;
+            heads[b] = number(i + 1);
+        }
     }
 }
 
@@ -245,5 +371,9 @@ pub fn symbol_of(
     }
     let b = range(spellings::hash(word), heads.len());
     let limit = shorter(starts.len(), shorter(lengths.len(), next.len()));
-    along(bytes, starts, lengths, next, word, limit, index(heads[b]))
+    let place = word_place(bytes, starts, lengths, heads, next, word, limit, b);
+    match place {
+        Place::Known(k) => Found::At(k),
+        Place::Free(_) => Found::Nothing,
+    }
 }

@@ -183,7 +183,13 @@ const HIERARCHIES: [Family; 9] = [
     }),
 ];
 
-const SPELLINGS: [Family; 8] = [
+/// Items, and then as many uses of the item `i` as a size allows.
+fn used_often(size: usize, items: &str) -> Vec<u8> {
+    let head = ["SCHEMA s;TYPE t=ENUMERATION OF(", items, ");END_TYPE;TYPE u=REAL;WHERE i"].concat();
+    filled(size, [&head, ";END_TYPE;END_SCHEMA;"], |_| "+i".into())
+}
+
+const SPELLINGS: [Family; 10] = [
     family("items, all different", |size| filled(size, ITEMS, |n| ",".to_string() + &name(n))),
     family("items, all equal", |size| filled(size, ITEMS, |_| ",i".into())),
     family("declarations, all equal but the last", |size| {
@@ -201,6 +207,10 @@ const SPELLINGS: [Family; 8] = [
         let names = collisions::one_bucket_within(size - ITEMS.concat().len());
         [ITEMS[0], names, ITEMS[1]].concat().into_bytes()
     }),
+    family("one name behind many of its bucket", |size| {
+        used_often(size, &["i", collisions::one_bucket_within(size / 2)].concat())
+    }),
+    family("one name behind full chains", |size| used_often(size, &[&collisions::full_chains()[1..], ",i"].concat())),
     family("labels of one type", |size| {
         let around = ["SCHEMA s;TYPE t=REAL;WHERE ", "END_TYPE;END_SCHEMA;"];
         filled(size, around, |n| format!("{}:?;", name(n)))

@@ -13,6 +13,9 @@ const DICTIONARIES: u64 = 5_000;
 const BEFORE: u32 = 0xdead_beef;
 /// The terminal of an identifier.
 const IDENTIFIER: u8 = 1;
+/// How many entries fill a chain, and how many chains a name may be on.
+const FULL: usize = 8;
+const ROUNDS: usize = 8;
 
 /// For each identifier the least one that is spelled alike, and for any other token its own number; tokens past the
 /// terminals are no identifiers.
@@ -53,7 +56,8 @@ fn hold_with(bytes: &[u8], rows: &[TokenRow], terminals: &[u8], buckets: usize) 
     assert_eq!((symbols.pop(), next.pop()), (Some(BEFORE), Some(BEFORE)));
     assert_eq!(symbols, least(&words, terminals), "{buckets} buckets: {}", bytes.escape_ascii());
     let is_identifier = |token: usize| terminals.get(token) == Some(&IDENTIFIER);
-    assert!((0..rows.len()).all(|token| is_identifier(token) != (next[token] == BEFORE)));
+    let is_first = |token: usize| is_identifier(token) && symbols[token] == token as u32;
+    assert!((0..rows.len()).all(|token| is_first(token) != (next[token] == BEFORE)));
     let mut known = HashMap::new();
     for token in (0..rows.len()).filter(|&token| is_identifier(token)) {
         known.entry(&words[token]).or_insert(token);
@@ -122,23 +126,46 @@ fn words_that_collide_are_told_apart() {
     }
 }
 
-/// The hostile files whose names are to fall together: all but a few do, so that they are as bad as they can be.
+/// The buckets whose chains have an entry where these tokens are interned by themselves.
+fn buckets_of(file: &[u8], rows: &[TokenRow]) -> Vec<usize> {
+    let starts: Vec<u32> = rows.iter().map(|row| row.start).collect();
+    let lengths: Vec<u32> = rows.iter().map(|row| row.length).collect();
+    let terminals = vec![IDENTIFIER; rows.len()];
+    let (mut symbols, mut heads, mut next) = (vec![0; rows.len()], vec![0; 8_192], vec![0; rows.len()]);
+    assert!(intern(file, &starts, &lengths, &terminals, &mut symbols, &mut heads, &mut next));
+    (0..heads.len()).filter(|&bucket| heads[bucket] != 0).collect()
+}
+
+/// The identifiers of a hostile file.
+fn identifiers_of(family: &str) -> (Vec<u8>, Vec<TokenRow>) {
+    let found = families().into_iter().find(|Family { name, .. }| *name == family);
+    let file = (found.expect("a family").file)(random::LARGEST);
+    let rows = tokens::read(&file).expect("tokens");
+    let codes = codes(&file, rows.len());
+    let identifiers = rows.into_iter().zip(codes).filter(|&(_, code)| code == IDENTIFIER).map(|(row, _)| row).collect();
+    (file, identifiers)
+}
+
+/// The hostile files whose names are to fall together: as many of them as a chain holds use one bucket, the same for all.
 #[test]
 fn hostile_names_fall_together() {
-    let together = families()
-        .into_iter()
-        .filter(|family| family.name.contains("of one hash") || family.name.contains("of one bucket"));
-    for Family { name, file } in together {
-        let file = file(random::LARGEST);
-        let rows = tokens::read(&file).expect("tokens");
-        let starts: Vec<u32> = rows.iter().map(|row| row.start).collect();
-        let lengths: Vec<u32> = rows.iter().map(|row| row.length).collect();
-        let codes = codes(&file, rows.len());
-        let (mut symbols, mut heads, mut next) = (vec![0; rows.len()], vec![0; 8_192], vec![0; rows.len()]);
-        assert!(intern(&file, &starts, &lengths, &codes, &mut symbols, &mut heads, &mut next));
-        let used = heads.iter().filter(|&&head| head != 0).count();
-        assert!(used <= 4, "{name}: {used} buckets");
+    let families = ["long names of one hash", "short names of one bucket", "one name behind many of its bucket"];
+    for (family, names) in families.into_iter().zip([4_000, 7_000, 3_500]) {
+        let (file, identifiers) = identifiers_of(family);
+        // The first three are the schema, its type and an item `i`.
+        let buckets: Vec<_> = identifiers[3..][..names].chunks(FULL).map(|rows| buckets_of(&file, rows)).collect();
+        assert!(buckets[0].len() == 1 && buckets.iter().all(|bucket| *bucket == buckets[0]), "{family}");
     }
+    let (file, identifiers) = identifiers_of("one name behind many of its bucket");
+    assert_eq!(buckets_of(&file, &identifiers[2..4]).len(), 1);
+}
+
+/// All chains of one name are full before it comes: with one entry more than that, they are no more than it has rounds.
+#[test]
+fn hostile_chains_are_full() {
+    let (file, identifiers) = identifiers_of("one name behind full chains");
+    assert_eq!(tokens::text(&file, &identifiers[2 + ROUNDS * FULL]), b"i");
+    assert_eq!(buckets_of(&file, &identifiers[2..][..=ROUNDS * FULL]).len(), ROUNDS);
 }
 
 /// Bytes that differ in bit 5 alone, as the two cases of a letter do, and are no letters: they are spelled apart.

@@ -2,21 +2,14 @@
 use borrow.Author.Needs.{needs}
 use Rattle.symbols.proofs.enter.Statement.{statement}
 use Rattle.symbols.proofs.enter.Tie as tie
-use Rattle.symbols.proofs.Interning.{enters-first, enters-again}
+use Rattle.symbols.proofs.Interning.{known-low, free-low, enters-known, enters-free}
 use native.Mathlib.Omega.{arith}
 
-token-bucket-requires : tie.Need-token-bucket-requires
-token-bucket-requires c κs =
-    let p = c .before .before .before .before .before .before .pre in (omega (arith, p .lined .started), omega (arith, p .lined .sized), p .some)
+token-place-requires : tie.Need-token-place-requires
+token-place-requires c κs = (c .before .before .before .before .before .before .before .before .pre .lined, c .before .before .before .before .before .before .before .before .pre .some)
 
-mul-head : tie.Need-mul-head
-mul-head c = search needs
-
-slice-read-head : tie.Need-slice-read-head
-slice-read-head c = omega (arith, c .before .token-bucket .ensures .small)
-
-least-requires : tie.Need-least-requires
-least-requires c κs = c .before .before .before .before .before .before .before .before .before .pre .lined
+enum-known-place : tie.Need-enum-known-place
+enum-known-place c = search needs
 
 number-requires : tie.Need-number-requires
 number-requires c κs = search needs
@@ -25,25 +18,43 @@ mul-symbols : tie.Need-mul-symbols
 mul-symbols c = search needs
 
 slice-write-symbols : tie.Need-slice-write-symbols
-slice-write-symbols c = c .before .before .before .before .before .before .before .before .before .before .before .pre .stored
+slice-write-symbols c = c .before .before .before .before .before .before .before .before .before .before .before .before .before .pre .stored
+
+enum-known-place-2 : tie.Need-enum-known-place-2
+enum-known-place-2 c = search needs
+
+mul-head : tie.Need-mul-head
+mul-head c = let y = free-low _ _ _ (c .before .before .before .token-place .ensures) (c .before .place2 .given .1) in search needs
+
+slice-read-head : tie.Need-slice-read-head
+slice-read-head c = free-low _ _ _ (c .before .before .before .before .token-place .ensures) (c .before .before .place2 .given .1)
+
+number-requires-2 : tie.Need-number-requires-2
+number-requires-2 c κs = search needs
+
+mul-symbols-2 : tie.Need-mul-symbols-2
+mul-symbols-2 c = search needs
+
+slice-write-symbols-2 : tie.Need-slice-write-symbols-2
+slice-write-symbols-2 c = c .before .before .before .before .before .before .before .before .before .before .before .before .before .before .pre .stored
 
 mul-next : tie.Need-mul-next
 mul-next c = search needs
 
 slice-write-next : tie.Need-slice-write-next
-slice-write-next c = omega (arith, c .before .before .before .before .before .before .before .before .before .before .before .pre .lined .linked)
+slice-write-next c = omega (arith, c .before .before .before .before .before .before .before .before .before .before .before .before .before .before .pre .lined .linked)
 
 add-number : tie.Need-add-number
-add-number c = omega (arith, c .before .before .before .before .before .before .before .before .before .before .before .before .pre .small)
+add-number c = omega (arith, c .before .before .before .before .before .before .before .before .before .before .before .before .before .before .pre .small)
 
-number-requires-2 : tie.Need-number-requires-2
-number-requires-2 c κs = search needs
+number-requires-3 : tie.Need-number-requires-3
+number-requires-3 c κs = search needs
 
 mul-heads : tie.Need-mul-heads
-mul-heads c = search needs
+mul-heads c = let y = free-low _ _ _ (c .before .before .before .before .before .before .token-place .ensures) (c .before .before .before .before .place2 .given .1) in search needs
 
 slice-write-heads : tie.Need-slice-write-heads
-slice-write-heads c = omega (arith, c .before .before .before .before .before .before .token-bucket .ensures .small)
+slice-write-heads c = free-low _ _ _ (c .before .before .before .before .before .before .token-place .ensures) (c .before .before .before .before .place2 .given .1)
 
 same-length : tie.Need-same-length
 same-length c = search needs
@@ -57,9 +68,9 @@ same-length-3 c = search needs
 returns : tie.Need-returns
 returns c =
     let small = c .before .before .before .before .before .before .before .before .before .before .before .before .before .pre .small in
-    let found = c .before .before .before .least .ensures in
-    enters-first (c .before .before .before .before .before .before .token-bucket .ensures) found (c .before .before .number .ensures (omega (arith, found .low, small)))
-    (c .before .if1 .taken) (c .number2 .ensures small)
+    let found = c .before .before .before .before .token-place .ensures in
+    let known = c .before .before .place .given .1 in
+    enters-known found known (c .number .ensures (omega (arith, small, known-low _ _ _ found known)))
 
 same-length-4 : tie.Need-same-length-4
 same-length-4 c = search needs
@@ -67,28 +78,34 @@ same-length-4 c = search needs
 same-length-5 : tie.Need-same-length-5
 same-length-5 c = search needs
 
+same-length-6 : tie.Need-same-length-6
+same-length-6 c = search needs
+
 returns-2 : tie.Need-returns-2
 returns-2 c =
-    let small = c .before .before .before .before .before .before .before .before .before .before .before .before .pre .small in
-    let found = c .before .before .least .ensures in
-    enters-again (c .before .before .before .before .before .token-bucket .ensures) found (c .before .number .ensures (omega (arith, found .low, small)))
-    (c .if1 .left)
+    let small = c .before .before .before .before .before .before .before .before .before .before .before .before .before .before .before .pre .small in
+    let found = c .before .before .before .before .before .before .token-place .ensures in
+    enters-free found (c .before .before .before .before .place2 .given .1) (c .before .number2 .ensures (omega (arith, small))) (c .number3 .ensures small)
 
 pub enter-spec : {M : Type 1} → statement M
 enter-spec =
     tie.close
     (tie.spec
-    token-bucket-requires
-    mul-head
-    slice-read-head
-    least-requires
+    token-place-requires
+    enum-known-place
     number-requires
     mul-symbols
     slice-write-symbols
+    enum-known-place-2
+    mul-head
+    slice-read-head
+    number-requires-2
+    mul-symbols-2
+    slice-write-symbols-2
     mul-next
     slice-write-next
     add-number
-    number-requires-2
+    number-requires-3
     mul-heads
     slice-write-heads
     same-length
@@ -97,4 +114,5 @@ enter-spec =
     returns
     same-length-4
     same-length-5
+    same-length-6
     returns-2)
