@@ -20,8 +20,9 @@ use Rattle.stages.proofs.Bounds.{tokens-few}
 use Rattle.stages.proofs.Straight.{straight, token-done, node-done, constant-done, name-done, kind-done, nodes-few, constants-few}
 use Rattle.demands.specs.Checks.{Checks}
 use Rattle.demands.proofs.Theorem.{checks, tables-alike}
-use Rattle.conclusions.specs.declared.Report.{Report}
-use Rattle.conclusions.specs.Conclusion.{report-of, Concludes}
+use Rattle.reports.specs.declared.Report.{Report}
+use Rattle.reports.specs.Reporting.{report-of}
+use Rattle.conclusions.specs.Conclusion.{Concludes}
 use Rattle.running.specs.Run.{token-rows, node-rows, answer-rows, Ran}
 
 -- ---- counts

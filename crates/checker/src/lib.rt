@@ -1,8 +1,8 @@
 // The public call: all stages of a file run, then each column is cleared behind what stands in it, and the report is made.
 ghost use Rattle.demands.specs.Checks.{Checks, tables-of};
-ghost use Rattle.conclusions.specs.Conclusion.{report-of};
-use conclusions::Report;
+ghost use Rattle.reports.specs.Reporting.{report-of};
 use conclusions::conclude;
+use reports::Report;
 use running::run;
 
 pub fn check(

@@ -15,7 +15,7 @@ use Rattle.express.specs.kinds.Answer.{Answer}
 use Rattle.express.specs.kinds.AnswerRow as answer-row
 use Rattle.express.specs.kinds.Evaluate.{answer-at}
 use Rattle.express.specs.kinds.Kind.{constants}
-use Rattle.evaluate.specs.Answers.{answers-in}
+use Rattle.node_answers.specs.Answers.{answers-in}
 use Rattle.evaluate.specs.Evaluation.{known-in}
 use Rattle.constants.specs.Constants.{file-answers, WrittenRows}
 use Rattle.schemas.specs.Rows.{row, answer-of-constant, OfFile, Rows, Holds}

@@ -16,9 +16,9 @@ use Rattle.relations.proofs.Select.{le-or, First, first-is, mem-keep, mem-upto}
 use Rattle.express.specs.syntax.NodeKind as node
 use Rattle.express.specs.syntax.Tree.{Table, count, kind, is-declaration, nodes}
 use Rattle.express.specs.names.Fault.{constant-edges}
-use Rattle.schemas.specs.Parts.{schema-in, grouped}
+use Rattle.constant_rows.specs.Parts.{schema-in, grouped}
 use Rattle.schemas.specs.Rows.{OfFile, Part}
-use Rattle.schemas.proofs.Grouping.{schema-from, schema-upto, falls-not}
+use Rattle.constant_rows.proofs.Grouping.{schema-from, schema-upto, falls-not}
 use Rattle.constants.proofs.Written.{map-there}
 
 -- ---- places in a list

@@ -24,9 +24,9 @@ use Rattle.express.proofs.names.Owned.{in-schema}
 use Rattle.express.proofs.kinds.Backward.{schema-step, schema-end, schema-rises}
 use Rattle.constants.specs.Constants.{FillsSchemas}
 use Rattle.schemas.specs.Rows.{row, answer-of-constant, OfFile, Rows, Room, Holds, Schema, Filled, FilledRows, FillsSchema}
-use Rattle.schemas.specs.Parts.{grouped}
+use Rattle.constant_rows.specs.Parts.{grouped}
 use Rattle.constants.proofs.Parted.{Started, started, started-next, parted}
-use Rattle.schemas.proofs.Numbering.{row-none, row-rises, row-before, row-other}
+use Rattle.constant_rows.proofs.Numbering.{row-none, row-rises, row-before, row-other}
 
 -- ---- one column, of which the part from row h on was lent
 module _ {A : Type 0} {z : A} {f : Answer → A} {t : Table} {lo n at h : ℕ} {was column part′ : List A} (post : List A) where

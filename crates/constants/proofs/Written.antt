@@ -16,8 +16,9 @@ use Rattle.express.specs.syntax.Tree.{Table, count, kind, is}
 use Rattle.express.specs.kinds.Answer.{Answer}
 use Rattle.express.specs.kinds.Kind.{constants}
 use Rattle.constants.specs.Constants.{file-answers, FillsSchemas, EvaluatesConstants}
-use Rattle.schemas.specs.Rows.{row, NumbersRows, answer-of-constant, OfFile, Rows, Filled}
-use Rattle.schemas.proofs.Numbering.{next-one, next-none, none-yet}
+use Rattle.constant_rows.specs.Numbering.{NumbersRows}
+use Rattle.schemas.specs.Rows.{row, answer-of-constant, OfFile, Rows, Filled}
+use Rattle.constant_rows.proofs.Numbering.{next-one, next-none, none-yet}
 
 -- the element that stands at a place of what is kept
 record At (p : ℕ → Bool) (n i : ℕ) : Type 0 where

@@ -11,7 +11,8 @@ use Rattle.express.specs.kinds.AnswerRow.{row-of}
 use Rattle.express.specs.kinds.Kind.{constants}
 use Rattle.schemas.specs.Rows.{FilledRows}
 -- what the promise is made of, for those who cite it
-pub use Rattle.schemas.specs.Rows.{row-in, row, answer-of-constant, OfFile, Rows, Room, Holds}
+pub use Rattle.constant_rows.specs.Numbering.{row-in}
+pub use Rattle.schemas.specs.Rows.{row, answer-of-constant, OfFile, Rows, Room, Holds}
 
 -- the answers of a file's constants in the order of the text
 abbrev pub file-answers : Table → List Answer

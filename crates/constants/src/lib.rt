@@ -1,10 +1,10 @@
 // The evaluation of the constants of a file into its answer columns, one schema after the other.
 ghost use Rattle.constants.specs.Constants.{FillsSchemas, EvaluatesConstants};
+use constant_rows::number_rows;
+use constant_rows::parts::has_parts;
+use constant_rows::parts::next_part;
+use constant_rows::parts::part_end;
 use schemas::evaluate_schema;
-use schemas::number_rows;
-use schemas::parts::has_parts;
-use schemas::parts::next_part;
-use schemas::parts::part_end;
 use tree::index_at;
 use tree::next_of_kind;
 

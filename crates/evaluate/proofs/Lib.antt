@@ -1,6 +1,3 @@
-pub mod Rows
-pub mod Nodes
-pub mod Literals
 pub mod Assembled
 pub mod Walking
 pub mod Value

@@ -11,9 +11,10 @@ use Rattle.express.specs.kinds.Answer.{Answer}
 use Rattle.express.specs.kinds.Evaluate.{answer-at, run-in, value-in}
 use Rattle.express.proofs.syntax.Formed.{Formed}
 use Rattle.express.proofs.kinds.Scratch.{Root, value-run}
-use Rattle.evaluate.specs.Answers.{answers-in}
-use Rattle.evaluate.specs.Evaluation.{known-in, Against, EvaluatesNodes}
-use Rattle.evaluate.proofs.Rows.{rows-within}
+use Rattle.node_answers.specs.Answers.{answers-in}
+use Rattle.node_answers.specs.NodeAnswer.{Against}
+use Rattle.evaluate.specs.Evaluation.{known-in, EvaluatesNodes}
+use Rattle.node_answers.proofs.Rows.{rows-within}
 
 module _ {t e : Table} {bytes starts lengths terminals kinds tokens sizes bindings file-kinds declared : List ℕ}
     (A : Against t e bytes starts lengths terminals kinds tokens sizes bindings file-kinds declared) (f : Formed e) {row-of : List ℕ} {at : ℕ} {aks : List ℕ} {azs : List ℤ}

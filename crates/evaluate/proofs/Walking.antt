@@ -10,8 +10,9 @@ use Rattle.express.specs.syntax.Tree.{Table}
 use Rattle.express.specs.kinds.Answer.{Answer}
 use Rattle.express.specs.kinds.Shape.{shape-in}
 use Rattle.express.specs.kinds.Evaluate.{answer-in, answer-at, run-in}
-use Rattle.evaluate.specs.Answers.{answers-in}
-use Rattle.evaluate.specs.Evaluation.{known-in, Against, EvaluatesNode, EvaluatesNodes}
+use Rattle.node_answers.specs.Answers.{answers-in}
+use Rattle.node_answers.specs.NodeAnswer.{Against}
+use Rattle.evaluate.specs.Evaluation.{known-in, EvaluatesNode, EvaluatesNodes}
 
 module _ (t e : Table) (c : List ℕ) (g : ℕ → Answer) (hi n : ℕ) (xs : List Answer) where
   here : n < hi → run-in t e c g (span n (hi - n)) xs ≡ run-in t e c g (span (n + 1) (hi - (n + 1))) (set xs n (answer-in e (answer-at xs) g n (shape-in t e c n)))

@@ -1,3 +1,1 @@
-pub mod Operators
-pub mod Answers
 pub mod Evaluation

@@ -11,7 +11,7 @@ use Rattle.express.specs.syntax.Tree.{Table}
 use Rattle.scopes.specs.Entries.{vertex}
 use Rattle.scopes.specs.Range.{vertex-count}
 use Rattle.scopes.specs.Standing.{declares}
-use Rattle.schemas.proofs.Numbering.{next-one, next-none, none-yet}
+use Rattle.constant_rows.proofs.Numbering.{next-one, next-none, none-yet}
 use Rattle.stages.specs.declared.Stage.{Stage}
 use Rattle.answer_stages.specs.AnswerStage.{AnswersFile}
 use Rattle.pipeline.specs.Binding.{Declarations, AnswersNamed}

@@ -55,10 +55,10 @@ use Rattle.records.proofs.fill as fil
 use Rattle.records.proofs.fill.Symbol.{name as #fill}
 use Rattle.loans.proofs.Loans.{repeat-typed, Lies, some-array, lends, comes-back, Shared, shares-out, shared-back, empties}
 use Rattle.loans.proofs.Passing.{all-told, all-fit, all-go}
-use Rattle.conclusions.specs.declared.Report.{Report}
-use Rattle.conclusions.specs.Conclusion.{report-of}
-use Rattle.conclusions.proofs.Report as TRm
-use Rattle.conclusions.proofs.Report.Laws as TR′
+use Rattle.reports.specs.declared.Report.{Report}
+use Rattle.reports.specs.Reporting.{report-of}
+use Rattle.reports.proofs.Report as TRm
+use Rattle.reports.proofs.Report.Laws as TR′
 use Rattle.record_demands.specs.Records.{record-tables, ChecksRows, RecordsWithin}
 use Rattle.record_demands.proofs.Theorem.{rows-within}
 use Rattle.record_checker.proofs.check_rows as rws

@@ -1,17 +1,17 @@
 // The public call beside `check`: the answers go into a lent slice of records (R11).
 ghost use Rattle.demands.specs.Checks.{Checks, tables-of};
-ghost use Rattle.conclusions.specs.Conclusion.{report-of};
+ghost use Rattle.reports.specs.Reporting.{report-of};
 ghost use Rattle.express.specs.tokens.Lexis.{most};
 ghost use Rattle.reading.specs.FileReading.{small-bytes, middle-bytes};
 ghost use Rattle.record_demands.specs.Records.{record-tables, ChecksRows, RecordsWithin};
 use checker::check;
 use columns::shorter;
-use conclusions::Report;
 use reading::LARGE;
 use reading::MIDDLE;
 use reading::SMALL;
 use records::Answer;
 use records::fill;
+use reports::Report;
 
 // A file has a constant for each six tokens at most.
 const SMALL_ROWS: usize = SMALL / 6;

@@ -1,5 +1,3 @@
 pub mod Settled
-pub mod Numbering
 pub mod OneConstant
 pub mod Passing
-pub mod Grouping

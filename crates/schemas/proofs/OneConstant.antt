@@ -26,11 +26,12 @@ use Rattle.express.proofs.syntax.FormedRows.{formed-rows}
 use Rattle.operations.specs.Meaning.{answer-of}
 use Rattle.answer_rows.specs.Stored.{stored}
 use Rattle.operations.specs.declared.Answer as code
-use Rattle.evaluate.specs.Answers.{answers-in, Stores}
-use Rattle.evaluate.specs.Evaluation.{known-in, Against, HeldIn, EvaluatesNodes}
-use Rattle.evaluate.proofs.Literals.{spelled}
-use Rattle.evaluate.proofs.Nodes.{at-constant}
-use Rattle.evaluate.proofs.Rows.{same, made, rows-within}
+use Rattle.node_answers.specs.Answers.{answers-in, Stores}
+use Rattle.node_answers.specs.NodeAnswer.{Against, HeldIn}
+use Rattle.evaluate.specs.Evaluation.{known-in, EvaluatesNodes}
+use Rattle.node_answers.proofs.Literals.{spelled}
+use Rattle.node_answers.proofs.Nodes.{at-constant}
+use Rattle.node_answers.proofs.Rows.{same, made, rows-within}
 use Rattle.schemas.specs.Rows.{OfFile, Room, EvaluatesConstant}
 
 pub against :

@@ -23,12 +23,12 @@ use Rattle.express.specs.kinds.AnswerRow as answer-row
 use Rattle.express.specs.kinds.Evaluate.{answer-at, value}
 use Rattle.express.proofs.names.Edges.{constant-edge-schema, constant-edge-iff}
 use Rattle.answer_rows.proofs.Stored.{Storable, row-back}
-use Rattle.evaluate.specs.Answers.{answers-in}
+use Rattle.node_answers.specs.Answers.{answers-in}
 use Rattle.evaluate.specs.Evaluation.{known-in}
-use Rattle.evaluate.proofs.Rows.{row-there}
+use Rattle.node_answers.proofs.Rows.{row-there}
 use Rattle.schemas.specs.Rows.{row, due, answer-of-constant, OfFile, Rows, Room, Holds, EvaluatesConstant, Schema, Part, Filled, FillsSchema}
 use Rattle.schemas.proofs.Settled.{value-alike, uses-edge, settled, answer-storable}
-use Rattle.schemas.proofs.Numbering.{row-rises, row-before}
+use Rattle.constant_rows.proofs.Numbering.{row-rises, row-before}
 
 -- ---- the order
 mem-next : (xs : List ℕ) (i k : ℕ) → List·Memᴰ k (take (suc i) xs) → List·Memᴰ k (take i xs) ⊎ (k ≡ getD xs i 0)

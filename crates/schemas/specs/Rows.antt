@@ -2,12 +2,11 @@
 use mathlib.Core.Path.{_≡_}
 use mathlib.Core.Bool.{Bool, _&&_}
 use mathlib.Core.List.{List, List·Memᴰ}
-use mathlib.Core.Logic.{_⊎_}
 use Prim.Native.Nat.{ℕ, _-_, _≤_, _<_}
 use lib.Dec.{eqb, leb, ltb}
 use lib.IntN.{ℤ, pos}
 use lib.ListN.{length, getD, take}
-use Rattle.relations.specs.Select.{span, keep}
+use Rattle.relations.specs.Select.{keep}
 use Rattle.relations.specs.Reach.{Joins}
 use Rattle.relations.specs.Sorted.{Arranged}
 use Rattle.express.specs.syntax.NodeKind as node
@@ -23,12 +22,9 @@ use Rattle.express.specs.kinds.AnswerRow.{row-of}
 use Rattle.express.specs.kinds.DeclaredColumn.{DeclaredColumn}
 use Rattle.express.specs.kinds.Order.{constant-order}
 use Rattle.express.specs.kinds.Evaluate.{answers, answer-at, value}
-use Rattle.evaluate.specs.Answers.{Stores}
+use Rattle.constant_rows.specs.Numbering.{row-in}
+use Rattle.node_answers.specs.Answers.{Stores}
 use Rattle.evaluate.specs.Evaluation.{known-in}
-
--- how many constants stand before a node: of a constant, its row (K36)
-abbrev pub row-in : List ℕ → ℕ → ℕ
-row-in kinds n = length (keep (λ m. eqb (getD kinds m 0) node.constant) (span 0 n))
 
 abbrev pub row : Table → ℕ → ℕ
 row t n = row-in (t .kinds) n
@@ -36,15 +32,6 @@ row t n = row-in (t .kinds) n
 -- the answer of a constant, by its node
 abbrev pub answer-of-constant : Table → ℕ → Answer
 answer-of-constant t c = answer-at (answers t (scope.bindings t) (constant-order t)) c
-
--- v stands in the entries from lo up to hi, as far as the column reaches; all others are as they were
-pub record Fills (v lo hi : ℕ) (was column : List ℕ) : Type 0 where
-  pub inside : (m : ℕ) → lo ≤ m → m < hi → m < length was → getD column m 0 ≡ v
-  pub outside : (m : ℕ) → (m < lo) ⊎ (hi ≤ m) → getD column m 0 ≡ getD was m 0
-
--- the row of each constant, by node; nodes are numbered with 32 bits
-pub record NumbersRows (kinds row-of row-of′ : List ℕ) : Type 0 where
-  pub is : length kinds ≤ 4294967296 → (n : ℕ) → n < length kinds → n < length row-of → getD row-of′ n 0 ≡ row-in kinds n
 
 -- a constant from lo up to hi
 abbrev pub due : List ℕ → ℕ → ℕ → ℕ → Bool

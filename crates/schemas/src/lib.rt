@@ -1,43 +1,12 @@
 // The evaluation of the constants of one schema into the answer columns.
-pub mod parts;
-
 ghost use mathlib.Core.Path.{_≡_};
-ghost use Prim.Native.Nat.{_<_};
-ghost use Rattle.schemas.specs.Rows.{due, Fills, NumbersRows, EvaluatesConstant, FillsSchema};
+ghost use Rattle.schemas.specs.Rows.{due, EvaluatesConstant, FillsSchema};
 use evaluate::evaluate_expression;
-use evaluate::held_answer;
-use evaluate::put_answer;
+use node_answers::held_answer;
+use node_answers::put_answer;
 use tree::at8;
 use tree::at32;
 use tree::index_at;
-use tree::next_of_kind;
-
-// One number in the entries from one up to another, which is not among them.
-fn fill(column: &mut [u32], from: usize, to: usize, value: u32)
-    ensures { λ _. ⌜ Fills value from to (now (column .entry)) (now (column .exit)) ⌝ }
-{
-    let end = columns::shorter(to, column.len());
-    let mut i = from;
-    while i < end {
-        column[i] = value;
-        i += 1;
-    }
-}
-
-// The row of each constant by its node: how many constants stand before it. The nodes up to a constant have one number.
-pub fn number_rows(kinds: &[u8], row_of: &mut [u32])
-    ensures { λ _. ⌜ NumbersRows (now (kinds .entry)) (now («row_of» .entry)) (now («row_of» .exit)) ⌝ }
-{
-    let mut n: usize = 0;
-    let mut rows: usize = 0;
-    while n < kinds.len() {
-        let constant = next_of_kind(kinds, codes::nodes::CONSTANT, n);
-        let end = columns::shorter(constant, kinds.len() - 1) + 1;
-        fill(row_of, n, end, columns::number(rows));
-        rows += 1;
-        n = end;
-    }
-}
 
 // Is a node a constant from lo up to hi?
 fn is_due(kinds: &[u8], lo: usize, hi: usize, d: usize) -> bool

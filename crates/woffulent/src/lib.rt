@@ -2,11 +2,11 @@
 // stands beside the reply through places that are lent.
 ghost use mathlib.Core.Path.{_≡_};
 ghost use Rattle.demands.specs.Checks.{Checks, tables-of};
-ghost use Rattle.conclusions.specs.Conclusion.{report-of};
+ghost use Rattle.reports.specs.Reporting.{report-of};
 ghost use Rattle.record_demands.specs.Records.{record-tables};
 ghost use Rattle.woffulent.specs.Call.{report-by};
-use conclusions::Report;
 use records::Answer;
+use reports::Report;
 
 // The reply, and what stands beside it in its places.
 fn put_report(

@@ -3,7 +3,7 @@
 use compare::random::{self, needed};
 use product::{by_reference, check, check_columns, columns_of, compare_cases, compare_random, Lengths};
 
-const FILES: u64 = 200_000;
+const FILES: u64 = 50_000;
 /// Files that are checked with columns of every length.
 const LENGTHS: usize = 200;
 /// Tables of every length take the square of a file's size.

@@ -4,7 +4,7 @@ use Rattle.constants.proofs.evaluate_schemas.Tie as tie
 use lib.ListN.{length}
 use Prim.Native.Nat.{_-_, _+_}
 use Rattle.tree.proofs.Next.{next-beyond}
-use Rattle.schemas.proofs.Grouping.{grouped-parts}
+use Rattle.constant_rows.proofs.Grouping.{grouped-parts}
 use Rattle.constants.proofs.Schemas.{Here, filling-starts, filling-next, filling-schema, filling-ends, schema-among}
 use Rattle.constants.proofs.Parted.{to-from, to-upto}
 use borrow.Author.Needs.{needs}

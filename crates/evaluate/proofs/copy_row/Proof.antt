@@ -8,7 +8,7 @@ use mir.ValLaws.{toZ-ofZ}
 use Prim.Native.Nat.{min}
 use mathlib.Core.Path.{ap, _∙_}
 use lib.ListN.{length}
-use Rattle.evaluate.proofs.Rows.{copies, copies-none}
+use Rattle.node_answers.proofs.Rows.{copies, copies-none}
 
 shorter-requires : tie.Need-shorter-requires
 shorter-requires c κs = search needs

@@ -44,10 +44,10 @@ use Rattle.records.specs.declared.Answer.{Answer}
 use Rattle.records.proofs.Answer as T
 use Rattle.loans.proofs.Loans.{big-lit}
 use Rattle.loans.proofs.Passing.{env-of, all-told, all-fit, all-go}
-use Rattle.conclusions.specs.declared.Report.{Report}
-use Rattle.conclusions.specs.Conclusion.{report-of}
-use Rattle.conclusions.proofs.Report as TRm
-use Rattle.conclusions.proofs.Report.Laws as TR′
+use Rattle.reports.specs.declared.Report.{Report}
+use Rattle.reports.specs.Reporting.{report-of}
+use Rattle.reports.proofs.Report as TRm
+use Rattle.reports.proofs.Report.Laws as TR′
 use Rattle.record_demands.specs.Records.{record-tables, RecordsWithin}
 use Rattle.record_demands.proofs.Theorem.{by-bytes, of-any}
 use Rattle.record_checker.proofs.Walk.{clauses-of}

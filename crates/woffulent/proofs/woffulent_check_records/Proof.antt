@@ -43,10 +43,10 @@ use Rattle.demands.specs.Checks.{Checks}
 use Rattle.records.specs.declared.Answer.{Answer}
 use Rattle.records.proofs.Answer as T
 use Rattle.loans.proofs.Passing.{all-told, all-fit, all-go}
-use Rattle.conclusions.specs.declared.Report.{Report}
-use Rattle.conclusions.specs.Conclusion.{report-of}
-use Rattle.conclusions.proofs.Report as TRm
-use Rattle.conclusions.proofs.Report.Laws as TR′
+use Rattle.reports.specs.declared.Report.{Report}
+use Rattle.reports.specs.Reporting.{report-of}
+use Rattle.reports.proofs.Report as TRm
+use Rattle.reports.proofs.Report.Laws as TR′
 use Rattle.record_demands.specs.Records.{record-tables}
 use Rattle.record_checker.proofs.check_records as chk
 use Rattle.record_checker.proofs.check_records.Symbol as chk-def
