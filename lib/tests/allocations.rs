@@ -2,18 +2,21 @@
 
 use compare::random::{damaged, well_typed};
 use std::alloc::{GlobalAlloc, Layout, System};
-use std::sync::atomic::{AtomicUsize, Ordering};
+use std::cell::Cell;
 use woffulent::Checker;
 
 /// The system's allocator, with a count of what is asked of it.
 struct Counted;
 
-static ALLOCATIONS: AtomicUsize = AtomicUsize::new(0);
+thread_local! {
+    /// By this thread: the test harness has others. It begins as a constant and has no destructor, so that it allocates nothing itself.
+    static ALLOCATIONS: Cell<usize> = const { Cell::new(0) };
+}
 
 // SAFETY: all is passed on to the system's.
 unsafe impl GlobalAlloc for Counted {
     unsafe fn alloc(&self, layout: Layout) -> *mut u8 {
-        ALLOCATIONS.fetch_add(1, Ordering::Relaxed);
+        ALLOCATIONS.set(ALLOCATIONS.get() + 1);
         System.alloc(layout)
     }
 
@@ -29,7 +32,7 @@ static ALLOCATOR: Counted = Counted;
 fn a_thousand_files_allocate_once() {
     let files: Vec<Vec<u8>> = (0..500).flat_map(|seed| [well_typed(seed, 3_000), damaged(seed, 300)]).collect();
     let (mut checker, mut out) = (Checker::new(), Vec::with_capacity(1 << 20));
-    let before = ALLOCATIONS.load(Ordering::Relaxed);
+    let before = ALLOCATIONS.get();
     let mut refused = 0;
     for file in &files {
         out.clear();
@@ -41,6 +44,6 @@ fn a_thousand_files_allocate_once() {
             }
         }
     }
-    assert_eq!(ALLOCATIONS.load(Ordering::Relaxed), before);
+    assert_eq!(ALLOCATIONS.get(), before);
     assert!((200..800).contains(&refused), "{refused}");
 }

@@ -1,12 +1,21 @@
 //! Runs the command as a user would.
 #![allow(dead_code)]
 
-use std::ffi::OsStr;
-use std::fs;
+use std::ffi::{c_char, c_int, c_uint, CString, OsStr};
+use std::fs::{self, File, OpenOptions};
 use std::io::{ErrorKind, Write};
+use std::os::unix::fs::OpenOptionsExt;
 use std::path::{Path, PathBuf};
-use std::process::{Command, Output, Stdio};
+use std::process::{Child, Command, Output, Stdio};
 use std::thread;
+use std::time::Duration;
+
+extern "C" {
+    fn mkfifo(path: *const c_char, mode: c_uint) -> c_int;
+}
+
+/// To open a pipe that nobody reads is an error then, and not a wait.
+const AT_ONCE: c_int = 0o4000;
 
 pub const ACCEPTED: &str = "SCHEMA Press;\nCONSTANT\n  step : INTEGER := -7 DIV 2;\nEND_CONSTANT;\nEND_SCHEMA;\n";
 pub const ACCEPTED_LISTING: &str = "accepted 1\npress.step = -4\n";
@@ -62,4 +71,24 @@ pub fn file(folder: &Path, name: &str, text: &str) -> String {
     fs::create_dir_all(path.parent().expect("a folder")).expect("a folder");
     fs::write(&path, text).expect("a file");
     path.to_str().expect("a path of letters").to_string()
+}
+
+/// A pipe in a folder, and its path as text.
+pub fn pipe(folder: &Path, name: &str) -> String {
+    let path = folder.join(name).to_str().expect("a path of letters").to_string();
+    let name = CString::new(path.as_str()).expect("a name without a zero");
+    // SAFETY: the call reads a string that ends in a zero.
+    assert_eq!(unsafe { mkfifo(name.as_ptr(), 0o600) }, 0);
+    path
+}
+
+/// The end to write to of a pipe, once the command has opened the other; none where it ends before.
+pub fn opened(path: &str, child: &mut Child) -> Option<File> {
+    while child.try_wait().expect("a status").is_none() {
+        if let Ok(end) = OpenOptions::new().write(true).custom_flags(AT_ONCE).open(path) {
+            return Some(end);
+        }
+        thread::sleep(Duration::from_millis(1));
+    }
+    None
 }

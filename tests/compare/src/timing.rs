@@ -1,7 +1,7 @@
 //! Times of two ways to do one thing, and generated files to take them on.
 
 use crate::random::well_typed;
-use std::fs;
+use std::ffi::{c_int, c_long};
 use std::hint::black_box;
 use std::time::Instant;
 
@@ -22,7 +22,7 @@ pub fn timed<T>(run: &mut impl FnMut() -> T) -> f64 {
 }
 
 /// The processor time of a run, in nanoseconds: the mean of runs that take at least `enough` of it together. What else the machine does
-/// is not counted, so it serves for runs that are longer than the machine gives at a time.
+/// is not counted.
 pub fn processor_time<T>(enough: f64, mut run: impl FnMut() -> T) -> f64 {
     let (mut runs, mut time) = (0, 0.0);
     while runs == 0 || time < enough {
@@ -35,10 +35,26 @@ pub fn processor_time<T>(enough: f64, mut run: impl FnMut() -> T) -> f64 {
     time / f64::from(runs)
 }
 
-/// That of this thread; Linux counts it in ticks of a few milliseconds.
+/// `struct timespec` of the C library on 64-bit Linux.
+#[repr(C)]
+struct Time {
+    seconds: c_long,
+    nanoseconds: c_long,
+}
+
+/// `CLOCK_THREAD_CPUTIME_ID` of Linux.
+const OF_THIS_THREAD: c_int = 3;
+
+extern "C" {
+    fn clock_gettime(clock: c_int, time: *mut Time) -> c_int;
+}
+
+/// That of this thread.
 fn processor_time_so_far() -> f64 {
-    let said = fs::read_to_string("/proc/thread-self/schedstat").expect("the times of this thread");
-    said.split(' ').next().and_then(|time| time.parse().ok()).expect("a number of nanoseconds")
+    let mut time = Time { seconds: 0, nanoseconds: 0 };
+    // SAFETY: the call writes the time and nothing else.
+    assert_eq!(unsafe { clock_gettime(OF_THIS_THREAD, &mut time) }, 0, "the clock of a thread");
+    time.seconds as f64 * 1e9 + time.nanoseconds as f64
 }
 
 /// Well-typed files of about so many bytes, from a seed on.

@@ -14,8 +14,8 @@ const LISTINGS: u64 = 100;
 const MUTATIONS: u64 = 15;
 /// Tokens of the short texts.
 const TOKENS: u32 = 5;
-/// Much longer than any file takes, in nanoseconds of the processor.
-const PATIENCE: f64 = 2e9;
+/// A few times what the slowest file takes, in nanoseconds of the processor.
+const PATIENCE: f64 = 250e6;
 const ONE_RUN: f64 = 0.0;
 
 #[test]
