@@ -1,7 +1,10 @@
 //! What is asked for on the command line.
 
 use crate::forms::Form;
+use crate::names;
 use std::ffi::{OsStr, OsString};
+use std::os::unix::ffi::OsStrExt;
+use std::path::Path;
 use woffulent::Rows;
 
 pub const USAGE: &str = "usage: woffulent check [--explain | --json] [--rows T,N,A] FILE|DIR|- ..
@@ -39,11 +42,18 @@ pub fn read(mut arguments: impl Iterator<Item = OsString>) -> Result<Request, St
         Some("--help" | "-h" | "help") => Ok(Request::Help),
         Some("--version" | "-V") => Ok(Request::Version),
         Some("check") => inputs(Form::Listing, arguments),
-        Some("tables") => match inputs(Form::Tables, arguments)? {
-            Request::Run { inputs, .. } if inputs.len() > 1 => Err("`tables` takes one file".to_string()),
-            request => Ok(request),
-        },
+        Some("tables") => one_file(inputs(Form::Tables, arguments)?),
         _ => Err(format!("no command is called {}", shown(&first))),
+    }
+}
+
+fn one_file(request: Request) -> Result<Request, String> {
+    match &request {
+        Request::Run { inputs, .. } if inputs.len() > 1 => Err("`tables` takes one file".to_string()),
+        Request::Run { inputs, .. } if inputs[0] != "-" && Path::new(&inputs[0]).is_dir() => {
+            Err(format!("`tables` takes a file, and {} is a folder", shown(&inputs[0])))
+        }
+        _ => Ok(request),
     }
 }
 
@@ -60,7 +70,7 @@ fn inputs(mut form: Form, mut arguments: impl Iterator<Item = OsString>) -> Resu
                 rows = self::rows(&given)?;
             }
             Some(option) if options && option.len() > 1 && option.starts_with('-') => {
-                return Err(format!("no option is called `{option}`"));
+                return Err(format!("no option is called {}", shown(&argument)));
             }
             _ => inputs.push(argument),
         }
@@ -92,5 +102,5 @@ fn rows(given: &OsStr) -> Result<Rows, String> {
 }
 
 fn shown(argument: &OsStr) -> String {
-    format!("`{}`", argument.to_string_lossy())
+    format!("`{}`", names::shown(argument.as_bytes()))
 }

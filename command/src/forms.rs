@@ -1,5 +1,6 @@
 //! The forms in which a file's result is written.
 
+use crate::names::shown;
 use crate::source_line;
 use std::fmt::Write as _;
 use std::io::Write;
@@ -29,8 +30,7 @@ pub fn write(form: Form, name: &[u8], several: bool, result: &Result<File, Refus
         (Form::Explain, Err(refusal)) => explained(name, refusal, out),
         _ => {
             if several {
-                out.extend_from_slice(name);
-                out.extend_from_slice(b":\n");
+                writeln!(out, "{}:", shown(name)).expect(FITS);
             }
             match result {
                 Ok(file) => file.list(out),
@@ -45,16 +45,21 @@ pub fn write(form: Form, name: &[u8], several: bool, result: &Result<File, Refus
 
 /// Where, by which reply and why a file is refused, its line, and a mark under the place.
 fn explained(name: &[u8], refusal: &Refusal, out: &mut Vec<u8>) {
-    let Explanation { sentence, span, .. } = refusal.explain();
-    out.extend_from_slice(name);
-    match refusal.position() {
-        Some(at) => writeln!(out, ":{}:{}: refused by {}: {sentence}", at.line, at.column, refusal.number()),
-        None => writeln!(out, ": refused by {}: {sentence}", refusal.number()),
-    }
-    .expect(FITS);
+    let Explanation { sentence, span, .. } = explanation(refusal);
+    let place = refusal.position().map_or(String::new(), |at| format!(":{}:{}", at.line, at.column));
+    writeln!(out, "{}{place}: refused by {}: {sentence}", shown(name), refusal.number()).expect(FITS);
     if let Some(at) = refusal.position() {
         out.extend_from_slice(source_line::marked(refusal.source(), at.line, span).as_bytes());
     }
+}
+
+/// What the library says of a refusal; where a table is too short, also which option lends more.
+fn explanation(refusal: &Refusal) -> Explanation {
+    let mut explanation = refusal.explain();
+    if refusal.needed().is_some() {
+        explanation.sentence = format!("{}; `--rows any` lends enough.", explanation.sentence.trim_end_matches('.'));
+    }
+    explanation
 }
 
 /// Every row of the tables.
@@ -96,7 +101,7 @@ fn json_file(name: &[u8], file: &File, out: &mut Vec<u8>) {
 }
 
 fn json_refusal(name: &[u8], refusal: &Refusal, out: &mut Vec<u8>) {
-    let Explanation { sentence, span, related } = refusal.explain();
+    let Explanation { sentence, span, related } = explanation(refusal);
     json_head(name, refusal.reply(), refusal.beside(), out);
     let place = |span: &Range<usize>| {
         let at = Position::of(refusal.source(), span.start);

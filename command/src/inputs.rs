@@ -9,7 +9,7 @@ use woffulent::MAX_BYTES;
 
 /// A file to check, or why there is none.
 pub struct Input {
-    pub name: PathBuf,
+    name: PathBuf,
     fault: Option<String>,
 }
 
@@ -55,7 +55,8 @@ pub fn found(arguments: Vec<OsString>) -> Vec<Input> {
     inputs
 }
 
-/// Adds the files of a folder and of those below it. A link to a folder is not followed, for it may lead back.
+/// Adds the files of a folder and of those below it. A link to a folder is not followed, for it may lead back; what is no file, such as
+/// a pipe that nobody writes to, is left out.
 fn folder(path: &Path, inputs: &mut Vec<Input>) {
     let entries = fs::read_dir(path).and_then(|entries| entries.collect::<io::Result<Vec<_>>>());
     let mut entries = match entries {
@@ -67,9 +68,11 @@ fn folder(path: &Path, inputs: &mut Vec<Input>) {
         let path = entry.path();
         let is_folder = entry.file_type().is_ok_and(|kind| kind.is_dir());
         let is_schema = path.extension().is_some_and(|end| end.eq_ignore_ascii_case("exp"));
+        // A link that leads nowhere is taken, so that it is said.
+        let is_file = || fs::metadata(&path).map_or(true, |target| target.is_file());
         if is_folder {
             folder(&path, inputs);
-        } else if is_schema && !path.is_dir() {
+        } else if is_schema && is_file() {
             inputs.push(Input::new(path));
         }
     }

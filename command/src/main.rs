@@ -4,6 +4,7 @@
 mod arguments;
 mod forms;
 mod inputs;
+mod names;
 mod progress;
 mod run;
 mod source_line;
@@ -26,7 +27,7 @@ fn main() -> ExitCode {
         Ok(Request::Version) => said(concat!("woffulent ", env!("CARGO_PKG_VERSION"), "\n")),
         Ok(Request::Run { form, rows, inputs }) => run::run(&inputs::found(inputs), form, rows),
         Err(mistake) => {
-            eprintln!("woffulent: {mistake}\n{}", arguments::USAGE);
+            run::complain(format!("woffulent: {mistake}\n{}\n", arguments::USAGE).as_bytes());
             FAILED
         }
     };

@@ -2,6 +2,7 @@
 
 use crate::forms::{self, Form};
 use crate::inputs::Input;
+use crate::names::shown;
 use crate::progress::Progress;
 use crate::totals::Totals;
 use std::io::{self, ErrorKind, Write};
@@ -15,6 +16,8 @@ use woffulent::{Checker, Reply, Rows};
 const STACK: usize = 4 << 20;
 /// The most files that are taken at a time.
 const MOST_AT_A_TIME: usize = 32;
+/// As soon as there is so much to write of them, it is written: one listing can have 56 megabytes.
+const MUCH: usize = 1 << 20;
 
 /// Checks all files and writes what came of them; the exit status is given.
 pub fn run(inputs: &[Input], form: Form, rows: Rows) -> u8 {
@@ -69,13 +72,26 @@ impl Work<'_> {
         loop {
             let first = self.next.fetch_add(self.at_a_time, Ordering::Relaxed);
             let Some(rest) = self.inputs.get(first..).filter(|rest| !rest.is_empty()) else { return };
-            let files = &rest[..rest.len().min(self.at_a_time)];
-            worker.portion.clear();
-            files.iter().for_each(|input| worker.check(input, self.form, self.inputs.len() > 1));
-            if !self.line.deliver(first, files.len(), &worker.portion) {
+            worker.portion.begin(first);
+            if !self.do_portion(&mut worker, &rest[..rest.len().min(self.at_a_time)]) {
                 return;
             }
         }
+    }
+
+    /// Checks some files and delivers what came of them; whether there is more to do.
+    fn do_portion(&self, worker: &mut Worker, files: &[Input]) -> bool {
+        for (i, input) in files.iter().enumerate() {
+            worker.check(input, self.form, self.inputs.len() > 1);
+            let is_last = i + 1 == files.len();
+            if is_last || worker.portion.output.len() >= MUCH {
+                if !self.line.deliver(&worker.portion) {
+                    return false;
+                }
+                worker.portion.begin(worker.portion.first + worker.portion.files);
+            }
+        }
+        true
     }
 }
 
@@ -93,14 +109,20 @@ impl Drop for Watch<'_> {
 /// What came of some files that follow each other.
 #[derive(Default)]
 struct Portion {
+    /// The number of the first of them.
+    first: usize,
+    files: usize,
     output: Vec<u8>,
     complaints: Vec<u8>,
     totals: Totals,
 }
 
 impl Portion {
-    fn clear(&mut self) {
+    /// Nothing yet, of the files from a number on.
+    fn begin(&mut self, first: usize) {
+        (self.first, self.files) = (first, 0);
         self.output.clear();
+        self.output.shrink_to(MUCH);
         self.complaints.clear();
         self.totals = Totals::default();
     }
@@ -115,9 +137,10 @@ struct Worker {
 
 impl Worker {
     fn check(&mut self, input: &Input, form: Form, several: bool) {
-        let Portion { output, complaints, totals } = &mut self.portion;
+        let Portion { files, output, complaints, totals, .. } = &mut self.portion;
+        *files += 1;
         if let Err(fault) = input.read(&mut self.source) {
-            complaints.extend_from_slice(format!("woffulent: {}: {fault}\n", input.name.display()).as_bytes());
+            complaints.extend_from_slice(format!("woffulent: {}: {fault}\n", shown(input.bytes())).as_bytes());
             if form == Form::Json {
                 forms::json_fault(input.bytes(), &fault, output);
             }
@@ -151,8 +174,8 @@ impl Line {
     }
 
     /// Writes a portion when its turn has come; whether there is more to do.
-    fn deliver(&self, first: usize, files: usize, portion: &Portion) -> bool {
-        let waiting = |state: &mut State| state.done != first && state.stopped.is_none();
+    fn deliver(&self, portion: &Portion) -> bool {
+        let waiting = |state: &mut State| state.done != portion.first && state.stopped.is_none();
         let state = self.moved.wait_while(self.lock(), waiting);
         let mut state = state.unwrap_or_else(PoisonError::into_inner);
         if state.stopped.is_none() {
@@ -160,7 +183,7 @@ impl Line {
             state.stopped = put(&portion.output).err();
             complain(&portion.complaints);
             state.totals.join(&portion.totals);
-            state.done += files;
+            state.done += portion.files;
             let done = state.done;
             state.progress.show(done);
         }
@@ -186,6 +209,6 @@ fn put(output: &[u8]) -> io::Result<()> {
 }
 
 /// Where nobody takes a complaint, the exit status still tells.
-fn complain(text: &[u8]) {
+pub fn complain(text: &[u8]) {
     let _ = io::stderr().write_all(text);
 }

@@ -21,13 +21,13 @@ pub fn marked(src: &[u8], number: usize, span: Range<usize>) -> String {
     format!("{gutter}{cut_before}{line}{cut_behind}\n{:>6} | {indent}{}\n", "", "^".repeat(width))
 }
 
-/// The letters of some bytes, one for each place on the terminal: a tab is a space, what has no width or moves the cursor a mark.
+/// The letters of some bytes, one for each place on the terminal: a tab is a space, and what is beyond ASCII, which may take no place or
+/// two, or moves the cursor, a mark.
 fn shown(bytes: &[u8]) -> Vec<char> {
     let text = String::from_utf8_lossy(bytes);
     let plain = |letter: char| match letter {
         '\t' => ' ',
         ' '..='~' => letter,
-        _ if letter.is_alphanumeric() => letter,
         _ => '\u{fffd}',
     };
     text.trim_end_matches('\r').chars().map(plain).collect()

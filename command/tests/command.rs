@@ -5,9 +5,12 @@ mod common;
 use common::*;
 use std::ffi::OsStr;
 use std::fs::{self, File, OpenOptions};
-use std::io::Read;
+use std::io::{Read, Write};
 use std::os::unix::ffi::OsStrExt;
+use std::os::unix::fs::symlink;
 use std::process::Stdio;
+use std::sync::mpsc;
+use std::thread;
 use std::time::{Duration, Instant};
 
 fn owned(stdout: &str, stderr: &str, status: i32) -> (String, String, i32) {
@@ -38,13 +41,31 @@ fn a_folder_stands_for_its_schemas_and_those_below() {
     let top = folder("tree");
     let names = ["a/z.EXP", "b.exp", "c/d/e.exp"].map(|name| file(&top, name, ACCEPTED));
     file(&top, "a/notes.txt", "no schema");
-    std::os::unix::fs::symlink(&top, top.join("c/back")).expect("a link");
+    symlink(&top, top.join("c/back")).expect("a link");
     let (written, _, status) = told(&run(["check", top.to_str().expect("letters")]));
     assert_eq!((written, status), (names.map(|name| format!("{name}:\n{ACCEPTED_LISTING}")).concat(), 0));
     let empty = folder("empty");
     let (written, said, status) = told(&run(["check", empty.to_str().expect("letters")]));
     assert_eq!((written.as_str(), status), ("", 2));
     assert!(said.contains("no file in this folder ends in .exp"), "{said}");
+}
+
+/// A pipe would keep the command waiting.
+#[test]
+fn of_a_folder_files_alone_are_read() {
+    let top = folder("files-alone");
+    let a = file(&top, "a.exp", ACCEPTED);
+    symlink(&a, top.join("b.exp")).expect("a link");
+    symlink("nowhere", top.join("c.exp")).expect("a link");
+    let pipe = pipe(&top, "d.exp");
+    let mut child =
+        command().arg("check").arg(&top).stdout(Stdio::piped()).stderr(Stdio::piped()).spawn().expect("it starts");
+    assert!(opened(&pipe, &mut child).is_none(), "it reads the pipe");
+    let (written, said, status) = told(&child.wait_with_output().expect("it ends"));
+    let b = top.join("b.exp");
+    assert_eq!(written, format!("{a}:\n{ACCEPTED_LISTING}{}:\n{ACCEPTED_LISTING}", b.display()));
+    assert!(said.contains("c.exp: No such file") && !said.contains("d.exp"), "{said}");
+    assert_eq!(status, 2);
 }
 
 #[test]
@@ -60,6 +81,9 @@ fn what_cannot_be_read_is_said_and_the_rest_is_checked() {
     assert_eq!(status, 2);
 }
 
+const SHORT: &str =
+    "-: refused by 6: The file needs 17 rows in the token table, and fewer were lent; `--rows any` lends enough.\n";
+
 #[test]
 fn a_refusal_is_explained_where_it_is() {
     let (written, said, status) = told(&run_on(&["check", "--explain", "-"], REFUSED.as_bytes()));
@@ -68,13 +92,18 @@ fn a_refusal_is_explained_where_it_is() {
     assert_eq!((written.as_str(), said.as_str(), status), (wanted, "", 1));
     assert_eq!(told(&run_on(&["check", "--explain", "-"], ACCEPTED.as_bytes())), owned(ACCEPTED_LISTING, "", 0));
     let (written, ..) = told(&run_on(&["check", "--explain", "--rows", "2,2,2", "-"], ACCEPTED.as_bytes()));
-    assert_eq!(written, "-: refused by 6: The file needs 17 rows in the token table, and fewer were lent.\n");
+    assert_eq!(written, SHORT);
+    let (written, ..) = told(&run_on(&["check", "--json", "--rows", "17,8,0", "-"], ACCEPTED.as_bytes()));
+    assert!(written.contains("in the answer table, and fewer were lent; `--rows any` lends enough."), "{written}");
 }
 
 /// Bytes that move the cursor do not reach the terminal, and a long line is cut around the place.
 #[test]
 fn a_shown_line_is_fit_for_a_terminal() {
-    let (written, ..) = told(&run_on(&["check", "--explain", "-"], b"SCHEMA s; (* \x1b[2J\xff\x07 *)\tCONSTANT !"));
+    let (written, ..) = told(&run_on(
+        &["check", "--explain", "-"],
+        "SCHEMA s; (* \x1b[2J\u{65e5}\u{301}\x07 *)\tCONSTANT !".as_bytes(),
+    ));
     assert!(written
         .lines()
         .skip(1)
@@ -128,7 +157,7 @@ fn tables_are_written_row_by_row() {
 fn what_is_too_long_is_refused_without_being_read_whole() {
     let folder = folder("long");
     let path = folder.join("sparse.exp");
-    File::create(&path).and_then(|file| file.set_len(1 << 40)).expect("a sparse file");
+    File::create(&path).and_then(|file| file.set_len(1 << 33)).expect("a sparse file");
     let start = Instant::now();
     assert_eq!(told(&run(["check", path.to_str().expect("letters")])), owned("refused 1 at 65536\n", "", 1));
     let endless = File::open("/dev/zero").expect("/dev/zero");
@@ -151,10 +180,55 @@ fn a_broken_pipe_ends_it_quietly() {
     assert_eq!((output.status.code(), output.stderr), (Some(2), Vec::new()));
 }
 
+/// Each thread takes two files at a time here, and writes of the first before it has the second.
+#[test]
+fn a_long_listing_does_not_wait_for_the_next_file() {
+    let folder = folder("early");
+    let schema = "s".repeat(3_000);
+    let constants: String = (0..500).map(|i| format!("c{i}:INTEGER:={i};")).collect();
+    let long = file(&folder, "long.exp", &format!("SCHEMA {schema};CONSTANT {constants}END_CONSTANT;END_SCHEMA;"));
+    let (late, small) = (pipe(&folder, "late.exp"), file(&folder, "small.exp", ACCEPTED));
+    let smalls = 16 * thread::available_parallelism().map_or(1, usize::from) - 2;
+    let mut child = command()
+        .args(["check", &long, &late])
+        .args(vec![&small; smalls])
+        .stdout(Stdio::piped())
+        .stderr(Stdio::null())
+        .spawn()
+        .expect("it starts");
+    let mut written = child.stdout.take().expect("a pipe");
+    let (much, is_there) = mpsc::channel();
+    let reader = thread::spawn(move || {
+        let (mut text, mut rest) = (vec![0; 1 << 20], Vec::new());
+        written.read_exact(&mut text).expect("the listing");
+        much.send(()).expect("somebody waits");
+        written.read_to_end(&mut rest).expect("the others");
+        [text, rest].concat()
+    });
+    let early = is_there.recv_timeout(Duration::from_secs(20)).is_ok();
+    let mut end = opened(&late, &mut child).expect("it reads the pipe");
+    end.write_all(ACCEPTED.as_bytes()).expect("it reads");
+    drop(end);
+    let answers: String = (0..500).map(|i| format!("{schema}.c{i} = {i}\n")).collect();
+    let short = |name: &str| format!("{name}:\n{ACCEPTED_LISTING}");
+    let wanted = format!("{long}:\naccepted 500\n{answers}{}{}", short(&late), short(&small).repeat(smalls));
+    assert!(reader.join().expect("it ends") == wanted.as_bytes(), "the results in their order");
+    assert_eq!((child.wait().expect("it ends").code(), early), (Some(0), true));
+}
+
+fn full() -> File {
+    OpenOptions::new().write(true).open("/dev/full").expect("/dev/full")
+}
+
+#[test]
+fn a_mistake_that_nobody_can_be_told_of_has_its_status() {
+    let output = command().arg("chek").stderr(full()).output().expect("it ends");
+    assert_eq!(output.status.code(), Some(2));
+}
+
 #[test]
 fn an_output_that_is_full_is_said() {
-    let full = OpenOptions::new().write(true).open("/dev/full").expect("/dev/full");
-    let output = command().args(["check", "/dev/null"]).stdout(full).output().expect("it ends");
+    let output = command().args(["check", "/dev/null"]).stdout(full()).output().expect("it ends");
     let (_, said, status) = told(&output);
     assert!(said.contains("No space left"), "{said}");
     assert_eq!(status, 2);
@@ -162,7 +236,7 @@ fn an_output_that_is_full_is_said() {
 
 #[test]
 fn bad_usage_is_explained() {
-    let mistakes: [(&[&str], &str); 11] = [
+    let mistakes: [(&[&str], &str); 12] = [
         (&[], "a command is missing"),
         (&["chek", "a"], "no command is called `chek`"),
         (&["check"], "no file is named"),
@@ -173,6 +247,7 @@ fn bad_usage_is_explained() {
         (&["check", "--rows", "1,x,3,4", "a"], "and not `1,x,3,4`"),
         (&["check", "-", "-"], "`-` can stand once"),
         (&["tables", "a", "b"], "`tables` takes one file"),
+        (&["tables", "."], "`tables` takes a file, and `.` is a folder"),
         (&["tables", "--json", "a"], "go with `check`"),
     ];
     for (arguments, mistake) in mistakes {
@@ -203,4 +278,22 @@ fn names_of_any_bytes_are_files() {
     fs::write(folder.join("--json"), ACCEPTED).expect("a file");
     let output = command().args(["check", "--", "--json"]).current_dir(&folder).output().expect("it ends");
     assert_eq!(told(&output), owned(ACCEPTED_LISTING, "", 0));
+}
+
+/// Control letters in a name do not reach the terminal.
+#[test]
+fn names_are_shown_fit_for_a_terminal() {
+    let folder = folder("control");
+    let odd = folder.join(OsStr::from_bytes(b"\x1b[2J\xc2\x9b\xff\xc3\xbc.exp"));
+    let missing = folder.join("\x1b[2Jnone.exp");
+    fs::write(&odd, REFUSED).expect("a file");
+    for options in [&[][..], &["--explain"]] {
+        let output = command().arg("check").args(options).args([&odd, &missing]).output().expect("it ends");
+        let (written, said, _) = told(&output);
+        assert!(written.contains("/\\x1b[2J\\xc2\\x9b\\xff\u{fc}.exp:"), "{written}");
+        assert!(said.contains("/\\x1b[2Jnone.exp: No such file"), "{said}");
+        assert!(!(written + &said).contains(|letter: char| letter.is_control() && letter != '\n'));
+    }
+    let (_, said, _) = told(&run(["check", "-\x1b"]));
+    assert!(said.contains("no option is called `-\\x1b`"), "{said}");
 }
