@@ -4,6 +4,8 @@ use super::reader::Role;
 use super::tree::{Node, Tree};
 use super::Finding;
 use crate::codes::NodeKind;
+use std::collections::HashMap;
+use std::ops::ControlFlow::{self, Break, Continue};
 
 /// The kind of an expression (K4).
 #[derive(Clone, Copy, Debug, PartialEq, Eq)]
@@ -34,22 +36,38 @@ impl Kind {
 }
 
 /// What a type comes down to, through all renamings (K2): a kind, or the node for which it is not evaluated.
-fn underlying(tree: &Tree, mut base: Node) -> Result<Kind, Node> {
+type Underlying = Result<Kind, Node>;
+
+/// Those that are found, by the node that names the type: a chain of renamings may be long, and its types used often.
+type Found = HashMap<Node, Underlying>;
+
+fn underlying(tree: &Tree, base: Node, found: &mut Found) -> Underlying {
+    let (mut way, mut last) = (Vec::new(), base);
     // A file that has come so far has no cycle of types; whatever it has, there are no more steps than nodes.
-    for _ in 0..tree.rows.len() {
-        if tree.kind(base) == NodeKind::SimpleType {
-            return simple(tree.text(base)).ok_or(base);
+    let end = loop {
+        match found.get(&last).map_or_else(|| renamed(tree, last), |&known| Break(known)) {
+            Break(end) => break end,
+            Continue(_) if way.len() == tree.rows.len() => break Err(last),
+            Continue(next) => way.push(std::mem::replace(&mut last, next)),
         }
-        let declared = tree.declared(base, tree.text(base)).filter(|&node| tree.kind(node) == NodeKind::Type);
-        let Some(declared) = declared else { return Err(base) };
-        let first = tree.below(declared).start;
-        match tree.rows[first].role {
-            _ if tree.kind(first) == NodeKind::Item => return Ok(Kind::Item(declared)),
-            Role::Selected => return Err(base),
-            _ => base = first,
-        }
+    };
+    found.extend(way.into_iter().map(|node| (node, end)));
+    end
+}
+
+/// What a type renames, or what it comes down to.
+fn renamed(tree: &Tree, base: Node) -> ControlFlow<Underlying, Node> {
+    if tree.kind(base) == NodeKind::SimpleType {
+        return Break(simple(tree.text(base)).ok_or(base));
     }
-    Err(base)
+    let declared = tree.declared(base, tree.text(base)).filter(|&node| tree.kind(node) == NodeKind::Type);
+    let Some(declared) = declared else { return Break(Err(base)) };
+    let first = tree.below(declared).start;
+    match tree.rows[first].role {
+        _ if tree.kind(first) == NodeKind::Item => Break(Ok(Kind::Item(declared))),
+        Role::Selected => Break(Err(base)),
+        _ => Continue(first),
+    }
 }
 
 fn simple(word: &[u8]) -> Option<Kind> {
@@ -92,7 +110,7 @@ pub fn not_evaluated(tree: &Tree, token: usize) -> Option<Finding> {
 
 /// That a type is not evaluated, and by way of what.
 fn declared_reason(tree: &Tree, base: Node) -> Option<String> {
-    let end = underlying(tree, base).err()?;
+    let end = underlying(tree, base, &mut Found::new()).err()?;
     let what = match tree.declared(end, tree.text(end)) {
         Some(declared) if tree.kind(end) == NodeKind::Name && tree.kind(declared) == NodeKind::Entity => "an entity",
         Some(_) if tree.kind(end) == NodeKind::Name => "a select",
@@ -106,71 +124,88 @@ pub fn misfit(tree: &Tree, token: usize) -> Option<Finding> {
     let operators = [NodeKind::Unary, NodeKind::TwoOperand, NodeKind::Interval, NodeKind::Constant];
     let fault = tree.named(token, |row| operators.contains(&row.kind))?;
     let constant = tree.owner(fault)?;
-    let mut kinds = Vec::new();
+    let mut typing = Typing { tree, kinds: Vec::new(), found: Found::new() };
     for node in tree.below(constant).skip(1).take_while(|&node| node < fault) {
-        let kind = result(tree, node, &mut kinds).ok()?;
-        kinds.extend(kind);
+        let kind = typing.result(node).ok()?;
+        typing.kinds.extend(kind);
     }
     if fault == constant {
-        return declared_misfit(tree, constant, kinds.pop()?);
+        return typing.declared_misfit(constant);
     }
-    result(tree, fault, &mut kinds).err().flatten().map(Finding::new)
-}
-
-fn declared_misfit(tree: &Tree, constant: Node, kind: Kind) -> Option<Finding> {
-    let base = base(tree, constant);
-    let declared = underlying(tree, base).ok()?;
-    let renamed = match declared {
-        Kind::Item(node) if tree.text(node).eq_ignore_ascii_case(tree.text(base)) => String::new(),
-        _ if tree.kind(base) == NodeKind::SimpleType => String::new(),
-        _ => format!(", {}", declared.described(tree)),
-    };
-    let sentence = format!(
-        "The constant {} is declared as {}{renamed}, and its expression is {}.",
-        tree.name(constant),
-        tree.name(base),
-        kind.described(tree),
-    );
-    (!declared.agrees(kind)).then(|| Finding::with(sentence, vec![tree.span(base)]))
+    typing.result(fault).err().flatten().map(Finding::new)
 }
 
 /// What does not fit, in a sentence; none where a node has no kind for another reason.
 type Misfit = Option<String>;
 
-/// The kind of a node, whose operands' kinds are the last of those given and are taken from there; or why there is
-/// none. The operator of an interval has no kind.
-fn result(tree: &Tree, node: Node, kinds: &mut Vec<Kind>) -> Result<Option<Kind>, Misfit> {
-    let mut pop = || kinds.pop().unwrap_or(Kind::Undetermined);
-    let kind = match tree.kind(node) {
-        NodeKind::Integer => Kind::Integer,
-        NodeKind::Binary => Kind::Binary,
-        NodeKind::Logical => Kind::Logical,
-        NodeKind::Indeterminate => Kind::Undetermined,
-        NodeKind::Name => name(tree, node).ok_or(None)?,
-        NodeKind::QualifiedItem => {
-            let declared = tree.declared(node, tree.token_text(tree.rows[node].token.saturating_sub(2)));
-            Kind::Item(declared.ok_or(None)?)
-        }
-        NodeKind::Unary => of_one(tree, node, pop())?,
-        NodeKind::TwoOperand => {
-            let right = pop();
-            of_two(tree, node, pop(), right)?
-        }
-        NodeKind::Interval => {
-            let (high, item) = (pop(), pop());
-            of_interval(tree, pop(), item, high)?
-        }
-        NodeKind::IntervalOperator => return Ok(None),
-        _ => return Err(None),
-    };
-    Ok(Some(kind))
+/// The nodes of an expression are typed in their order.
+struct Typing<'t, 'a> {
+    tree: &'t Tree<'a>,
+    /// Of the nodes that no node before has for its operand.
+    kinds: Vec<Kind>,
+    found: Found,
 }
 
-/// The kind of a constant or an item.
-fn name(tree: &Tree, node: Node) -> Option<Kind> {
-    match tree.declared(node, tree.text(node)) {
-        Some(constant) => underlying(tree, base(tree, constant)).ok(),
-        None => tree.items(node, tree.text(node)).first().map(|&item| Kind::Item(tree.type_of_item(item))),
+impl Typing<'_, '_> {
+    fn pop(&mut self) -> Kind {
+        self.kinds.pop().unwrap_or(Kind::Undetermined)
+    }
+
+    /// The kind of a node, whose operands' kinds are the last ones and are taken; or why there is none. The operator of an interval has
+    /// no kind.
+    fn result(&mut self, node: Node) -> Result<Option<Kind>, Misfit> {
+        let tree = self.tree;
+        let kind = match tree.kind(node) {
+            NodeKind::Integer => Kind::Integer,
+            NodeKind::Binary => Kind::Binary,
+            NodeKind::Logical => Kind::Logical,
+            NodeKind::Indeterminate => Kind::Undetermined,
+            NodeKind::Name => self.name(node).ok_or(None)?,
+            NodeKind::QualifiedItem => {
+                let declared = tree.declared(node, tree.token_text(tree.rows[node].token.saturating_sub(2)));
+                Kind::Item(declared.ok_or(None)?)
+            }
+            NodeKind::Unary => of_one(tree, node, self.pop())?,
+            NodeKind::TwoOperand => {
+                let right = self.pop();
+                of_two(tree, node, self.pop(), right)?
+            }
+            NodeKind::Interval => {
+                let (high, item) = (self.pop(), self.pop());
+                of_interval(tree, self.pop(), item, high)?
+            }
+            NodeKind::IntervalOperator => return Ok(None),
+            _ => return Err(None),
+        };
+        Ok(Some(kind))
+    }
+
+    /// The kind of a constant or an item.
+    fn name(&mut self, node: Node) -> Option<Kind> {
+        let tree = self.tree;
+        match tree.declared(node, tree.text(node)) {
+            Some(constant) => underlying(tree, base(tree, constant), &mut self.found).ok(),
+            None => tree.items(node, tree.text(node)).first().map(|&item| Kind::Item(tree.type_of_item(item))),
+        }
+    }
+
+    /// That the last kind, of all of a constant's expression, is not the declared one.
+    fn declared_misfit(&mut self, constant: Node) -> Option<Finding> {
+        let (tree, kind) = (self.tree, self.kinds.pop()?);
+        let base = base(tree, constant);
+        let declared = underlying(tree, base, &mut self.found).ok()?;
+        let renamed = match declared {
+            Kind::Item(node) if tree.text(node).eq_ignore_ascii_case(tree.text(base)) => String::new(),
+            _ if tree.kind(base) == NodeKind::SimpleType => String::new(),
+            _ => format!(", {}", declared.described(tree)),
+        };
+        let sentence = format!(
+            "The constant {} is declared as {}{renamed}, and its expression is {}.",
+            tree.name(constant),
+            tree.name(base),
+            kind.described(tree),
+        );
+        (!declared.agrees(kind)).then(|| Finding::with(sentence, vec![tree.span(base)]))
     }
 }
 

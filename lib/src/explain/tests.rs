@@ -5,7 +5,9 @@ use super::words::{is_unread, RESERVED};
 use super::{tokens, Explanation};
 use crate::{check, Refusal, Reply, TokenKind};
 use compare::cases;
-use compare::random::{damaged, file, Rng};
+use compare::hostile::{families, filled, Family};
+use compare::random::{damaged, file, Rng, LARGEST};
+use compare::timing::processor_time;
 use std::fmt;
 use std::ops::Range;
 use std::thread;
@@ -283,4 +285,29 @@ fn no_reply_and_no_place_is_a_panic() {
         let bytes: Vec<u8> = (0..rng.below(60)).map(|_| rng.below(256) as u8).collect();
         assert!(check(&bytes).map_or_else(|refusal| refusal.to_string(), |_| ".".into()).ends_with('.'));
     }
+}
+
+/// What a sentence may take of the processor, in nanoseconds: fifty times what it takes, and a third of what a walk at each use would.
+const PATIENCE: f64 = 300e6;
+
+/// A constant of a type that renames another, which renames another, and so on, is used over and over in a constant that does not fit.
+fn used_through_renamings() -> Vec<u8> {
+    let count = LARGEST / 2 / "TYPE t1234=t1235;END_TYPE;".len();
+    let types: String = (0..count).map(|i| format!("TYPE t{i}=t{};END_TYPE;", i + 1)).collect();
+    let foot = format!(";END_CONSTANT;{types}TYPE t{count}=INTEGER;END_TYPE;END_SCHEMA;");
+    filled(LARGEST, ["SCHEMA s;CONSTANT c:t0:=1;d:LOGICAL:=c", &foot], |_| "+c".into())
+}
+
+#[test]
+fn no_file_takes_long_to_explain() {
+    let renamings = Family { name: "uses through renamings", file: |_| used_through_renamings() };
+    let mut refused = 0;
+    for Family { name, file } in families().into_iter().chain([renamings]) {
+        let src = file(LARGEST);
+        let Err(refusal) = check(&src) else { continue };
+        let time = processor_time(0.0, || assert_ne!(refusal.explain().sentence, refusal.reply().meaning(), "{name}"));
+        assert!(time < PATIENCE, "{name}: {time} nanoseconds");
+        refused += 1;
+    }
+    assert!(refused > 5, "{refused}");
 }

@@ -20,6 +20,8 @@ pub struct Tree<'a> {
     pub rows: Vec<Row>,
     /// Of each node, the schema that it is or lies in.
     schemas: Vec<Node>,
+    /// Of each node, the constant, type or entity that it is or lies in.
+    owners: Vec<Option<Node>>,
     /// The constants, types and entities of each schema; of two that are alike the first.
     declared: HashMap<Key, Node>,
     items: HashMap<Key, Vec<Node>>,
@@ -29,13 +31,8 @@ impl<'a> Tree<'a> {
     /// The tree of a file's tokens, if they have one.
     pub fn read(src: &'a [u8], tokens: &'a [Token]) -> Option<Self> {
         let rows = reader::read(src, tokens).ok()?;
-        let mut schemas = vec![0; rows.len()];
-        let mut schema = rows.len().saturating_sub(1);
-        for (node, row) in rows.iter().enumerate().rev() {
-            schema = if row.kind == NodeKind::Schema { node } else { schema };
-            schemas[node] = schema;
-        }
-        let mut tree = Tree { src, tokens, rows, schemas, declared: HashMap::new(), items: HashMap::new() };
+        let (schemas, owners) = around(&rows);
+        let mut tree = Tree { src, tokens, rows, schemas, owners, declared: HashMap::new(), items: HashMap::new() };
         for node in 0..tree.rows.len() {
             let key = (tree.schemas[node], tree.text(node).to_ascii_lowercase());
             if is_declaration(tree.rows[node].kind) {
@@ -100,8 +97,7 @@ impl<'a> Tree<'a> {
 
     /// The constant, type or entity that a node is or lies in.
     pub fn owner(&self, node: Node) -> Option<Node> {
-        let owner = (node..self.rows.len()).find(|&owner| is_declaration(self.kind(owner)))?;
-        (owner == node || self.below(owner).contains(&node)).then_some(owner)
+        self.owners[node]
     }
 
     /// The constant, type or entity of a name, in the schema that a node lies in (N5).
@@ -116,8 +112,8 @@ impl<'a> Tree<'a> {
 
     /// The items of a type, if it is itself declared as an enumeration.
     pub fn items_of(&self, declaration: Node) -> impl Iterator<Item = Node> + '_ {
-        let is_type = self.kind(declaration) == NodeKind::Type;
-        self.below(declaration).filter(move |&node| is_type && self.kind(node) == NodeKind::Item)
+        let below = if self.kind(declaration) == NodeKind::Type { self.below(declaration) } else { 0..0 };
+        below.filter(|&node| self.kind(node) == NodeKind::Item)
     }
 
     /// The type that an item belongs to.
@@ -132,11 +128,12 @@ impl<'a> Tree<'a> {
 
     /// The attributes of a name that an entity inherits (N9).
     pub fn inherited(&self, entity: Node, name: &[u8]) -> Vec<Node> {
-        let mut reached = self.supertypes(entity);
+        let mut seen = vec![false; self.rows.len()];
+        let mut is_new = |&above: &Node| !std::mem::replace(&mut seen[above], true);
+        let mut reached: Vec<Node> = self.supertypes(entity).filter(&mut is_new).collect();
         let mut next = 0;
         while let Some(&above) = reached.get(next) {
-            let further = self.supertypes(above).into_iter().filter(|supertype| !reached.contains(supertype));
-            reached.extend(further.collect::<Vec<_>>());
+            reached.extend(self.supertypes(above).filter(&mut is_new));
             next += 1;
         }
         let attributes = reached.iter().flat_map(|&above| self.below(above)).filter(|&node| {
@@ -146,9 +143,9 @@ impl<'a> Tree<'a> {
         attributes.collect()
     }
 
-    fn supertypes(&self, entity: Node) -> Vec<Node> {
+    fn supertypes(&self, entity: Node) -> impl Iterator<Item = Node> + '_ {
         let names = self.below(entity).filter(|&node| self.rows[node].role == Role::Supertype);
-        names.filter_map(|node| self.declared(node, self.text(node))).collect()
+        names.filter_map(|node| self.declared(node, self.text(node)))
     }
 
     /// Whether a node declares an attribute or a label.
@@ -156,6 +153,22 @@ impl<'a> Tree<'a> {
         matches!(self.kind(node), NodeKind::AttributeName | NodeKind::DerivedAttribute)
             || self.rows[node].role == Role::Labelled
     }
+}
+
+/// Of each node, the schema that it is or lies in, and the constant, type or entity.
+fn around(rows: &[Row]) -> (Vec<Node>, Vec<Option<Node>>) {
+    let (mut schemas, mut owners) = (vec![0; rows.len()], vec![None; rows.len()]);
+    let (mut schema, mut owner) = (rows.len().saturating_sub(1), None);
+    // Parents stand behind their children, so that they are met first from behind.
+    for (node, row) in rows.iter().enumerate().rev() {
+        match row.kind {
+            NodeKind::Schema => (schema, owner) = (node, None),
+            kind if is_declaration(kind) => owner = Some(node),
+            _ => {}
+        }
+        (schemas[node], owners[node]) = (schema, owner);
+    }
+    (schemas, owners)
 }
 
 pub fn is_declaration(kind: NodeKind) -> bool {
