@@ -13,7 +13,8 @@
  * woffulent_check needs less than 1.5 MiB of stack, woffulent_check_records less than 1.75 MiB. They call `memset` of the C library and
  * nothing else. They are compiled for x86-64 Linux.
  *
- * No two tables may overlap, nor may one overlap the bytes. A table or text of length 0 may have any pointer.
+ * No two tables may overlap, nor may one overlap the bytes. A table or text of length 0 may have any pointer. The places for number,
+ * tokens, nodes and constants must not be null, must be different places, and must lie neither in a table nor in the bytes.
  */
 #ifndef WOFFULENT_H
 #define WOFFULENT_H

@@ -3,13 +3,28 @@
 mod common;
 
 use common::{folder, run_c, ARCHIVE};
-use std::path::Path;
+use std::path::{Path, PathBuf};
 use std::process::Command;
+
+fn source(name: &str) -> PathBuf {
+    Path::new(env!("CARGO_MANIFEST_DIR")).join("tests/c").join(name)
+}
 
 #[test]
 fn a_program_in_c_gets_what_the_header_says() {
-    let source = Path::new(env!("CARGO_MANIFEST_DIR")).join("tests/c/check.c");
-    assert_eq!(run_c(&source, &folder("c")), "ok\n");
+    for standard in ["-std=c99", "-std=c11"] {
+        assert_eq!(run_c("cc", standard, &source("check.c"), &folder("c")), "ok\n", "{standard}");
+    }
+}
+
+#[test]
+fn a_program_in_cpp_has_the_same_header() {
+    if Command::new("c++").arg("--version").output().is_err() {
+        return println!("not tried: no `c++` on the PATH");
+    }
+    for standard in ["-std=c++98", "-std=c++17"] {
+        assert_eq!(run_c("c++", standard, &source("check.cpp"), &folder("cpp")), "ok\n", "{standard}");
+    }
 }
 
 /// The archive asks for nothing but what the C library has.

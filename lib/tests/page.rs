@@ -23,7 +23,7 @@ fn the_call_in_c_prints_what_the_page_says() {
     let (source, printed) = block("c");
     let folder = folder("page-c");
     fs::write(folder.join("example.c"), source).expect("a file");
-    assert_eq!(run_c(&folder.join("example.c"), &folder), printed);
+    assert_eq!(run_c("cc", "-std=c99", &folder.join("example.c"), &folder), printed);
 }
 
 /// As a user does it: a package of its own, with the dependency that the page gives.

@@ -26,11 +26,11 @@ pub fn written(output: &Output) -> String {
     String::from_utf8_lossy(&output.stdout).into_owned()
 }
 
-/// Compiles a program in C, with warnings as errors, links it with the archive and runs it in a folder.
-pub fn run_c(source: &Path, folder: &Path) -> String {
+/// Compiles a program by a standard of C or C++, with warnings as errors, links it with the archive and runs it in a folder.
+pub fn run_c(compiler: &str, standard: &str, source: &Path, folder: &Path) -> String {
     let program = folder.join("program");
-    let compiled = Command::new("cc")
-        .args(["-std=c11", "-Wall", "-Wextra", "-Werror", "-pedantic", "-I"])
+    let compiled = Command::new(compiler)
+        .args([standard, "-Wall", "-Wextra", "-Werror", "-pedantic", "-I"])
         .arg(top().join("include"))
         .arg(source)
         .arg("-L")
@@ -38,7 +38,7 @@ pub fn run_c(source: &Path, folder: &Path) -> String {
         .args(["-lwoffulent", "-o"])
         .arg(&program)
         .output()
-        .expect("cc on the PATH");
+        .unwrap_or_else(|error| panic!("{compiler}: {error}"));
     written(&compiled);
     written(&Command::new(program).current_dir(folder).output().expect("the program starts"))
 }

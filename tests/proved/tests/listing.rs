@@ -3,7 +3,8 @@
 use compare::cases::{self, PROGRAM_LENGTHS};
 use compare::program::{expected, listing, program};
 use compare::random::{damaged, file, well_typed, LARGEST};
-use std::fs::{File, OpenOptions};
+use std::fs::{self, File, OpenOptions};
+use std::path::{Path, PathBuf};
 use std::process::{Command, Output, Stdio};
 use std::thread;
 
@@ -60,6 +61,33 @@ fn listings_longer_than_any_buffer_are_written_whole() {
         let (got, want) = (listing(&input), expected(&input));
         assert!(want.starts_with(b"accepted"), "{name}, {constants}");
         assert!(got == want, "{name}, {constants}: {} bytes, not {}", got.len(), want.len());
+    }
+}
+
+fn top() -> PathBuf {
+    Path::new(env!("CARGO_MANIFEST_DIR")).join("../..")
+}
+
+/// Runs the script at the top of the repository, which takes the program where it is linked already.
+fn checked(arguments: &[&str]) -> (Option<i32>, Vec<u8>, Vec<u8>) {
+    program();
+    let Output { status, stdout, stderr } =
+        Command::new("./check").args(arguments).current_dir(top()).output().expect("the script ends");
+    (status.code(), stdout, stderr)
+}
+
+#[test]
+fn the_script_writes_the_listing_of_a_file() {
+    // One is accepted, the other refused.
+    for input in ["examples/finishes", "tests/cases/clash-attribute"] {
+        let listing = fs::read(top().join(format!("{input}.out"))).expect("a listing");
+        assert_eq!(checked(&[&format!("{input}.exp")]), (Some(0), listing, Vec::new()), "{input}");
+    }
+    // No such file, none named, and one that opens and cannot be read.
+    for (arguments, wanted) in [(&["none.exp"][..], 2), (&[], 2), (&["crates"], 1)] {
+        let (status, stdout, stderr) = checked(arguments);
+        assert_eq!((status, stdout), (Some(wanted), Vec::new()), "{arguments:?}");
+        assert!(!stderr.is_empty(), "{arguments:?}");
     }
 }
 
