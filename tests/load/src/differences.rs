@@ -9,16 +9,19 @@ use std::ops::Range;
 /// Which files, and how.
 #[derive(Clone, Debug)]
 pub struct Run {
-    pub seeds: Range<u64>,
+    /// The seed of file 0.
+    pub seed: u64,
+    pub files: Range<u64>,
     pub jobs: usize,
     /// The program is run on the files whose seeds this divides: a process takes longer than most files.
     pub listings: u64,
 }
 
 /// What came of the files; or the first fault.
-pub fn run(Run { seeds, jobs, listings }: Run) -> Result<Tally, Fault> {
-    let progress = Progress::new(seeds.clone());
-    let work = |tally: &mut Tally, seed: u64| {
+pub fn run(Run { seed: first, files, jobs, listings }: Run) -> Result<Tally, Fault> {
+    let progress = Progress::new(files.clone());
+    let work = |tally: &mut Tally, number: u64| {
+        let seed = first + number;
         let file = file(seed);
         tally.add(plan(seed).0, &held_of_seed(seed, &file)?);
         if seed.is_multiple_of(listings) {
@@ -27,5 +30,5 @@ pub fn run(Run { seeds, jobs, listings }: Run) -> Result<Tally, Fault> {
         progress.step();
         Ok(())
     };
-    lanes::run(seeds, jobs, work).map(Tally::sum)
+    lanes::run(files, jobs, work).map(Tally::sum)
 }

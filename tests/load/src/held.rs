@@ -1,48 +1,96 @@
-//! One file: the proved call held to the reference's tables, and the proved program to its listing.
+//! One file: the proved call held to the reference's tables; the library and the proved program to its listing.
 
-use compare::difference::{hold, Difference};
+use compare::difference::{hold, Checker, Difference};
 use compare::program::{expected, run};
 use compare::random::compare_one;
 use compare::shrink;
 use product::{by_reference, check};
 use reference::Checked;
 use std::fmt;
+use std::panic::catch_unwind;
 use std::process::Output;
+use woffulent::Rows;
 
 /// A file of which the proved code gives something else than the reference, made smaller.
 #[derive(Debug)]
 pub enum Fault {
     /// The report or a table, from the call (left) and from the reference (right).
     Tables(Box<Difference>),
-    /// The listing, from the program and from the reference.
-    Listing { name: String, file: Vec<u8>, listings: [Vec<u8>; 2] },
+    /// The listing, from the library or the program and from the reference.
+    Listing { name: String, by: &'static str, file: Vec<u8>, listings: [Vec<u8>; 2] },
 }
 
-fn shrunk(difference: Box<Difference>) -> Fault {
-    Fault::Tables(difference.shrunk(&check, &by_reference))
+/// The call on a file, with tables of so many rows; where it is accepted, the library's listing too, which is one line otherwise.
+pub fn held(file: &[u8], rows: [usize; 3], name: impl Fn() -> String) -> Result<Checked, Fault> {
+    let checked = held_by(&check, file, rows, &name)?;
+    if checked.report.reply == 0 {
+        listed_by_library(file, &checked, name)?;
+    }
+    Ok(checked)
 }
 
-/// The call on a file, with tables of so many rows.
-pub fn held(file: &[u8], rows: [usize; 3], name: impl FnOnce() -> String) -> Result<Checked, Fault> {
-    hold(file, rows, &check, &by_reference, name).map_err(shrunk)
+/// One of the calls on a file.
+pub fn held_by(
+    call: &impl Checker,
+    file: &[u8],
+    rows: [usize; 3],
+    name: impl FnOnce() -> String,
+) -> Result<Checked, Fault> {
+    hold(file, rows, call, &by_reference, name)
+        .map_err(|difference| Fault::Tables(difference.shrunk(call, &by_reference)))
 }
 
-/// The call on the file of a seed, with tables that are mostly long enough.
+/// As `held` on the file of a seed, with tables that are mostly long enough.
 pub fn held_of_seed(seed: u64, file: &[u8]) -> Result<Checked, Fault> {
-    compare_one(seed, file, &check, &by_reference).map_err(shrunk)
+    let compared = compare_one(seed, file, &check, &by_reference);
+    let checked = compared.map_err(|difference| Fault::Tables(difference.shrunk(&check, &by_reference)))?;
+    listed_by_library(file, &checked, || format!("seed {seed}"))?;
+    Ok(checked)
 }
 
-/// Each try starts a program.
+/// Each try of the program starts a process.
 const LISTING_TRIES: usize = 2_000;
 
-/// The program on a file.
-pub fn listed(file: &[u8], name: impl FnOnce() -> String) -> Result<(), Fault> {
-    let differs = |file: &[u8]| written(file) != expected(file);
-    if !differs(file) {
+/// A listing of a file held to the reference's.
+fn hold_listing(
+    by: &'static str,
+    file: &[u8],
+    [given, wanted]: [&dyn Fn(&[u8]) -> Vec<u8>; 2],
+    name: impl FnOnce() -> String,
+) -> Result<(), Fault> {
+    if given(file) == wanted(file) {
         return Ok(());
     }
-    let file = shrink(file.to_vec(), LISTING_TRIES, differs);
-    Err(Fault::Listing { name: name(), listings: [written(&file), expected(&file)], file })
+    let file = shrink(file.to_vec(), LISTING_TRIES, |file| given(file) != wanted(file));
+    Err(Fault::Listing { name: name(), by, listings: [given(&file), wanted(&file)], file })
+}
+
+/// The program's listing of a file.
+pub fn listed(file: &[u8], name: impl FnOnce() -> String) -> Result<(), Fault> {
+    hold_listing("program", file, [&written, &expected], name)
+}
+
+/// The library's, with as many rows as a check had that is held already.
+fn listed_by_library(file: &[u8], checked: &Checked, name: impl FnOnce() -> String) -> Result<(), Fault> {
+    let rows = [checked.tokens.len(), checked.nodes.len(), checked.answers.len()];
+    if by_library(file, rows) == reference::listing(file, checked) {
+        return Ok(());
+    }
+    let by_reference = |file: &[u8]| reference::listing(file, &by_reference(file, rows));
+    hold_listing("library", file, [&|file| by_library(file, rows), &by_reference], name)
+}
+
+/// What the library lists; a panic is a listing of its own.
+fn by_library(file: &[u8], [tokens, nodes, answers]: [usize; 3]) -> Vec<u8> {
+    let list = || {
+        let (mut checker, mut listing) = (woffulent::Checker::with_rows(Rows { tokens, nodes, answers }), Vec::new());
+        match checker.check(file) {
+            Ok(file) => file.list(&mut listing),
+            Err(refusal) => refusal.list(&mut listing),
+        }
+        listing
+    };
+    catch_unwind(list).unwrap_or_else(|_| b"a panic".to_vec())
 }
 
 /// What the program writes; with how it ended, where that was not well.
@@ -58,10 +106,10 @@ impl fmt::Display for Fault {
     fn fmt(&self, f: &mut fmt::Formatter) -> fmt::Result {
         match self {
             Fault::Tables(difference) => write!(f, "{difference}"),
-            Fault::Listing { name, file, listings: [program, reference] } => {
+            Fault::Listing { name, by, file, listings: [given, wanted] } => {
                 writeln!(f, "{name}, the listing")?;
-                writeln!(f, "program:\n{}", String::from_utf8_lossy(program))?;
-                writeln!(f, "reference:\n{}", String::from_utf8_lossy(reference))?;
+                writeln!(f, "{by}:\n{}", String::from_utf8_lossy(given))?;
+                writeln!(f, "reference:\n{}", String::from_utf8_lossy(wanted))?;
                 write!(f, "file, {} bytes: b\"{}\"", file.len(), file.escape_ascii())
             }
         }

@@ -19,22 +19,46 @@ usage: load COMMAND [--OPTION NUMBER]..
   short        all short expressions: --tokens 7 --jobs
   hostile      times of files built to take long: --milliseconds 200 (of runs of each)
   memory       the same files in a thread of 2 MiB, and the stack that they use
-The status is 1 where the proved code and the reference differ, or a file takes too long or too much.";
+The status is 1 where the proved code and the reference differ, or a file takes too long or too much, and 2 where the options make no sense.";
 
 /// Bytes of a small file.
 const SMALL: usize = 1_024;
 
-/// What a command says at its end; an error says that something is wrong with the code.
-type Said = Result<String, String>;
+/// Why a command does not end well.
+enum Failure {
+    /// Something is wrong with the code.
+    Found(String),
+    /// The options make no sense.
+    Usage(&'static str),
+}
+
+/// What a command says at its end.
+type Said = Result<String, Failure>;
+
+impl From<Fault> for Failure {
+    fn from(fault: Fault) -> Self {
+        Failure::Found(fault.to_string())
+    }
+}
 
 fn told(found: Result<impl Display, Fault>) -> Said {
-    found.map(|found| found.to_string()).map_err(|fault| fault.to_string())
+    Ok(found?.to_string())
 }
 
 fn differences(options: &Options) -> Said {
-    let first = options.get("seed");
-    let seeds = first + options.get("from")..first + options.get("files");
-    told(differences::run(differences::Run { seeds, jobs: options.jobs(), listings: options.get("listings").max(1) }))
+    let (seed, files) = (options.get("seed"), options.get("from")..options.get("files"));
+    if files.is_empty() {
+        return Err(Failure::Usage("no file is left: --from must be less than --files"));
+    }
+    if seed.checked_add(files.end).is_none() {
+        return Err(Failure::Usage("--seed is too large for so many files"));
+    }
+    told(differences::run(differences::Run {
+        seed,
+        files,
+        jobs: options.jobs(),
+        listings: options.get("listings").max(1),
+    }))
 }
 
 fn mutations(options: &Options) -> Said {
@@ -52,35 +76,34 @@ fn hostile(options: &Options) -> Said {
     println!("{}", head());
     let mut slow = 0;
     for family in families() {
-        let line = Line::new(family, options.get("milliseconds") as f64 * 1e6).map_err(|fault| fault.to_string())?;
+        let line = Line::new(family, options.get("milliseconds") as f64 * 1e6)?;
         println!("{line}");
         slow += usize::from(line.is_slow());
     }
     match slow {
         0 => Ok("none is slow".into()),
-        _ => Err(format!("{slow} families are slow")),
+        _ => Err(Failure::Found(format!("{slow} families are slow"))),
     }
 }
 
 fn memory(_: &Options) -> Said {
-    println!("{:42}{:>10}{:>10}{:>10}", "bytes of stack", "1 KiB", "16 KiB", "64 KiB");
-    let mut most = 0;
+    println!("{:42}{:>20}{:>20}{:>20}", "bytes of stack, and with records", "1 KiB", "16 KiB", "64 KiB");
+    let mut most = [0; 2];
     for Family { name, file } in families() {
         print!("{name:42}");
         for size in [SMALL, SIZES[0], SIZES[1]] {
             let file = file(size);
-            memory::held_in_thread(name, &file).map_err(|fault| fault.to_string())?;
+            memory::held_in_thread(name, &file)?;
             let used = memory::used(&file);
-            print!("{used:10}");
-            most = most.max(used);
+            print!("{:10}{:10}", used[0], used[1]);
+            most = [0, 1].map(|call| most[call].max(used[call]));
         }
         println!();
     }
-    let said = format!("at most {most} bytes of stack, of {} allowed", memory::LIMIT);
-    if most < memory::LIMIT {
-        Ok(said)
-    } else {
-        Err(said)
+    let said = format!("at most {most:?} bytes of stack, of {:?} allowed", memory::LIMITS);
+    match memory::is_within(most) {
+        true => Ok(said),
+        false => Err(Failure::Found(said)),
     }
 }
 
@@ -116,7 +139,8 @@ fn main() -> ExitCode {
     let start = Instant::now();
     let (text, status) = match run(&options) {
         Ok(text) => (text, ExitCode::SUCCESS),
-        Err(text) => (text, ExitCode::FAILURE),
+        Err(Failure::Found(text)) => (text, ExitCode::FAILURE),
+        Err(Failure::Usage(message)) => return usage(message),
     };
     println!("{name}, {:.0} seconds\n{text}", start.elapsed().as_secs_f64());
     status

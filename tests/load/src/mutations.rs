@@ -85,7 +85,7 @@ impl Corpus {
 /// The files of `examples/`, in the order of their names.
 fn examples() -> impl Iterator<Item = (String, Vec<u8>)> {
     let folder = Path::new(env!("CARGO_MANIFEST_DIR")).join("../../examples");
-    let entries = fs::read_dir(folder).into_iter().flatten().flatten().map(|entry| entry.path());
+    let entries = fs::read_dir(folder).expect("examples/").map(|entry| entry.expect("a file of examples/").path());
     let schema = |path: &PathBuf| path.extension().is_some_and(|extension| extension == "exp");
     let mut paths: Vec<PathBuf> = entries.filter(schema).collect();
     paths.sort();

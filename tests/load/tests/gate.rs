@@ -4,6 +4,7 @@ use compare::hostile::{families, Family};
 use compare::lanes::cores;
 use load::hostile::{timed, SIZES};
 use load::{differences, memory, mutations, short};
+use std::process::Command;
 
 /// Seeds that no other test of the public call has.
 const FIRST: u64 = 1_000_000;
@@ -17,10 +18,12 @@ const TOKENS: u32 = 5;
 /// A few times what the slowest file takes, in nanoseconds of the processor.
 const PATIENCE: f64 = 250e6;
 const ONE_RUN: f64 = 0.0;
+/// The last seed that there is, 2^64 - 1.
+const LAST: &str = "18446744073709551615";
 
 #[test]
 fn random_files_are_held() {
-    let run = differences::Run { seeds: FIRST..FIRST + FILES, jobs: cores(), listings: LISTINGS };
+    let run = differences::Run { seed: FIRST, files: 0..FILES, jobs: cores(), listings: LISTINGS };
     let tally = differences::run(run).unwrap_or_else(|fault| panic!("{fault}"));
     println!("{tally}");
     (0..16).for_each(|reply| assert!(tally.reply(reply) >= 20, "reply {reply} is too rare\n{tally}"));
@@ -58,6 +61,16 @@ fn hostile_files_are_held_in_time_and_in_a_small_thread() {
 fn the_stack_is_within_its_limit() {
     for Family { name, file } in families() {
         let used = memory::used(&file(SIZES[1]));
-        assert!(used < memory::LIMIT, "{name}: {used} bytes");
+        assert!(memory::is_within(used), "{name}: {used:?} bytes");
+    }
+}
+
+/// A run that held nothing would look like one that found nothing.
+#[test]
+fn a_run_without_files_is_bad_usage() {
+    for options in [["--files", "5", "--from", "5"], ["--files", "0", "--seed", "1"], ["--files", "2", "--seed", LAST]]
+    {
+        let output = Command::new(env!("CARGO_BIN_EXE_load")).arg("differences").args(options).output();
+        assert_eq!(output.expect("it ends").status.code(), Some(2), "{options:?}");
     }
 }
