@@ -51,11 +51,14 @@ pub fn held_of_seed(seed: u64, file: &[u8]) -> Result<Checked, Fault> {
 /// Each try of the program starts a process.
 const LISTING_TRIES: usize = 2_000;
 
+/// A way to list a file.
+type List<'a> = &'a dyn Fn(&[u8]) -> Vec<u8>;
+
 /// A listing of a file held to the reference's.
 fn hold_listing(
     by: &'static str,
     file: &[u8],
-    [given, wanted]: [&dyn Fn(&[u8]) -> Vec<u8>; 2],
+    [given, wanted]: [List; 2],
     name: impl FnOnce() -> String,
 ) -> Result<(), Fault> {
     if given(file) == wanted(file) {

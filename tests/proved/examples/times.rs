@@ -299,7 +299,7 @@ const OPERATIONS: [(&str, Operation, Operation); 6] = [
 /// Nanoseconds for each call, on operands of every size and sign.
 fn print_arithmetic() {
     let mut rng = Rng::new(0);
-    let mut number = || (rng.next() as i64) >> rng.below(64);
+    let mut number = || (rng.draw() as i64) >> rng.below(64);
     let operands: Vec<(i64, i64)> = (0..4_096).map(|_| (number(), number())).collect();
     println!("\nnanoseconds for each call\n{:12}{:>8}{:>10}{:>8}", "", "proved", "plain", "ratio");
     for (name, proved, plain) in OPERATIONS {

@@ -83,7 +83,7 @@ fn pairs_near_the_ends() {
 /// Operands of every size.
 fn random_pairs() -> impl Iterator<Item = (i64, i64)> {
     let mut rng = Rng::new(0);
-    let mut number = move || (rng.next() as i64) >> rng.below(64);
+    let mut number = move || (rng.draw() as i64) >> rng.below(64);
     (0..PAIRS).map(move |_| (number(), number()))
 }
 

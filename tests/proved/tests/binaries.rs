@@ -36,7 +36,7 @@ fn pairs_of_every_length() {
     let mut rng = Rng::new(0);
     let (mut prefixes, mut too_long) = (0, 0);
     for _ in 0..PAIRS {
-        let mut binary = || Binary { number: rng.next(), length: rng.below(66) as u8 };
+        let mut binary = || Binary { number: rng.draw(), length: rng.below(66) as u8 };
         let (a, other) = (binary(), binary());
         let cut = other.length % 64;
         let prefix = other.number % 4 == 0 && cut < a.length;

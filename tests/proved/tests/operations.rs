@@ -113,9 +113,9 @@ fn operators_on_random_operands() {
     let [integers, _, binaries, _] = groups();
     let (mut values, mut ends) = (0, 0);
     for _ in 0..RANDOM {
-        let mut integer = || Ok(Value::Integer((rng.next() as i64) >> rng.below(64)));
+        let mut integer = || Ok(Value::Integer((rng.draw() as i64) >> rng.below(64)));
         let (a, b) = (integer(), integer());
-        let mut bits = || Ok(binary(rng.next(), 1 + rng.below(63) as u32));
+        let mut bits = || Ok(binary(rng.draw(), 1 + rng.below(63) as u32));
         let (m, n) = (bits(), bits());
         for row in [hold(*rng.pick(&integers.operators), a, b), hold(*rng.pick(&binaries.operators), m, n)] {
             *(if row.kind < 16 { &mut values } else { &mut ends }) += 1;

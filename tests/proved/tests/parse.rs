@@ -133,7 +133,7 @@ fn any_codes() {
                 assert_eq!(refusal.reply, 4, "code {code} at {place}");
                 assert!(refusal.number as usize >= place, "code {code} at {place}: {refusal:?}");
             }
-            assert_eq!(outcome.is_ok(), false, "code {code} at {place}");
+            assert!(outcome.is_err(), "code {code} at {place}");
         }
     }
 }

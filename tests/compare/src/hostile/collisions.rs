@@ -24,7 +24,7 @@ fn hash([a, b, c, d, e, f, g, h]: Name) -> u32 {
 }
 
 fn bucket(hash: u32) -> u64 {
-    u64::from(hash) * BUCKETS >> 32
+    (u64::from(hash) * BUCKETS) >> 32
 }
 
 /// The buckets of the short name, round by round.

@@ -106,8 +106,8 @@ fn operator(rng: &mut Rng, tokens: &mut [String]) {
 pub fn bytes(rng: &mut Rng, file: &mut Vec<u8>) {
     let (i, j) = (rng.below(file.len()), rng.below(file.len()));
     match rng.below(12) {
-        _ if file.is_empty() => file.push(rng.next() as u8),
-        0 => file[i] = rng.next() as u8,
+        _ if file.is_empty() => file.push(rng.draw() as u8),
+        0 => file[i] = rng.draw() as u8,
         1 => file[i] = *rng.pick(b"()*-'%\".:;<>=?_ 0a"),
         2 => drop(file.remove(i)),
         3 => file.insert(i, file[i]),
@@ -133,7 +133,7 @@ fn insert(file: &mut Vec<u8>, at: usize, what: &[u8]) {
 fn noise(rng: &mut Rng) -> Vec<u8> {
     let length = rng.below(200);
     match rng.below(4) {
-        0 => (0..length).map(|_| rng.next() as u8).collect(),
+        0 => (0..length).map(|_| rng.draw() as u8).collect(),
         1 => (0..length).map(|_| rng.between(32, 126) as u8).collect(),
         2 => vec![b' '; length],
         _ => {
