@@ -13,7 +13,7 @@ pub const USAGE: &str = "usage: woffulent check [--explain | --json] [--rows T,N
 
 pub const HELP: &str = "woffulent checks EXPRESS schemas and evaluates their constants.
 
-  woffulent check FILE|DIR|- ..   the listing of each file; of a folder, of all files below it that end in .exp
+  woffulent check FILE|DIR|- ..   the listing of each file; of a folder, of all below it that end in .exp
   woffulent tables FILE|-         the listing, and every row of the tables: report, token, node, answer
   woffulent --help                this page
   woffulent --version             the version
