@@ -122,6 +122,7 @@ impl Portion {
     fn begin(&mut self, first: usize) {
         (self.first, self.files) = (first, 0);
         self.output.clear();
+        // The room of a huge listing is not kept for all files to come.
         self.output.shrink_to(MUCH);
         self.complaints.clear();
         self.totals = Totals::default();

@@ -62,7 +62,7 @@ fn progress_is_shown_on_a_terminal_and_taken_away() {
         let _ = shows.read_to_end(&mut bytes);
         String::from_utf8_lossy(&bytes).into_owned()
     });
-    // Which of the two comes first is not told: where the early file is slow, the late one falls into the pause behind it.
+    // It may be at the first or at the second: where the early file is slow, the late one falls into the pause behind it.
     assert!(text.contains(" of 2 files\r\x1b[K"), "{text:?}");
     assert!(text.contains("2 accepted, 0 refused"), "{text:?}");
 }

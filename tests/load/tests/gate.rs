@@ -15,7 +15,7 @@ const LISTINGS: u64 = 100;
 const MUTATIONS: u64 = 15;
 /// Tokens of the short texts.
 const TOKENS: u32 = 5;
-/// A few times what the slowest file takes, in nanoseconds of the processor.
+/// Twenty times what the slowest file takes, in nanoseconds of the processor.
 const PATIENCE: f64 = 250e6;
 const ONE_RUN: f64 = 0.0;
 /// The last seed that there is, 2^64 - 1.
