@@ -15,6 +15,11 @@ use values::logical::Logical;
 // One more than the greatest node.
 const NODES: u64 = 4294967296;
 
+// Ranks of logicals; any other is that of TRUE.
+const FALSE: u64 = codes::answers::FALSE as u64;
+
+const UNKNOWN: u64 = codes::answers::UNKNOWN as u64;
+
 pub struct Row {
     pub kind: u8,
     pub number: i64,
@@ -87,10 +92,10 @@ fn natural(z: i64) -> u64
 fn ranked(n: u64) -> Logical
     ensures { λ r. ⌜ logical-of r ≡ ranked n ⌝ }
 {
-    if n == 0 {
+    if n == FALSE {
         return Logical::FALSE;
     }
-    if n == 1 {
+    if n == UNKNOWN {
         return Logical::UNKNOWN;
     }
     Logical::TRUE

@@ -10,7 +10,7 @@ use values::End;
 use values::order::Order;
 
 // The most bits of a binary.
-pub const MOST: u64 = 63;
+pub const MOST: u64 = codes::limits::BITS as u64;
 
 // The bits of a number.
 const WORD: u8 = 64;

@@ -2,7 +2,7 @@
 use mathlib.Core.Bool.{Bool, not, cond}
 use mathlib.Core.List.{List, [], _∷_}
 use mathlib.Core.Path.{_≡_}
-use Prim.Native.Nat.{ℕ, _+_, _/_, _%_}
+use Prim.Native.Nat.{ℕ, _+_, _*_, _/_, _%_}
 use lib.Dec.{eqb}
 use lib.ListN.{getD}
 use Rattle.ebnf.specs.Set.{mem}
@@ -24,6 +24,10 @@ pub record Closes (first label name : ℕ) (ts : List ℕ) (p n : ℕ) (r : Read
 pub record Groups (first label name : ℕ) (ts : List ℕ) (p n : ℕ) (r : Read) (a b : List ℕ) : Type 0 where
   pub ends : {want : Result Rows} {was : List ℕ} →
       Reading ts want first was (nt base · tok semicolon · mark (node (label % 256) (label / 256))) name (At p n) a → Found want first r was b
+
+-- kind and role of a row in one number
+abbrev pub label-of : ℕ → ℕ → ℕ
+label-of kind role = kind + 256 * role
 
 -- an identifier that leaves a row, and more of them behind commas
 abbrev pub id-of : ℕ → Ebnf Nonterminal

@@ -1,5 +1,5 @@
 // The readers of what stands in a schema, by recursive descent: terminals to rows.
-ghost use mathlib.Core.Bool.{_&&_};
+ghost use mathlib.Core.Bool.{true, _&&_};
 ghost use mathlib.Core.Logic.{_⊎_};
 ghost use mathlib.Core.List.{_++_};
 ghost use mathlib.Core.Path.{_≡_};
@@ -7,11 +7,12 @@ ghost use Prim.Native.Nat.{_+_, _≤_, _<_};
 ghost use lib.ListN.{getD};
 ghost use Rattle.ebnf.specs.Set.{mem};
 ghost use Rattle.ebnf.specs.Grammar.{star, nt};
-ghost use Rattle.express.specs.tokens.Terminal.{identifier, colon, DERIVE, ENTITY, OF, SUBTYPE, TYPE};
+ghost use Rattle.express.specs.tokens.Terminal.{identifier, colon, DERIVE, ENTITY, ENUMERATION, OF, SELECT, SUBTYPE, TYPE};
 ghost use Rattle.express.specs.syntax.Grammar.{schema, constants, type-declaration, underlying, where-clause, domain-rule, entity, attributes, derived, _·_, _∣_, tok, opt, ids, simple-types};
 ghost use Rattle.express.specs.syntax.Lookahead.{tables};
+ghost use Rattle.express.specs.syntax.NodeKind as kind;
 ghost use Rattle.parsing.specs.Reading.{Ready, Reads, ReadsAnywhere, Steps};
-ghost use Rattle.clauses.specs.Declares.{Closes, Leaves, id-of, names-of, type-label, Types, Groups, members-of, assigned-by, declared-by, Heads};
+ghost use Rattle.clauses.specs.Declares.{Closes, Leaves, label-of, id-of, names-of, type-label, Types, Groups, members-of, assigned-by, declared-by, Heads};
 use codes::labels;
 use expressions::expression_at;
 use parsing::Read;
@@ -132,7 +133,7 @@ fn ids(terminals: &[u8], rows: &mut [u64], p: usize, n: usize, label: u64) -> Re
 
 // id ':' base ':=' expression ';'
 fn assigned(terminals: &[u8], rows: &mut [u64], p: usize, n: usize, label: u64) -> Read
-    requires { ⌜ (Ready (now terminals) p n) × ((label ≡ 17) ⊎ (label ≡ 22)) ⌝ }
+    requires { ⌜ (Ready (now terminals) p n) × ((label ≡ kind.constant) ⊎ (label ≡ kind.derived-attribute)) ⌝ }
     ensures { λ r. ⌜ Reads (assigned-by label) (now (terminals .entry)) p n r (now (rows .entry)) (now (rows .exit)) ⌝ }
 {
     let name = expect(terminals, p, n, codes::IDENTIFIER);
@@ -160,7 +161,7 @@ fn assigned(terminals: &[u8], rows: &mut [u64], p: usize, n: usize, label: u64) 
 
 // One or more assignments.
 fn assignments(terminals: &[u8], rows: &mut [u64], p: usize, n: usize, label: u64) -> Read
-    requires { ⌜ (Ready (now terminals) p n) × ((label ≡ 17) ⊎ (label ≡ 22)) ⌝ }
+    requires { ⌜ (Ready (now terminals) p n) × ((label ≡ kind.constant) ⊎ (label ≡ kind.derived-attribute)) ⌝ }
     ensures { λ r. ⌜ Steps (nt (assigned-by label) · star (nt (assigned-by label))) (now (terminals .entry)) p n r (now (rows .entry)) (now (rows .exit)) ⌝ }
 {
     let first = assigned(terminals, rows, p, n, label);
@@ -306,7 +307,7 @@ fn head(terminals: &[u8], p: usize, n: usize, word: u8) -> Read
 
 // ENUMERATION OF ids, of which the first word is there
 fn enumeration(terminals: &[u8], rows: &mut [u64], p: usize, n: usize) -> Read
-    requires { ⌜ (Ready (now terminals) p n) × (getD (now terminals) p 0 ≡ 76) ⌝ }
+    requires { ⌜ (Ready (now terminals) p n) × (mem (getD (now terminals) p 0) ENUMERATION ≡ true) ⌝ }
     ensures { λ r. ⌜ Reads underlying (now (terminals .entry)) p n r (now (rows .entry)) (now (rows .exit)) ⌝ }
 {
     let of = expect(terminals, p + 1, n, codes::OF);
@@ -323,7 +324,7 @@ fn enumeration(terminals: &[u8], rows: &mut [u64], p: usize, n: usize) -> Read
 
 // SELECT ids, of which the word is there
 fn selection(terminals: &[u8], rows: &mut [u64], p: usize, n: usize) -> Read
-    requires { ⌜ (Ready (now terminals) p n) × (getD (now terminals) p 0 ≡ 126) ⌝ }
+    requires { ⌜ (Ready (now terminals) p n) × (mem (getD (now terminals) p 0) SELECT ≡ true) ⌝ }
     ensures { λ r. ⌜ Reads underlying (now (terminals .entry)) p n r (now (rows .entry)) (now (rows .exit)) ⌝ }
 {
     let selected = ids(terminals, rows, p + 1, n, labels::SELECT_NAME);
@@ -441,7 +442,7 @@ fn groups(terminals: &[u8], rows: &mut [u64], p: usize, n: usize) -> Read
 // [ SUBTYPE OF ids ]
 fn supertypes(terminals: &[u8], rows: &mut [u64], p: usize, n: usize) -> Read
     requires { ⌜ Ready (now terminals) p n ⌝ }
-    ensures { λ r. ⌜ Steps (opt (tok SUBTYPE · tok OF · ids (id-of 1286))) (now (terminals .entry)) p n r (now (rows .entry)) (now (rows .exit)) ⌝ }
+    ensures { λ r. ⌜ Steps (opt (tok SUBTYPE · tok OF · ids (id-of (label-of kind.name kind.supertype-name)))) (now (terminals .entry)) p n r (now (rows .entry)) (now (rows .exit)) ⌝ }
 {
     if token(terminals, p) != codes::SUBTYPE {
         return Read::At(p, n);

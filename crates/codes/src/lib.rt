@@ -8,6 +8,7 @@ pub mod nodes;
 pub mod replies;
 pub mod roles;
 pub mod tokens;
+pub mod types;
 
 // No terminal begins, or the tokens are at their end.
 pub const NONE: u8 = 0;

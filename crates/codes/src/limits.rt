@@ -10,3 +10,6 @@ pub const INTEGER_DIGITS: usize = 19;
 
 // The bits of a binary.
 pub const BITS: usize = 63;
+
+// The brackets that are open at once.
+pub const NESTING: usize = 64;

@@ -8,7 +8,7 @@ use schemas::evaluate_schema;
 use tree::index_at;
 use tree::next_of_kind;
 
-// Each schema in the order of the text, into the part of the answer columns after those of the schemas before it. Its constants are looked for in its
+// Each schema in the order of the text, into the answer columns from the row on where the schema before it ended. Its constants are looked for in its
 // part of the order, or in all of it.
 fn evaluate_schemas(
     src: &[u8],

@@ -1,6 +1,4 @@
 // What constants and types are declared with, seen through renamings: a number for each, in a column with an entry for each node.
-pub mod numbers;
-
 ghost use mathlib.Core.Path.{_≡_};
 ghost use mathlib.Core.Bool.{cond};
 ghost use mathlib.Core.List.{[]};
@@ -13,6 +11,7 @@ ghost use Rattle.express.specs.kinds.DeclaredColumn.{declared-number};
 ghost use Rattle.declared_types.specs.Storing.{table-of, enumeration-number, base-number, type-number};
 ghost use Rattle.declared_types.specs.Storing.{type-items-stored, type-stored, constant-stored, types-stored, constants-stored};
 ghost use Rattle.declared_types.specs.Promise.{Declares};
+use codes::types;
 use columns::index;
 use columns::put32;
 use columns::saturating_sub;
@@ -23,10 +22,10 @@ use tree::at32;
 fn enumeration(node: usize) -> u32
     ensures { λ r. ⌜ r ≡ enumeration-number node ⌝ }
 {
-    if numbers::LAST_NODE < node {
-        return numbers::OTHER;
+    if types::LAST_NODE < node {
+        return types::OTHER;
     }
-    columns::number(node) + numbers::FIRST_ENUMERATION
+    columns::number(node) + types::FIRST_ENUMERATION
 }
 
 // The number of a simple type, by its word.
@@ -34,18 +33,18 @@ fn simple_type(word: u8) -> u32
     ensures { λ r. ⌜ r ≡ declared-number (simple word) ⌝ }
 {
     if word == codes::INTEGER {
-        return numbers::INTEGER;
+        return types::INTEGER;
     }
     if word == codes::BOOLEAN {
-        return numbers::BOOLEAN;
+        return types::BOOLEAN;
     }
     if word == codes::LOGICAL {
-        return numbers::LOGICAL;
+        return types::LOGICAL;
     }
     if word == codes::BINARY {
-        return numbers::BINARY;
+        return types::BINARY;
     }
-    numbers::OTHER
+    types::OTHER
 }
 
 // The number of what a node is or names; those of the types that names are bound to stand in the column.
@@ -66,10 +65,10 @@ fn base(
     }
     let binding = index(at32(bindings, node));
     if binding == 0 {
-        return numbers::OTHER;
+        return types::OTHER;
     }
     if at8(kinds, binding - 1) != codes::nodes::TYPE {
-        return numbers::OTHER;
+        return types::OTHER;
     }
     at32(column, binding - 1)
 }
@@ -110,7 +109,7 @@ fn underlying(
         return enumeration(index(node));
     }
     if !renames(tokens, node, first) {
-        return numbers::OTHER;
+        return types::OTHER;
     }
     base(terminals, kinds, tokens, bindings, column, first)
 }

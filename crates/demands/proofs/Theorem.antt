@@ -16,7 +16,7 @@ use Rattle.express.specs.whole.Reply.{Accepted, Checked, accepted, refused, Rep
 use Rattle.express.proofs.whole.Numbers.{numbered, reply-zero}
 use Rattle.express.proofs.whole.AnswerRow.{row-back}
 use Rattle.express.proofs.theorems.Acceptance.{accepted-iff}
-use Rattle.demands.specs.Checks.{tables-of, zeros, AcceptableIn, answer-in, Checks}
+use Rattle.demands.specs.Checks.{tables-of, zeros, AcceptableIn, row-answer-at, Checks}
 
 -- ---- the row of an answer, from the columns
 
@@ -34,7 +34,7 @@ part-at z f xs n i e =
     ∙ map-at f (map row-of xs) i (row-of indeterminate)
     ∙ ap f (map-at row-of xs i indeterminate)
 
-row-in : (a : Accepted) (l : Tables) (i : ℕ) → answer-in (tables-after (accepted a) l) i ≡ row-answer (row-of (getD (a .answers) i indeterminate))
+row-in : (a : Accepted) (l : Tables) (i : ℕ) → row-answer-at (tables-after (accepted a) l) i ≡ row-answer (row-of (getD (a .answers) i indeterminate))
 row-in a l i =
     rw (
       part-at 0 (λ (r : AnswerRow). r .kind) (a .answers) (length (l .answer-kinds)) i refl,
@@ -67,7 +67,7 @@ module _ (s : List ℕ) (l m : Tables) (r : Report) (reports : r ≡ report (out
   -- ---- the third
 
   exact : (a : Accepted) → AcceptableIn s l a → (i : ℕ) → i < length (constants (a .table)) →
-      Exactly (a .table) (a .bindings) (getD (constants (a .table)) i 0) (answer-in (tables-after (accepted a) l) i)
+      Exactly (a .table) (a .bindings) (getD (constants (a .table)) i 0) (row-answer-at (tables-after (accepted a) l) i)
   exact a p i h =
       let x = p .exact i h in
       rw (row-in a l i, row-back (x .holds)) x

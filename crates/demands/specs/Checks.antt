@@ -52,8 +52,8 @@ AcceptableIn s l a =
     (answer-entries (l .answer-kinds) (l .answer-numbers) (l .answer-lengths)) a
 
 -- K35: the answer that row i of the answer columns stands for
-abbrev pub answer-in : Tables → ℕ → Answer
-answer-in m i = row-answer (row (getD (m .answer-kinds) i 0) (getD (m .answer-numbers) i (pos 0)) (getD (m .answer-lengths) i 0))
+abbrev pub row-answer-at : Tables → ℕ → Answer
+row-answer-at m i = row-answer (row (getD (m .answer-kinds) i 0) (getD (m .answer-numbers) i (pos 0)) (getD (m .answer-lengths) i 0))
 
 pub record Checks (s : List ℕ) (l m : Tables) (r : Report) : Type 0 where
   -- R1 to R9: the report and each of the ten columns are those of the outcome, whatever the bytes and the lengths
@@ -69,5 +69,5 @@ pub record Checks (s : List ℕ) (l m : Tables) (r : Report) : Type 0 where
   pub tree : (a : Accepted) → AcceptableIn s l a → (r ≡ report (accepted a)) × (m ≡ tables-after (accepted a) l)
   -- THE THIRD (R18). There is a row for each constant of an acceptable file
   pub answers : (a : Accepted) → AcceptableIn s l a → r .constants ≡ length (constants (a .table))
-  -- and the rules give a constant the answer in its row and no other (K28), which is `?`, an end or a member of its declared type (K32)
-  pub follows : (a : Accepted) → AcceptableIn s l a → (i : ℕ) → i < r .constants → Exactly (a .table) (a .bindings) (getD (constants (a .table)) i 0) (answer-in m i)
+  -- and the rules give a constant the answer in its row and no other (K28): `?`, a value of its declared type, or an end (K32)
+  pub follows : (a : Accepted) → AcceptableIn s l a → (i : ℕ) → i < r .constants → Exactly (a .table) (a .bindings) (getD (constants (a .table)) i 0) (row-answer-at m i)

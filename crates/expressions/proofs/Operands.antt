@@ -12,7 +12,7 @@ use Rattle.ebnf.specs.Grammar.{leaf, Ebnf, none, step, seq, alt, nt}
 use Rattle.ebnf.specs.Rows.{Rows}
 use Rattle.ebnf.specs.Parse.{Result}
 use Rattle.ebnf.proofs.Sets.{and-split, apart′}
-use Rattle.express.specs.tokens.Terminal.{identifier, dot, rbrace, rparen, SELF}
+use Rattle.express.specs.tokens.Terminal.{identifier, dot, lbrace, rbrace, rparen, SELF}
 use Rattle.express.specs.syntax.Grammar.{Nonterminal, expression, sum, operand, atom, interval, signs, comparisons, _·_, _∣_, tok, named, leaves, row as row-of}
 use Rattle.express.specs.syntax.NodeKind as kind
 use Rattle.express.proofs.syntax.Descent.{phrase}
@@ -199,10 +199,10 @@ module _ {ts : List ℕ} {p n : ℕ} (g : Ready ts p n) (s : Bool) (t : ℕ) (f 
 
 -- ---- intervals
 
-module _ {ts : List ℕ} {p n : ℕ} (g : Ready ts p n) (h : getD ts p 0 ≡ 21) {a b : List ℕ} {r : Read} (low : Reads sum ts (p + 1) n r a b) where
+module _ {ts : List ℕ} {p n : ℕ} (g : Ready ts p n) (h : mem (getD ts p 0) lbrace ≡ true) {a b : List ℕ} {r : Read} (low : Reads sum ts (p + 1) n r a b) where
   pub brace-inside : p < length ts
   unfolding mem
-  brace-inside = inside ts (21 ∷ []) p refl (is-one (getD ts p 0) 21 h)
+  brace-inside = inside ts lbrace p refl h
 
   abbrev operator-sum : Ebnf Nonterminal → Ebnf Nonterminal
   operator-sum e = leaves comparisons kind.interval-operator · nt sum · e
@@ -211,7 +211,7 @@ module _ {ts : List ℕ} {p n : ℕ} (g : Ready ts p n) (h : getD ts p 0 ≡ 21)
   closing = tok rbrace · row-of kind.interval
 
   interval-low : Reading ts (phrase ts interval p) n a (operator-sum (operator-sum closing)) p r b
-  interval-low = phrased low (operator (is-one (getD ts p 0) 21 h) (start interval p (g .within)))
+  interval-low = phrased low (operator h (start interval p (g .within)))
 
   pub low-refused : {k : ℕ} → r ≡ Refused k → Reads interval ts p n r a b
   low-refused e = reads interval (g .within) (refused-found e interval-low)

@@ -4,7 +4,7 @@ ghost use mathlib.Core.Path.{_≡_};
 ghost use Prim.Native.Nat.{_+_, _≤_};
 ghost use lib.ListN.{getD};
 ghost use Rattle.ebnf.specs.Set.{mem};
-ghost use Rattle.express.specs.tokens.Terminal.{identifier, dot};
+ghost use Rattle.express.specs.tokens.Terminal.{identifier, dot, lbrace};
 ghost use Rattle.express.specs.syntax.Grammar.{expression, sum, term, factor, operand, atom, interval, relations, additions, multiplications, signs, comparisons};
 ghost use Rattle.parsing.specs.Reading.{atom-label, Ready, Reads, ReadsAnywhere, Compares, Combines};
 use codes::labels;
@@ -257,7 +257,7 @@ fn atom(terminals: &[u8], rows: &mut [u64], p: usize, n: usize) -> Read
 
 // interval = '{' sum cmp sum cmp sum '}', of which the brace is there
 fn interval(terminals: &[u8], rows: &mut [u64], p: usize, n: usize) -> Read
-    requires { ⌜ (Ready (now terminals) p n) × (getD (now terminals) p 0 ≡ 21) ⌝ }
+    requires { ⌜ (Ready (now terminals) p n) × (mem (getD (now terminals) p 0) lbrace ≡ true) ⌝ }
     ensures { λ r. ⌜ Reads interval (now (terminals .entry)) p n r (now (rows .entry)) (now (rows .exit)) ⌝ }
 {
     let low = sum(terminals, rows, p + 1, n);

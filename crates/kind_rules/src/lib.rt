@@ -8,6 +8,7 @@ ghost use Rattle.express.specs.kinds.Operate.{logicals, integral, truthful, sum
 ghost use Rattle.express.specs.kinds.Kind.{kind-number, of-number, if-fits};
 ghost use Rattle.express.specs.kinds.Kind as Kind;
 ghost use Rattle.kind_rules.specs.Findings.{finding-of, class-of, class-of-sign, applied, leaf-found, KindOfType, Evaluated, Held};
+use codes::types;
 
 // The kinds; that of the items of an enumeration is 5 more than the node of its type.
 pub const UNTYPED: u32 = 0;
@@ -19,11 +20,6 @@ pub const INTEGERS: u32 = 2;
 pub const LOGICALS: u32 = 3;
 
 pub const BINARIES: u32 = 4;
-
-// The declared types, where their number is not that of their kind.
-pub const NOT_EVALUATED: u32 = 0;
-
-pub const BOOLEAN: u32 = 1;
 
 // Operators by what they take and give; `/` is not evaluated.
 pub enum Class {
@@ -163,7 +159,7 @@ pub fn interval(low: u32, item: u32, high: u32) -> Finding
 pub fn kind_of_type(declared: u32) -> u32
     ensures { λ r. ⌜ KindOfType declared r ⌝ }
 {
-    if declared == BOOLEAN {
+    if declared == types::BOOLEAN {
         return LOGICALS;
     }
     declared
@@ -173,7 +169,7 @@ pub fn kind_of_type(declared: u32) -> u32
 pub fn evaluated(declared: u32, k: u32) -> Finding
     ensures { λ r. ⌜ Evaluated declared k r ⌝ }
 {
-    if declared == NOT_EVALUATED {
+    if declared == types::OTHER {
         return Finding::Fault(codes::replies::NOT_EVALUATED);
     }
     Finding::OfKind(k)
@@ -192,11 +188,11 @@ pub fn simple(terminal: u8) -> u32
     ensures { λ r. ⌜ r ≡ declared-number (Declared.simple terminal) ⌝ }
 {
     match terminal {
-        codes::INTEGER => INTEGERS,
-        codes::BOOLEAN => BOOLEAN,
-        codes::LOGICAL => LOGICALS,
-        codes::BINARY => BINARIES,
-        _ => NOT_EVALUATED,
+        codes::INTEGER => types::INTEGER,
+        codes::BOOLEAN => types::BOOLEAN,
+        codes::LOGICAL => types::LOGICAL,
+        codes::BINARY => types::BINARY,
+        _ => types::OTHER,
     }
 }
 

@@ -10,7 +10,7 @@ ghost use Rattle.express.specs.syntax.Tree.{is};
 ghost use Rattle.express.specs.syntax.NodeKind.{constant};
 ghost use Rattle.express.specs.kinds.Bits.{bits};
 ghost use Rattle.express.specs.kinds.AnswerRow.{natural, ranked};
-ghost use Rattle.express.specs.whole.Listing.{decimal, signed, logical-name, bit-digit, name-of, printed, refused-line, accepted-line, answer-line};
+ghost use Rattle.express.specs.whole.Listing.{digit-byte, line-feed, decimal, signed, logical-name, bit-digit, name-of, printed, refused-line, accepted-line, answer-line};
 ghost use Rattle.relations.specs.Select.{first-from};
 ghost use Rattle.lines.specs.Piece.{Puts, Titled};
 ghost use Rattle.lines.specs.Print.{Prints, fitted, table-of, record-answer};
@@ -23,9 +23,9 @@ pub enum Line {
 }
 
 // Ranks of logicals; any other is that of TRUE.
-const FALSE: u64 = 0;
+const FALSE: u64 = codes::answers::FALSE as u64;
 
-const UNKNOWN: u64 = 1;
+const UNKNOWN: u64 = codes::answers::UNKNOWN as u64;
 
 // ---- pieces: each is stored from an index on, as far as it fits, and the index behind it is the answer. A line has
 // three names and some bytes more: its indexes are far from the largest.
@@ -87,7 +87,7 @@ fn put_name(out: &mut [u8], at: usize, text: &[u8], start: usize, length: usize)
 // The digit of a number below 10.
 fn digit(n: u64) -> u8
     requires { ⌜ n < 10 ⌝ }
-    ensures { λ r. ⌜ r ≡ 48 + n ⌝ }
+    ensures { λ r. ⌜ r ≡ digit-byte n ⌝ }
 {
     b'0' + (n as u8)
 }
@@ -290,7 +290,7 @@ fn put_title<'a>(
 // The line feed, and whether all of the line fits.
 fn end_line(out: &mut [u8], at: usize) -> Line
     requires { ⌜ at < 2 ^ 63 ⌝ }
-    ensures { λ r. ⌜ (now (out .exit) ≡ set (now (out .entry)) at 10) × (r ≡ fitted (at + 1) (length (now (out .entry)))) ⌝ }
+    ensures { λ r. ⌜ (now (out .exit) ≡ set (now (out .entry)) at line-feed) × (r ≡ fitted (at + 1) (length (now (out .entry)))) ⌝ }
 {
     let length = put_byte(out, at, b'\n');
     if length <= out.len() {

@@ -2,17 +2,14 @@
 ghost use mathlib.Core.Path.{_≡_};
 ghost use Prim.Native.Nat.{_≤_};
 ghost use Rattle.ebnf.specs.Depth.{opened};
-ghost use Rattle.express.specs.syntax.Syntax.{opening, closing};
-ghost use Rattle.parsing.specs.Outcome.{steps as stepList, deep-or-end, end-of, judged};
+ghost use Rattle.express.specs.syntax.Syntax.{opening, closing, nesting};
+ghost use Rattle.parsing.specs.Outcome.{steps as step-list, deep-or-end, end-of, judged};
 use parsing::Judgement;
 use parsing::Read;
 
-// The limit on brackets open at once.
-const NESTING: usize = 64;
-
 // How many brackets are open after one more token.
 fn nested(steps: &[u8; 256], depth: usize, c: u8) -> usize
-    requires { ⌜ (now steps ≡ stepList) × (depth ≤ 64) ⌝ }
+    requires { ⌜ (now steps ≡ step-list) × (depth ≤ nesting) ⌝ }
     ensures { λ r. ⌜ r ≡ opened opening closing depth c ⌝ }
 {
     columns::saturating_sub(
@@ -35,7 +32,7 @@ pub fn first_deep(terminals: &[u8]) -> usize
     let mut i: usize = 0;
     while i < terminals.len() {
         depth = nested(&steps, depth, terminals[i]);
-        if depth > NESTING {
+        if depth > codes::limits::NESTING {
             return i;
         }
         i += 1;

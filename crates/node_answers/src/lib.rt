@@ -33,9 +33,6 @@ use tree::low;
 use tree::lower;
 use tree::middle;
 
-// The number of the declared type BOOLEAN.
-const BOOLEAN: u32 = 1;
-
 // The answer that is kept in a row, and `?` past the end of the columns.
 pub fn answer_at(kinds: &[u8], numbers: &[i64], lengths: &[u8], i: usize) -> Answer
     ensures { λ r. ⌜ Gives r (answer-at (answers-in (now (kinds .entry)) (now (numbers .entry)) (now (lengths .entry))) i) ⌝ }
@@ -189,7 +186,7 @@ pub fn held_answer(
     ensures { λ r. ⌜ HeldIn declared (now (kinds .entry)) (now (numbers .entry)) (now (lengths .entry)) constant r ⌝ }
 {
     held(
-        declared == BOOLEAN,
+        declared == codes::types::BOOLEAN,
         answer_at(kinds, numbers, lengths, last(constant)),
     )
 }

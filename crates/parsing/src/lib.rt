@@ -5,7 +5,7 @@ ghost use lib.ListN.{getD, set};
 ghost use Rattle.parsing.specs.Reading.{word, Expects, is-place};
 
 // A list that is read has no more terminals than a file has bytes.
-pub const MOST: usize = 65536;
+pub const MOST: usize = codes::limits::BYTES as usize;
 
 // A row's word has its kind and role in 16 bits, then its naming token and its size in 20 bits each.
 pub const TOKEN_UNIT: u64 = 65536;

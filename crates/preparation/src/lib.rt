@@ -80,7 +80,7 @@ fn class(classes: &[u8; 256], kind: u8, role: u32) -> u8
     ensures { λ r. ⌜ r ≡ class-of (sort-by kind role) ⌝ }
 {
     if ROWS <= kind {
-        return 0;
+        return NOTHING;
     }
     let column = columns::shorter(columns::index(role), COLUMNS - 1);
     classes[columns::byte_index(kind) * COLUMNS + column] - b'@'

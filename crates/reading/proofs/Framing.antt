@@ -13,8 +13,8 @@ use Rattle.reading.specs.FileReading.{ReadsWithin}
 
 module _ {s : List ℕ} {before : Stage} {token-kinds starts lengths terminals kinds tokens sizes roles : List ℕ} {r : Stage} {terminals′ kinds′ tokens′ sizes′ roles′ : List ℕ} where
   -- a word for each token
-  pub with-words : (n : ℕ) (words : List ℕ) → n ≤ length words →
-      ReadsNodes s before token-kinds starts lengths terminals words kinds tokens sizes roles r terminals′ kinds′ tokens′ sizes′ roles′ →
+  pub with-words : {words′ : List ℕ} (n : ℕ) (words : List ℕ) → n ≤ length words →
+      ReadsNodes s before token-kinds starts lengths terminals words kinds tokens sizes roles r terminals′ words′ kinds′ tokens′ sizes′ roles′ →
       ReadsWithin n s before token-kinds starts lengths terminals kinds tokens sizes roles r terminals′ kinds′ tokens′ sizes′ roles′
   with-words n words room R =
       record {

@@ -13,7 +13,7 @@ pub const SMALL: usize = 2048;
 
 pub const MIDDLE: usize = 16384;
 
-pub const LARGE: usize = 65536;
+pub const LARGE: usize = codes::limits::BYTES as usize;
 
 // Once tokens and nodes are counted, arrays go by their number: most files have a token for three bytes or more. The largest file is LARGE here too.
 pub const FEW: usize = 512;

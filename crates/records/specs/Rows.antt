@@ -9,7 +9,7 @@ use Rattle.records.specs.declared.Answer.{Answer}
 abbrev pub zeros : Answer
 zeros = record { kind = 0; number = pos 0; length = 0 }
 
--- the rows of a table lent as three columns, which is as long as its shortest column
+-- the rows of a table lent as three columns; the shortest of these says how many
 unfoldable pub rows : List ℕ → List ℤ → List ℕ → List Answer
 rows [] ns ls = []
 rows (k ∷ ks) [] ls = []

@@ -1,5 +1,5 @@
 -- From the tokens of a file to its nodes.
-use mathlib.Core.Path.{_≡_, refl, sym, ap, _∙_}
+use mathlib.Core.Path.{_≡_, refl, sym, ap, subst, _∙_}
 use mathlib.Core.List.{List}
 use Prim.Native.Nat.{ℕ, min, _≤_}
 use native.Mathlib.Omega.{arith}
@@ -20,7 +20,7 @@ use Rattle.parsing.specs.Parsing.{rows-of}
 use Rattle.stages.specs.declared.Stage.{Stage}
 use Rattle.stages.specs.declared.Stage.the-variants.{Done, Refused}
 use Rattle.stages.specs.Line.{then-stage, of-syntax, table-of, token-stage, node-stage}
-use Rattle.stages.specs.Reading.{rows-after, ParsesTokens, TokenColumns, NodeColumns, NodesRead, ReadsNodes}
+use Rattle.stages.specs.Reading.{rows-after, left-after, ParsesTokens, TokenColumns, NodeColumns, NodesRead, ReadsNodes}
 use Rattle.stages.proofs.Bounds.{clash, tokens-few, bytes-few}
 use Rattle.stages.proofs.Straight.{token-done, node-done}
 
@@ -107,8 +107,12 @@ module _ (s : List ℕ) (before : Stage) (token-kinds starts lengths terms scrat
 
   pub nodes-read : terms′ ≡ sets terms 0 (terminals s token-kinds starts lengths) → n ≡ min (length token-kinds) (length terms′) → length terms′ ≡ length terms →
       ParsesTokens before (length s) starts (take n terms′) scratch kinds tokens sizes roles r scratch′ kinds′ tokens′ sizes′ roles′ →
-      ReadsNodes s before token-kinds starts lengths terms scratch kinds tokens sizes roles r terms′ kinds′ tokens′ sizes′ roles′
-  nodes-read e m k P = record { is = λ tr b lent. ends tr b lent before refl }
+      ReadsNodes s before token-kinds starts lengths terms scratch kinds tokens sizes roles r terms′ scratch′ kinds′ tokens′ sizes′ roles′
+  nodes-read e m k P =
+      record {
+        scratch-is = subst (λ (i : ℕ). scratch′ ≡ left-after before (take i terms′) scratch) m (P .scratch-is);
+        is = λ tr b lent. ends tr b lent before refl;
+      }
     where
       ends : (tr : ℕ) → before ≡ token-stage s tr → ((i : ℕ) → before ≡ Done i → TokenColumns s i token-kinds starts lengths terms scratch) → (x : Stage) → before ≡ x →
           NodesRead s tr entries r terms′ kinds′ tokens′ sizes′ roles′

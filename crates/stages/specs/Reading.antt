@@ -1,7 +1,7 @@
 -- The stages up to the node table and the room for answers: what the code of each leaves (replies 1 to 8).
 use mathlib.Core.Path.{_≡_}
 use mathlib.Core.List.{List, [], map}
-use Prim.Native.Nat.{ℕ, _≤_}
+use Prim.Native.Nat.{ℕ, min, _≤_}
 use lib.ListN.{length, take, getD}
 use lib.Seq.{sets}
 use Rattle.ebnf.specs.Rows.{Row}
@@ -52,7 +52,7 @@ Few Long = Unit {0}
 pub record OfParse (starts : List ℕ) (size : ℕ) (p : Parsed) (r : Stage) : Type 0 where
   pub is : size ≤ most → Few p → r ≡ of-parse starts size p
 
--- what is parsed after a refusal: nothing
+-- what is parsed, and what scratch holds then; after a refusal nothing is parsed, and scratch is as it was
 abbrev pub rows-after : Stage → List ℕ → List ℕ → List Row
 rows-after (Done n) ts scratch = rows-to file ts scratch
 rows-after (Refused k p) ts scratch = []
@@ -93,7 +93,8 @@ pub record NodesRead (s : List ℕ) (token-rows node-rows : ℕ) (r : Stage) (te
   pub nodes-are : (n : ℕ) → r ≡ Done n → NodeColumns (table-of s) n kinds tokens sizes roles
 
 pub record ReadsNodes (s : List ℕ) (before : Stage) (token-kinds starts lengths terminals scratch kinds tokens sizes roles : List ℕ) (r : Stage)
-    (terminals′ kinds′ tokens′ sizes′ roles′ : List ℕ) : Type 0 where
+    (terminals′ scratch′ kinds′ tokens′ sizes′ roles′ : List ℕ) : Type 0 where
+  pub scratch-is : scratch′ ≡ left-after before (take (min (length token-kinds) (length terminals′)) terminals′) scratch
   pub is :
       (token-rows : ℕ) → before ≡ token-stage s token-rows → ((n : ℕ) → before ≡ Done n → TokenColumns s n token-kinds starts lengths terminals scratch) →
       NodesRead s token-rows (node-entries kinds tokens sizes roles) r terminals′ kinds′ tokens′ sizes′ roles′

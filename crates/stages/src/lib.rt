@@ -104,7 +104,7 @@ pub fn read_nodes(
 ) -> Stage
     ensures { λ r. ⌜ ReadsNodes (now (src .entry)) before (now («token_kinds» .entry)) (now (starts .entry)) (now (lengths .entry)) (now (terminals .entry))
         (now (scratch .entry)) (now (kinds .entry)) (now (tokens .entry)) (now (sizes .entry)) (now (roles .entry)) r
-        (now (terminals .exit)) (now (kinds .exit)) (now (tokens .exit)) (now (sizes .exit)) (now (roles .exit)) ⌝ }
+        (now (terminals .exit)) (now (scratch .exit)) (now (kinds .exit)) (now (tokens .exit)) (now (sizes .exit)) (now (roles .exit)) ⌝ }
 {
     terminals::terminals(src, token_kinds, starts, lengths, terminals);
     let n = columns::shorter(token_kinds.len(), terminals.len());

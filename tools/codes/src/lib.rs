@@ -16,7 +16,7 @@ const OPEN: [&str; 5] = ["IDENTIFIER", "INTEGER_LITERAL", "REAL_LITERAL", "STRIN
 /// The code of the first terminal of the list.
 pub const FIRST_CODE: usize = OPEN.len() + 1;
 
-const MODULES: [&str; 8] = ["answers", "ends", "labels", "limits", "nodes", "replies", "roles", "tokens"];
+const MODULES: [&str; 9] = ["answers", "ends", "labels", "limits", "nodes", "replies", "roles", "tokens", "types"];
 
 /// Each file that is written, from the top of the repository, and its text.
 pub fn outputs() -> Vec<(&'static str, String)> {

@@ -1,4 +1,4 @@
--- `stages::answer_file` meets its contract: what is typed is evaluated. Assumes nothing.
+-- `answer_stages::answer_file` meets its contract: what is typed is evaluated. Assumes nothing.
 use borrow.Author.Needs.{needs}
 use Rattle.answer_stages.proofs.answer_file.Statement.{statement}
 use Rattle.answer_stages.proofs.answer_file.Tie as tie

@@ -1,4 +1,4 @@
--- `stages::evaluate_file` meets its contract: there is nothing to evaluate after a refusal. Assumes nothing.
+-- `answer_stages::evaluate_file` meets its contract: there is nothing to evaluate after a refusal. Assumes nothing.
 use borrow.Author.Needs.{needs}
 use Rattle.answer_stages.proofs.evaluate_file.Statement.{statement}
 use Rattle.answer_stages.proofs.evaluate_file.Tie as tie

@@ -1,4 +1,4 @@
--- `stages::of_typing` meets its contract: one arm for each answer of a typing. Assumes nothing.
+-- `answer_stages::of_typing` meets its contract: one arm for each answer of a typing. Assumes nothing.
 use borrow.Author.Needs.{needs}
 use Rattle.answer_stages.proofs.of_typing.Statement.{statement}
 use Rattle.answer_stages.proofs.of_typing.Tie as tie

@@ -1,4 +1,4 @@
--- `stages::type_file` meets its contract: what is declared is known to the typing. Assumes nothing.
+-- `answer_stages::type_file` meets its contract: what is declared is known to the typing. Assumes nothing.
 use borrow.Author.Needs.{needs}
 use Rattle.answer_stages.proofs.type_file.Statement.{statement}
 use Rattle.answer_stages.proofs.type_file.Tie as tie

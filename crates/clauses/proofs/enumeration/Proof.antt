@@ -5,6 +5,7 @@ use borrow.Author.Needs.{needs}
 use mathlib.Core.Path.{refl}
 use lib.ListN.{getD}
 use native.Mathlib.Omega.{arith}
+use Rattle.ebnf.proofs.Sets.{mem-one}
 use Rattle.parsing.proofs.Laws.{token-small, rows-few}
 use Rattle.parsing.proofs.Steps.{onward, one-inside, expect-ready}
 use Rattle.clauses.proofs.Laws.{sound-ready}
@@ -23,13 +24,14 @@ enum-told : tie.Need-enum-told
 enum-told c = search needs
 
 returns : tie.Need-returns
-returns c = enumeration-stopped (c .before .before .before .before .before .pre .0) (c .before .before .before .before .before .pre .1) (c .before .before .expect .ensures) (c .enum-told .given .1)
+returns c = enumeration-stopped (c .before .before .before .before .before .pre .0) (mem-one _ _ (c .before .before .before .before .before .pre .1))
+    (c .before .before .expect .ensures) (c .enum-told .given .1)
 
 ids-requires : tie.Need-ids-requires
 ids-requires c κs =
     let l = one-inside (c .before .before .before .before .before .before .before .args .terminals .now) (c .before .before .before .before .before .before .before .args .p)
     (getD (c .before .before .before .before .before .before .before .args .terminals .now) (c .before .before .before .before .before .before .before .args .p) 0) 76 refl
-    (c .before .before .before .before .before .before .before .pre .1) (omega arith) in
+    (mem-one _ _ (c .before .before .before .before .before .before .before .pre .1)) (omega arith) in
     (expect-ready (c .before .before .before .before .expect .ensures) (onward (c .before .before .before .before .before .before .before .pre .0) l) (c .before .before .of .given .1), omega arith)
 
 enum-known-items : tie.Need-enum-known-items
@@ -43,7 +45,7 @@ same-length c = search needs
 
 returns-2 : tie.Need-returns-2
 returns-2 c = enumeration-refused (c .before .before .before .before .before .before .before .before .before .before .before .before .pre .0)
-    (c .before .before .before .before .before .before .before .before .before .before .before .before .pre .1)
+    (mem-one _ _ (c .before .before .before .before .before .before .before .before .before .before .before .before .pre .1))
     (c .before .before .before .before .before .before .before .before .before .expect .ensures) (c .before .before .before .before .before .before .before .of .given .1)
     (c .before .before .before .before .ids .ensures) (c .enum-told2 .given .1)
 
@@ -62,7 +64,7 @@ same-length-2 c = search needs
 
 returns-3 : tie.Need-returns-3
 returns-3 c = enumeration-reads (c .before .before .before .before .before .before .before .before .before .before .before .before .before .before .before .before .before .pre
-    .0) (c .before .before .before .before .before .before .before .before .before .before .before .before .before .before .before .before .before .pre .1)
+    .0) (mem-one _ _ (c .before .before .before .before .before .before .before .before .before .before .before .before .before .before .before .before .before .pre .1))
     (c .before .before .before .before .before .before .before .before .before .before .before .before .before .before .expect .ensures)
     (c .before .before .before .before .before .before .before .before .before .before .before .before .of .given .1)
     (c .before .before .before .before .before .before .before .before .before .ids .ensures) (c .before .before .before .before .before .items .given .1)

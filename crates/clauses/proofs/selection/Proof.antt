@@ -5,6 +5,7 @@ use borrow.Author.Needs.{needs}
 use mathlib.Core.Path.{refl}
 use lib.ListN.{getD}
 use native.Mathlib.Omega.{arith}
+use Rattle.ebnf.proofs.Sets.{mem-one}
 use Rattle.parsing.proofs.Laws.{token-small, rows-few}
 use Rattle.parsing.proofs.Steps.{onward, one-inside}
 use Rattle.clauses.proofs.Laws.{sound-ready}
@@ -16,7 +17,7 @@ add-ids c = omega (arith, token-small (c .before .before .before .pre .0))
 ids-requires : tie.Need-ids-requires
 ids-requires c κs = (
   onward (c .before .before .before .pre .0) (one-inside (c .before .before .before .args .terminals .now) (c .before .before .before .args .p) (getD
-      (c .before .before .before .args .terminals .now) (c .before .before .before .args .p) 0) 126 refl (c .before .before .before .pre .1) (omega arith)),
+      (c .before .before .before .args .terminals .now) (c .before .before .before .args .p) 0) 126 refl (mem-one _ _ (c .before .before .before .pre .1)) (omega arith)),
   omega arith,
 )
 
@@ -31,7 +32,7 @@ same-length c = search needs
 
 returns : tie.Need-returns
 returns c = selection-refused (c .before .before .before .before .before .before .before .before .pre .0)
-    (c .before .before .before .before .before .before .before .before .pre .1) (c .before .before .before .before .ids .ensures) (c .enum-told .given .1)
+    (mem-one _ _ (c .before .before .before .before .before .before .before .before .pre .1)) (c .before .before .before .before .ids .ensures) (c .enum-told .given .1)
 
 put-row-requires : tie.Need-put-row-requires
 put-row-requires c κs = search needs
@@ -48,7 +49,7 @@ same-length-2 c = search needs
 
 returns-2 : tie.Need-returns-2
 returns-2 c = selection-reads (c .before .before .before .before .before .before .before .before .before .before .before .before .before .pre .0)
-    (c .before .before .before .before .before .before .before .before .before .before .before .before .before .pre .1)
+    (mem-one _ _ (c .before .before .before .before .before .before .before .before .before .before .before .before .before .pre .1))
     (c .before .before .before .before .before .before .before .before .before .ids .ensures) (c .before .before .before .before .before .selected .given .1)
     (c .before .before .put-row .ensures)
 

@@ -4,13 +4,14 @@ use Rattle.clauses.proofs.underlying.Tie as tie
 use borrow.Author.Needs.{needs}
 use mathlib.Core.Path.{sym, _∙_}
 use native.Mathlib.Omega.{arith}
+use Rattle.parsing.proofs.Terminals.{is-one}
 use Rattle.clauses.proofs.Clauses.{renamed-reads}
 
 token-requires : tie.Need-token-requires
 token-requires c κs = search needs
 
 enumeration-requires : tie.Need-enumeration-requires
-enumeration-requires c κs = ((c .before .before .before .before .before .pre), sym (c .before .before .token .ensures) ∙ c .before .if1 .taken)
+enumeration-requires c κs = ((c .before .before .before .before .before .pre), is-one _ _ (sym (c .before .before .token .ensures) ∙ c .before .if1 .taken))
 
 same-length : tie.Need-same-length
 same-length c = search needs
@@ -19,7 +20,7 @@ returns : tie.Need-returns
 returns c = c .before .before .enumeration .ensures
 
 selection-requires : tie.Need-selection-requires
-selection-requires c κs = ((c .before .before .before .before .before .before .pre), sym (c .before .before .before .token .ensures) ∙ c .before .if2 .taken)
+selection-requires c κs = ((c .before .before .before .before .before .before .pre), is-one _ _ (sym (c .before .before .before .token .ensures) ∙ c .before .if2 .taken))
 
 same-length-2 : tie.Need-same-length-2
 same-length-2 c = search needs

@@ -1,4 +1,4 @@
--- `schemas::fill` meets its contract: the entries that were passed hold the number. Assumes nothing.
+-- `constant_rows::fill` meets its contract: the entries that were passed hold the number. Assumes nothing.
 use Rattle.constant_rows.proofs.fill.Statement.{statement}
 use Rattle.constant_rows.proofs.fill.Tie as tie
 use borrow.Author.Needs.{needs}

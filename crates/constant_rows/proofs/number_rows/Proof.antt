@@ -1,4 +1,4 @@
--- `schemas::number_rows` meets its contract: up to the next constant all nodes have one row. Assumes nothing.
+-- `constant_rows::number_rows` meets its contract: up to the next constant all nodes have one row. Assumes nothing.
 use Rattle.constant_rows.proofs.number_rows.Statement.{statement}
 use Rattle.constant_rows.proofs.number_rows.Tie as tie
 use borrow.Author.Needs.{needs}

@@ -105,7 +105,7 @@ pub record Common (t : Table) (j k m : Kind) (x y : Answer) : Type 0 where
   pub first : Good t m x
   pub second : Good t m y
 
--- A constant's answer a, from its expression's answer x: x itself where that is `?`, an end or a member, or else 19 for UNKNOWN
+-- A constant's answer a, from its expression's answer x: 19 where x is UNKNOWN and the type BOOLEAN, or else x itself
 pub data Kept (t : Table) (d : Declared) : Answer → Answer → Type 0 where
   itself : {a : Answer} → Holds t d a → Kept t d a a
   unknown : d ≡ BOOLEAN → Kept t d (logical UNKNOWN) (end unknown-boolean)

@@ -316,7 +316,7 @@ module _ (t : Table) (b : List ℕ) (f : Formed t) (v : Literals t) (k : ℕ →
 
 -- ---- the theorem
 
--- what the rules give a constant is `?`, an end or a member of its type
+-- what the rules give a constant is what its type allows (`Holds`)
 clash : {A : Type 0} → _≡_ {A = ℕ} 0 1 → A
 clash z = absurd (omega arith)
 

@@ -108,12 +108,12 @@ abbrev place-of : Reading → ℕ
 place-of (at q) = q
 place-of (refused n o) = 0
 
-abbrev Goes : Reading → Type 0
-Goes (at q) = Unit {0}
-Goes (refused n o) = ⊥
+abbrev IsAt : Reading → Type 0
+IsAt (at q) = Unit {0}
+IsAt (refused n o) = ⊥
 
 refused-at : {n o q : ℕ} → refused n o ≡ at q → ⊥
-refused-at e = subst Goes (sym e) tt
+refused-at e = subst IsAt (sym e) tt
 
 module _ (s : List ℕ) (r : TokenRow) (t : Token s r) where
   -- an integer is within its bound (T10)

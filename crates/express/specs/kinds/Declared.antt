@@ -30,8 +30,8 @@ simple w =
     (cond (eqb w (the word.LOGICAL)) LOGICAL
     (cond (eqb w (the word.BINARY)) BINARY other)))
 
--- `TYPE id '=' base`: the base of a type stands two tokens after its name; the names of a select list stand further on (`renames-is` of
--- proofs/syntax/Renaming)
+-- `TYPE id '=' base`: the base of a type stands two tokens after its name; the names of a select list stand further on (`renames-is` of the crate
+-- `theorems`, proofs/syntax/Renaming)
 abbrev pub renames : Table → ℕ → Bool
 renames t d = eqb (token t (first t d)) (token t d + 2)
 

@@ -25,7 +25,7 @@ pub data Member (t : Table) : Declared → Answer → Type 0 where
   a-binary : {s : List Bool} → 1 ≤ length s → length s ≤ 63 → Member t BINARY (binary s)
   an-item : {m y : ℕ} → kind t m ≡ enumeration-item → owner t m ≡ y → Member t (enumeration y) (item m)
 
--- K32: `?`, one of the ends (R4), or a member of the declared type (K27)
+-- K32: `?`, what belongs to the declared type (K27), or one of the ends (R4)
 pub data Holds (t : Table) (d : Declared) : Answer → Type 0 where
   no-value : Holds t d indeterminate
   an-end : {e : ℕ} → List·Memᴰ e ends → Holds t d (end e)

@@ -107,7 +107,7 @@ rules schema =
 rules constants = tok CONSTANT · nt constant · star (nt constant) · tok END-CONSTANT · tok semicolon
 -- G6, 184 constant_body
 rules constant = named identifier · tok colon · nt base · tok becomes · nt expression · tok semicolon · row kind.constant
--- G7, 171 base_type: a simple type or a named one
+-- G7, 171 base_type: a simple type, or the name of a type
 rules base = leaves simple-types kind.simple-type ∣ name kind.type-name
 -- G8, 304 type_decl
 rules type-declaration =

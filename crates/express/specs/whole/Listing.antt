@@ -14,10 +14,14 @@ use Rattle.express.specs.syntax.Tree.{Table, token, schema-of}
 use Rattle.express.specs.kinds.Kind.{constants}
 use Rattle.express.specs.whole.Reply.{Accepted, Checked, accepted, refused, checked}
 
+-- the byte of a digit
+abbrev pub digit-byte : ℕ → ℕ
+digit-byte n = 48 + n
+
 -- the decimal digits of a number, before the digits ds; each turn takes one, so as many turns as the number and one more are enough
 unfoldable pub digits : ℕ → ℕ → List ℕ → List ℕ
 digits zero n ds = ds
-digits (suc f) n ds = let more = digits f (n / 10) ((48 + n % 10) ∷ ds) in cond (ltb n 10) ((48 + n) ∷ ds) more
+digits (suc f) n ds = let more = digits f (n / 10) (digit-byte (n % 10) ∷ ds) in cond (ltb n 10) (digit-byte n ∷ ds) more
 
 -- 20 digits hold every number that is printed: magnitudes are at most 2 ^ 63
 abbrev pub decimal : ℕ → List ℕ
@@ -50,8 +54,11 @@ printed t (binary s) = bytes "%" ++ map bit-digit s
 printed t (item m) = name-of t m
 printed t (end e) = bytes "end " ++ decimal e
 
+abbrev pub line-feed : ℕ
+line-feed = 10
+
 abbrev pub line : List ℕ → List ℕ
-line s = s ++ (10 ∷ [])
+line s = s ++ (line-feed ∷ [])
 
 -- schema.constant = answer, for a constant c
 abbrev pub answer-line : Table → ℕ → Answer → List ℕ

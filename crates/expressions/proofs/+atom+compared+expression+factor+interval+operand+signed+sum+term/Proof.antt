@@ -59,7 +59,8 @@ use Rattle.express.specs.syntax.Grammar.{expression as expression′, sum as su
 use Rattle.express.proofs.syntax.Syntax.{express}
 use Rattle.expressions.proofs.Operators.{Before, before-first, again, combinable, often-refused, often-ends}
 use Rattle.expressions.proofs.Operators.{often-again, turned-refused, turned-both, turned-alone, turned-again, once-refused, once-alone, once-ready, once-stopped, once-both}
-use Rattle.parsing.proofs.Terminals.{seen, seen-one, seen-other}
+use Rattle.ebnf.proofs.Sets.{mem-one}
+use Rattle.parsing.proofs.Terminals.{is-one, seen, seen-one, seen-other}
 use Rattle.parsing.proofs.Steps.{onward, onward-row, one-inside}
 use Rattle.parsing.proofs.Laws.{reads-at, compares-at, ready-of, rows-few, token-small}
 use Rattle.expressions.proofs.Operands.{atom-nested, atom-refused, atom-row, atom-none, operand-interval, sign-ready, sign-count, signed-refused, signed-row, operand-plain}
@@ -567,7 +568,7 @@ interval-add-sum t c = omega (arith, token-small (c .before .before .before .pre
 interval-sum-requires : (t : ℕ) → interval-lts.Need-sum-requires (interval-calls t) (interval-at t) interval.Post
 interval-sum-requires t c κs =
     let l = one-inside (c .before .before .before .args .terminals .now) (c .before .before .before .args .p) (getD (c .before .before .before .args .terminals .now)
-    (c .before .before .before .args .p) 0) 21 refl (c .before .before .before .pre .1 .1) (omega arith) in
+    (c .before .before .before .args .p) 0) 21 refl (mem-one _ _ (c .before .before .before .pre .1 .1)) (omega arith) in
     (omega (arith, c .before .before .before .pre .0, l), onward (c .before .before .before .pre .1 .0) l)
 
 interval-enum-known-low : (t : ℕ) → interval-lts.Need-enum-known-low (interval-calls t) (interval-at t) interval.Post
@@ -735,7 +736,7 @@ operand-returns t c = c .before .before .qualified .ensures
 operand-interval-requires : (t : ℕ) → operand-lts.Need-interval-requires (operand-calls t) (operand-at t) operand.Post
 operand-interval-requires t c κs = (
   omega (arith, c .before .before .before .before .before .before .before .pre .0),
-  (c .before .before .before .before .before .before .before .pre .1, sym (c .before .before .before .before .token .ensures) ∙ c .before .if2 .taken),
+  (c .before .before .before .before .before .before .before .pre .1, is-one _ _ (sym (c .before .before .before .before .token .ensures) ∙ c .before .if2 .taken)),
 )
 
 operand-same-length-2 : (t : ℕ) → operand-lts.Need-same-length-2 (operand-calls t) (operand-at t) operand.Post

@@ -6,13 +6,14 @@ use mathlib.Core.Path.{_≡_, refl, sym, _∙_}
 use lib.ListN.{length}
 use Rattle.ebnf.specs.Set.{mem}
 use Rattle.columns.specs.Column.{tabulated}
-use Rattle.parsing.specs.Outcome.{steps as stepList, deep-or-end}
+use Rattle.express.specs.syntax.Syntax.{nesting}
+use Rattle.parsing.specs.Outcome.{steps as step-list, deep-or-end}
 use Rattle.parsing.proofs.Limit.{deep-from, deep-start, deep-here, deep-on, deep-end}
 use native.Mathlib.Omega.{arith}
 use borrow.Author.Needs.{needs}
 
 abbrev Inv-loop : tie.InvT-loop
-Inv-loop terminals steps depth₀ i₀ depth i = (steps ≡ stepList) × (i ≤ length terminals) × (depth ≤ 64) × (deep-from terminals i depth ≡ deep-or-end terminals)
+Inv-loop terminals steps depth₀ i₀ depth i = (steps ≡ step-list) × (i ≤ length terminals) × (depth ≤ nesting) × (deep-from terminals i depth ≡ deep-or-end terminals)
 
 abbrev μ-loop : tie.MeasureT-loop
 μ-loop terminals steps depth₀ i₀ depth i = length terminals - i

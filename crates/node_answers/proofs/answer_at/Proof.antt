@@ -1,4 +1,4 @@
--- `evaluate::answer_at` meets its contract: a row of all three columns, or none. Assumes nothing.
+-- `node_answers::answer_at` meets its contract: a row of all three columns, or none. Assumes nothing.
 use borrow.Author.Needs.{needs}
 use Rattle.node_answers.proofs.answer_at.Statement.{statement}
 use Rattle.node_answers.proofs.answer_at.Tie as tie

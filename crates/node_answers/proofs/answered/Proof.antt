@@ -1,4 +1,4 @@
--- `evaluate::answered` meets its contract: by the kind of the node. Assumes nothing.
+-- `node_answers::answered` meets its contract: by the kind of the node. Assumes nothing.
 use borrow.Author.Needs.{needs}
 use Rattle.node_answers.proofs.answered.Statement.{statement}
 use Rattle.node_answers.proofs.answered.Tie as tie

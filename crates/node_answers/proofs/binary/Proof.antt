@@ -1,4 +1,4 @@
--- `evaluate::binary` meets its contract: as many bits as there are bytes after the first. Assumes nothing.
+-- `node_answers::binary` meets its contract: as many bits as there are bytes after the first. Assumes nothing.
 use borrow.Author.Needs.{needs}
 use Rattle.node_answers.proofs.binary.Statement.{statement}
 use Rattle.node_answers.proofs.binary.Tie as tie

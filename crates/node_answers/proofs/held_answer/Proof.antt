@@ -1,4 +1,4 @@
--- `evaluate::held_answer` meets its contract: the answer of the expression, as a constant holds it. Assumes nothing.
+-- `node_answers::held_answer` meets its contract: the answer of the expression, as a constant holds it. Assumes nothing.
 use borrow.Author.Needs.{needs}
 use Rattle.node_answers.proofs.held_answer.Statement.{statement}
 use Rattle.node_answers.proofs.held_answer.Tie as tie

@@ -1,4 +1,4 @@
--- `evaluate::integer` meets its contract: the value as far as it fits. Assumes nothing.
+-- `node_answers::integer` meets its contract: the value as far as it fits. Assumes nothing.
 use borrow.Author.Needs.{needs}
 use Rattle.node_answers.proofs.integer.Statement.{statement}
 use Rattle.node_answers.proofs.integer.Tie as tie

@@ -1,4 +1,4 @@
--- `evaluate::interval` meets its contract: the answers of its children. Assumes nothing.
+-- `node_answers::interval` meets its contract: the answers of its children. Assumes nothing.
 use borrow.Author.Needs.{needs}
 use Rattle.node_answers.proofs.interval.Statement.{statement}
 use Rattle.node_answers.proofs.interval.Tie as tie

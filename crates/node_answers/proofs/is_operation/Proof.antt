@@ -1,4 +1,4 @@
--- `evaluate::is_operation` meets its contract: test by test. Assumes nothing.
+-- `node_answers::is_operation` meets its contract: test by test. Assumes nothing.
 use Rattle.node_answers.proofs.is_operation.Statement.{statement}
 use Rattle.node_answers.proofs.is_operation.Tie as tie
 use borrow.Author.Tests.{ne-eqb}

@@ -1,4 +1,4 @@
--- `evaluate::leaf` meets its contract: a literal, or none. Assumes nothing.
+-- `node_answers::leaf` meets its contract: a literal, or none. Assumes nothing.
 use borrow.Author.Needs.{needs}
 use Rattle.node_answers.proofs.leaf.Statement.{statement}
 use Rattle.node_answers.proofs.leaf.Tie as tie

@@ -1,4 +1,4 @@
--- `evaluate::operation` meets its contract: each test is the shape of a node. Assumes nothing.
+-- `node_answers::operation` meets its contract: each test is the shape of a node. Assumes nothing.
 use borrow.Author.Needs.{needs}
 use Rattle.node_answers.proofs.operation.Statement.{statement}
 use Rattle.node_answers.proofs.operation.Tie as tie

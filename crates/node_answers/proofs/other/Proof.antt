@@ -1,4 +1,4 @@
--- `evaluate::other` meets its contract: a constant, or a leaf. Assumes nothing.
+-- `node_answers::other` meets its contract: a constant, or a leaf. Assumes nothing.
 use mathlib.Core.Path.{refl}
 use native.Mathlib.Omega.{arith}
 use borrow.Author.Needs.{needs}

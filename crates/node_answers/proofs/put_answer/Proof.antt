@@ -1,4 +1,4 @@
--- `evaluate::put_answer` meets its contract: a store in each column. Assumes nothing.
+-- `node_answers::put_answer` meets its contract: a store in each column. Assumes nothing.
 use borrow.Author.Needs.{needs}
 use Rattle.node_answers.proofs.put_answer.Statement.{statement}
 use Rattle.node_answers.proofs.put_answer.Tie as tie

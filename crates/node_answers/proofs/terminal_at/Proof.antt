@@ -1,4 +1,4 @@
--- `evaluate::terminal_at` meets its contract: what its calls say. Assumes nothing.
+-- `node_answers::terminal_at` meets its contract: what its calls say. Assumes nothing.
 use borrow.Author.Needs.{needs}
 use Rattle.node_answers.proofs.terminal_at.Statement.{statement}
 use Rattle.node_answers.proofs.terminal_at.Tie as tie

@@ -1,4 +1,4 @@
--- `evaluate::two_operands` meets its contract: an operator, or none. Assumes nothing.
+-- `node_answers::two_operands` meets its contract: an operator, or none. Assumes nothing.
 use borrow.Author.Needs.{needs}
 use Rattle.node_answers.proofs.two_operands.Statement.{statement}
 use Rattle.node_answers.proofs.two_operands.Tie as tie

@@ -1,4 +1,4 @@
--- `schemas::parts::first_behind` meets its contract: the first from a place on is the first from the start on. Assumes nothing.
+-- `constant_rows::parts::first_behind` meets its contract: the first from a place on is the first from the start on. Assumes nothing.
 use Rattle.constant_rows.proofs.parts.first_behind.Statement.{statement}
 use Rattle.constant_rows.proofs.parts.first_behind.Tie as tie
 use borrow.Author.Needs.{needs}

@@ -1,4 +1,4 @@
--- `schemas::parts::has_parts` meets its contract: by the next schema, then by the order. Assumes nothing.
+-- `constant_rows::parts::has_parts` meets its contract: by the next schema, then by the order. Assumes nothing.
 use borrow.Author.Needs.{needs}
 use Rattle.constant_rows.proofs.parts.has_parts.Statement.{statement}
 use Rattle.constant_rows.proofs.parts.has_parts.Tie as tie

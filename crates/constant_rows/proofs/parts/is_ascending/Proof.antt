@@ -1,4 +1,4 @@
--- `schemas::parts::is_ascending` meets its contract: what is left of the order decides. Assumes nothing.
+-- `constant_rows::parts::is_ascending` meets its contract: what is left of the order decides. Assumes nothing.
 use Rattle.constant_rows.proofs.parts.is_ascending.Statement.{statement}
 use Rattle.constant_rows.proofs.parts.is_ascending.Tie as tie
 use lib.ListN.{length}

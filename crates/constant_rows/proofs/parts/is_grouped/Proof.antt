@@ -1,4 +1,4 @@
--- `schemas::parts::is_grouped` meets its contract: schema after schema. Assumes nothing.
+-- `constant_rows::parts::is_grouped` meets its contract: schema after schema. Assumes nothing.
 use Rattle.constant_rows.proofs.parts.is_grouped.Statement.{statement}
 use Rattle.constant_rows.proofs.parts.is_grouped.Tie as tie
 use borrow.Author.Needs.{needs}

@@ -1,4 +1,4 @@
--- `schemas::parts::next_part` meets its contract, with parts and without. Assumes nothing.
+-- `constant_rows::parts::next_part` meets its contract, with parts and without. Assumes nothing.
 use borrow.Author.Needs.{needs}
 use Rattle.constant_rows.proofs.parts.next_part.Statement.{statement}
 use Rattle.constant_rows.proofs.parts.next_part.Tie as tie

@@ -1,4 +1,4 @@
--- `evaluate::operators::bound` meets its contract: test by test. Assumes nothing.
+-- `node_answers::operators::bound` meets its contract: test by test. Assumes nothing.
 use Rattle.node_answers.proofs.operators.bound.Statement.{statement}
 use Rattle.node_answers.proofs.operators.bound.Tie as tie
 use borrow.Author.Tests.{ne-eqb}

@@ -1,4 +1,4 @@
--- `evaluate::operators::logical` meets its contract: test by test. Assumes nothing.
+-- `node_answers::operators::logical` meets its contract: test by test. Assumes nothing.
 use Rattle.node_answers.proofs.operators.logical.Statement.{statement}
 use Rattle.node_answers.proofs.operators.logical.Tie as tie
 use borrow.Author.Tests.{ne-eqb}

@@ -1,4 +1,4 @@
--- `evaluate::operators::operator` meets its contract: arm by arm, and none of them. Assumes nothing.
+-- `node_answers::operators::operator` meets its contract: arm by arm, and none of them. Assumes nothing.
 use Rattle.node_answers.proofs.operators.operator.Statement.{statement}
 use Rattle.node_answers.proofs.operators.operator.Tie as tie
 use borrow.Author.Tests.{ne-eqb}

@@ -1,4 +1,4 @@
--- `evaluate::operators::sign` meets its contract: test by test. Assumes nothing.
+-- `node_answers::operators::sign` meets its contract: test by test. Assumes nothing.
 use Rattle.node_answers.proofs.operators.sign.Statement.{statement}
 use Rattle.node_answers.proofs.operators.sign.Tie as tie
 use borrow.Author.Tests.{ne-eqb}

@@ -1,4 +1,4 @@
--- `exports::naming::woffulent_resolve` meets its contract: it hands on the resolution in numbers. Assumes nothing.
+-- `test_exports::naming::woffulent_resolve` meets its contract: it hands on the resolution in numbers. Assumes nothing.
 use borrow.Author.Needs.{needs}
 use Rattle.test_exports.proofs.naming.woffulent_resolve.Statement.{statement}
 use Rattle.test_exports.proofs.naming.woffulent_resolve.Tie as tie
