@@ -2,7 +2,7 @@
 use mathlib.Core.Path.{_≡_, refl, sym, ap, ap₂, _∙_}
 use mathlib.Core.Logic.{_⊎_, inl, inr, by-cases}
 use mathlib.Core.Bool.{Bool, true, false, cond}
-use mathlib.Core.List.{List, []}
+use mathlib.Core.List.{List, [], append-nil}
 use Prim.Native.Nat.{ℕ, _+_, _-_, _≤_, _<_, min}
 use native.Mathlib.Omega.{arith}
 use native.Mathlib.Decide.{ℕ-discrete}
@@ -19,16 +19,17 @@ use Rattle.graph.specs.Mark.{Searchable, Stamps, Searches}
 use Rattle.scopes.specs.Range.{vertex-count, node-of, range-start, DeclarationAt}
 use Rattle.scopes.specs.declared.Extent.{Extent}
 use Rattle.scopes.proofs.Ranges.{node-declares, range-next, range-rises, range-owner, range-end}
-use Rattle.symbol_tables.specs.Entry.{code, stamp-of, stamp-count, says}
+use Rattle.symbol_tables.specs.Entry.{code, code-count, stamp-of, stamp-count, says}
 use Rattle.symbol_tables.specs.Table.{Tabulated, OnlyStamped}
 use Rattle.symbol_tables.proofs.Tables.{untouched}
 use Rattle.symbol_tables.proofs.Symbols.{symbol-within}
 use Rattle.inheritance.specs.Inheritance.{asks, inherited-code, ColumnsOf, Inheriting, InheritanceRoom, Inherits}
-use Rattle.inheritance.specs.Steps.{TypeGraph, asks-by, inherits-by, queued-attributes, Queued, CollectsQueued, Stores, Done, InheritsIn}
+use Rattle.inheritance.specs.Steps.{TypeGraph, asks-by, inherits-by, Offsets, StoresOffsets, Puts, queued-attributes, Queued, CollectsQueued, Stores, Done, InheritsIn}
 use Rattle.inheritance.proofs.Asking.{declaration-silent}
 use Rattle.inheritance.proofs.TypeGraphs.{type-graph}
 use Rattle.inheritance.proofs.Reaching.{inherits-nothing}
 use Rattle.inheritance.proofs.Queues.{listed-known, listed-inherited}
+use Rattle.inheritance.proofs.Collecting.{offsets-kept}
 
 -- where a node stands: before a range, in it, at its declaration, or behind it
 data Standing (t : Table) (v n : ℕ) : Type 0 where
@@ -75,11 +76,12 @@ module _ {kinds tokens roles symbols entry-keys entry-nodes first to : List ℕ}
   graph-is = type-graph (I .read) (I .right) (I .graph)
 
   -- all vertices are to come
-  done-starts : {was table mark : List ℕ} → ((k : ℕ) → getD table k 0 ≡ 0) → ((k : ℕ) → getD mark k 0 ≡ 0)
+  done-starts : {was table mark : List ℕ} → Offsets t table → ((k : ℕ) → getD table k 0 < code-count) → ((k : ℕ) → getD mark k 0 ≡ 0)
       → ((n : ℕ) → n < count t → asks t n ≡ true → getD was n 0 ≡ 0) → Done t was (vertex-count t) table mark was
-  done-starts {was} {table} y z empty =
+  done-starts {was} {table} O y z empty =
       record {
-        unused = λ k s a b e. let q : stamp-of (getD table k 0) ≡ 0 = ap stamp-of (y k) in omega arith;
+        offsets = O;
+        unused = λ k s a b e. omega (arith, y k, e);
         fresh = λ k s a b e. omega (arith, z k);
         stored =
             λ n l f.
@@ -102,6 +104,7 @@ module _ {kinds tokens roles symbols entry-keys entry-nodes first to : List ℕ}
     done-skip : inherits-by kinds first (node-of t v) v ≡ false → Done t was v table mark bound
     done-skip e =
         record {
+          offsets = D .offsets;
           unused = λ k s a b. D .unused k s a (omega arith);
           fresh = λ k s a b. D .fresh k s a (omega arith);
           stored = λ n ln f. by n ln f (standing t v n f);
@@ -125,7 +128,7 @@ module _ {kinds tokens roles symbols entry-keys entry-nodes first to : List ℕ}
     -- an entity with supertypes
     module _ (bound-long : length bound ≡ length was) {stamp r : ℕ} {table′ mark′ queue′ bound′ : List ℕ} (table-long : length table′ ≡ length table)
         (e : inherits-by kinds first (node-of t v) v ≡ true) (st : stamp ≡ v + 1) (S : Searches first to v stamp mark queue mark′ queue′ r)
-        (Q : CollectsQueued kinds tokens symbols entry-keys entry-nodes queue′ r stamp table table′)
+        (Q : CollectsQueued kinds entry-keys entry-nodes queue′ r (length first) stamp table table′)
         (W : Stores kinds tokens roles symbols table′ stamp (range-start t v) (node-of t v) bound bound′) where
       an-entity : kind t (node-of t v) ≡ entity
       an-entity =
@@ -146,23 +149,30 @@ module _ {kinds tokens roles symbols entry-keys entry-nodes first to : List ℕ}
       few : stamp < stamp-count
       few = omega (arith, R .stamps)
 
-      queued : Queued t kinds tokens symbols entry-keys entry-nodes queue′ r
+      queued : Queued t kinds entry-keys entry-nodes queue′ r (length first) table
       queued =
           record {
             kinds-are = C .kinds-are;
-            tokens-are = C .tokens-are;
-            symbols-are = C .symbols-are;
+            scanned = I .scanned;
             heads = I .entry-heads;
             next = I .entry-next;
             prepared = I .prepared;
             known = listed-known graph-is (I .read) (I .right) v l an-entity (S .lists searchable);
+            room = R .table-room;
+            so-many = I .graph .long;
+            stand = D .offsets;
           }
 
+      puts : Puts (symbol t) (length (t .symbols)) stamp (queued-attributes t queue′ r) table table′
+      puts = Q .is t queued few
+
       only : OnlyStamped stamp table table′
-      only = Q .only t queued few
+      only = puts .only
 
       tabulated : Tabulated (symbol t) table′ stamp (queued-attributes t queue′ r)
-      tabulated = Q .is t queued few (untouched (λ s q. D .unused s (v + 1) (omega arith) (omega arith) (q ∙ st)))
+      tabulated =
+          let e = append-nil (queued-attributes t queue′ r) in
+          rw e at (puts .is [] (untouched (λ s q. D .unused s (v + 1) (omega arith) (omega arith) (q ∙ st))))
 
       says-inherited : (n : ℕ) → n < count t → says table′ stamp (symbol t n) ≡ code (meaning (inherited t (node-of t v) (symbol t n)))
       says-inherited n ln =
@@ -172,6 +182,7 @@ module _ {kinds tokens roles symbols entry-keys entry-nodes first to : List ℕ}
       done-more : Done t was v table′ mark′ bound′
       done-more =
           record {
+            offsets = offsets-kept (R .table-room) table-long (puts .behind) (D .offsets);
             unused =
                 λ k s a b q.
                 by-cases (ℕ-discrete (stamp-of (getD table′ k 0)) stamp) (λ z. omega arith)
@@ -210,7 +221,7 @@ module _ {kinds tokens roles symbols entry-keys entry-nodes first to table mark 
       }
 
   pub inherits-in-more : {stamp r : ℕ} {table′ mark′ queue′ bound′ : List ℕ} → inherits-by kinds first (d .node) v ≡ true → (v + 1 < 4294967296 → stamp ≡ v + 1)
-      → Searches first to v stamp mark queue mark′ queue′ r → CollectsQueued kinds tokens symbols entry-keys entry-nodes queue′ r stamp table table′
+      → Searches first to v stamp mark queue mark′ queue′ r → CollectsQueued kinds entry-keys entry-nodes queue′ r (length first) stamp table table′
       → length table′ ≡ length table → Stores kinds tokens roles symbols table′ stamp (d .from) (d .node) bound bound′
       → InheritsIn kinds tokens roles symbols entry-keys entry-nodes first to v table mark queue bound table′ mark′ bound′
   inherits-in-more {stamp} {r} {table′} {mark′} {queue′} {bound′} e st S Q q W =
@@ -246,16 +257,22 @@ same-room a b c R =
     }
 
 module _ {kinds tokens roles symbols entry-keys entry-nodes first to queue₁ bound₁ : List ℕ} where
-  pub doing-starts : {table mark : List ℕ} {v : ℕ} → v ≡ length first - 1 → ((k : ℕ) → getD table k 0 ≡ 0) → ((k : ℕ) → getD mark k 0 ≡ 0)
-      → Doing kinds tokens roles symbols entry-keys entry-nodes first to table mark queue₁ bound₁ table mark queue₁ bound₁ v
-  doing-starts {table} {mark} {v} e y z =
+  pub doing-starts : {table₀ table mark : List ℕ} {v : ℕ} → v ≡ length first - 1 → StoresOffsets entry-nodes (length first) table₀ table → length table ≡ length table₀
+      → ((k : ℕ) → getD mark k 0 ≡ 0) → Doing kinds tokens roles symbols entry-keys entry-nodes first to table mark queue₁ bound₁ table mark queue₁ bound₁ v
+  doing-starts {table₀} {table} {mark} {v} e O y z =
       record {
         within = omega arith;
         table-long = refl;
         mark-long = refl;
         queue-long = refl;
         bound-long = refl;
-        is = λ t C I R. let n : v ≡ vertex-count t = omega (arith, I .graph .long) in rw n (done-starts C I y z (R .empty));
+        is =
+            λ t C I R.
+            let n : v ≡ vertex-count t = omega (arith, I .graph .long) in
+            let P = I .prepared in
+            rw n
+            (done-starts C I (O .is t entry-keys (I .entry-heads) (I .entry-next) P (I .graph .long) (omega (arith, R .table-room, I .graph .long)))
+            (O .small t entry-keys (I .entry-heads) (I .entry-next) P (I .graph .long)) z (R .empty));
       }
 
   module _ {table₁ mark₁ table mark queue bound : List ℕ} {v : ℕ} (s : Doing kinds tokens roles symbols entry-keys entry-nodes first to table₁ mark₁ queue₁ bound₁ table mark queue bound v) where
@@ -289,16 +306,20 @@ module _ {kinds tokens roles symbols entry-keys entry-nodes first to queue₁ bo
         }
 
 -- ---- the parts that `inherit_all` lends
-pub inherits-in-parts : {kinds tokens roles symbols entry-keys entry-nodes first to table mark queue bound bound′ : List ℕ} {n m : ℕ} → n ≡ min (length symbols) (length table)
-    → m ≡ min (length first) (length mark) → Inherits kinds tokens roles symbols entry-keys entry-nodes first to (take n table) (take m mark) queue bound bound′
+pub inherits-in-parts : {kinds tokens roles symbols entry-keys entry-nodes first to table mark queue bound bound′ : List ℕ} {n r k m : ℕ} → n ≡ min (length symbols) (length table)
+    → r ≡ length table - n → k ≡ min (length first) r → m ≡ min (length first) (length mark)
+    → Inherits kinds tokens roles symbols entry-keys entry-nodes first to (take (n + k) table) (take m mark) queue bound bound′
     → Inherits kinds tokens roles symbols entry-keys entry-nodes first to table mark queue bound bound′
-inherits-in-parts {symbols = symbols} {first = first} {table = table} {mark = mark} {n = n} {m = m} a b i =
+inherits-in-parts {symbols = symbols} {first = first} {table = table} {mark = mark} {n = n} {r = r} {k = k} {m = m} a b c d i =
     record {
       is =
           λ t C I R.
+          let e = ap length (C .symbols-are) in
+          let named : n ≡ length (t .symbols) = omega (arith, a, R .table-room) in
+          let behind : k ≡ length first = omega (arith, b, c, R .table-room, I .graph .long) in
           i .is t C I
           (record {
-            table-room = let e = ap length (C .symbols-are) in omega (arith, R .table-room, length-take n table);
+            table-room = omega (arith, R .table-room, length-take (n + k) table, I .graph .long);
             stamps = R .stamps;
             mark-room = omega (arith, R .mark-room, length-take m mark, I .graph .long);
             queue-room = R .queue-room;
