@@ -130,14 +130,22 @@ pub record Stores (kinds tokens roles symbols table : List ℕ) (stamp lo hi : �
 
 -- ---- vertex by vertex, from the last to the first
 
--- Done from a vertex on: its nodes and those behind them have what they inherit, and no mark, and no entry of the table, has a stamp that comes later; the
--- offsets stand.
+-- `inheriting`: from a number on no declaration inherits
+pub record NoneInherits (kinds nodes first : List ℕ) (r : ℕ) : Type 0 where
+  pub upto : r ≤ length first - 1
+  pub none : (v : ℕ) → r ≤ v → v < length first - 1 → inherits-by kinds first (getD nodes v 0) v ≡ false
+
+-- the nodes of a vertex and those behind them have what they inherit, and those before are as they were
+pub record StoredFrom (t : Table) (was : List ℕ) (v : ℕ) (bound : List ℕ) : Type 0 where
+  pub stored : (n : ℕ) → n < count t → range-start t v ≤ n → getD bound n 0 ≡ cond (asks t n) (inherited-code t n) (getD was n 0)
+  pub before : (n : ℕ) → n < range-start t v → getD bound n 0 ≡ getD was n 0
+
+-- Done from a vertex on: what is inherited is stored, the offsets stand, and no mark, and no entry of the table, has a stamp that comes later.
 pub record Done (t : Table) (was : List ℕ) (v : ℕ) (table mark bound : List ℕ) : Type 0 where
   pub offsets : Offsets t table
   pub unused : (k s : ℕ) → 0 < s → s ≤ v → stamp-of (getD table k 0) ≡ s → ⊥
   pub fresh : (k s : ℕ) → 0 < s → s ≤ v → getD mark k 0 ≡ s → ⊥
-  pub stored : (n : ℕ) → n < count t → range-start t v ≤ n → getD bound n 0 ≡ cond (asks t n) (inherited-code t n) (getD was n 0)
-  pub before : (n : ℕ) → n < range-start t v → getD bound n 0 ≡ getD was n 0
+  pub from : StoredFrom t was v bound
 
 -- one vertex more
 pub record InheritsIn (kinds tokens roles symbols entry-keys entry-nodes first to : List ℕ) (v : ℕ) (table mark queue bound table′ mark′ bound′ : List ℕ) : Type 0 where

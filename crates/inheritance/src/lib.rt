@@ -10,7 +10,7 @@ ghost use Rattle.scopes.specs.Entries.{radix};
 ghost use Rattle.symbol_tables.specs.Table.{symbol-in};
 ghost use Rattle.inheritance.specs.Inheritance.{Inherits};
 ghost use Rattle.inheritance.specs.Steps.{start-in, Back, StoresOffsets, attribute-kind, CollectsEntries, CollectsQueued};
-ghost use Rattle.inheritance.specs.Steps.{asks-by, Stores, inherits-by, InheritsIn};
+ghost use Rattle.inheritance.specs.Steps.{asks-by, Stores, inherits-by, NoneInherits, InheritsIn};
 use columns::index;
 use columns::number;
 use columns::put32;
@@ -248,7 +248,21 @@ fn inherit_in(
     }
 }
 
-// All declarations, from the last to the first; before that the table gets its offsets, and all marks are cleared.
+// The number behind the last declaration that inherits; 0 where none does.
+fn inheriting(kinds: &[u8], entry_nodes: &[u32], first: &[u32]) -> usize
+    ensures { λ r. ⌜ NoneInherits (now (kinds .entry)) (now («entry_nodes» .entry)) (now (first .entry)) r ⌝ }
+{
+    let mut v = saturating_sub(first.len(), 1);
+    while 0 < v {
+        if inherits(kinds, first, index(at(entry_nodes, v - 1)), v - 1) {
+            return v;
+        }
+        v -= 1;
+    }
+    v
+}
+
+// All declarations, from the last that inherits to the first. Where one does, the table gets its offsets before that, and all marks are cleared.
 fn inherit_declarations(
     kinds: &[u8],
     tokens: &[u32],
@@ -267,9 +281,12 @@ fn inherit_declarations(
         (now («entry_nodes» .entry)) (now (first .entry)) (now (to .entry)) (now (table .entry)) (now (mark .entry)) (now (queue .entry)) (now (bound .entry))
         (now (bound .exit)) ⌝ }
 {
+    let mut v = inheriting(kinds, entry_nodes, first);
+    if v == 0 {
+        return;
+    }
     store_offsets(entry_nodes, first.len(), table);
     columns::clear32(mark, 0);
-    let mut v = saturating_sub(first.len(), 1);
     while 0 < v {
         v -= 1;
         inherit_in(
