@@ -1,28 +1,30 @@
--- Which nodes ask, and which are attributes, by kind and role.
-use mathlib.Core.Path.{_≡_, refl, sym}
-use mathlib.Core.Logic.{_≢_}
-use mathlib.Core.Bool.{Bool, true, false, _||_}
+-- Which nodes ask: a declaration does not, nor is it an attribute.
+use mathlib.Core.Path.{_≡_, refl, _∙_}
+use mathlib.Core.Bool.{Bool, true, false, _&&_, _||_}
 use Prim.Native.Nat.{ℕ}
-use borrow.Author.Tests.{ne-eqb}
 use lib.Dec.{eqb}
-use Rattle.express.specs.syntax.NodeKind.{name, in-expression}
+use Rattle.express.specs.syntax.NodeKind.{name, rule, in-expression}
 use Rattle.express.specs.syntax.Tree.{Table, kind, is-declaration, is-attribute}
 use Rattle.express.proofs.names.Owned.{Declaring, a-constant, a-type, an-entity, declaring}
-use Rattle.scopes.specs.Standing.{is-member}
 use Rattle.inheritance.specs.Inheritance.{asks}
-use Rattle.inheritance.specs.Steps.{asks-by}
+use Rattle.inheritance.specs.Steps.{attribute-kind, asks-by}
 
-or-false : (b : Bool) → (b || false) ≡ b
-or-false true = refl
-or-false false = refl
+-- what goes by the role, put together
+asks-joined : (a b r m : Bool) → (((a || b) && r) || m) ≡ ((a && r) || (m || b && r))
+asks-joined true b true m = refl
+asks-joined true b false true = refl
+asks-joined true true false false = refl
+asks-joined true false false false = refl
+asks-joined false true true true = refl
+asks-joined false true true false = refl
+asks-joined false true false true = refl
+asks-joined false true false false = refl
+asks-joined false false r true = refl
+asks-joined false false r false = refl
 
-pub asks-name : (kind role : ℕ) → kind ≡ name → eqb role in-expression ≡ asks-by kind role
-asks-name kind role e = rw e (sym (or-false (eqb role in-expression)))
+pub asks-told : (kind role : ℕ) {x y z r : Bool} → x ≡ (eqb kind name || eqb kind rule) → y ≡ (x && eqb role in-expression) → z ≡ attribute-kind kind → r ≡ (y || z) → r ≡ asks-by kind role
+asks-told kind role a b c d = d ∙ rw (b, a, c) (asks-joined (eqb kind name) (eqb kind rule) (eqb role in-expression) (attribute-kind kind))
 
-pub asks-other : (kind role : ℕ) → kind ≢ name → is-member kind role ≡ asks-by kind role
-asks-other kind role h = rw (ne-eqb kind name h)
-
--- a declaration neither asks nor is an attribute
 pub declaration-silent : (t : Table) (n : ℕ) → is-declaration t n ≡ true → asks t n ≡ false
 declaration-silent t n d = by (declaring t n d)
   where

@@ -2,8 +2,8 @@
 use mathlib.Core.Path.{_≡_, refl, sym, ap, ap₂, _∙_}
 use mathlib.Core.Logic.{_⊎_, inl, inr, by-cases}
 use mathlib.Core.Bool.{Bool, true, false, cond}
-use mathlib.Core.List.{List, []}
-use Prim.Native.Nat.{ℕ, _+_, _-_, _≤_, _<_, min}
+use mathlib.Core.List.{List, [], append-nil}
+use Prim.Native.Nat.{ℕ, zero, suc, _+_, _-_, _≤_, _<_, min}
 use native.Mathlib.Omega.{arith}
 use native.Mathlib.Decide.{ℕ-discrete}
 use borrow.Author.Tests.{eqb-true}
@@ -18,17 +18,18 @@ use Rattle.graph.specs.Graph.{vertices}
 use Rattle.graph.specs.Mark.{Searchable, Stamps, Searches}
 use Rattle.scopes.specs.Range.{vertex-count, node-of, range-start, DeclarationAt}
 use Rattle.scopes.specs.declared.Extent.{Extent}
-use Rattle.scopes.proofs.Ranges.{node-declares, range-next, range-rises, range-owner, range-end}
+use Rattle.scopes.proofs.Ranges.{node-declares, range-next, range-rises, range-owner, range-end, column-node}
 use Rattle.symbol_tables.specs.Entry.{code, stamp-of, stamp-count, says}
 use Rattle.symbol_tables.specs.Table.{Tabulated, OnlyStamped}
 use Rattle.symbol_tables.proofs.Tables.{untouched}
 use Rattle.symbol_tables.proofs.Symbols.{symbol-within}
 use Rattle.inheritance.specs.Inheritance.{asks, inherited-code, ColumnsOf, Inheriting, InheritanceRoom, Inherits}
-use Rattle.inheritance.specs.Steps.{TypeGraph, asks-by, inherits-by, queued-attributes, Queued, CollectsQueued, Stores, Done, InheritsIn}
+use Rattle.inheritance.specs.Steps.{TypeGraph, asks-by, inherits-by, StoresOffsets, Puts, queued-attributes, Queued, CollectsQueued, Stores, NoneInherits, StoredFrom, Done, InheritsIn}
 use Rattle.inheritance.proofs.Asking.{declaration-silent}
 use Rattle.inheritance.proofs.TypeGraphs.{type-graph}
 use Rattle.inheritance.proofs.Reaching.{inherits-nothing}
 use Rattle.inheritance.proofs.Queues.{listed-known, listed-inherited}
+use Rattle.inheritance.proofs.Collecting.{offsets-kept}
 
 -- where a node stands: before a range, in it, at its declaration, or behind it
 data Standing (t : Table) (v n : ℕ) : Type 0 where
@@ -75,12 +76,9 @@ module _ {kinds tokens roles symbols entry-keys entry-nodes first to : List ℕ}
   graph-is = type-graph (I .read) (I .right) (I .graph)
 
   -- all vertices are to come
-  done-starts : {was table mark : List ℕ} → ((k : ℕ) → getD table k 0 ≡ 0) → ((k : ℕ) → getD mark k 0 ≡ 0)
-      → ((n : ℕ) → n < count t → asks t n ≡ true → getD was n 0 ≡ 0) → Done t was (vertex-count t) table mark was
-  done-starts {was} {table} y z empty =
+  stored-end : {was : List ℕ} → ((n : ℕ) → n < count t → asks t n ≡ true → getD was n 0 ≡ 0) → StoredFrom t was (vertex-count t) was
+  stored-end {was} empty =
       record {
-        unused = λ k s a b e. let q : stamp-of (getD table k 0) ≡ 0 = ap stamp-of (y k) in omega arith;
-        fresh = λ k s a b e. omega (arith, z k);
         stored =
             λ n l f.
             kept t was n
@@ -93,17 +91,15 @@ module _ {kinds tokens roles symbols entry-keys entry-nodes first to : List ℕ}
         before = λ n l. refl;
       }
 
-  module _ (v : ℕ) (l : v < vertex-count t) {was table mark queue bound : List ℕ} (R : InheritanceRoom t table mark queue was) (D : Done t was (v + 1) table mark bound) where
+  module _ (v : ℕ) (l : v < vertex-count t) {was bound : List ℕ} (empty : (n : ℕ) → n < count t → asks t n ≡ true → getD was n 0 ≡ 0) (D : StoredFrom t was (v + 1) bound) where
     -- what lies before the next range is as it was
     as-before : (n : ℕ) → n ≤ node-of t v → getD bound n 0 ≡ getD was n 0
     as-before n h = D .before n (omega (arith, range-next t v))
 
     -- a vertex that inherits nothing
-    done-skip : inherits-by kinds first (node-of t v) v ≡ false → Done t was v table mark bound
-    done-skip e =
+    stored-skip : inherits-by kinds first (node-of t v) v ≡ false → StoredFrom t was v bound
+    stored-skip e =
         record {
-          unused = λ k s a b. D .unused k s a (omega arith);
-          fresh = λ k s a b. D .fresh k s a (omega arith);
           stored = λ n ln f. by n ln f (standing t v n f);
           before = λ n h. as-before n (omega (arith, range-rises t v l));
         }
@@ -115,17 +111,38 @@ module _ {kinds tokens roles symbols entry-keys entry-nodes first to : List ℕ}
         at n ln f u =
             as-before n u
             ∙ kept t was n
-            (λ a. (R .empty n ln a, nothing-code t n (ap (λ (x : ℕ). inherited t x (symbol t n)) (range-owner t v n l f u) ∙ nothing (symbol t n))))
+            (λ a. (empty n ln a, nothing-code t n (ap (λ (x : ℕ). inherited t x (symbol t n)) (range-owner t v n l f u) ∙ nothing (symbol t n))))
 
         by : (n : ℕ) → n < count t → range-start t v ≤ n → Standing t v n → getD bound n 0 ≡ cond (asks t n) (inherited-code t n) (getD was n 0)
         by n ln f (inside _ u) = at n ln f (omega arith)
         by n ln f (itself q) = at n ln f (omega arith)
         by n ln f (behind g) = D .stored n ln g
 
+  -- none from a number on
+  stored-none : {was : List ℕ} {r : ℕ} → ((n : ℕ) → n < count t → asks t n ≡ true → getD was n 0 ≡ 0) → NoneInherits kinds entry-nodes first r → StoredFrom t was r was
+  stored-none {was} {r} empty N = go (vertex-count t - r) r (omega (arith, N .upto, I .graph .long)) (N .none)
+    where
+      go : (k r : ℕ) → vertex-count t ≡ k + r → ((v : ℕ) → r ≤ v → v < length first - 1 → inherits-by kinds first (getD entry-nodes v 0) v ≡ false) → StoredFrom t was r was
+      go zero r e h = let q : vertex-count t ≡ r = omega (arith, e) in rw q at (stored-end {was = was} empty)
+      go (suc k) r e h =
+          let l : r < vertex-count t = omega (arith, e) in
+          let n = column-node (I .prepared) r l in
+          stored-skip r l empty (go k (r + 1) (omega (arith, e)) (λ v a. h v (omega arith))) (rw n at (h r (omega arith) (omega (arith, I .graph .long))))
+
+  module _ (v : ℕ) (l : v < vertex-count t) {was table mark queue bound : List ℕ} (R : InheritanceRoom t table mark queue was) (D : Done t was (v + 1) table mark bound) where
+    done-skip : inherits-by kinds first (node-of t v) v ≡ false → Done t was v table mark bound
+    done-skip e =
+        record {
+          offsets = D .offsets;
+          unused = λ k s a b. D .unused k s a (omega arith);
+          fresh = λ k s a b. D .fresh k s a (omega arith);
+          from = stored-skip v l (R .empty) (D .from) e;
+        }
+
     -- an entity with supertypes
     module _ (bound-long : length bound ≡ length was) {stamp r : ℕ} {table′ mark′ queue′ bound′ : List ℕ} (table-long : length table′ ≡ length table)
         (e : inherits-by kinds first (node-of t v) v ≡ true) (st : stamp ≡ v + 1) (S : Searches first to v stamp mark queue mark′ queue′ r)
-        (Q : CollectsQueued kinds tokens symbols entry-keys entry-nodes queue′ r stamp table table′)
+        (Q : CollectsQueued kinds entry-keys entry-nodes queue′ r (length first) stamp table table′)
         (W : Stores kinds tokens roles symbols table′ stamp (range-start t v) (node-of t v) bound bound′) where
       an-entity : kind t (node-of t v) ≡ entity
       an-entity =
@@ -146,23 +163,30 @@ module _ {kinds tokens roles symbols entry-keys entry-nodes first to : List ℕ}
       few : stamp < stamp-count
       few = omega (arith, R .stamps)
 
-      queued : Queued t kinds tokens symbols entry-keys entry-nodes queue′ r
+      queued : Queued t kinds entry-keys entry-nodes queue′ r (length first) table
       queued =
           record {
             kinds-are = C .kinds-are;
-            tokens-are = C .tokens-are;
-            symbols-are = C .symbols-are;
+            scanned = I .scanned;
             heads = I .entry-heads;
             next = I .entry-next;
             prepared = I .prepared;
             known = listed-known graph-is (I .read) (I .right) v l an-entity (S .lists searchable);
+            room = R .table-room;
+            so-many = I .graph .long;
+            stand = D .offsets;
           }
 
+      puts : Puts (symbol t) (length (t .symbols)) stamp (queued-attributes t queue′ r) table table′
+      puts = Q .is t queued few
+
       only : OnlyStamped stamp table table′
-      only = Q .only t queued few
+      only = puts .only
 
       tabulated : Tabulated (symbol t) table′ stamp (queued-attributes t queue′ r)
-      tabulated = Q .is t queued few (untouched (λ s q. D .unused s (v + 1) (omega arith) (omega arith) (q ∙ st)))
+      tabulated =
+          let e = append-nil (queued-attributes t queue′ r) in
+          rw e at (puts .is [] (untouched (λ s q. D .unused s (v + 1) (omega arith) (omega arith) (q ∙ st))))
 
       says-inherited : (n : ℕ) → n < count t → says table′ stamp (symbol t n) ≡ code (meaning (inherited t (node-of t v) (symbol t n)))
       says-inherited n ln =
@@ -172,6 +196,7 @@ module _ {kinds tokens roles symbols entry-keys entry-nodes first to : List ℕ}
       done-more : Done t was v table′ mark′ bound′
       done-more =
           record {
+            offsets = offsets-kept (R .table-room) table-long (puts .behind) (D .offsets);
             unused =
                 λ k s a b q.
                 by-cases (ℕ-discrete (stamp-of (getD table′ k 0)) stamp) (λ z. omega arith)
@@ -180,10 +205,16 @@ module _ {kinds tokens roles symbols entry-keys entry-nodes first to : List ℕ}
                 λ k s a b q.
                 by-cases (ℕ-discrete (getD mark′ k 0) stamp) (λ z. omega arith)
                 (λ z. D .fresh k s a (omega arith) (sym (stamped .others k z) ∙ q));
-            stored = λ n ln f. by n ln f (standing t v n f) (asks t n) refl;
-            before = λ n h. W .before n h ∙ as-before n (omega (arith, range-rises t v l));
+            from =
+                record {
+                  stored = λ n ln f. by n ln f (standing t v n f) (asks t n) refl;
+                  before = λ n h. W .before n h ∙ back n (omega (arith, range-rises t v l));
+                };
           }
         where
+          back : (n : ℕ) → n ≤ node-of t v → getD bound n 0 ≡ getD was n 0
+          back = as-before v l (R .empty) (D .from)
+
           by : (n : ℕ) → n < count t → range-start t v ≤ n → Standing t v n → (b : Bool) → asks t n ≡ b
               → getD bound′ n 0 ≡ cond (asks t n) (inherited-code t n) (getD was n 0)
           by n ln f (inside _ u) true a =
@@ -191,11 +222,11 @@ module _ {kinds tokens roles symbols entry-keys entry-nodes first to : List ℕ}
               ∙ ap (says table′ stamp) (spelling n) ∙ says-inherited n ln
               ∙ sym (owned-code t n (node-of t v) (range-owner t v n l f (omega arith)))
               ∙ ap (λ (b : Bool). cond b (inherited-code t n) (getD was n 0)) (sym a)
-          by n ln f (inside _ u) false a = silent t was n (getD bound′ n 0) a (W .other n (sym (asked n) ∙ a) ∙ as-before n (omega arith))
+          by n ln f (inside _ u) false a = silent t was n (getD bound′ n 0) a (W .other n (sym (asked n) ∙ a) ∙ back n (omega arith))
           by n ln f (itself q) b a =
               let z : asks t n ≡ false = ap (asks t) q ∙ declaration-silent t (node-of t v) (node-declares t v l) in
-              silent t was n (getD bound′ n 0) z (W .behind n (omega arith) ∙ as-before n (omega arith))
-          by n ln f (behind g) b a = W .behind n (omega (arith, range-next t v)) ∙ D .stored n ln g
+              silent t was n (getD bound′ n 0) z (W .behind n (omega arith) ∙ back n (omega arith))
+          by n ln f (behind g) b a = W .behind n (omega (arith, range-next t v)) ∙ D .from .stored n ln g
 
 -- ---- the calls of `inherit_in`
 module _ {kinds tokens roles symbols entry-keys entry-nodes first to table mark queue bound : List ℕ} {v : ℕ} {d : Extent} (X : DeclarationAt entry-keys entry-nodes v d) where
@@ -210,7 +241,7 @@ module _ {kinds tokens roles symbols entry-keys entry-nodes first to table mark 
       }
 
   pub inherits-in-more : {stamp r : ℕ} {table′ mark′ queue′ bound′ : List ℕ} → inherits-by kinds first (d .node) v ≡ true → (v + 1 < 4294967296 → stamp ≡ v + 1)
-      → Searches first to v stamp mark queue mark′ queue′ r → CollectsQueued kinds tokens symbols entry-keys entry-nodes queue′ r stamp table table′
+      → Searches first to v stamp mark queue mark′ queue′ r → CollectsQueued kinds entry-keys entry-nodes queue′ r (length first) stamp table table′
       → length table′ ≡ length table → Stores kinds tokens roles symbols table′ stamp (d .from) (d .node) bound bound′
       → InheritsIn kinds tokens roles symbols entry-keys entry-nodes first to v table mark queue bound table′ mark′ bound′
   inherits-in-more {stamp} {r} {table′} {mark′} {queue′} {bound′} e st S Q q W =
@@ -246,16 +277,25 @@ same-room a b c R =
     }
 
 module _ {kinds tokens roles symbols entry-keys entry-nodes first to queue₁ bound₁ : List ℕ} where
-  pub doing-starts : {table mark : List ℕ} {v : ℕ} → v ≡ length first - 1 → ((k : ℕ) → getD table k 0 ≡ 0) → ((k : ℕ) → getD mark k 0 ≡ 0)
+  pub doing-starts : {table₀ table mark : List ℕ} {v : ℕ} → NoneInherits kinds entry-nodes first v → StoresOffsets entry-nodes (length first) table₀ table
+      → length table ≡ length table₀ → ((k : ℕ) → getD mark k 0 ≡ 0)
       → Doing kinds tokens roles symbols entry-keys entry-nodes first to table mark queue₁ bound₁ table mark queue₁ bound₁ v
-  doing-starts {table} {mark} {v} e y z =
+  doing-starts {table₀} {table} {mark} {v} N O y z =
       record {
-        within = omega arith;
+        within = N .upto;
         table-long = refl;
         mark-long = refl;
         queue-long = refl;
         bound-long = refl;
-        is = λ t C I R. let n : v ≡ vertex-count t = omega (arith, I .graph .long) in rw n (done-starts C I y z (R .empty));
+        is =
+            λ t C I R.
+            let small = O .small t entry-keys (I .entry-heads) (I .entry-next) (I .prepared) (I .graph .long) in
+            record {
+              offsets = O .is t entry-keys (I .entry-heads) (I .entry-next) (I .prepared) (I .graph .long) (omega (arith, R .table-room, I .graph .long));
+              unused = λ k s a b e. omega (arith, small k, e);
+              fresh = λ k s a b e. omega (arith, z k);
+              from = stored-none C I (R .empty) N;
+            };
       }
 
   module _ {table₁ mark₁ table mark queue bound : List ℕ} {v : ℕ} (s : Doing kinds tokens roles symbols entry-keys entry-nodes first to table₁ mark₁ queue₁ bound₁ table mark queue bound v) where
@@ -285,20 +325,31 @@ module _ {kinds tokens roles symbols entry-keys entry-nodes first to queue₁ bo
               λ t C I R n k.
               let z : v ≡ 0 = omega arith in
               let D : Done t bound₁ 0 table mark bound = rw z at (s .is t C I (same-room p e refl R)) in
-              D .stored n k (omega arith);
+              D .from .stored n k (omega arith);
         }
 
+-- where none inherits, nothing is stored
+pub inherits-none : {kinds tokens roles symbols entry-keys entry-nodes first to table mark queue bound : List ℕ} {r : ℕ} → NoneInherits kinds entry-nodes first r → r ≡ 0
+    → Inherits kinds tokens roles symbols entry-keys entry-nodes first to table mark queue bound bound
+inherits-none {kinds} {entry-nodes = entry-nodes} {first = first} {bound = bound} N z =
+    let N′ : NoneInherits kinds entry-nodes first 0 = rw z at N in
+    record { is = λ t C I R n k. stored-none C I {was = bound} (R .empty) N′ .stored n k (omega arith) }
+
 -- ---- the parts that `inherit_all` lends
-pub inherits-in-parts : {kinds tokens roles symbols entry-keys entry-nodes first to table mark queue bound bound′ : List ℕ} {n m : ℕ} → n ≡ min (length symbols) (length table)
-    → m ≡ min (length first) (length mark) → Inherits kinds tokens roles symbols entry-keys entry-nodes first to (take n table) (take m mark) queue bound bound′
+pub inherits-in-parts : {kinds tokens roles symbols entry-keys entry-nodes first to table mark queue bound bound′ : List ℕ} {n r k m : ℕ} → n ≡ min (length symbols) (length table)
+    → r ≡ length table - n → k ≡ min (length first) r → m ≡ min (length first) (length mark)
+    → Inherits kinds tokens roles symbols entry-keys entry-nodes first to (take (n + k) table) (take m mark) queue bound bound′
     → Inherits kinds tokens roles symbols entry-keys entry-nodes first to table mark queue bound bound′
-inherits-in-parts {symbols = symbols} {first = first} {table = table} {mark = mark} {n = n} {m = m} a b i =
+inherits-in-parts {symbols = symbols} {first = first} {table = table} {mark = mark} {n = n} {r = r} {k = k} {m = m} a b c d i =
     record {
       is =
           λ t C I R.
+          let e = ap length (C .symbols-are) in
+          let named : n ≡ length (t .symbols) = omega (arith, a, R .table-room) in
+          let behind : k ≡ length first = omega (arith, b, c, R .table-room, I .graph .long) in
           i .is t C I
           (record {
-            table-room = let e = ap length (C .symbols-are) in omega (arith, R .table-room, length-take n table);
+            table-room = omega (arith, R .table-room, length-take (n + k) table, I .graph .long);
             stamps = R .stamps;
             mark-room = omega (arith, R .mark-room, length-take m mark, I .graph .long);
             queue-room = R .queue-room;
@@ -306,3 +357,17 @@ inherits-in-parts {symbols = symbols} {first = first} {table = table} {mark = ma
             empty = R .empty;
           });
     }
+
+-- ---- the loop of `inheriting`
+module _ {kinds nodes first : List ℕ} where
+  pub inheriting-starts : {v : ℕ} → v ≡ length first - 1 → NoneInherits kinds nodes first v
+  inheriting-starts e = record { upto = omega (arith, e); none = λ v a b. absurd (omega (arith, e)) }
+
+  pub inheriting-goes : {v n m : ℕ} {b : Bool} → NoneInherits kinds nodes first v → 0 < v → n ≡ m → m ≡ getD nodes (v - 1) 0 → b ≡ inherits-by kinds first n (v - 1) → b ≡ false
+      → NoneInherits kinds nodes first (v - 1)
+  inheriting-goes {v} {n} N l p q h e =
+      let z : n ≡ getD nodes (v - 1) 0 = p ∙ q in
+      record {
+        upto = omega (arith, N .upto);
+        none = λ w a b. by-cases (ℕ-discrete w (v - 1)) (λ y. rw (y, sym z) (sym h ∙ e)) (λ y. N .none w (omega (arith, y)) b);
+      }

@@ -1,6 +1,8 @@
 pub mod Asking
 pub mod TypeGraphs
 pub mod Reaching
+pub mod Offsets
+pub mod Offsetting
 pub mod Queues
 pub mod Collecting
 pub mod Storing

@@ -2,7 +2,7 @@
 use mathlib.Core.Path.{_≡_}
 use mathlib.Core.Bool.{Bool, true, cond, _||_}
 use mathlib.Core.List.{List}
-use Prim.Native.Nat.{ℕ, _≤_, _<_}
+use Prim.Native.Nat.{ℕ, _+_, _≤_, _<_}
 use lib.ListN.{length, getD}
 use Rattle.express.specs.syntax.Grammar.{file}
 use Rattle.express.specs.syntax.Syntax.{Read}
@@ -41,9 +41,10 @@ pub record Inheriting (t : Table) (entry-keys entry-nodes first to : List ℕ) :
   pub prepared : Prepared t entry-keys entry-nodes entry-heads entry-next
   pub graph : GraphOf t (type-target t) first to
 
--- an entry for each symbol; a stamp, a mark and a place in the queue for each vertex; and room for what each node inherits, where 0 stands at those that ask
+-- an entry for each symbol, and behind them one for each vertex and one more; a stamp, a mark and a place in the queue for each vertex; and room for what
+-- each node inherits, where 0 stands at those that ask
 pub record InheritanceRoom (t : Table) (table mark queue bound : List ℕ) : Type 0 where
-  pub table-room : length (t .symbols) ≤ length table
+  pub table-room : length (t .symbols) + vertex-count t < length table
   pub stamps : vertex-count t < stamp-count
   pub mark-room : vertex-count t ≤ length mark
   pub queue-room : vertex-count t ≤ length queue

@@ -1,12 +1,16 @@
 // Inherited attributes: for each use, attribute and label of an entity that has supertypes, what its symbol means among the
 // attributes of all that the entity reaches over supertypes. One search for each such entity; the attributes of what it reaches go
-// into a table by symbol, under the entity's own stamp.
+// into a table by symbol, under the entity's own stamp. They are found by the entries of the dictionary, among which those of a declaration
+// stand together.
 ghost use mathlib.Core.Path.{_≡_};
-ghost use Prim.Native.Nat.{_<_};
+ghost use mathlib.Core.Bool.{_&&_, _||_};
+ghost use Prim.Native.Nat.{_%_, _<_};
 ghost use lib.ListN.{length};
+ghost use Rattle.scopes.specs.Entries.{radix};
 ghost use Rattle.symbol_tables.specs.Table.{symbol-in};
 ghost use Rattle.inheritance.specs.Inheritance.{Inherits};
-ghost use Rattle.inheritance.specs.Steps.{asks-by, CollectsQueued, Stores, inherits-by, InheritsIn};
+ghost use Rattle.inheritance.specs.Steps.{start-in, Back, StoresOffsets, attribute-kind, CollectsEntries, CollectsQueued};
+ghost use Rattle.inheritance.specs.Steps.{asks-by, Stores, inherits-by, NoneInherits, InheritsIn};
 use columns::index;
 use columns::number;
 use columns::put32;
@@ -14,6 +18,7 @@ use columns::saturating_sub;
 use columns::shorter;
 use scopes::at;
 use scopes::at8;
+use scopes::at64;
 
 // The symbol of a node.
 fn symbol(tokens: &[u32], symbols: &[u32], node: usize) -> u32
@@ -22,47 +27,139 @@ fn symbol(tokens: &[u32], symbols: &[u32], node: usize) -> u32
     at(symbols, index(at(tokens, node)))
 }
 
-// The attributes of the first declarations in a queue, so many, put into a table under a stamp.
+// A test and another, and a test or another, with no jump between the two.
+fn both(a: bool, b: bool) -> bool
+    ensures { λ r. ⌜ r ≡ (a && b) ⌝ }
+{
+    if a {
+        return b;
+    }
+    false
+}
+
+fn either(a: bool, b: bool) -> bool
+    ensures { λ r. ⌜ r ≡ (a || b) ⌝ }
+{
+    if a {
+        return true;
+    }
+    b
+}
+
+fn is_attribute(kind: u8) -> bool
+    ensures { λ r. ⌜ r ≡ attribute-kind kind ⌝ }
+{
+    either(
+        kind == codes::nodes::ATTRIBUTE_NAME,
+        kind == codes::nodes::DERIVED_ATTRIBUTE,
+    )
+}
+
+// The first node of a declaration, by its number: that behind the declaration before it.
+fn start(entry_nodes: &[u32], vertex: usize) -> usize
+    ensures { λ r. ⌜ r ≡ start-in (now («entry_nodes» .entry)) vertex ⌝ }
+{
+    if vertex == 0 {
+        return 0;
+    }
+    index(at(entry_nodes, vertex - 1)) + 1
+}
+
+// Back from the entry hi as long as no node is before one, and not below the entry low.
+fn back(entry_nodes: &[u32], low: usize, hi: usize, from: usize) -> usize
+    ensures { λ r. ⌜ Back (now («entry_nodes» .entry)) low hi from r ⌝ }
+{
+    let mut e = hi;
+    while low < e {
+        if index(at(entry_nodes, e - 1)) < from {
+            return e;
+        }
+        e -= 1;
+    }
+    e
+}
+
+// Clears a table, and stores the offsets at its end: for each declaration, and for the end of the last, the first entry behind the
+// declarations whose node is not before its range. These entries are in the order of their nodes.
+fn store_offsets(entry_nodes: &[u32], offsets: usize, table: &mut [u32])
+    ensures { λ _. ⌜ StoresOffsets (now («entry_nodes» .entry)) offsets (now (table .entry)) (now (table .exit)) ⌝ }
+{
+    columns::clear32(table, 0);
+    let declarations = saturating_sub(offsets, 1);
+    let base = saturating_sub(table.len(), offsets);
+    let mut e = entry_nodes.len();
+    let mut v = offsets;
+    while 0 < v {
+        v -= 1;
+        e = back(entry_nodes, declarations, e, start(entry_nodes, v));
+        put32(table, base + v, number(e));
+    }
+}
+
+// The symbol of a key.
+fn symbol_of(key: u64) -> u32
+    ensures { λ r. ⌜ r ≡ key % radix ⌝ }
+{
+    (key % scopes::RADIX) as u32
+}
+
+// The attributes among the entries from lo up to hi, put into a table under a stamp.
+fn collect_entries(
+    kinds: &[u8],
+    entry_keys: &[u64],
+    entry_nodes: &[u32],
+    lo: usize,
+    hi: usize,
+    stamp: u32,
+    table: &mut [u32],
+)
+    ensures { λ _. ⌜ CollectsEntries (now (kinds .entry)) (now («entry_keys» .entry)) (now («entry_nodes» .entry)) lo hi stamp (now (table .entry))
+        (now (table .exit)) ⌝ }
+{
+    let mut e = hi;
+    while lo < e {
+        e -= 1;
+        let node = index(at(entry_nodes, e));
+        if is_attribute(at8(kinds, node)) {
+            symbol_tables::add(table, stamp, symbol_of(at64(entry_keys, e)), node);
+        }
+    }
+}
+
+// The attributes of the first declarations in a queue, so many, put into a table under a stamp; so many offsets are at the end of the table.
 fn collect_queued(
     kinds: &[u8],
-    tokens: &[u32],
-    symbols: &[u32],
     entry_keys: &[u64],
     entry_nodes: &[u32],
     queue: &[u32],
     queued: usize,
+    offsets: usize,
     stamp: u32,
     table: &mut [u32],
 )
-    ensures { λ _. ⌜ CollectsQueued (now (kinds .entry)) (now (tokens .entry)) (now (symbols .entry)) (now («entry_keys» .entry))
-        (now («entry_nodes» .entry)) (now (queue .entry)) queued stamp (now (table .entry)) (now (table .exit)) ⌝ }
+    ensures { λ _. ⌜ CollectsQueued (now (kinds .entry)) (now («entry_keys» .entry)) (now («entry_nodes» .entry)) (now (queue .entry)) queued offsets stamp
+        (now (table .entry)) (now (table .exit)) ⌝ }
 {
+    let base = saturating_sub(table.len(), offsets);
     let mut k = 0;
     while k < queued {
-        let d = scopes::declaration(entry_keys, entry_nodes, index(at(queue, k)));
-        symbol_tables::add_range(
-            kinds,
-            tokens,
-            symbols,
-            codes::nodes::ATTRIBUTE_NAME,
-            codes::nodes::DERIVED_ATTRIBUTE,
-            d.from,
-            d.node,
-            stamp,
-            table,
-        );
+        let offset = base + index(at(queue, k));
+        let lo = index(at(table, offset));
+        let hi = index(at(table, offset + 1));
+        collect_entries(kinds, entry_keys, entry_nodes, lo, hi, stamp, table);
         k += 1;
     }
 }
 
-// Is it a name in an expression, or an attribute or label?
+// Is it a name in an expression, or an attribute or label? The role of such a name has the number of that of a rule with a label.
 fn asks(kind: u8, role: u32) -> bool
     ensures { λ r. ⌜ r ≡ asks-by kind role ⌝ }
 {
-    if kind == codes::nodes::NAME {
-        return role == codes::roles::IN_EXPRESSION;
-    }
-    scopes::is_scope_member(kind, role)
+    let by_role = either(kind == codes::nodes::NAME, kind == codes::nodes::RULE);
+    either(
+        both(by_role, role == codes::roles::IN_EXPRESSION),
+        is_attribute(kind),
+    )
 }
 
 // Stores at each node from lo up to hi that asks what its symbol means under a stamp.
@@ -129,12 +226,11 @@ fn inherit_in(
         let reached = graph::search(first, to, v, stamp, mark, queue);
         collect_queued(
             kinds,
-            tokens,
-            symbols,
             entry_keys,
             entry_nodes,
             queue,
             reached,
+            first.len(),
             stamp,
             table,
         );
@@ -152,7 +248,21 @@ fn inherit_in(
     }
 }
 
-// All declarations, from the last to the first; the whole table and all marks are cleared first.
+// The number behind the last declaration that inherits; 0 where none does.
+fn inheriting(kinds: &[u8], entry_nodes: &[u32], first: &[u32]) -> usize
+    ensures { λ r. ⌜ NoneInherits (now (kinds .entry)) (now («entry_nodes» .entry)) (now (first .entry)) r ⌝ }
+{
+    let mut v = saturating_sub(first.len(), 1);
+    while 0 < v {
+        if inherits(kinds, first, index(at(entry_nodes, v - 1)), v - 1) {
+            return v;
+        }
+        v -= 1;
+    }
+    v
+}
+
+// All declarations, from the last that inherits to the first. Where one does, the table gets its offsets before that, and all marks are cleared.
 fn inherit_declarations(
     kinds: &[u8],
     tokens: &[u32],
@@ -171,9 +281,12 @@ fn inherit_declarations(
         (now («entry_nodes» .entry)) (now (first .entry)) (now (to .entry)) (now (table .entry)) (now (mark .entry)) (now (queue .entry)) (now (bound .entry))
         (now (bound .exit)) ⌝ }
 {
-    columns::clear32(table, 0);
+    let mut v = inheriting(kinds, entry_nodes, first);
+    if v == 0 {
+        return;
+    }
+    store_offsets(entry_nodes, first.len(), table);
     columns::clear32(mark, 0);
-    let mut v = saturating_sub(first.len(), 1);
     while 0 < v {
         v -= 1;
         inherit_in(
@@ -195,7 +308,7 @@ fn inherit_declarations(
 }
 
 // Stores at each use, attribute and label what its symbol means among the attributes that its owner inherits. As many entries of the table are
-// used as there are symbols, and as many marks as there are offsets of the graph.
+// used as there are symbols and offsets of the graph, and as many marks as there are such offsets.
 pub fn inherit_all(
     kinds: &[u8],
     tokens: &[u32],
@@ -214,7 +327,8 @@ pub fn inherit_all(
         (now («entry_nodes» .entry)) (now (first .entry)) (now (to .entry)) (now (table .entry)) (now (mark .entry)) (now (queue .entry)) (now (bound .entry))
         (now (bound .exit)) ⌝ }
 {
-    let entries = shorter(symbols.len(), table.len());
+    let named = shorter(symbols.len(), table.len());
+    let entries = named + shorter(first.len(), saturating_sub(table.len(), named));
     let marks = shorter(first.len(), mark.len());
     inherit_declarations(
         kinds,

@@ -1,7 +1,7 @@
 -- All names of a file are bound, stage after stage (N19), over columns that are as long as its dictionary and its graphs.
 use mathlib.Core.Path.{_≡_}
 use mathlib.Core.List.{List}
-use Prim.Native.Nat.{ℕ, _≤_, _<_}
+use Prim.Native.Nat.{ℕ, _+_, _≤_, _<_}
 use lib.ListN.{length, getD, take}
 use Rattle.relations.specs.Reach.{Joins}
 use Rattle.relations.specs.Sorted.{Arranged}
@@ -19,14 +19,15 @@ use Rattle.type_names.specs.TypeName.{FileColumns}
 use Rattle.symbol_tables.specs.Entry.{stamp-count}
 use Rattle.name_stages.specs.Stages.{OrderRoom}
 
--- room for what each stage writes: bindings, two graphs and two orders; and for what is inherited an entry for each symbol and a stamp for each vertex
+-- room for what each stage writes: bindings, two graphs and two orders; and for what is inherited an entry for each symbol, one for each vertex and one more, and
+-- a stamp for each vertex
 pub record BindingRoom (t : Table) (bound first to types constants scratch : List ℕ) : Type 0 where
   pub bound-room : count t ≤ length bound
   pub type-graph : Room t (type-target t) (length first) (length to)
   pub constant-graph : Room t (constant-target t) (length first) (length to)
   pub type-order : OrderRoom t types scratch
   pub constant-order : OrderRoom t constants scratch
-  pub entry-room : length (t .symbols) ≤ length scratch
+  pub entry-room : length (t .symbols) + vertex-count t < length scratch
   pub stamps : vertex-count t < stamp-count
 
 -- THE NAMES of a file: the fault of the first stage that has one; and where there is none, what each node is bound to, and an order of the

@@ -30,7 +30,7 @@ pub record Sizes (n roles symbols keys nodes heads next first to scratch : ℕ) 
   pub to-fit : n ≤ 2 * to
   pub to-small : to < 4294967296
   pub links-fit : n ≤ scratch
-  pub search-fit : 6 * n ≤ 5 * scratch
+  pub search-fit : 6 * n < 5 * scratch
 
 room-for-symbols : (starts lengths symbols heads links : ℕ) → starts ≤ lengths → starts ≤ symbols → 0 < heads → starts ≤ links → starts < 4294967295 →
     enough starts lengths symbols heads links ≡ true
@@ -71,6 +71,6 @@ module _ {t : Table} (R : Read file t) (S : Scanned t) where
           types-room = a;
           constants-room = b;
           search-room = omega (arith, Z .search-fit);
-          table-room = omega (arith, Z .links-fit);
+          table-room = omega (arith, Z .search-fit);
         };
       }

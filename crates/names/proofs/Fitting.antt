@@ -38,7 +38,7 @@ module _ {kinds tokens sizes roles symbols starts keys nodes heads next : List â
           constant-graph = graph (constant-target t) (constant-arcs-few (C .read));
           type-order = record { order-room = omega (arith, R .types-room, w); scratch-room = omega (arith, R .search-room, w) };
           constant-order = record { order-room = omega (arith, R .constants-room, w); scratch-room = omega (arith, R .search-room, w) };
-          entry-room = omega (arith, R .table-room, n, symbols-long (C .read) S);
+          entry-room = omega (arith, R .table-room, n, symbols-long (C .read) S, w);
           stamps = omega (arith, R .few, w);
         });
   }

@@ -2,7 +2,7 @@
 use mathlib.Core.Path.{_≡_}
 use mathlib.Core.Bool.{Bool, true, false, cond}
 use mathlib.Core.List.{List}
-use Prim.Native.Nat.{ℕ, _*_, _≤_, _<_, min}
+use Prim.Native.Nat.{ℕ, _+_, _*_, _≤_, _<_, min}
 use lib.Dec.{eqb}
 use lib.ListN.{length, getD, take}
 use lib.Seq.{sets}
@@ -19,7 +19,7 @@ pub record Narrows (roles : List ℕ) (room : ℕ) (r : Bool) (bytes′ : List �
   pub no : r ≡ false → length roles ≤ room → ((n : ℕ) → n < length roles → getD roles n 0 < 256) → ⊥
 
 -- Lengths of the columns that the stages write, for so many tokens and declarations: an offset for each declaration and one more, an arc for
--- every two tokens, two orders, the words of the search, and a table with an entry for each token. (A declaration's number is a stamp of 15 bits.)
+-- every two tokens, two orders, the words of the search, and a table with an entry for each token and each declaration and one more. (A declaration's number is a stamp of 15 bits.)
 pub record StageRoom (tokens vertices first to types constants scratch : ℕ) : Type 0 where
   pub few : vertices < 32767
   pub first-room : vertices < first
@@ -28,7 +28,7 @@ pub record StageRoom (tokens vertices first to types constants scratch : ℕ) : 
   pub types-room : vertices ≤ types
   pub constants-room : vertices ≤ constants
   pub search-room : 6 * vertices ≤ scratch
-  pub table-room : tokens ≤ scratch
+  pub table-room : tokens + vertices < scratch
 
 -- the dictionary is made, and there is room
 abbrev pub done-with : Preparation → Bool → Bool

@@ -84,7 +84,7 @@ pub fn room(
     if scratch < SEARCH_WORDS * vertices {
         return false;
     }
-    if shorter(scratch, TOKENS_OF_ARC * to) < tokens {
+    if shorter(scratch - vertices, TOKENS_OF_ARC * to + 1) <= tokens {
         return false;
     }
     vertices <= shorter(types, constants)

@@ -78,7 +78,7 @@ fn is_either(kind: u8, one: u8, other: u8) -> bool
 }
 
 // The nodes from lo up to hi that are of one of two kinds, each under its symbol, as far as they have a kind and a token. Indices are
-// bounded before the loop: it goes over all nodes of what an entity inherits from.
+// bounded before the loop: it goes over all nodes of a schema.
 pub fn add_range(
     kinds: &[u8],
     tokens: &[u32],

@@ -103,7 +103,7 @@ impl Parsed {
     fn room(&self) -> [usize; COLUMNS] {
         let (tokens, nodes, entries, vertices) =
             (self.starts.len(), self.kinds.len(), self.entries(), self.declarations().len());
-        let scratch = tokens.max(6 * vertices);
+        let scratch = (tokens + vertices + 1).max(6 * vertices);
         [nodes, tokens, entries, entries, 1, entries, vertices + 1, tokens.div_ceil(2), vertices, vertices, scratch]
     }
 

@@ -2,17 +2,25 @@
 use borrow.Author.Needs.{needs}
 use Rattle.inheritance.proofs.asks.Statement.{statement}
 use Rattle.inheritance.proofs.asks.Tie as tie
-use Rattle.inheritance.proofs.Asking.{asks-name, asks-other}
-use mathlib.Core.Path.{_∙_}
+use Rattle.inheritance.proofs.Asking.{asks-told}
+
+either-requires : tie.Need-either-requires
+either-requires c κs = search needs
+
+both-requires : tie.Need-both-requires
+both-requires c κs = search needs
+
+is-attribute-requires : tie.Need-is-attribute-requires
+is-attribute-requires c κs = search needs
+
+either-requires-2 : tie.Need-either-requires-2
+either-requires-2 c κs = search needs
 
 returns : tie.Need-returns
-returns c = asks-name (c .before .args .kind) (c .before .args .role) (c .if1 .taken)
-
-is-scope-member-requires : tie.Need-is-scope-member-requires
-is-scope-member-requires c κs = search needs
-
-returns-2 : tie.Need-returns-2
-returns-2 c = c .is-scope-member .ensures ∙ asks-other (c .before .before .args .kind) (c .before .before .args .role) (c .before .if1 .left)
+returns c = asks-told (c .before .before .before .before .args .kind) (c .before .before .before .before .args .role) (c .before .before .before .either .ensures) (c
+    .before .before .both .ensures) (c .before .is-attribute .ensures) (c .either2 .ensures)
 
 pub asks-spec : {M : Type 1} → statement M
-asks-spec = tie.close (tie.spec returns is-scope-member-requires returns-2)
+asks-spec =
+    tie.close
+    (tie.spec either-requires both-requires is-attribute-requires either-requires-2 returns)

@@ -33,7 +33,7 @@ store-inherited-requires : tie.Need-store-inherited-requires
 store-inherited-requires c κs = search needs
 
 same-length : tie.Need-same-length
-same-length c = c .before .before .before .before .before .before .before .collect-queued .kept .1 .1 .1 .1 .1 .1 .1 .1 .0
+same-length c = c .before .before .before .before .before .before .before .collect-queued .kept .1 .1 .1 .1 .1 .1 .1 .0
 
 same-length-2 : tie.Need-same-length-2
 same-length-2 c = c .before .before .before .before .before .before .before .before .before .before .before .before .before .before .search .kept .1 .1 .1 .1 .0
@@ -51,7 +51,7 @@ returns c = inherits-in-more (c .before .before .before .before .before .before 
     .before .before .before .before .before .before .if1 .taken) (c .before .before .before .before .before .before .before .before .before .before .before .before
     .before .before .before .before .before .number .ensures) (c .before .before .before .before .before .before .before .before .before .before .before .before .before
     .before .search .ensures) (c .before .before .before .before .before .before .before .collect-queued .ensures) (c .before .before .before .before .before .before
-    .before .collect-queued .kept .1 .1 .1 .1 .1 .1 .1 .1 .0) (c .before .before .store-inherited .ensures)
+    .before .collect-queued .kept .1 .1 .1 .1 .1 .1 .1 .0) (c .before .before .store-inherited .ensures)
 
 returns-2 : tie.Need-returns-2
 returns-2 c = inherits-in-none (c .before .before .declaration .ensures) (sym (c .before .inherits .ensures) ∙ c .if1 .left)

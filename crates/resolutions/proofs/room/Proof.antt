@@ -21,8 +21,14 @@ mul-if4 c = omega (arith, c .before .before .if1 .left)
 returns-4 : tie.Need-returns-4
 returns-4 c = refutes (λ r. omega (arith, c .if4 .taken, r .search-room))
 
+sub-shorter : tie.Need-sub-shorter
+sub-shorter c = omega (arith, c .if4 .left)
+
 mul-shorter : tie.Need-mul-shorter
 mul-shorter c = omega (arith, c .before .before .if2 .left)
+
+add-shorter : tie.Need-add-shorter
+add-shorter c = omega (arith, c .before .before .if2 .left)
 
 shorter-requires : tie.Need-shorter-requires
 shorter-requires c κs = search needs
@@ -35,11 +41,13 @@ shorter-requires-2 c κs = search needs
 
 returns-6 : tie.Need-returns-6
 returns-6 c =
-    stage-room-decided (omega (arith, c .before .before .before .before .before .before .if1 .left)) (omega (arith, c .before .before .before .before .before .if2 .left)) (omega (
+    stage-room-decided (omega (arith, c .before .before .before .before .before .before .if1 .left)) (omega (
       arith,
-      c .before .before .before .before .if3 .left,
-    )) (omega (arith, c .before .before .before .if4 .left)) (c .before .before .shorter .ensures) (omega (arith, c .before .if5 .left))
-    (c .shorter2 .ensures)
+      c .before .before .before .before .before .if2
+          .left,
+    )) (omega (arith, c .before .before .before .before .if3 .left)) (omega (arith, c .before .before .before .if4 .left)) (c .before .before .shorter
+    .ensures)
+    (omega (arith, c .before .if5 .left)) (c .shorter2 .ensures)
 
 pub room-spec : {M : Type 1} → statement M
 room-spec =
@@ -50,7 +58,9 @@ room-spec =
     returns-3
     mul-if4
     returns-4
+    sub-shorter
     mul-shorter
+    add-shorter
     shorter-requires
     returns-5
     shorter-requires-2
