@@ -48,7 +48,7 @@ pub fn arrange(
     ensures { λ r. ⌜ Arranges (now (tokens .entry)) (now (starts .entry)) (now (nodes .entry)) (now (first .entry)) (now (to .entry)) (now (order .entry))
         (now (scratch .entry)) r (now (order .exit)) (now (scratch .exit)) ⌝ }
 {
-    let answer = cycles::topological_order(first, to, order, scratch);
+    let answer = orders::order(first, to, order, scratch);
     match answer {
         Dependencies::Acyclic => {
             name_nodes(nodes, order, saturating_sub(first.len(), 1));

@@ -71,7 +71,7 @@ pub extern "C" fn woffulent_order(
 ) -> usize
     ensures { λ r. ⌜ Encoded vertex (OrderAnswers (now (first .entry)) (now (to .entry)) (lent (now (column .entry)) (now (scratch .entry))) (lent (now (column .exit)) (now (scratch .exit)))) r ⌝ }
 {
-    vertex_of(cycles::topological_order(first, to, column, scratch))
+    vertex_of(orders::order(first, to, column, scratch))
 }
 
 #[no_mangle]

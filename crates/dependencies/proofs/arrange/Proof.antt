@@ -6,8 +6,8 @@ use Rattle.dependencies.proofs.Arranging.{when-acyclic, when-cyclic, wh
 use Rattle.dependencies.proofs.Arranging.{arranges-acyclic, arranges-cyclic, arranges-malformed, arranges-column, arranges-scratch}
 use mathlib.Core.Path.{_∙_}
 
-topological-order-requires : tie.Need-topological-order-requires
-topological-order-requires c κs = search needs
+order-requires : tie.Need-order-requires
+order-requires c κs = search needs
 
 enum-told : tie.Need-enum-told
 enum-told c = search needs
@@ -68,7 +68,7 @@ same-length-2 c = search needs
 
 returns : tie.Need-returns
 returns c =
-    let o = c .before .before .before .before .before .before .before .before .before .before .before .before .topological-order in
+    let o = c .before .before .before .before .before .before .before .before .before .before .before .before .order in
     let a = when-acyclic (c .before .before .before .before .before .before .enum-told .given .1) (o .ensures) in
     arranges-acyclic a (c .before .before .before .before .saturating-sub .ensures) (c .before .before .before .name-nodes .ensures) (c .fine .ensures) (o .kept .1 .1 .0) (o .kept .1 .1 .1 .0)
 
@@ -80,7 +80,7 @@ same-length-4 c = search needs
 
 returns-2 : tie.Need-returns-2
 returns-2 c =
-    let o = c .before .before .before .before .before .before .before .before .before .before .before .before .before .topological-order in
+    let o = c .before .before .before .before .before .before .before .before .before .before .before .before .before .order in
     let a = when-cyclic (c .before .before .before .before .before .before .before .answer .given .1) (o .ensures) in
     arranges-cyclic a (c .before .before .before .before .index .ensures ∙ c .before .before .before .before .before .at .ensures)
     (c .before .before .index2 .ensures ∙ c .before .before .before .at2 .ensures) (c .before .at3 .ensures) (c .fault-at .ensures) (o .kept .1 .1 .0) (o .kept .1 .1 .1 .0)
@@ -93,7 +93,7 @@ same-length-6 c = search needs
 
 returns-3 : tie.Need-returns-3
 returns-3 c =
-    let o = c .before .before .before .before .before .before .before .topological-order in
+    let o = c .before .before .before .before .before .before .before .order in
     arranges-malformed (o .kept .1 .1 .0) (o .kept .1 .1 .1 .0) (when-malformed (c .before .enum-told2 .given .1) (o .ensures))
 
 same-length-7 : tie.Need-same-length-7
@@ -104,7 +104,7 @@ same-length-8 c = search needs
 
 returns-4 : tie.Need-returns-4
 returns-4 c =
-    let o = c .before .before .before .before .before .before .before .topological-order in
+    let o = c .before .before .before .before .before .before .before .order in
     arranges-column (o .kept .1 .1 .0) (o .kept .1 .1 .1 .0) (when-column (c .before .enum-told3 .given .1) (o .ensures))
 
 same-length-9 : tie.Need-same-length-9
@@ -115,14 +115,14 @@ same-length-10 c = search needs
 
 returns-5 : tie.Need-returns-5
 returns-5 c =
-    let o = c .before .before .before .before .before .before .before .topological-order in
+    let o = c .before .before .before .before .before .before .before .order in
     arranges-scratch (o .kept .1 .1 .0) (o .kept .1 .1 .1 .0) (when-scratch (c .before .enum-told4 .given .1) (o .ensures))
 
 pub arrange-spec : {M : Type 1} → statement M
 arrange-spec =
     tie.close
     (tie.spec
-    topological-order-requires
+    order-requires
     enum-told
     saturating-sub-requires
     name-nodes-requires
