@@ -7,7 +7,8 @@ use Rattle.express.specs.syntax.NodeKind.{name, rule, in-expression}
 use Rattle.express.specs.syntax.Tree.{Table, kind, is-declaration, is-attribute}
 use Rattle.express.proofs.names.Owned.{Declaring, a-constant, a-type, an-entity, declaring}
 use Rattle.inheritance.specs.Inheritance.{asks}
-use Rattle.inheritance.specs.Steps.{attribute-kind, asks-by}
+use Rattle.attributes.specs.Attributes.{attribute-kind}
+use Rattle.inheritance.specs.Steps.{asks-by}
 
 -- what goes by the role, put together
 asks-joined : (a b r m : Bool) → (((a || b) && r) || m) ≡ ((a && r) || (m || b && r))

@@ -24,12 +24,13 @@ use Rattle.symbol_tables.specs.Table.{Tabulated, OnlyStamped}
 use Rattle.symbol_tables.proofs.Tables.{untouched}
 use Rattle.symbol_tables.proofs.Symbols.{symbol-within}
 use Rattle.inheritance.specs.Inheritance.{asks, inherited-code, ColumnsOf, Inheriting, InheritanceRoom, Inherits}
-use Rattle.inheritance.specs.Steps.{TypeGraph, asks-by, inherits-by, StoresOffsets, Puts, queued-attributes, Queued, CollectsQueued, Stores, NoneInherits, StoredFrom, Done, InheritsIn}
+use Rattle.attributes.specs.Attributes.{StoresOffsets, Puts, queued-attributes, Queued, CollectsQueued}
+use Rattle.inheritance.specs.Steps.{TypeGraph, asks-by, inherits-by, Stores, NoneInherits, StoredFrom, Done, InheritsIn}
 use Rattle.inheritance.proofs.Asking.{declaration-silent}
 use Rattle.inheritance.proofs.TypeGraphs.{type-graph}
 use Rattle.inheritance.proofs.Reaching.{inherits-nothing}
 use Rattle.inheritance.proofs.Queues.{listed-known, listed-inherited}
-use Rattle.inheritance.proofs.Collecting.{offsets-kept}
+use Rattle.attributes.proofs.Collecting.{offsets-kept}
 
 -- where a node stands: before a range, in it, at its declaration, or behind it
 data Standing (t : Table) (v n : ℕ) : Type 0 where

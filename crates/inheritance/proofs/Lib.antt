@@ -1,9 +1,6 @@
 pub mod Asking
 pub mod TypeGraphs
 pub mod Reaching
-pub mod Offsets
-pub mod Offsetting
 pub mod Queues
-pub mod Collecting
 pub mod Storing
 pub mod Doing

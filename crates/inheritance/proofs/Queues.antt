@@ -27,7 +27,8 @@ use Rattle.scopes.specs.Entries.{vertex}
 use Rattle.scopes.specs.Range.{vertex-count, node-of, range-start}
 use Rattle.scopes.proofs.Ranges.{node-below, node-declares, node-number, range-owner, owner-range}
 use Rattle.symbol_tables.proofs.Orders.{Distinct, empty, ascending-distinct, distinct-keep, distinct-append, meaning-same}
-use Rattle.inheritance.specs.Steps.{TypeGraph, attributes-of, queued-attributes}
+use Rattle.attributes.specs.Attributes.{attributes-of, queued-attributes}
+use Rattle.inheritance.specs.Steps.{TypeGraph}
 use Rattle.inheritance.proofs.Asking.{declaration-other}
 use Rattle.inheritance.proofs.Reaching.{reached-declares, vertex-reached, reached-iff}
 

@@ -1,10 +1,10 @@
--- `inheritance::store_offsets` meets its contract. Assumes nothing.
-use Rattle.inheritance.proofs.store_offsets.Statement.{statement}
-use Rattle.inheritance.proofs.store_offsets.Tie as tie
+-- `attributes::store_offsets` meets its contract. Assumes nothing.
+use Rattle.attributes.proofs.store_offsets.Statement.{statement}
+use Rattle.attributes.proofs.store_offsets.Tie as tie
 use mathlib.Core.Path.{_∙_}
 use native.Mathlib.Omega.{arith}
 use Rattle.graph.proofs.Store.{zeros}
-use Rattle.inheritance.proofs.Offsetting.{Offsetting, offsetting-starts, offsetting-ends, offsetting-goes}
+use Rattle.attributes.proofs.Offsetting.{Offsetting, offsetting-starts, offsetting-ends, offsetting-goes}
 use borrow.Author.Needs.{needs}
 
 abbrev Inv-loop : tie.InvT-loop

@@ -1,7 +1,7 @@
--- `inheritance::start` meets its contract. Assumes nothing.
+-- `attributes::start` meets its contract. Assumes nothing.
 use borrow.Author.Needs.{needs}
-use Rattle.inheritance.proofs.start.Statement.{statement}
-use Rattle.inheritance.proofs.start.Tie as tie
+use Rattle.attributes.proofs.start.Statement.{statement}
+use Rattle.attributes.proofs.start.Tie as tie
 use borrow.Author.Tests.{eq-eqb, ne-eqb}
 use mathlib.Core.Path.{ap, _∙_}
 use Prim.Native.Nat.{ℕ, _+_}

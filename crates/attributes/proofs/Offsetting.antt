@@ -11,8 +11,8 @@ use Rattle.express.specs.syntax.Tree.{Table}
 use Rattle.scopes.specs.Preparation.{Prepared}
 use Rattle.scopes.specs.Range.{vertex-count}
 use Rattle.symbol_tables.specs.Entry.{code-count}
-use Rattle.inheritance.specs.Steps.{offset-of, place, start-in, Back, StoresOffsets}
-use Rattle.inheritance.proofs.Offsets.{offset-rises, offset-few, offset-within, back-offset}
+use Rattle.attributes.specs.Attributes.{offset-of, place, start-in, Back, StoresOffsets}
+use Rattle.attributes.proofs.Offsets.{offset-rises, offset-few, offset-within, back-offset}
 
 -- no number is above a limit, and none that is stored
 small-set : (table : List ℕ) (p x c : ℕ) → ((k : ℕ) → getD table k 0 < c) → x < c → (k : ℕ) → getD (set table p x) k 0 < c

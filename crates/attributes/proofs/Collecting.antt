@@ -16,9 +16,9 @@ use Rattle.scopes.specs.Range.{vertex-count}
 use Rattle.symbol_tables.specs.Entry.{stamp-count, node-limit}
 use Rattle.symbol_tables.specs.Table.{Adds}
 use Rattle.symbol_tables.proofs.Tables.{only-same, only-then, add-only, add-tabulates}
-use Rattle.inheritance.specs.Steps.{offset-of, place, Offsets, Puts, attribute-kind, attributes-between, CollectsEntries}
-use Rattle.inheritance.specs.Steps.{attributes-of, queued-attributes, Queued, CollectsQueued}
-use Rattle.inheritance.proofs.Offsets.{range-attributes, entry-fits}
+use Rattle.attributes.specs.Attributes.{offset-of, place, Offsets, Puts, attribute-kind, attributes-between, CollectsEntries}
+use Rattle.attributes.specs.Attributes.{attributes-of, queued-attributes, Queued, CollectsQueued}
+use Rattle.attributes.proofs.Offsets.{range-attributes, entry-fits}
 
 -- ---- nodes put into a table
 module _ {symbol : ℕ → ℕ} {limit stamp : ℕ} where

@@ -1,7 +1,7 @@
--- `inheritance::back` meets its contract. Assumes nothing.
-use Rattle.inheritance.proofs.back.Statement.{statement}
-use Rattle.inheritance.proofs.back.Tie as tie
-use Rattle.inheritance.proofs.Offsetting.{Backing, backing-starts, backing-ends, backing-stops, backing-goes}
+-- `attributes::back` meets its contract. Assumes nothing.
+use Rattle.attributes.proofs.back.Statement.{statement}
+use Rattle.attributes.proofs.back.Tie as tie
+use Rattle.attributes.proofs.Offsetting.{Backing, backing-starts, backing-ends, backing-stops, backing-goes}
 use borrow.Author.Needs.{needs}
 
 abbrev Inv-loop : tie.InvT-loop

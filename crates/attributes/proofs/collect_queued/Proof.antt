@@ -1,9 +1,9 @@
--- `inheritance::collect_queued` meets its contract. Assumes nothing.
-use Rattle.inheritance.proofs.collect_queued.Statement.{statement}
-use Rattle.inheritance.proofs.collect_queued.Tie as tie
+-- `attributes::collect_queued` meets its contract. Assumes nothing.
+use Rattle.attributes.proofs.collect_queued.Statement.{statement}
+use Rattle.attributes.proofs.collect_queued.Tie as tie
 use mathlib.Core.Path.{_∙_}
 use Prim.Native.Nat.{_-_}
-use Rattle.inheritance.proofs.Collecting.{Collecting, collecting-starts, collecting-ends, collecting-goes}
+use Rattle.attributes.proofs.Collecting.{Collecting, collecting-starts, collecting-ends, collecting-goes}
 use borrow.Author.Needs.{needs}
 
 abbrev Inv-loop : tie.InvT-loop

@@ -1,12 +1,12 @@
--- `inheritance::collect_entries` meets its contract. Assumes nothing.
-use Rattle.inheritance.proofs.collect_entries.Statement.{statement}
-use Rattle.inheritance.proofs.collect_entries.Tie as tie
+-- `attributes::collect_entries` meets its contract. Assumes nothing.
+use Rattle.attributes.proofs.collect_entries.Statement.{statement}
+use Rattle.attributes.proofs.collect_entries.Tie as tie
 use mathlib.Core.Path.{sym, ap, _∙_}
 use Prim.Native.Nat.{ℕ, _%_}
 use lib.ListN.{getD}
 use Rattle.scopes.specs.Entries.{radix}
-use Rattle.inheritance.specs.Steps.{attribute-kind}
-use Rattle.inheritance.proofs.Collecting.{Adding, adding-starts, adding-ends, adding-skip, adding-more}
+use Rattle.attributes.specs.Attributes.{attribute-kind}
+use Rattle.attributes.proofs.Collecting.{Adding, adding-starts, adding-ends, adding-skip, adding-more}
 use borrow.Author.Needs.{needs}
 
 abbrev Inv-loop : tie.InvT-loop

@@ -23,7 +23,7 @@ use Rattle.scopes.proofs.Passing.{others-step}
 use Rattle.scopes.proofs.Numbering.{Ranked, ranked, entry-declares}
 use Rattle.scopes.proofs.Ranges.{node-below, node-declares, range-next, range-rises, range-below, column-node}
 use Rattle.symbol_tables.proofs.Symbols.{symbol-within}
-use Rattle.inheritance.specs.Steps.{offset-of, start-in, Back, Fits, attributes-between, attributes-of}
+use Rattle.attributes.specs.Attributes.{offset-of, start-in, Back, Fits, attributes-between, attributes-of}
 
 -- ---- lists
 
