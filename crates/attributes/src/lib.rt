@@ -1,7 +1,6 @@
 // The attributes of declarations: by the entries of the dictionary, among which those of a declaration stand together, they are put into a table
 // by symbol under a stamp.
 ghost use mathlib.Core.Path.{_≡_};
-ghost use mathlib.Core.Bool.{_||_};
 ghost use Prim.Native.Nat.{_%_};
 ghost use Rattle.scopes.specs.Entries.{radix};
 ghost use Rattle.attributes.specs.Attributes.{start-in, Back, StoresOffsets, attribute-kind, CollectsEntries, CollectsQueued};
@@ -12,16 +11,7 @@ use columns::saturating_sub;
 use scopes::at;
 use scopes::at8;
 use scopes::at64;
-
-// A test or another, with no jump between the two.
-pub fn either(a: bool, b: bool) -> bool
-    ensures { λ r. ⌜ r ≡ (a || b) ⌝ }
-{
-    if a {
-        return true;
-    }
-    b
-}
+use scopes::either;
 
 pub fn is_attribute(kind: u8) -> bool
     ensures { λ r. ⌜ r ≡ attribute-kind kind ⌝ }

@@ -3,13 +3,11 @@
 // into a table by symbol, under the entity's own stamp. They are found by the entries of the dictionary, among which those of a declaration
 // stand together.
 ghost use mathlib.Core.Path.{_≡_};
-ghost use mathlib.Core.Bool.{_&&_};
 ghost use Prim.Native.Nat.{_<_};
 ghost use lib.ListN.{length};
 ghost use Rattle.symbol_tables.specs.Table.{symbol-in};
 ghost use Rattle.inheritance.specs.Inheritance.{Inherits};
 ghost use Rattle.inheritance.specs.Steps.{asks-by, Stores, inherits-by, NoneInherits, InheritsIn};
-use attributes::either;
 use attributes::is_attribute;
 use columns::index;
 use columns::number;
@@ -18,22 +16,14 @@ use columns::saturating_sub;
 use columns::shorter;
 use scopes::at;
 use scopes::at8;
+use scopes::both;
+use scopes::either;
 
 // The symbol of a node.
 fn symbol(tokens: &[u32], symbols: &[u32], node: usize) -> u32
     ensures { λ r. ⌜ r ≡ symbol-in (now (tokens .entry)) (now (symbols .entry)) node ⌝ }
 {
     at(symbols, index(at(tokens, node)))
-}
-
-// A test and another, with no jump between the two.
-fn both(a: bool, b: bool) -> bool
-    ensures { λ r. ⌜ r ≡ (a && b) ⌝ }
-{
-    if a {
-        return b;
-    }
-    false
 }
 
 // Is it a name in an expression, or an attribute or label? The role of such a name has the number of that of a rule with a label.

@@ -28,7 +28,16 @@ module _ {first to : List ℕ} (g : Graph first to) (column scratch front z : Li
         replies = replies-none (s .1);
         ordered = ordered-front front (drop (vertices first) column) (e ∙ k) (s .0);
       }
-  sorts false S = (kept-front (vertices first) column front (S .kept refl), inr (record { graph = g; column-room = l; scratch-room = h; scratch-is = used g h (S .zeros) column front l e .scratch-is }))
+  sorts false S = (
+    kept-front (vertices first) column front (S .kept refl),
+    inr (record {
+      graph = g;
+      column-room = l;
+      scratch-room = h;
+      scratch-is = used g h (S
+          .zeros) column front l e .scratch-is;
+    }),
+  )
 
 -- ---- the search after that
 cleared-twice : (k : ℕ) (s : List ℕ) → cleared-before 0 k (cleared-before 0 k s) ≡ cleared-before 0 k s

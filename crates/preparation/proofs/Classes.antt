@@ -1,7 +1,7 @@
 -- The table of classes: what its entries say of a kind and a role.
 use mathlib.Core.Path.{_≡_, refl, ap, _∙_}
 use mathlib.Core.Logic.{⊎-elim}
-use mathlib.Core.Bool.{Bool, false, cond}
+use mathlib.Core.Bool.{Bool, false, cond, _&&_}
 use mathlib.Core.List.{List}
 use Prim.Native.Nat.{ℕ, _+_, _*_, _-_, _/_, _%_, _≤_, _<_}
 use native.Mathlib.Omega.{arith}
@@ -88,9 +88,9 @@ class-high k r l =
     )
 
 -- what may not declare is of class 0
-pub class-plain : (k r : ℕ) → may-declare k ≡ false → 0 ≡ class-of (sort-by k r)
+pub class-plain : (k r : ℕ) → may-declare k r ≡ false → 0 ≡ class-of (sort-by k r)
 class-plain k r e =
-    let o = or-none (eqb k name) (leb enumeration-item k) e in
+    let o = or-none (eqb k name && eqb r supertype-name) (leb enumeration-item k) e in
     let l = leb-false enumeration-item k (o .1) in
     rw (
       ne-eqb k schema (λ q. omega (arith, q, l)),

@@ -268,11 +268,12 @@ module _ {t : Table} {keys₀ nodes₀ : List ℕ} where
 
   -- nor have nodes that may not declare
   pub entering-passes :
-      {keys nodes : List ℕ} {here : Here} {d i r : ℕ} → Entering t d keys₀ nodes₀ keys nodes here i → NoneFrom may-declare (t .kinds) 0 i r →
+      {keys nodes : List ℕ} {here : Here} {d i r : ℕ} → Entering t d keys₀ nodes₀ keys nodes here i → NoneFrom may-declare (t .kinds) (t .roles) 0 i r →
       Entering t d keys₀ nodes₀ keys nodes here r
   entering-passes {keys} {nodes} {here} {d} {i} {r} E D = go (i - r) i E (D .none) (omega (arith, D .low))
     where
-      go : (k i : ℕ) → Entering t d keys₀ nodes₀ keys nodes here i → ((n : ℕ) → r ≤ n → n < i → may-declare (getD (t .kinds) n 0) ≡ false) → i ≡ k + r → Entering t d keys₀ nodes₀ keys nodes here r
+      go : (k i : ℕ) → Entering t d keys₀ nodes₀ keys nodes here i → ((n : ℕ) → r ≤ n → n < i → may-declare (getD (t .kinds) n 0) (getD (t .roles) n 0) ≡ false) → i ≡ k + r
+          → Entering t d keys₀ nodes₀ keys nodes here r
       go zero i E h e = let q : i ≡ r = omega (arith, e) in rw q at E
       go (suc k) i E h e =
           go k (i - 1) (entering-skip E (omega (arith, e)) (class-plain (kind t (i - 1)) (role t (i - 1)) (h (i - 1) (omega (arith, e)) (omega (arith, e)))) refl)

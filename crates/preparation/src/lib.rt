@@ -194,24 +194,25 @@ fn others_of(kind: u8, role: u8) -> u8
     named + attributes + rules + supertypes
 }
 
-// May a node of this kind declare something? Most nodes are those of expressions.
-fn may_declare(kind: u8) -> bool
-    ensures { λ r. ⌜ r ≡ may-declare kind ⌝ }
+// May a node of this kind and role declare something? Most nodes are those of expressions.
+fn may_declare(kind: u8, role: u8) -> bool
+    ensures { λ r. ⌜ r ≡ may-declare kind role ⌝ }
 {
-    if kind == codes::nodes::NAME {
-        return true;
-    }
-    codes::nodes::ITEM <= kind
+    let supertype = scopes::both(
+        kind == codes::nodes::NAME,
+        role as u32 == codes::roles::SUPERTYPE_NAME,
+    );
+    scopes::either(supertype, codes::nodes::ITEM <= kind)
 }
 
 // The nodes before an end, without the last ones, of which none may declare something.
-fn declaring_before(kinds: &[u8], end: usize) -> usize
-    requires { ⌜ end ≤ length (now kinds) ⌝ }
-    ensures { λ r. ⌜ NoneFrom may-declare (now (kinds .entry)) 0 end r ⌝ }
+fn declaring_before(kinds: &[u8], roles: &[u8], end: usize) -> usize
+    requires { ⌜ (end ≤ length (now kinds)) × (end ≤ length (now roles)) ⌝ }
+    ensures { λ r. ⌜ NoneFrom may-declare (now (kinds .entry)) (now (roles .entry)) 0 end r ⌝ }
 {
     let mut i = end;
     while 0 < i {
-        if may_declare(kinds[i - 1]) {
+        if may_declare(kinds[i - 1], roles[i - 1]) {
             return i;
         }
         i -= 1;
@@ -357,10 +358,10 @@ fn fill(
     let classes = CLASSES;
     let declarations = counts.declarations;
     let mut here = ended(kinds.len(), counts);
-    let mut i = declaring_before(kinds, kinds.len());
+    let mut i = declaring_before(kinds, roles, kinds.len());
     while 0 < i {
         let n = i - 1;
-        i = declaring_before(kinds, n);
+        i = declaring_before(kinds, roles, n);
         let class = class(&classes, kinds[n], roles[n] as u32);
         if class != NOTHING {
             let k = index(tokens[n]);

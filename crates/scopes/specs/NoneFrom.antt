@@ -5,8 +5,8 @@ use mathlib.Core.List.{List}
 use Prim.Native.Nat.{ℕ, _≤_, _<_}
 use lib.ListN.{getD}
 
--- no entry from r up to an end passes a test; none below lo is left out
-pub record NoneFrom (test : ℕ → Bool) (column : List ℕ) (lo end r : ℕ) : Type 0 where
+-- no node from r up to an end passes a test of its kind and role; none below lo is left out
+pub record NoneFrom (test : ℕ → ℕ → Bool) (kinds roles : List ℕ) (lo end r : ℕ) : Type 0 where
   pub low : r ≤ end
   pub from : r < end → lo ≤ r
-  pub none : (n : ℕ) → r ≤ n → n < end → test (getD column n 0) ≡ false
+  pub none : (n : ℕ) → r ≤ n → n < end → test (getD kinds n 0) (getD roles n 0) ≡ false

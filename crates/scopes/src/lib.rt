@@ -3,6 +3,7 @@ pub mod dictionary;
 pub mod look_ups;
 
 ghost use mathlib.Core.Path.{_≡_};
+ghost use mathlib.Core.Bool.{_&&_, _||_};
 ghost use lib.ListN.{getD};
 ghost use Rattle.scopes.specs.Standing.{declares, is-member};
 ghost use Rattle.scopes.specs.Range.{DeclarationAt};
@@ -38,6 +39,25 @@ pub struct Here {
 pub struct Counts {
     pub declarations: usize,
     pub others: usize,
+}
+
+// A test and another, and a test or another, with no jump between the two: what nodes are changes too often to be foretold.
+pub fn both(a: bool, b: bool) -> bool
+    ensures { λ r. ⌜ r ≡ (a && b) ⌝ }
+{
+    if a {
+        return b;
+    }
+    false
+}
+
+pub fn either(a: bool, b: bool) -> bool
+    ensures { λ r. ⌜ r ≡ (a || b) ⌝ }
+{
+    if a {
+        return true;
+    }
+    b
 }
 
 // Is it a constant, a type or an entity?

@@ -88,10 +88,10 @@ fn arc_target(role: u32, vertex: u32) -> u32
 pub fn is_type_name(kind: u8, role: u32) -> bool
     ensures { λ r. ⌜ r ≡ is-type-name-by kind role ⌝ }
 {
-    if kind == codes::nodes::NAME {
-        return role != codes::roles::IN_EXPRESSION;
-    }
-    false
+    scopes::both(
+        kind == codes::nodes::NAME,
+        role != codes::roles::IN_EXPRESSION,
+    )
 }
 
 // A name that means no declaration, or several.

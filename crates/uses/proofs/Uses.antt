@@ -7,7 +7,7 @@ use Prim.Native.Nat.{ℕ, zero, suc, _+_, _-_, _≤_, _<_, min}
 use native.Mathlib.Omega.{arith}
 use native.Mathlib.Decide.{ℕ-discrete}
 use borrow.Author.Tests.{eqb-true, eq-eqb, ne-eqb}
-use lib.Dec.{eqb}
+use lib.Dec.{eqb, leb, ltb}
 use lib.ListN.{length, getD, set}
 use Rattle.ebnf.specs.Set.{mem, disjoint, subset}
 use Rattle.ebnf.proofs.Sets.{in-more}
@@ -309,24 +309,28 @@ range-passes {i = i} G more K = record {
 
 -- ---- nodes of kinds of which nothing is found
 
-other-kind : (k q : ℕ) → may-find k ≡ false → may-find q ≡ true → k ≡ q → ⊥
-other-kind k q h e x = false≢true (sym h ∙ ap may-find x ∙ e)
+other-kind : (k q r : ℕ) → may-find k r ≡ false → may-find q r ≡ true → k ≡ q → ⊥
+other-kind k q r h e x = false≢true (sym h ∙ ap (λ (n : ℕ). may-find n r) x ∙ e)
 
-finds-none : (k r c : ℕ) → may-find k ≡ false → false ≡ finds-by k r c
+first-no : (a b : Bool) → (a || b) ≡ false → a ≡ false
+first-no true b e = e
+first-no false b e = refl
+
+finds-none : (k r c : ℕ) → may-find k r ≡ false → false ≡ finds-by k r c
 finds-none k r c h =
     rw (
-      ne-eqb k node.name (other-kind k node.name h refl),
-      ne-eqb k node.qualified-item (other-kind k node.qualified-item h refl),
-      ne-eqb k node.self (other-kind k node.self h refl),
-      ne-eqb k node.attribute-name (other-kind k node.attribute-name h refl),
-      ne-eqb k node.derived-attribute (other-kind k node.derived-attribute h refl),
-      ne-eqb k node.rule (other-kind k node.rule h refl),
+      first-no (eqb k node.name && eqb r node.in-expression) (ltb node.name k && (leb k node.self || leb node.attribute-name k)) h,
+      ne-eqb k node.qualified-item (other-kind k node.qualified-item r h refl),
+      ne-eqb k node.self (other-kind k node.self r h refl),
+      ne-eqb k node.attribute-name (other-kind k node.attribute-name r h refl),
+      ne-eqb k node.derived-attribute (other-kind k node.derived-attribute r h refl),
+      ne-eqb k node.rule (other-kind k node.rule r h refl),
     )
 
 pub range-leaves-out :
     {kinds tokens sizes roles symbols starts keys nodes heads next items : List ℕ} {stamp schema lo hi i j : ℕ} {before so-far : Progress} {bound to bound′ to′ : List ℕ} →
     PassingRange (RangeAsked kinds tokens sizes roles symbols starts keys nodes heads next items stamp schema) uses lo hi before bound to i so-far bound′ to′ →
-    NoneFrom may-find kinds lo i j →
+    NoneFrom may-find kinds roles lo i j →
     PassingRange (RangeAsked kinds tokens sizes roles symbols starts keys nodes heads next items stamp schema) uses lo hi before bound to j so-far bound′ to′
 range-leaves-out {kinds} {tokens} {sizes} {roles} {symbols} {starts} {keys} {nodes} {heads} {next} {items} {stamp} {schema} {lo} {hi} {i} {j} {before} {so-far} {bound} {to} {bound′} {to′} G N =
     go (i - j) i G (omega arith) (omega (arith, N .low))

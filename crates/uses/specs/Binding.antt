@@ -3,7 +3,7 @@ use mathlib.Core.Path.{_≡_}
 use mathlib.Core.Bool.{Bool, true, false, cond, not, _&&_, _||_}
 use mathlib.Core.List.{List}
 use Prim.Native.Nat.{ℕ, _≤_, _<_}
-use lib.Dec.{eqb, leb}
+use lib.Dec.{eqb, leb, ltb}
 use lib.ListN.{length, getD}
 use Rattle.express.specs.syntax.NodeKind.{name, qualified-item, self, in-expression}
 use Rattle.express.specs.syntax.NodeKind as node
@@ -35,9 +35,9 @@ use Rattle.meanings.specs.declared.Use.{Use}
 abbrev pub finds-by : ℕ → ℕ → ℕ → Bool
 finds-by kind role code = (eqb kind name && eqb role in-expression) || eqb kind qualified-item || eqb kind self || (is-member kind role && not (eqb code 0))
 
--- the kinds of nodes of which it may hold: names, `type.item`, SELF, and those from attributes on
-abbrev pub may-find : ℕ → Bool
-may-find k = leb name k && (leb k self || leb node.attribute-name k)
+-- the nodes of which it may hold, by kind and role: names in expressions, `type.item`, SELF, and those from attributes on
+abbrev pub may-find : ℕ → ℕ → Bool
+may-find k r = (eqb k name && eqb r in-expression) || (ltb name k && (leb k self || leb node.attribute-name k))
 
 -- what a code of inherited attributes or of items stands for, in a file with fewer nodes than there are codes
 pub record Decodes (c : ℕ) (r : Use) : Type 0 where

@@ -15,6 +15,8 @@ use schema_items::item_at;
 use schema_items::turn_to;
 use scopes::at;
 use scopes::at8;
+use scopes::both;
+use scopes::either;
 use type_names::Finding;
 use type_names::Progress;
 use type_names::store;
@@ -39,27 +41,29 @@ fn has_finding(kind: u8, role: u32, code: u32) -> bool
     false
 }
 
-// May something be found of a node of this kind? Most nodes are literals and operators.
-fn may_find(kind: u8) -> bool
-    ensures { λ r. ⌜ r ≡ may-find kind ⌝ }
+// May something be found of a node of this kind and role? Most nodes are literals and operators.
+fn may_find(kind: u8, role: u8) -> bool
+    ensures { λ r. ⌜ r ≡ may-find kind role ⌝ }
 {
-    if kind < codes::nodes::NAME {
-        return false;
-    }
-    if kind <= codes::nodes::SELF_REFERENCE {
-        return true;
-    }
-    codes::nodes::ATTRIBUTE_NAME <= kind
+    let used = both(
+        kind == codes::nodes::NAME,
+        role as u32 == codes::roles::IN_EXPRESSION,
+    );
+    let other = either(
+        kind <= codes::nodes::SELF_REFERENCE,
+        codes::nodes::ATTRIBUTE_NAME <= kind,
+    );
+    either(used, both(codes::nodes::NAME < kind, other))
 }
 
 // The nodes from lo up to an end, without the last ones, of which nothing can be found.
-fn found_before(kinds: &[u8], lo: usize, end: usize) -> usize
-    requires { ⌜ end ≤ length (now kinds) ⌝ }
-    ensures { λ r. ⌜ NoneFrom may-find (now (kinds .entry)) lo end r ⌝ }
+fn found_before(kinds: &[u8], roles: &[u8], lo: usize, end: usize) -> usize
+    requires { ⌜ (end ≤ length (now kinds)) × (end ≤ length (now roles)) ⌝ }
+    ensures { λ r. ⌜ NoneFrom may-find (now (kinds .entry)) (now (roles .entry)) lo end r ⌝ }
 {
     let mut i = end;
     while lo < i {
-        if may_find(kinds[i - 1]) {
+        if may_find(kinds[i - 1], roles[i - 1]) {
             return i;
         }
         i -= 1;
@@ -151,10 +155,10 @@ fn bind_range(
 {
     let mut so_far = before;
     let reach = shorter(hi, shorter(kinds.len(), roles.len()));
-    let mut i = found_before(kinds, lo, reach);
+    let mut i = found_before(kinds, roles, lo, reach);
     while lo < i {
         let n = i - 1;
-        i = found_before(kinds, lo, n);
+        i = found_before(kinds, roles, lo, n);
         let code = at(bound, n);
         if has_finding(kinds[n], roles[n] as u32, code) {
             let found = finding_at(

@@ -1,10 +1,6 @@
+-- `orders::copy` meets its contract. Assumes nothing.
 use Rattle.orders.proofs.copy.Statement.{statement}
 use Rattle.orders.proofs.copy.Tie as tie
-use Rattle.orders.proofs.copy.Reads as reads
-use Rattle.orders.proofs.copy.Lts as lts
-use Rattle.columns.proofs.number.Reads as number-reads
-use Rattle.columns.proofs.put32.Reads as put32-reads
-use Rattle.orders.proofs.at.Reads as at-reads
 use borrow.Author.Needs.{needs}
 use mathlib.Core.Path.{_≡_, refl, sym, _∙_}
 use Prim.Native.Nat.{_-_}
@@ -18,43 +14,34 @@ Inv-loop s n order₀ k₀ order k = Copying s n (length order₀) order k
 abbrev μ-loop : tie.MeasureT-loop
 μ-loop s n order₀ k₀ order k = n - k
 
--- src/lib.rt:190:5
 loop-holds : tie.Need-loop-holds Inv-loop μ-loop
 loop-holds c = copying-start
 
--- src/lib.rt:191:38
 add-at : tie.Need-add-at Inv-loop μ-loop
 add-at c = omega (arith, c .before .loop-test .taken, c .before .before .before .before .before .pre)
 
--- src/lib.rt:191:32
 at-requires : tie.Need-at-requires Inv-loop μ-loop
 at-requires c κs = search needs
 
--- src/lib.rt:191:25
 number-requires : tie.Need-number-requires Inv-loop μ-loop
 number-requires c κs = search needs
 
--- src/lib.rt:191:9
 put32-requires : tie.Need-put32-requires Inv-loop μ-loop
 put32-requires c κs = search needs
 
--- src/lib.rt:192:9
 add-k : tie.Need-add-k Inv-loop μ-loop
 add-k c = search needs
 
--- src/lib.rt:190:5
 loop-less : tie.Need-loop-less Inv-loop μ-loop
 loop-less c = search needs
 
--- src/lib.rt:190:5
 loop-again : tie.Need-loop-again Inv-loop μ-loop
-loop-again c = copying-step (c .before .before .before .before .before .before .before .loop .inv) (c .before .before .before .before .at .ensures) (c .before .before .before .number .ensures) (c .before .before .put32 .ensures)
+loop-again c = copying-step (c .before .before .before .before .before .before .before .loop .inv) (c .before .before .before .before .at .ensures) (c .before
+    .before .before .number .ensures) (c .before .before .put32 .ensures)
 
--- src/lib.rt:185:1
 same-length : tie.Need-same-length Inv-loop μ-loop
 same-length c = c .before .loop .inv .long
 
--- src/lib.rt:185:1
 returns : tie.Need-returns Inv-loop μ-loop
 returns c = copying-end (c .before .loop .inv) (c .loop-test .left)
 

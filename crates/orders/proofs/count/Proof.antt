@@ -1,10 +1,6 @@
+-- `orders::count` meets its contract. Assumes nothing.
 use Rattle.orders.proofs.count.Statement.{statement}
 use Rattle.orders.proofs.count.Tie as tie
-use Rattle.orders.proofs.count.Reads as reads
-use Rattle.orders.proofs.count.Lts as lts
-use Rattle.columns.proofs.number.Reads as number-reads
-use Rattle.columns.proofs.put32.Reads as put32-reads
-use Rattle.orders.proofs.at.Reads as at-reads
 use borrow.Author.Needs.{needs}
 use mathlib.Core.Path.{_≡_, refl, _∙_}
 use Prim.Native.Nat.{_-_}
@@ -17,47 +13,36 @@ Inv-loop to from end s₀ e₀ s e = length s ≡ length s₀
 abbrev μ-loop : tie.MeasureT-loop
 μ-loop to from end s₀ e₀ s e = end - e
 
--- src/lib.rt:49:5
 loop-holds : tie.Need-loop-holds Inv-loop μ-loop
 loop-holds c = refl
 
--- src/lib.rt:50:13
 at-requires : tie.Need-at-requires Inv-loop μ-loop
 at-requires c κs = search needs
 
--- src/lib.rt:51:28
 at-requires-2 : tie.Need-at-requires-2 Inv-loop μ-loop
 at-requires-2 c κs = search needs
 
--- src/lib.rt:51:28
 add-number : tie.Need-add-number Inv-loop μ-loop
 add-number c = omega (arith, c .at2 .ensures .1)
 
--- src/lib.rt:51:21
 number-requires : tie.Need-number-requires Inv-loop μ-loop
 number-requires c κs = search needs
 
--- src/lib.rt:51:9
 put32-requires : tie.Need-put32-requires Inv-loop μ-loop
 put32-requires c κs = search needs
 
--- src/lib.rt:52:9
 add-e : tie.Need-add-e Inv-loop μ-loop
 add-e c = search needs
 
--- src/lib.rt:49:5
 loop-less : tie.Need-loop-less Inv-loop μ-loop
 loop-less c = search needs
 
--- src/lib.rt:49:5
 loop-again : tie.Need-loop-again Inv-loop μ-loop
 loop-again c = c .before .before .put32 .kept .0 ∙ c .before .before .before .before .before .before .before .before .before .loop .inv
 
--- src/lib.rt:47:1
 same-length : tie.Need-same-length Inv-loop μ-loop
 same-length c = c .before .loop .inv
 
--- src/lib.rt:47:1
 returns : tie.Need-returns Inv-loop μ-loop
 returns c = search needs
 

@@ -1,24 +1,19 @@
+-- `orders::entry` meets its contract. Assumes nothing.
 use borrow.Author.Needs.{needs}
 use Rattle.orders.proofs.entry.Statement.{statement}
 use Rattle.orders.proofs.entry.Tie as tie
-use Rattle.orders.proofs.entry.Reads as reads
-use Rattle.orders.proofs.entry.Lts as lts
 use lib.ListN.{List·getD-eq-default}
 use mathlib.Core.Path.{sym}
 
--- src/lib.rt:26:16
 mul-result : tie.Need-mul-result
 mul-result c = search needs
 
--- src/lib.rt:26:16
 shared-slice-read-result : tie.Need-shared-slice-read-result
 shared-slice-read-result c = search needs
 
--- src/lib.rt:26:9
 returns : tie.Need-returns
 returns c = search needs
 
--- src/lib.rt:22:1
 returns-2 : tie.Need-returns-2
 returns-2 c = sym (List·getD-eq-default (c .before .args .column .now) 0 (c .if1 .left))
 

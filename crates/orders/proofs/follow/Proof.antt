@@ -1,9 +1,6 @@
+-- `orders::follow` meets its contract. Assumes nothing.
 use Rattle.orders.proofs.follow.Statement.{statement}
 use Rattle.orders.proofs.follow.Tie as tie
-use Rattle.orders.proofs.follow.Reads as reads
-use Rattle.orders.proofs.follow.Lts as lts
-use Rattle.orders.proofs.at.Reads as at-reads
-use Rattle.orders.proofs.release.Reads as release-reads
 use borrow.Author.Needs.{needs}
 use mathlib.Core.Path.{_≡_, refl, _∙_}
 use Prim.Native.Nat.{_-_, _≤_}
@@ -16,51 +13,56 @@ Inv-loop first to n end before s₀ taken₀ p₀ s taken p = (length s ≡ leng
 abbrev μ-loop : tie.MeasureT-loop
 μ-loop first to n end before s₀ taken₀ p₀ s taken p = p
 
--- src/lib.rt:116:5
 loop-holds : tie.Need-loop-holds Inv-loop μ-loop
 loop-holds c = (refl, omega arith, omega arith)
 
--- src/lib.rt:117:9
 sub-p : tie.Need-sub-p Inv-loop μ-loop
 sub-p c = omega (arith, c .loop-test .taken)
 
--- src/lib.rt:118:23
 add-at : tie.Need-add-at Inv-loop μ-loop
 add-at c = omega (arith, c .before .before .loop .inv .2, c .before .before .before .before .before .before .pre .0, c .before .before .before .before .before .before .pre .1)
 
--- src/lib.rt:118:13
 at-requires : tie.Need-at-requires Inv-loop μ-loop
 at-requires c κs = search needs
 
--- src/lib.rt:119:29
 at-requires-2 : tie.Need-at-requires-2 Inv-loop μ-loop
 at-requires-2 c κs = search needs
 
--- src/lib.rt:119:53
 add-at-2 : tie.Need-add-at-2 Inv-loop μ-loop
 add-at-2 c = omega (arith, c .before .at .ensures .1)
 
--- src/lib.rt:119:43
 at-requires-3 : tie.Need-at-requires-3 Inv-loop μ-loop
 at-requires-3 c κs = search needs
 
--- src/lib.rt:119:9
 release-requires : tie.Need-release-requires Inv-loop μ-loop
-release-requires c κs = (c .before .before .before .before .before .before .before .before .before .before .pre .0, omega (arith, c .before .before .before .before .before .before .loop .inv .1, c .before .before .before .before .before .before .before .before .before .before .pre .2))
+release-requires c κs = (
+  c .before .before .before .before .before .before .before .before .before .before .pre .0,
+  omega (
+    arith,
+    c .before .before .before .before
+        .before .before .loop .inv .1,
+    c .before .before .before .before .before .before .before .before .before .before .pre .2,
+  ),
+)
 
--- src/lib.rt:116:5
 loop-less : tie.Need-loop-less Inv-loop μ-loop
 loop-less c = omega (arith, c .before .before .before .before .before .before .before .before .loop-test .taken)
 
--- src/lib.rt:116:5
 loop-again : tie.Need-loop-again Inv-loop μ-loop
-loop-again c = (c .before .before .release .kept .1 .1 .1 .1 .1 .0 ∙ c .before .before .before .before .before .before .before .before .before .loop .inv .0, omega (arith, c .before .before .release .ensures, c .before .before .before .before .before .before .before .before .before .loop .inv .1), omega (arith, c .before .before .before .before .before .before .before .before .before .loop .inv .2))
+loop-again c = (
+  c .before .before .release .kept .1 .1 .1 .1 .1 .0 ∙ c .before .before .before .before .before .before .before .before .before .loop .inv .0,
+  omega
+      (arith, c .before .before .release .ensures, c .before .before .before .before .before .before .before .before .before .loop .inv .1),
+  omega (
+    arith,
+    c .before
+        .before .before .before .before .before .before .before .before .loop .inv .2,
+  ),
+)
 
--- src/lib.rt:103:1
 same-length : tie.Need-same-length Inv-loop μ-loop
 same-length c = c .before .loop .inv .0
 
--- src/lib.rt:103:1
 returns : tie.Need-returns Inv-loop μ-loop
 returns c = c .before .loop .inv .1
 

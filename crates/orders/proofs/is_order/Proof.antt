@@ -1,9 +1,6 @@
+-- `orders::is_order` meets its contract. Assumes nothing.
 use Rattle.orders.proofs.is_order.Statement.{statement}
 use Rattle.orders.proofs.is_order.Tie as tie
-use Rattle.orders.proofs.is_order.Reads as reads
-use Rattle.orders.proofs.is_order.Lts as lts
-use Rattle.orders.proofs.at.Reads as at-reads
-use Rattle.orders.proofs.lead_before.Reads as lead-before-reads
 use borrow.Author.Needs.{needs}
 use mathlib.Core.Path.{_≡_, refl, sym, ap, _∙_}
 use Prim.Native.Nat.{_-_, _+_, _≤_}
@@ -18,87 +15,81 @@ Inv-loop first to n s v₀ v = Places first to n s v × (v ≤ n)
 abbrev μ-loop : tie.MeasureT-loop
 μ-loop first to n s v₀ v = n - v
 
--- src/lib.rt:161:5
 loop-holds : tie.Need-loop-holds Inv-loop μ-loop
 loop-holds c = (places-start, omega arith)
 
--- src/lib.rt:162:13
 at-requires : tie.Need-at-requires Inv-loop μ-loop
 at-requires c κs = search needs
 
--- src/lib.rt:163:23
 add-at : tie.Need-add-at Inv-loop μ-loop
 add-at c = omega (arith, c .before .loop-test .taken, c .before .before .before .before .before .before .pre)
 
--- src/lib.rt:163:13
 at-requires-2 : tie.Need-at-requires-2 Inv-loop μ-loop
 at-requires-2 c κs = search needs
 
--- src/lib.rt:165:13
 returns : tie.Need-returns Inv-loop μ-loop
 returns c = never
 
--- src/lib.rt:168:13
 returns-2 : tie.Need-returns-2 Inv-loop μ-loop
 returns-2 c = never
 
--- src/lib.rt:170:18
 add-at-2 : tie.Need-add-at-2 Inv-loop μ-loop
 add-at-2 c = omega (arith, c .before .if1 .left, c .before .before .before .before .before .before .before .before .before .pre)
 
--- src/lib.rt:170:12
 at-requires-3 : tie.Need-at-requires-3 Inv-loop μ-loop
 at-requires-3 c κs = search needs
 
--- src/lib.rt:171:13
 returns-3 : tie.Need-returns-3 Inv-loop μ-loop
 returns-3 c = never
 
--- src/lib.rt:173:12
 at-requires-4 : tie.Need-at-requires-4 Inv-loop μ-loop
 at-requires-4 c κs = search needs
 
--- src/lib.rt:174:13
 returns-4 : tie.Need-returns-4 Inv-loop μ-loop
 returns-4 c = never
 
--- src/lib.rt:176:29
 at-requires-5 : tie.Need-at-requires-5 Inv-loop μ-loop
 at-requires-5 c κs = search needs
 
--- src/lib.rt:176:53
 add-at-3 : tie.Need-add-at-3 Inv-loop μ-loop
-add-at-3 c = omega (arith, c .before .before .before .before .before .before .before .before .before .loop-test .taken, c .before .before .before .before .before .before .before .before .before .before .before .before .before .before .pre)
+add-at-3 c = omega (
+  arith,
+  c .before .before .before .before .before .before .before .before .before .loop-test .taken,
+  c .before .before .before .before .before
+      .before .before .before .before .before .before .before .before .before .pre,
+)
 
--- src/lib.rt:176:43
 at-requires-6 : tie.Need-at-requires-6 Inv-loop μ-loop
 at-requires-6 c κs = search needs
 
--- src/lib.rt:176:13
 lead-before-requires : tie.Need-lead-before-requires Inv-loop μ-loop
 lead-before-requires c κs = search needs
 
--- src/lib.rt:177:13
 returns-5 : tie.Need-returns-5 Inv-loop μ-loop
 returns-5 c = never
 
--- src/lib.rt:179:9
 add-v : tie.Need-add-v Inv-loop μ-loop
-add-v c = omega (arith, c .before .before .before .before .before .before .before .before .before .before .before .before .loop-test .taken, c .before .before .before .before .before .before .before .before .before .before .before .before .before .before .before .before .before .pre)
+add-v c = omega (
+  arith,
+  c .before .before .before .before .before .before .before .before .before .before .before .before .loop-test .taken,
+  c .before .before
+      .before .before .before .before .before .before .before .before .before .before .before .before .before .before .before .pre,
+)
 
--- src/lib.rt:161:5
 loop-less : tie.Need-loop-less Inv-loop μ-loop
 loop-less c = omega (arith, c .before .before .before .before .before .before .before .before .before .before .before .before .loop-test .taken)
 
--- src/lib.rt:161:5
 loop-again : tie.Need-loop-again Inv-loop μ-loop
 loop-again c = (
-  places-step (c .before .before .before .before .before .before .before .before .before .before .before .before .before .loop .inv .0) (c .before .before .before .before .before .before .before .before .before .before .before .at .ensures .0) (c .before .before .before .before .before .before .before .before .before .before .at2 .ensures .0) (c .before .before .before .before .before .before .before .before .before .if1 .left) (c .before .before .before .before .before .before .before .before .if2 .left) (sym (c .before .before .before .before .before .before .before .at3 .ensures .0) ∙ c .before .before .before .before .before .before .if3 .left) (sym (c .before .before .before .before .before .at4 .ensures .0) ∙ c .before .before .before .before .if4 .left)
+  places-step (c .before .before .before .before .before .before .before .before .before .before .before .before .before .loop .inv .0) (c .before .before .before
+      .before .before .before .before .before .before .before .before .at .ensures .0) (c .before .before .before .before .before .before .before .before .before
+      .before .at2 .ensures .0) (c .before .before .before .before .before .before .before .before .before .if1 .left) (c .before .before .before .before .before
+      .before .before .before .if2 .left) (sym (c .before .before .before .before .before .before .before .at3 .ensures .0) ∙ c .before .before .before .before
+      .before .before .if3 .left) (sym (c .before .before .before .before .before .at4 .ensures .0) ∙ c .before .before .before .before .if4 .left)
       (rw (← c .before .before .before .at5 .ensures .0, ← c .before .before .at6 .ensures .0) (c .before .lead-before .ensures (passed _ (c .if5 .left)))),
   omega (arith, c .before .before .before .before .before .before .before .before .before .before .before .before .loop-test .taken),
 )
 
--- src/lib.rt:156:1
 returns-6 : tie.Need-returns-6 Inv-loop μ-loop
 returns-6 c = λ _. places-end (c .before .loop .inv .0) (c .before .loop .inv .1) (c .loop-test .left)
 

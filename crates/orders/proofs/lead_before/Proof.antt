@@ -1,8 +1,6 @@
+-- `orders::lead_before` meets its contract. Assumes nothing.
 use Rattle.orders.proofs.lead_before.Statement.{statement}
 use Rattle.orders.proofs.lead_before.Tie as tie
-use Rattle.orders.proofs.lead_before.Reads as reads
-use Rattle.orders.proofs.lead_before.Lts as lts
-use Rattle.orders.proofs.at.Reads as at-reads
 use borrow.Author.Needs.{needs}
 use mathlib.Core.Path.{_≡_, refl, sym, _∙_}
 use Prim.Native.Nat.{_-_}
@@ -15,35 +13,27 @@ Inv-loop to from end s p e₀ e = Fallen to s p from e
 abbrev μ-loop : tie.MeasureT-loop
 μ-loop to from end s p e₀ e = end - e
 
--- src/lib.rt:146:5
 loop-holds : tie.Need-loop-holds Inv-loop μ-loop
 loop-holds c = fallen-start
 
--- src/lib.rt:147:23
 at-requires : tie.Need-at-requires Inv-loop μ-loop
 at-requires c κs = search needs
 
--- src/lib.rt:147:17
 at-requires-2 : tie.Need-at-requires-2 Inv-loop μ-loop
 at-requires-2 c κs = search needs
 
--- src/lib.rt:148:13
 returns : tie.Need-returns Inv-loop μ-loop
 returns c = never
 
--- src/lib.rt:150:9
 add-e : tie.Need-add-e Inv-loop μ-loop
 add-e c = search needs
 
--- src/lib.rt:146:5
 loop-less : tie.Need-loop-less Inv-loop μ-loop
 loop-less c = search needs
 
--- src/lib.rt:146:5
 loop-again : tie.Need-loop-again Inv-loop μ-loop
 loop-again c = fallen-step (c .before .before .before .before .loop .inv) (c .before .before .at .ensures .0) (c .before .at2 .ensures .0) (c .if1 .left)
 
--- src/lib.rt:142:1
 returns-2 : tie.Need-returns-2 Inv-loop μ-loop
 returns-2 c = λ _. fallen-end (c .before .loop .inv) (c .loop-test .left)
 

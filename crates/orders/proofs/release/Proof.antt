@@ -1,12 +1,6 @@
+-- `orders::release` meets its contract. Assumes nothing.
 use Rattle.orders.proofs.release.Statement.{statement}
 use Rattle.orders.proofs.release.Tie as tie
-use Rattle.orders.proofs.release.Reads as reads
-use Rattle.orders.proofs.release.Lts as lts
-use Rattle.columns.proofs.number.Reads as number-reads
-use Rattle.columns.proofs.put32.Reads as put32-reads
-use Rattle.columns.proofs.saturating_sub.Reads as saturating-sub-reads
-use Rattle.orders.proofs.at.Reads as at-reads
-use Rattle.orders.proofs.place_free.Reads as place-free-reads
 use borrow.Author.Needs.{needs}
 use mathlib.Core.Path.{_≡_, refl, _∙_}
 use Prim.Native.Nat.{_-_, _≤_}
@@ -19,51 +13,56 @@ Inv-loop to from end n before s₀ taken₀ e₀ s taken e = (length s ≡ lengt
 abbrev μ-loop : tie.MeasureT-loop
 μ-loop to from end n before s₀ taken₀ e₀ s taken e = end - e
 
--- src/lib.rt:92:5
 loop-holds : tie.Need-loop-holds Inv-loop μ-loop
 loop-holds c = (refl, omega arith)
 
--- src/lib.rt:93:13
 at-requires : tie.Need-at-requires Inv-loop μ-loop
 at-requires c κs = search needs
 
--- src/lib.rt:94:35
 at-requires-2 : tie.Need-at-requires-2 Inv-loop μ-loop
 at-requires-2 c κs = search needs
 
--- src/lib.rt:94:13
 saturating-sub-requires : tie.Need-saturating-sub-requires Inv-loop μ-loop
 saturating-sub-requires c κs = search needs
 
--- src/lib.rt:95:21
 number-requires : tie.Need-number-requires Inv-loop μ-loop
 number-requires c κs = search needs
 
--- src/lib.rt:95:9
 put32-requires : tie.Need-put32-requires Inv-loop μ-loop
 put32-requires c κs = search needs
 
--- src/lib.rt:96:9
 place-free-requires : tie.Need-place-free-requires Inv-loop μ-loop
-place-free-requires c κs = (c .before .before .before .before .before .before .before .before .before .before .before .before .before .before .pre .0, omega (arith, c .before .before .before .before .before .before .before .before .before .before .before .loop .inv .1, c .before .before .before .before .before .before .before .before .before .before .before .before .before .before .pre .1))
+place-free-requires c κs = (
+  c .before .before .before .before .before .before .before .before .before .before .before .before .before .before .pre .0,
+  omega (
+    arith,
+    c .before .before .before .before .before .before .before .before .before .before .before .loop .inv .1,
+    c .before .before .before .before .before .before
+        .before .before .before .before .before .before .before .before .pre .1,
+  ),
+)
 
--- src/lib.rt:97:9
 add-e : tie.Need-add-e Inv-loop μ-loop
 add-e c = search needs
 
--- src/lib.rt:92:5
 loop-less : tie.Need-loop-less Inv-loop μ-loop
 loop-less c = search needs
 
--- src/lib.rt:92:5
 loop-again : tie.Need-loop-again Inv-loop μ-loop
-loop-again c = (c .before .before .place-free .kept .0 ∙ c .before .before .before .before .before .before .put32 .kept .0 ∙ c .before .before .before .before .before .before .before .before .before .before .before .before .before .before .loop .inv .0, omega (arith, c .before .before .place-free .ensures, c .before .before .before .before .before .before .before .before .before .before .before .before .before .before .loop .inv .1))
+loop-again c = (
+  c .before .before .place-free .kept .0 ∙ c .before .before .before .before .before .before .put32 .kept .0 ∙ c .before .before .before .before
+      .before .before .before .before .before .before .before .before .before .before .loop .inv .0,
+  omega (
+    arith,
+    c .before .before .place-free .ensures,
+    c .before
+        .before .before .before .before .before .before .before .before .before .before .before .before .before .loop .inv .1,
+  ),
+)
 
--- src/lib.rt:79:1
 same-length : tie.Need-same-length Inv-loop μ-loop
 same-length c = c .before .loop .inv .0
 
--- src/lib.rt:79:1
 returns : tie.Need-returns Inv-loop μ-loop
 returns c = c .before .loop .inv .1
 

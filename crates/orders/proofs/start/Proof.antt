@@ -1,9 +1,6 @@
+-- `orders::start` meets its contract. Assumes nothing.
 use Rattle.orders.proofs.start.Statement.{statement}
 use Rattle.orders.proofs.start.Tie as tie
-use Rattle.orders.proofs.start.Reads as reads
-use Rattle.orders.proofs.start.Lts as lts
-use Rattle.columns.proofs.number.Reads as number-reads
-use Rattle.columns.proofs.put32.Reads as put32-reads
 use borrow.Author.Needs.{needs}
 use mathlib.Core.Path.{_≡_, refl, _∙_}
 use Prim.Native.Nat.{_-_}
@@ -16,35 +13,27 @@ Inv-loop s₀ n v₀ s v = length s ≡ length s₀
 abbrev μ-loop : tie.MeasureT-loop
 μ-loop s₀ n v₀ s v = n - v
 
--- src/lib.rt:34:5
 loop-holds : tie.Need-loop-holds Inv-loop μ-loop
 loop-holds c = refl
 
--- src/lib.rt:35:21
 number-requires : tie.Need-number-requires Inv-loop μ-loop
 number-requires c κs = search needs
 
--- src/lib.rt:35:9
 put32-requires : tie.Need-put32-requires Inv-loop μ-loop
 put32-requires c κs = search needs
 
--- src/lib.rt:36:9
 add-v : tie.Need-add-v Inv-loop μ-loop
 add-v c = search needs
 
--- src/lib.rt:34:5
 loop-less : tie.Need-loop-less Inv-loop μ-loop
 loop-less c = search needs
 
--- src/lib.rt:34:5
 loop-again : tie.Need-loop-again Inv-loop μ-loop
 loop-again c = c .before .before .put32 .kept .0 ∙ c .before .before .before .before .before .before .loop .inv
 
--- src/lib.rt:32:1
 same-length : tie.Need-same-length Inv-loop μ-loop
 same-length c = c .before .loop .inv
 
--- src/lib.rt:32:1
 returns : tie.Need-returns Inv-loop μ-loop
 returns c = search needs
 

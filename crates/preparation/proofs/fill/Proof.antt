@@ -21,7 +21,8 @@ use lib.ListN.{getD}
 use mathlib.Core.Path.{refl, ap}
 
 abbrev Inv-loop : tie.InvT-loop
-Inv-loop kinds tokens roles symbols keys₀ nodes₀ classes declarations here₀ i₀ keys nodes here i = Entering (table-of kinds tokens roles symbols) declarations keys₀ nodes₀ keys nodes here i
+Inv-loop kinds tokens roles symbols keys₀ nodes₀ classes declarations here₀ i₀ keys nodes here i = Entering (table-of kinds tokens roles symbols) declarations keys₀
+    nodes₀ keys nodes here i
 
 abbrev μ-loop : tie.MeasureT-loop
 μ-loop kinds tokens roles symbols keys₀ nodes₀ classes declarations here₀ i₀ keys nodes here i = i

@@ -1,15 +1,20 @@
--- Both tests are those of the definition. Assumes nothing.
+-- `preparation::may_declare` meets its contract. Assumes nothing.
+use borrow.Author.Needs.{needs}
 use Rattle.preparation.proofs.may_declare.Statement.{statement}
 use Rattle.preparation.proofs.may_declare.Tie as tie
-use borrow.Author.Tests.{eq-eqb, ne-eqb}
-use Rattle.express.specs.syntax.NodeKind.{name}
-use mathlib.Core.Path.{refl, sym}
+use mathlib.Core.Path.{_∙_, ap}
+use mathlib.Core.Bool.{Bool, _||_}
+use lib.Dec.{leb}
+use Rattle.express.specs.syntax.NodeKind.{enumeration-item}
+
+both-requires : tie.Need-both-requires
+both-requires c κs = search needs
+
+either-requires : tie.Need-either-requires
+either-requires c κs = search needs
 
 returns : tie.Need-returns
-returns c = rw (eq-eqb (c .before .args .kind) name (c .if1 .taken))
-
-returns-2 : tie.Need-returns-2
-returns-2 c = rw (ne-eqb (c .before .args .kind) name (c .if1 .left))
+returns c = c .either .ensures ∙ ap (λ (b : Bool). b || leb enumeration-item (c .before .before .args .kind)) (c .before .both .ensures)
 
 pub may-declare-spec : {M : Type 1} → statement M
-may-declare-spec = tie.close (tie.spec returns returns-2)
+may-declare-spec = tie.close (tie.spec both-requires either-requires returns)

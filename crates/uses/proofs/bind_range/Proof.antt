@@ -25,7 +25,7 @@ shorter-requires-2 : tie.Need-shorter-requires-2 Inv-loop μ-loop
 shorter-requires-2 c κs = search needs
 
 found-before-requires : tie.Need-found-before-requires Inv-loop μ-loop
-found-before-requires c κs = omega (arith, c .before .shorter .ensures, c .shorter2 .ensures)
+found-before-requires c κs = (omega (arith, c .before .shorter .ensures, c .shorter2 .ensures), omega (arith, c .before .shorter .ensures, c .shorter2 .ensures))
 
 loop-holds : tie.Need-loop-holds Inv-loop μ-loop
 loop-holds c =
@@ -41,7 +41,7 @@ sub-n : tie.Need-sub-n Inv-loop μ-loop
 sub-n c = search needs
 
 found-before-requires-2 : tie.Need-found-before-requires-2 Inv-loop μ-loop
-found-before-requires-2 c κs = omega (arith, c .before .loop .inv .1)
+found-before-requires-2 c κs = (omega (arith, c .before .loop .inv .1), omega (arith, c .before .loop .inv .1))
 
 at-requires : tie.Need-at-requires Inv-loop μ-loop
 at-requires c κs = search needs

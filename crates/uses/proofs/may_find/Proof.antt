@@ -1,21 +1,28 @@
--- Three tests in a row, as the definition has them. Assumes nothing.
+-- `uses::may_find` meets its contract. Assumes nothing.
+use borrow.Author.Needs.{needs}
 use Rattle.uses.proofs.may_find.Statement.{statement}
 use Rattle.uses.proofs.may_find.Tie as tie
-use borrow.Author.Tests.{le-leb, lt-leb}
-use Rattle.express.specs.syntax.NodeKind.{name, self}
-use mathlib.Core.Path.{refl}
-use native.Mathlib.Omega.{arith}
+use mathlib.Core.Path.{_∙_, ap, ap₂}
+use mathlib.Core.Bool.{Bool, _&&_, _||_}
+use lib.Dec.{ltb}
+use Rattle.express.specs.syntax.NodeKind.{name}
+
+both-requires : tie.Need-both-requires
+both-requires c κs = search needs
+
+either-requires : tie.Need-either-requires
+either-requires c κs = search needs
+
+both-requires-2 : tie.Need-both-requires-2
+both-requires-2 c κs = search needs
+
+either-requires-2 : tie.Need-either-requires-2
+either-requires-2 c κs = search needs
 
 returns : tie.Need-returns
-returns c = rw (lt-leb name (c .before .args .kind) (c .if1 .taken))
-
-returns-2 : tie.Need-returns-2
-returns-2 c =
-    let k = c .before .before .args .kind in rw (le-leb name k (omega (arith, c .before .if1 .left)), le-leb k self (c .if2 .taken))
-
-returns-3 : tie.Need-returns-3
-returns-3 c =
-    let k = c .before .before .args .kind in rw (le-leb name k (omega (arith, c .before .if1 .left)), lt-leb k self (omega (arith, c .if2 .left)))
+returns c = c .either2 .ensures ∙ ap₂ (λ (a b : Bool). a || b) (c .before .before .before .both .ensures) (c .before .both2 .ensures ∙ ap (λ (b : Bool). ltb name (c
+    .before .before .before .before .args .kind) && b) (c .before .before .either .ensures))
 
 pub may-find-spec : {M : Type 1} → statement M
-may-find-spec = tie.close (tie.spec returns returns-2 returns-3)
+may-find-spec =
+    tie.close (tie.spec both-requires either-requires both-requires-2 either-requires-2 returns)
