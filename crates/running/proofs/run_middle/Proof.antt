@@ -6,7 +6,8 @@ use mathlib.Core.Path.{sym, _∙_}
 use lib.Dec.{lit≤}
 use lib.Seq.{length-take-le}
 use Rattle.reading.specs.FileReading.{middle-bytes}
-use Rattle.running.proofs.Running.{counted, filled, filled-fifth, joined-front, joined-length, starts-fit, lengths-fit, terminals-fit, kinds-fit, tokens-fit, sizes-fit, bindings-fit, runs-within}
+use Rattle.running.proofs.Running.{counted, filled, filled-fifth, runs-within}
+use Rattle.running.proofs.Running.{joined-front, joined-length, starts-fit, lengths-fit, terminals-fit, kinds-fit, tokens-fit, sizes-fit, bindings-fit}
 
 shorter-requires : tie.Need-shorter-requires
 shorter-requires c κs = search needs
@@ -156,7 +157,8 @@ slice-aggregate-answer-framed-8 : tie.Need-slice-aggregate-answer-framed-8
 slice-aggregate-answer-framed-8 c = counted _ ∙ sym (c .before .before .before .before .before .before .before .before .before .before .before .before .name-framed .kept .1 .1 .1 .1 .1 .1 .1 .1 .1 .0)
 
 slice-aggregate-answer-framed-9 : tie.Need-slice-aggregate-answer-framed-9
-slice-aggregate-answer-framed-9 c = counted _ ∙ sym (c .before .before .before .before .before .before .before .before .before .before .before .before .before .name-framed .kept .1 .1 .1 .1 .1 .1 .1 .1 .1 .1 .0)
+slice-aggregate-answer-framed-9 c = counted _ ∙ sym (c .before .before .before .before .before .before .before .before .before .before .before .before .before .name-framed .kept .1 .1 .1 .1
+    .1 .1 .1 .1 .1 .1 .0)
 
 answer-framed-requires : tie.Need-answer-framed-requires
 answer-framed-requires c κs = search needs
@@ -247,7 +249,8 @@ returns c =
     })
     (c .before .before .before .before .before .before .before .before .before .before .before .before .before .before .before .before .before .before .before .before .before .before
     .name-framed .kept .1 .1 .1 .1 .1 .1 .1 .1 .1 .0) (c .before .before .before .before .before .before .before .before .before .before .before .before .before .before .before .before
-    .before .before .before .before .before .before .name-framed .kept .1 .1 .1 .1 .1 .1 .1 .1 .1 .1 .0) middle-bytes (filled middle-bytes 16384 (lit≤ tt)) (filled-fifth middle-bytes 3276 (lit≤ tt)) (filled-fifth middle-bytes 3276 (lit≤ tt))
+    .before .before .before .before .before .before .name-framed .kept .1 .1 .1 .1 .1 .1 .1 .1 .1 .1 .0) middle-bytes (filled middle-bytes 16384 (lit≤ tt)) (filled-fifth middle-bytes 3276
+    (lit≤ tt)) (filled-fifth middle-bytes 3276 (lit≤ tt))
 
 pub run-middle-spec : {M : Type 1} → statement M
 run-middle-spec =
