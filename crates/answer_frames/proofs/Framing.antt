@@ -1,10 +1,10 @@
 -- Arrays for a file of so many nodes: the law of all sizes, and of the choice among them.
-use mathlib.Core.Path.{sym, ap}
+use mathlib.Core.Path.{_≡_, sym, ap}
 use mathlib.Core.List.{List}
 use Prim.Native.Nat.{ℕ, _≤_}
 use native.Mathlib.Omega.{arith}
-use lib.IntN.{ℤ}
-use lib.ListN.{length, take}
+use lib.IntN.{ℤ, pos}
+use lib.ListN.{length, take, replicate, length-replicate}
 use Rattle.express.specs.tokens.Lexis.{most}
 use Rattle.express.specs.syntax.Tree.{Table, count}
 use Rattle.scopes.specs.Range.{vertex-count}
@@ -13,6 +13,13 @@ use Rattle.stages.specs.declared.Stage.{Stage}
 use Rattle.answer_stages.specs.AnswerStage.{BoundColumns}
 use Rattle.pipeline.specs.Binding.{AnswersNamed}
 use Rattle.answer_frames.specs.AnswerFrame.{NamedFile, AnswersWithin}
+
+-- an array that is filled with one value has as many elements as were asked for
+pub counted : (n : ℕ) → n ≡ length (replicate {A = ℕ} n 0)
+counted n = sym (length-replicate n 0)
+
+pub numbers-counted : (n : ℕ) → n ≡ length (replicate n (pos 0))
+numbers-counted n = sym (length-replicate n (pos 0))
 
 module _ {bytes starts lengths terminals kinds tokens sizes bindings types constants aks : List ℕ} {azs : List ℤ} {als : List ℕ} {t : Table}
     (F : NamedFile bytes starts lengths terminals kinds tokens sizes bindings types constants aks azs als t) where
@@ -49,12 +56,13 @@ module _ {bytes starts lengths terminals kinds tokens sizes bindings types const
 
 module _ {before : Stage} {bytes starts lengths terminals kinds tokens sizes bindings types constants aks : List ℕ} {azs : List ℤ} {als : List ℕ} {r : Stage} {aks′ : List ℕ} {azs′ : List ℤ}
     {als′ : List ℕ} where
-  -- an entry for each node
-  pub with-arrays : (n : ℕ) (declared row-of vks : List ℕ) (vzs : List ℤ) (vls : List ℕ) →
-      n ≤ most → n ≤ length declared → n ≤ length row-of → n ≤ length vks → n ≤ length vzs → n ≤ length vls →
-      AnswersNamed before bytes starts lengths terminals kinds tokens sizes bindings types constants declared row-of aks azs als vks vzs vls r aks′ azs′ als′ →
-      AnswersWithin n before bytes starts lengths terminals kinds tokens sizes bindings types constants aks azs als r aks′ azs′ als′
-  with-arrays n declared row-of vks vzs vls m d o k z l A =
+  -- an entry for each node: the sizes are compared as numbers, for to count a long array's elements takes a step for each
+  pub with-arrays : (n : ℕ) → n ≤ most →
+      AnswersNamed before bytes starts lengths terminals kinds tokens sizes bindings types constants (replicate n 0) (replicate n 0) aks azs als (replicate n 0) (replicate n (pos 0)) (replicate n 0)
+      r aks′ azs′ als′ → AnswersWithin n before bytes starts lengths terminals kinds tokens sizes bindings types constants aks azs als r aks′ azs′ als′
+  with-arrays n m A =
+      let k = counted n in
+      let l = numbers-counted n in
       record {
         passed-on = A .passed-on;
         is = λ t F few.

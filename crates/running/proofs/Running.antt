@@ -4,7 +4,7 @@ use mathlib.Core.List.{List, [], _∷_, _++_, map}
 use Prim.Native.Nat.{ℕ, min, _*_, _+_, _≤_, _<_}
 use native.Mathlib.Omega.{arith}
 use lib.IntN.{ℤ}
-use lib.ListN.{length, take, drop, length-map, length-append, length-drop}
+use lib.ListN.{length, take, drop, replicate, length-map, length-append, length-drop, length-replicate}
 use lib.Seq.{sets, length-take-le, take-at}
 use Rattle.columns.proofs.Laws.{take-rows}
 use Rattle.express.specs.tokens.Lexis.{TokenRow, most, lexed}
@@ -47,6 +47,16 @@ joined-front n front column e h = take-at front (drop n column) n (e ∙ length-
 
 pub joined-length : (n : ℕ) (front column : List ℕ) → length front ≡ length (take n column) → n ≤ length column → length (front ++ drop n column) ≡ length column
 joined-length n front column e h = omega (arith, e, length-take-le n column h, length-append front (drop n column), length-drop n column)
+
+-- an array that is filled with 0 has as many elements as were asked for. By this law and not by computing, which takes a step for each element
+pub counted : (n : ℕ) → n ≡ length (replicate {A = ℕ} n 0)
+counted n = sym (length-replicate n 0)
+
+pub filled : (n k : ℕ) → n ≤ k → n ≤ length (replicate {A = ℕ} k 0)
+filled n k h = omega (arith, counted k)
+
+pub filled-fifth : (n k : ℕ) → n < 5 * k + 5 → n < 5 * length (replicate {A = ℕ} k 0) + 5
+filled-fifth n k h = omega (arith, counted k)
 
 -- what is counted is in each column that is as long as it was
 module _ {s tk ts tl terms nk nt ns nb : List ℕ} {answers : ℕ} {r : Reading} {tk′ ts′ tl′ terms′ nk′ nt′ ns′ nb′ : List ℕ}

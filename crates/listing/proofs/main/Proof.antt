@@ -5,6 +5,7 @@ use Rattle.listing.proofs.main.Tie as tie
 use mathlib.Core.Path.{_≡_, sym, subst}
 use Prim.Native.Nat.{ℕ, _≤_}
 use lib.Seq.{length-take-le}
+use Rattle.listing.proofs.Arrays.{counted}
 use Rattle.listing_io.specs.declared.Input.{Input}
 use Rattle.listing_io.specs.declared.Input.the-variants.{Read}
 use Rattle.listing_io.specs.Reading.{Within}
@@ -14,7 +15,7 @@ in-buffer : (m : ℕ) {r : Input} {n : ℕ} → Within m r → r ≡ Read n → 
 in-buffer m w e = subst (Within m) e w
 
 slice-aggregate-read-input : tie.Need-slice-aggregate-read-input
-slice-aggregate-read-input c = search needs
+slice-aggregate-read-input c = counted _
 
 read-input-requires : tie.Need-read-input-requires
 read-input-requires c κs = search needs

@@ -4,49 +4,51 @@ use Rattle.name_frames.proofs.name_large.Statement.{statement}
 use Rattle.name_frames.proofs.name_large.Tie as tie
 use lib.Dec.{lit≤}
 use Rattle.express.specs.tokens.Lexis.{most}
-use Rattle.name_frames.proofs.Framing.{with-arrays}
+use Rattle.name_frames.proofs.Framing.{counted, with-arrays}
 
 slice-aggregate-name-file : tie.Need-slice-aggregate-name-file
-slice-aggregate-name-file c = search needs
+slice-aggregate-name-file c = counted _
 
 slice-aggregate-name-file-2 : tie.Need-slice-aggregate-name-file-2
-slice-aggregate-name-file-2 c = search needs
+slice-aggregate-name-file-2 c = counted _
 
 slice-aggregate-name-file-3 : tie.Need-slice-aggregate-name-file-3
-slice-aggregate-name-file-3 c = search needs
+slice-aggregate-name-file-3 c = counted _
 
 slice-aggregate-name-file-4 : tie.Need-slice-aggregate-name-file-4
-slice-aggregate-name-file-4 c = search needs
+slice-aggregate-name-file-4 c = counted _
 
 slice-aggregate-name-file-5 : tie.Need-slice-aggregate-name-file-5
-slice-aggregate-name-file-5 c = search needs
+slice-aggregate-name-file-5 c = counted _
 
 slice-aggregate-name-file-6 : tie.Need-slice-aggregate-name-file-6
-slice-aggregate-name-file-6 c = search needs
+slice-aggregate-name-file-6 c = counted _
 
 slice-aggregate-name-file-7 : tie.Need-slice-aggregate-name-file-7
-slice-aggregate-name-file-7 c = search needs
+slice-aggregate-name-file-7 c = counted _
 
 slice-aggregate-name-file-8 : tie.Need-slice-aggregate-name-file-8
-slice-aggregate-name-file-8 c = search needs
+slice-aggregate-name-file-8 c = counted _
 
 slice-aggregate-name-file-9 : tie.Need-slice-aggregate-name-file-9
-slice-aggregate-name-file-9 c = search needs
+slice-aggregate-name-file-9 c = counted _
 
 name-file-requires : tie.Need-name-file-requires
 name-file-requires c κs = search needs
 
 same-length : tie.Need-same-length
-same-length c = search needs
+same-length c = c .before .before .before .before .before .before .before .before .before .before .before .before .before .before .before .name-file .kept .1 .1 .1 .1 .1 .1 .1 .1 .0
 
 same-length-2 : tie.Need-same-length-2
-same-length-2 c = search needs
+same-length-2 c = c .before .before .before .before .before .before .before .before .before .before .before .before .before .before .before .name-file .kept .1 .1 .1 .1 .1 .1 .1 .1 .1 .1 .1
+    .1 .1 .1 .1 .1 .1 .0
 
 same-length-3 : tie.Need-same-length-3
-same-length-3 c = search needs
+same-length-3 c = c .before .before .before .before .before .before .before .before .before .before .before .before .before .before .before .name-file .kept .1 .1 .1 .1 .1 .1 .1 .1 .1 .1 .1
+    .1 .1 .1 .1 .1 .1 .1 .0
 
 returns : tie.Need-returns
-returns c = with-arrays most _ _ _ _ _ _ _ _ _ (record {
+returns c = with-arrays most (record {
   small = lit≤ tt;
   roles-fit = lit≤ tt;
   symbols-fit = lit≤ tt;

@@ -6,7 +6,8 @@ use mathlib.Core.Path.{sym, _∙_}
 use lib.Dec.{lit≤}
 use lib.Seq.{length-take-le}
 use Rattle.reading.specs.FileReading.{middle-bytes}
-use Rattle.running.proofs.Running.{joined-front, joined-length, starts-fit, lengths-fit, terminals-fit, kinds-fit, tokens-fit, sizes-fit, bindings-fit, runs-within}
+use Rattle.running.proofs.Running.{counted, filled, filled-fifth, runs-within}
+use Rattle.running.proofs.Running.{joined-front, joined-length, starts-fit, lengths-fit, terminals-fit, kinds-fit, tokens-fit, sizes-fit, bindings-fit}
 
 shorter-requires : tie.Need-shorter-requires
 shorter-requires c κs = search needs
@@ -15,7 +16,7 @@ shorter-requires-2 : tie.Need-shorter-requires-2
 shorter-requires-2 c κs = search needs
 
 slice-aggregate-read-file : tie.Need-slice-aggregate-read-file
-slice-aggregate-read-file c = search needs
+slice-aggregate-read-file c = counted _
 
 read-file-requires : tie.Need-read-file-requires
 read-file-requires c κs = search needs
@@ -75,10 +76,10 @@ slice-aggregate-name-framed-7 : tie.Need-slice-aggregate-name-framed-7
 slice-aggregate-name-framed-7 c = sym (length-take-le _ _ (slice-relend-prefix-name-framed (c .before)))
 
 slice-aggregate-name-framed-8 : tie.Need-slice-aggregate-name-framed-8
-slice-aggregate-name-framed-8 c = search needs
+slice-aggregate-name-framed-8 c = counted _
 
 slice-aggregate-name-framed-9 : tie.Need-slice-aggregate-name-framed-9
-slice-aggregate-name-framed-9 c = search needs
+slice-aggregate-name-framed-9 c = counted _
 
 name-framed-requires : tie.Need-name-framed-requires
 name-framed-requires c κs = search needs
@@ -153,10 +154,11 @@ slice-aggregate-answer-framed-7 : tie.Need-slice-aggregate-answer-framed-7
 slice-aggregate-answer-framed-7 c = sym (length-take-le _ _ (slice-reshare-prefix-answer-framed-6 (c .before)))
 
 slice-aggregate-answer-framed-8 : tie.Need-slice-aggregate-answer-framed-8
-slice-aggregate-answer-framed-8 c = search needs
+slice-aggregate-answer-framed-8 c = counted _ ∙ sym (c .before .before .before .before .before .before .before .before .before .before .before .before .name-framed .kept .1 .1 .1 .1 .1 .1 .1 .1 .1 .0)
 
 slice-aggregate-answer-framed-9 : tie.Need-slice-aggregate-answer-framed-9
-slice-aggregate-answer-framed-9 c = search needs
+slice-aggregate-answer-framed-9 c = counted _ ∙ sym (c .before .before .before .before .before .before .before .before .before .before .before .before .before .name-framed .kept .1 .1 .1 .1
+    .1 .1 .1 .1 .1 .1 .0)
 
 answer-framed-requires : tie.Need-answer-framed-requires
 answer-framed-requires c κs = search needs
@@ -234,47 +236,21 @@ returns c =
     .1 .1 .1 .1 .1 .0) (slice-relend-prefix-name-framed (c .before .before .before .before .before .before .before .before .before .before .before .before .before .before .before
     .before .before .before .before .before .before .before .before .before .before .before))) (c .before .before .before .before .before .answer-framed .ensures)
     (record {
-      token-kinds = c .before .before .before .before .before .before .before .before .before .before .before .before .before .before .before .before .before .before .before .before
-          .before .before .before .before .before .before .before .before .before .before .before .before .before .before .before .before .before .before .before .before .before .before
-          .before .before .before .before .before .read-file .kept .1 .0;
-      token-starts = c .before .before .before .before .before .before .before .before .before .before .before .before
-          .before .before .before .before .before .before .before .before .before .before .before .before .before .before .before .before .before .before .before .before .before .before
-          .before .before .before .before .before .before .before .before .before .before .before .before .before .read-file .kept .1 .1 .0;
-      token-lengths = c .before .before .before .before
-          .before .before .before .before .before .before .before .before .before .before .before .before .before .before .before .before .before .before .before .before .before .before
-          .before .before .before .before .before .before .before .before .before .before .before .before .before .before .before .before .before .before .before .before .before .read-file
-          .kept .1 .1 .1 .0;
-      node-kinds = c .before .before .before .before .before .before .before .before .before .before .before .before .before .before .before .before .before .before
-          .before .before .before .before .before .before .before .before .before .before .before .before .before .before .before .before .before .before .before .before .before .before
-          .before .before .before .before .before .before .before .read-file .kept .1 .1 .1 .1 .1 .0;
-      node-tokens = c .before .before .before .before .before .before .before .before .before
-          .before .before .before .before .before .before .before .before .before .before .before .before .before .before .before .before .before .before .before .before .before .before
-          .before .before .before .before .before .before .before .before .before .before .before .before .before .before .before .before .read-file .kept .1 .1 .1 .1 .1 .1 .0;
-      node-sizes = c
-          .before .before .before .before .before .before .before .before .before .before .before .before .before .before .before .before .before .before .before .before .before .before
-          .before .before .before .before .before .before .before .before .before .before .before .before .before .before .before .before .before .before .before .before .before .before
-          .before .before .before .read-file .kept .1 .1 .1 .1 .1 .1 .1 .0;
-      node-bindings = joined-length (c .before .before .before .before .before .before .before .before .before .before .before .before .before .before .before .before .before .before .before
-          .before .before .before .before .before .before .before .before .before .before .before .before .before .before .before .before .before .before .before .before .before .before
-          .before .before .before .before .before .before .read-file .result .nodes) (c .before .before .before .before .before .before .before .before .before .before .before .before .before
-          .before .before .before .before .before .before .before .before .before .name-framed .last .1 .1 .1 .1 .1 .1 .1 .1 .0) (c .before .before .before .before .before .before .before
-          .before .before .before .before .before .before .before .before .before .before .before .before .before .before .before .before .before .before .before .before .before .before
-          .before .before .before .before .before .before .before .before .before .before .before .before .before .before .before .before .before .before .read-file .last .1 .1 .1 .1 .1 .1 .1
-          .1 .0) (c .before .before .before .before .before .before .before .before .before .before .before .before .before .before .before .before .before .before .before .before .before
-          .before .name-framed .kept .1 .1 .1 .1 .1 .1 .1 .1 .0) (slice-relend-prefix-name-framed (c .before .before .before .before .before .before .before .before .before .before .before
-          .before .before .before .before .before .before .before .before .before .before .before .before .before .before .before)) ∙ c .before .before .before .before .before .before .before
-          .before .before .before .before .before .before .before .before .before .before .before .before .before .before .before .before .before .before .before .before .before .before
-          .before .before .before .before .before .before .before .before .before .before .before .before .before .before .before .before .before .before .read-file .kept .1 .1 .1 .1 .1 .1 .1
-          .1 .0;
-      answer-kinds = c .before .before .before .before .before .answer-framed .kept .1 .1 .1 .1 .1 .1 .1 .1 .1 .1 .1 .0;
-      answer-numbers = c .before .before .before .before .before
-          .answer-framed .kept .1 .1 .1 .1 .1 .1 .1 .1 .1 .1 .1 .1 .0;
-      answer-lengths = c .before .before .before .before .before .answer-framed .kept .1 .1 .1 .1 .1 .1 .1 .1 .1 .1 .1 .1 .1
-          .0;
+      token-kinds = same-length c;
+      token-starts = same-length-2 c;
+      token-lengths = same-length-3 c;
+      node-kinds = same-length-4 c;
+      node-tokens = same-length-5 c;
+      node-sizes = same-length-6 c;
+      node-bindings = same-length-7 c;
+      answer-kinds = same-length-8 c;
+      answer-numbers = same-length-9 c;
+      answer-lengths = same-length-10 c;
     })
     (c .before .before .before .before .before .before .before .before .before .before .before .before .before .before .before .before .before .before .before .before .before .before
     .name-framed .kept .1 .1 .1 .1 .1 .1 .1 .1 .1 .0) (c .before .before .before .before .before .before .before .before .before .before .before .before .before .before .before .before
-    .before .before .before .before .before .before .name-framed .kept .1 .1 .1 .1 .1 .1 .1 .1 .1 .1 .0) middle-bytes (lit≤ tt) (lit≤ tt) (lit≤ tt)
+    .before .before .before .before .before .before .name-framed .kept .1 .1 .1 .1 .1 .1 .1 .1 .1 .1 .0) middle-bytes (filled middle-bytes 16384 (lit≤ tt)) (filled-fifth middle-bytes 3276
+    (lit≤ tt)) (filled-fifth middle-bytes 3276 (lit≤ tt))
 
 pub run-middle-spec : {M : Type 1} → statement M
 run-middle-spec =

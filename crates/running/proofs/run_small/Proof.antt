@@ -6,7 +6,8 @@ use mathlib.Core.Path.{sym, _∙_}
 use lib.Dec.{lit≤}
 use lib.Seq.{length-take-le}
 use Rattle.reading.specs.FileReading.{small-bytes}
-use Rattle.running.proofs.Running.{joined-front, joined-length, starts-fit, lengths-fit, terminals-fit, kinds-fit, tokens-fit, sizes-fit, bindings-fit, runs-within}
+use Rattle.running.proofs.Running.{counted, filled, filled-fifth, runs-within}
+use Rattle.running.proofs.Running.{joined-front, joined-length, starts-fit, lengths-fit, terminals-fit, kinds-fit, tokens-fit, sizes-fit, bindings-fit}
 
 shorter-requires : tie.Need-shorter-requires
 shorter-requires c κs = search needs
@@ -15,7 +16,7 @@ shorter-requires-2 : tie.Need-shorter-requires-2
 shorter-requires-2 c κs = search needs
 
 slice-aggregate-read-file : tie.Need-slice-aggregate-read-file
-slice-aggregate-read-file c = search needs
+slice-aggregate-read-file c = counted _
 
 read-file-requires : tie.Need-read-file-requires
 read-file-requires c κs = search needs
@@ -75,10 +76,10 @@ slice-aggregate-name-short-7 : tie.Need-slice-aggregate-name-short-7
 slice-aggregate-name-short-7 c = sym (length-take-le _ _ (slice-relend-prefix-name-short (c .before)))
 
 slice-aggregate-name-short-8 : tie.Need-slice-aggregate-name-short-8
-slice-aggregate-name-short-8 c = search needs
+slice-aggregate-name-short-8 c = counted _
 
 slice-aggregate-name-short-9 : tie.Need-slice-aggregate-name-short-9
-slice-aggregate-name-short-9 c = search needs
+slice-aggregate-name-short-9 c = counted _
 
 name-short-requires : tie.Need-name-short-requires
 name-short-requires c κs = search needs
@@ -153,10 +154,11 @@ slice-aggregate-answer-short-7 : tie.Need-slice-aggregate-answer-short-7
 slice-aggregate-answer-short-7 c = sym (length-take-le _ _ (slice-reshare-prefix-answer-short-6 (c .before)))
 
 slice-aggregate-answer-short-8 : tie.Need-slice-aggregate-answer-short-8
-slice-aggregate-answer-short-8 c = search needs
+slice-aggregate-answer-short-8 c = counted _ ∙ sym (c .before .before .before .before .before .before .before .before .before .before .before .before .name-short .kept .1 .1 .1 .1 .1 .1 .1 .1 .1 .0)
 
 slice-aggregate-answer-short-9 : tie.Need-slice-aggregate-answer-short-9
-slice-aggregate-answer-short-9 c = search needs
+slice-aggregate-answer-short-9 c = counted _ ∙ sym (c .before .before .before .before .before .before .before .before .before .before .before .before .before .name-short .kept .1 .1 .1 .1
+    .1 .1 .1 .1 .1 .1 .0)
 
 answer-short-requires : tie.Need-answer-short-requires
 answer-short-requires c κs = search needs
@@ -234,47 +236,21 @@ returns c =
     .1 .1 .1 .1 .1 .0) (slice-relend-prefix-name-short (c .before .before .before .before .before .before .before .before .before .before .before .before .before .before .before
     .before .before .before .before .before .before .before .before .before .before .before))) (c .before .before .before .before .before .answer-short .ensures)
     (record {
-      token-kinds = c .before .before .before .before .before .before .before .before .before .before .before .before .before .before .before .before .before .before .before .before
-          .before .before .before .before .before .before .before .before .before .before .before .before .before .before .before .before .before .before .before .before .before .before
-          .before .before .before .before .before .read-file .kept .1 .0;
-      token-starts = c .before .before .before .before .before .before .before .before .before .before .before .before
-          .before .before .before .before .before .before .before .before .before .before .before .before .before .before .before .before .before .before .before .before .before .before
-          .before .before .before .before .before .before .before .before .before .before .before .before .before .read-file .kept .1 .1 .0;
-      token-lengths = c .before .before .before .before
-          .before .before .before .before .before .before .before .before .before .before .before .before .before .before .before .before .before .before .before .before .before .before
-          .before .before .before .before .before .before .before .before .before .before .before .before .before .before .before .before .before .before .before .before .before .read-file
-          .kept .1 .1 .1 .0;
-      node-kinds = c .before .before .before .before .before .before .before .before .before .before .before .before .before .before .before .before .before .before
-          .before .before .before .before .before .before .before .before .before .before .before .before .before .before .before .before .before .before .before .before .before .before
-          .before .before .before .before .before .before .before .read-file .kept .1 .1 .1 .1 .1 .0;
-      node-tokens = c .before .before .before .before .before .before .before .before .before
-          .before .before .before .before .before .before .before .before .before .before .before .before .before .before .before .before .before .before .before .before .before .before
-          .before .before .before .before .before .before .before .before .before .before .before .before .before .before .before .before .read-file .kept .1 .1 .1 .1 .1 .1 .0;
-      node-sizes = c
-          .before .before .before .before .before .before .before .before .before .before .before .before .before .before .before .before .before .before .before .before .before .before
-          .before .before .before .before .before .before .before .before .before .before .before .before .before .before .before .before .before .before .before .before .before .before
-          .before .before .before .read-file .kept .1 .1 .1 .1 .1 .1 .1 .0;
-      node-bindings = joined-length (c .before .before .before .before .before .before .before .before .before .before .before .before .before .before .before .before .before .before .before
-          .before .before .before .before .before .before .before .before .before .before .before .before .before .before .before .before .before .before .before .before .before .before
-          .before .before .before .before .before .before .read-file .result .nodes) (c .before .before .before .before .before .before .before .before .before .before .before .before .before
-          .before .before .before .before .before .before .before .before .before .name-short .last .1 .1 .1 .1 .1 .1 .1 .1 .0) (c .before .before .before .before .before .before .before
-          .before .before .before .before .before .before .before .before .before .before .before .before .before .before .before .before .before .before .before .before .before .before
-          .before .before .before .before .before .before .before .before .before .before .before .before .before .before .before .before .before .before .read-file .last .1 .1 .1 .1 .1 .1 .1
-          .1 .0) (c .before .before .before .before .before .before .before .before .before .before .before .before .before .before .before .before .before .before .before .before .before
-          .before .name-short .kept .1 .1 .1 .1 .1 .1 .1 .1 .0) (slice-relend-prefix-name-short (c .before .before .before .before .before .before .before .before .before .before .before
-          .before .before .before .before .before .before .before .before .before .before .before .before .before .before .before)) ∙ c .before .before .before .before .before .before .before
-          .before .before .before .before .before .before .before .before .before .before .before .before .before .before .before .before .before .before .before .before .before .before
-          .before .before .before .before .before .before .before .before .before .before .before .before .before .before .before .before .before .before .read-file .kept .1 .1 .1 .1 .1 .1 .1
-          .1 .0;
-      answer-kinds = c .before .before .before .before .before .answer-short .kept .1 .1 .1 .1 .1 .1 .1 .1 .1 .1 .1 .0;
-      answer-numbers = c .before .before .before .before .before
-          .answer-short .kept .1 .1 .1 .1 .1 .1 .1 .1 .1 .1 .1 .1 .0;
-      answer-lengths = c .before .before .before .before .before .answer-short .kept .1 .1 .1 .1 .1 .1 .1 .1 .1 .1 .1 .1 .1
-          .0;
+      token-kinds = same-length c;
+      token-starts = same-length-2 c;
+      token-lengths = same-length-3 c;
+      node-kinds = same-length-4 c;
+      node-tokens = same-length-5 c;
+      node-sizes = same-length-6 c;
+      node-bindings = same-length-7 c;
+      answer-kinds = same-length-8 c;
+      answer-numbers = same-length-9 c;
+      answer-lengths = same-length-10 c;
     })
     (c .before .before .before .before .before .before .before .before .before .before .before .before .before .before .before .before .before .before .before .before .before .before
     .name-short .kept .1 .1 .1 .1 .1 .1 .1 .1 .1 .0) (c .before .before .before .before .before .before .before .before .before .before .before .before .before .before .before .before
-    .before .before .before .before .before .before .name-short .kept .1 .1 .1 .1 .1 .1 .1 .1 .1 .1 .0) small-bytes (lit≤ tt) (lit≤ tt) (lit≤ tt)
+    .before .before .before .before .before .before .name-short .kept .1 .1 .1 .1 .1 .1 .1 .1 .1 .1 .0) small-bytes (filled small-bytes 2048 (lit≤ tt)) (filled-fifth small-bytes 409
+    (lit≤ tt)) (filled-fifth small-bytes 409 (lit≤ tt))
 
 pub run-small-spec : {M : Type 1} → statement M
 run-small-spec =
