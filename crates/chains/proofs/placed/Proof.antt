@@ -1,10 +1,10 @@
--- `symbols::placed` meets its contract: by cases of what was met. Assumes nothing.
+-- `chains::placed` meets its contract: by cases of what was met. Assumes nothing.
 use borrow.Author.Needs.{needs}
-use Rattle.symbols.proofs.placed.Statement.{statement}
-use Rattle.symbols.proofs.placed.Tie as tie
-use Rattle.symbols.specs.Steps.{place-by}
-use Rattle.symbols.specs.declared.Met.{Met}
-use Rattle.symbols.proofs.Rounds.{placed-free}
+use Rattle.chains.proofs.placed.Statement.{statement}
+use Rattle.chains.proofs.placed.Tie as tie
+use Rattle.chains.specs.Steps.{place-by}
+use Rattle.chains.specs.declared.Met.{Met}
+use Rattle.chains.proofs.Rounds.{placed-free}
 use mathlib.Core.Path.{sym, ap}
 
 enum-known-met : tie.Need-enum-known-met

@@ -1,7 +1,7 @@
--- `symbols::spelled` meets its contract: the part of the bytes is the token's spelling. Assumes nothing.
+-- `chains::spelled` meets its contract: the part of the bytes is the token's spelling. Assumes nothing.
 use borrow.Author.Needs.{needs}
-use Rattle.symbols.proofs.spelled.Statement.{statement}
-use Rattle.symbols.proofs.spelled.Tie as tie
+use Rattle.chains.proofs.spelled.Statement.{statement}
+use Rattle.chains.proofs.spelled.Tie as tie
 use Rattle.spellings.proofs.Spellings.{part-spelling}
 use Rattle.express.specs.tokens.Bytes.{lower, same}
 use Prim.Native.Nat.{ℕ}

@@ -1,8 +1,8 @@
--- `symbols::along` meets its contract: by the laws of `Walk`; the token falls with each turn, so the walk ends whatever `next` holds. Assumes nothing.
-use Rattle.symbols.proofs.along.Statement.{statement}
-use Rattle.symbols.proofs.along.Tie as tie
+-- `chains::along` meets its contract: by the laws of `Walk`; the token falls with each turn, so the walk ends whatever `next` holds. Assumes nothing.
+use Rattle.chains.proofs.along.Statement.{statement}
+use Rattle.chains.proofs.along.Tie as tie
 use borrow.Author.Needs.{needs}
-use Rattle.symbols.proofs.Chains.{Walk, walk-starts, walk-leaves, walk-inside, walk-hits, walk-goes-on, walk-finds-room, walk-finds-none}
+use Rattle.chains.proofs.Chains.{Walk, walk-starts, walk-leaves, walk-inside, walk-hits, walk-goes-on, walk-finds-room, walk-finds-none}
 use mathlib.Core.List.{map}
 use Rattle.express.specs.tokens.Bytes.{lower}
 use native.Mathlib.Omega.{arith}

@@ -1,8 +1,8 @@
--- `symbols::token_bucket` meets its contract: the hash is that of the token's bytes. Assumes nothing.
+-- `chains::token_bucket` meets its contract: the hash is that of the token's bytes. Assumes nothing.
 use borrow.Author.Needs.{needs}
-use Rattle.symbols.proofs.token_bucket.Statement.{statement}
-use Rattle.symbols.proofs.token_bucket.Tie as tie
-use Rattle.symbols.proofs.Interning.{token-in}
+use Rattle.chains.proofs.token_bucket.Statement.{statement}
+use Rattle.chains.proofs.token_bucket.Tie as tie
+use Rattle.chains.proofs.Places.{token-in}
 
 mul-index : tie.Need-mul-index
 mul-index c = search needs

@@ -1,7 +1,7 @@
--- `symbols::range` meets its contract: a part of the buckets is below them all. Assumes nothing.
+-- `chains::range` meets its contract: a part of the buckets is below them all. Assumes nothing.
 use borrow.Author.Needs.{needs}
-use Rattle.symbols.proofs.range.Statement.{statement}
-use Rattle.symbols.proofs.range.Tie as tie
+use Rattle.chains.proofs.range.Statement.{statement}
+use Rattle.chains.proofs.range.Tie as tie
 use Rattle.index.proofs.Buckets.{range-fits, in-range}
 
 shorter-requires : tie.Need-shorter-requires

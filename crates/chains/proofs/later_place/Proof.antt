@@ -1,8 +1,8 @@
--- `symbols::later_place` meets its contract: by the laws of `Going`, one step for each round. Assumes nothing.
-use Rattle.symbols.proofs.later_place.Statement.{statement}
-use Rattle.symbols.proofs.later_place.Tie as tie
+-- `chains::later_place` meets its contract: by the laws of `Going`, one step for each round. Assumes nothing.
+use Rattle.chains.proofs.later_place.Statement.{statement}
+use Rattle.chains.proofs.later_place.Tie as tie
 use borrow.Author.Needs.{needs}
-use Rattle.symbols.proofs.Rounds.{Going, going-starts, going-on, going-settles, going-ends, not-full}
+use Rattle.chains.proofs.Rounds.{Going, going-starts, going-on, going-settles, going-ends, not-full}
 use mathlib.Core.List.{map}
 use Rattle.express.specs.tokens.Bytes.{lower}
 

@@ -1,7 +1,7 @@
--- `symbols::end` meets its contract: the sum of two 32-bit numbers fits. Assumes nothing.
+-- `chains::end` meets its contract: the sum of two 32-bit numbers fits. Assumes nothing.
 use borrow.Author.Needs.{needs}
-use Rattle.symbols.proofs.end.Statement.{statement}
-use Rattle.symbols.proofs.end.Tie as tie
+use Rattle.chains.proofs.end.Statement.{statement}
+use Rattle.chains.proofs.end.Tie as tie
 use native.Mathlib.Omega.{arith}
 
 mul-index : tie.Need-mul-index

@@ -1,7 +1,7 @@
--- `symbols::in_bucket` meets its contract: the chain begins at the bucket's head. Assumes nothing.
+-- `chains::in_bucket` meets its contract: the chain begins at the bucket's head. Assumes nothing.
 use borrow.Author.Needs.{needs}
-use Rattle.symbols.proofs.in_bucket.Statement.{statement}
-use Rattle.symbols.proofs.in_bucket.Tie as tie
+use Rattle.chains.proofs.in_bucket.Statement.{statement}
+use Rattle.chains.proofs.in_bucket.Tie as tie
 
 mul-index : tie.Need-mul-index
 mul-index c = search needs

@@ -14,17 +14,17 @@ use Rattle.index.specs.Link.{last-index-below}
 use Rattle.index.specs.Bucket.{InRange}
 use Rattle.spellings.specs.Hash.{hash-of, stirred, long-hash-of}
 use Rattle.index.proofs.Search.{last-le, last-passes, last-none}
-use Rattle.symbols.specs.Rounds.{full, later, first-bucket, low-half, later-bucket, later-home, home}
-use Rattle.symbols.specs.Interning.{is-first, entries, ChainedBelow}
-use Rattle.symbols.specs.Steps.{has, wanted, first-spelled, met-by, place-by, place-at, place-of, MetAlike, PlacedAlike, Passed, Along, Places, PlacesLater}
-use Rattle.symbols.specs.declared.Met.{Met}
-use Rattle.symbols.specs.declared.Met.the-variants.{At, Full, Room}
-use Rattle.symbols.specs.declared.Place.{Place}
-use Rattle.symbols.specs.declared.Place.the-variants.{Known, Free}
+use Rattle.chains.specs.Rounds.{full, later, first-bucket, low-half, later-bucket, later-home, home}
+use Rattle.chains.specs.Chains.{is-first, entries, ChainedBelow}
+use Rattle.chains.specs.Steps.{has, wanted, first-spelled, met-by, place-by, place-at, place-of, MetAlike, PlacedAlike, Passed, Along, Places, PlacesLater}
+use Rattle.chains.specs.declared.Met.{Met}
+use Rattle.chains.specs.declared.Met.the-variants.{At, Full, Room}
+use Rattle.chains.specs.declared.Place.{Place}
+use Rattle.chains.specs.declared.Place.the-variants.{Known, Free}
 use types.Run.{OneOf}
 use denote.Enum.Declared.{tagOf}
-use Rattle.symbols.proofs.Met.{the-type}
-use Rattle.symbols.proofs.Chains.{first-once, on-first, on-is, count-le, wanted-on, wanted-alike}
+use Rattle.chains.proofs.Met.{the-type}
+use Rattle.chains.proofs.Chains.{first-once, on-first, on-is, count-le, wanted-on, wanted-alike}
 
 module _ (p : ℕ → Bool) (n : ℕ) where
   -- the only one that passes is the last; where none does there is none

@@ -1,8 +1,8 @@
--- `symbols::word_place` meets its contract: the first round settles it, or is passed. Assumes nothing.
+-- `chains::place_from` meets its contract: the first round settles it, or is passed. Assumes nothing.
 use borrow.Author.Needs.{needs}
-use Rattle.symbols.proofs.word_place.Statement.{statement}
-use Rattle.symbols.proofs.word_place.Tie as tie
-use Rattle.symbols.proofs.Rounds.{place-settles, place-goes-on, not-full}
+use Rattle.chains.proofs.place_from.Statement.{statement}
+use Rattle.chains.proofs.place_from.Tie as tie
+use Rattle.chains.proofs.Rounds.{place-settles, place-goes-on, not-full}
 use native.Mathlib.Omega.{arith}
 
 in-bucket-requires : tie.Need-in-bucket-requires
@@ -31,7 +31,7 @@ returns-2 c =
     place-goes-on _ _ _ p (record { low = p .small; along = c .before .before .before .in-bucket .ensures })
     (c .before .enum-told .given .1) (c .later-place .ensures)
 
-pub word-place-spec : {M : Type 1} → statement M
-word-place-spec =
+pub place-from-spec : {M : Type 1} → statement M
+place-from-spec =
     tie.close
     (tie.spec in-bucket-requires enum-told placed-requires returns later-place-requires returns-2)

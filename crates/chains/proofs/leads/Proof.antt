@@ -1,8 +1,8 @@
--- `symbols::leads` meets its contract: the two tokens are as long as each other, and surely spelled alike. Assumes nothing.
+-- `chains::leads` meets its contract: the two tokens are as long as each other, and surely spelled alike. Assumes nothing.
 use borrow.Author.Needs.{needs}
-use Rattle.symbols.proofs.leads.Statement.{statement}
-use Rattle.symbols.proofs.leads.Tie as tie
-use Rattle.symbols.proofs.Interning.{leads-to}
+use Rattle.chains.proofs.leads.Statement.{statement}
+use Rattle.chains.proofs.leads.Tie as tie
+use Rattle.chains.proofs.Places.{leads-to}
 use mathlib.Core.Bool.{false≢true}
 use mathlib.Core.Path.{sym, _∙_}
 

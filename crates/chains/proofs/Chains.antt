@@ -14,10 +14,10 @@ use Rattle.relations.proofs.Select.{and-fst, and-snd, and-both, untrue}
 use Rattle.express.proofs.tokens.Spelling.{symbol-named, symbol-spelled, symbol-iff}
 use Rattle.index.specs.Link.{last-index-below}
 use Rattle.index.proofs.Search.{last-skip, last-next, last-none-yet, last-le, last-passes}
-use Rattle.symbols.specs.Rounds.{full}
-use Rattle.symbols.specs.Interning.{is-first, entries, home-at, chained, Links}
-use Rattle.symbols.specs.Steps.{has, wanted, met-by, Along, Lined}
-use Rattle.symbols.specs.declared.Met.the-variants.{At, Full, Room}
+use Rattle.chains.specs.Rounds.{full}
+use Rattle.chains.specs.Chains.{is-first, entries, home-at, chained, Links}
+use Rattle.chains.specs.Steps.{has, wanted, met-by, Along, Lined}
+use Rattle.chains.specs.declared.Met.the-variants.{At, Full, Room}
 
 module _ (bytes starts lengths : List ℕ) where
   abbrev spelt : ℕ → List ℕ
