@@ -183,17 +183,6 @@ pub record Placed (first to : List ℕ) (x : State) : Type 0 where
   pub all : (k : ℕ) → k < vertices first → (v : ℕ) × (v < vertices first) × (x .place v ≡ k)
   pub after : (v w : ℕ) → Arc first to v w → x .place w < x .place v
 
--- each of the numbers below n is put at its place
-pub record Arrangeable (order s : List ℕ) (n : ℕ) : Type 0 where
-  pub small : n ≤ 65536
-  pub order-room : n ≤ length order
-  pub scratch-room : needed n ≤ length s
-  pub low : (v : ℕ) → v < n → cell s 1 v < n
-  pub once : (v w : ℕ) → v < n → w < n → cell s 1 v ≡ cell s 1 w → v ≡ w
-
-pub record Arranged (s order′ : List ℕ) (n : ℕ) : Type 0 where
-  pub is : (v : ℕ) → v < n → getD order′ (cell s 1 v) 0 ≡ v
-
 -- the groups of the numbers below n, less 2
 pub record Numbered (group s : List ℕ) (n : ℕ) : Type 0 where
   pub small : n ≤ 65536

@@ -3,15 +3,17 @@ ghost use mathlib.Core.Path.{_≡_};
 ghost use mathlib.Core.List.{[]};
 ghost use Prim.Native.Nat.{ℕ, _+_, _*_, _-_, _<_};
 ghost use lib.ListN.{length, getD, set};
-ghost use Rattle.graph.specs.Graph.{vertices, Tells};
+ghost use Rattle.graph.specs.Graph.{vertices};
 ghost use Rattle.cycles.specs.State.{cell, state};
 ghost use Rattle.cycles.specs.Component.{Finished};
 ghost use Rattle.cycles.specs.Search.{Ready, Going};
 ghost use Rattle.cycles.specs.Step.{Chosen, Followable, Followed, Enterable, entered, Closable, Closed, Countable, after, Storable, Stored};
-ghost use Rattle.cycles.specs.Answer.{lent, CycleAnswers, OrderAnswers, GroupAnswers, Inner, Smallest, FoundIn, OrderedIn, GroupedIn, Arrangeable, Arranged, Numbered};
+ghost use Rattle.cycles.specs.Answer.{lent, CycleAnswers, OrderAnswers, GroupAnswers, Inner, Smallest, FoundIn, OrderedIn, GroupedIn, Numbered};
 use columns::clear32;
 use columns::index;
 use columns::number;
+use group_rows::arrange;
+use group_rows::inner;
 
 // Scratch has six numbers for each index: of a vertex its group, its place and its next arc; and by index the stack of open
 // vertices, the path of the search, and the bounds of the groups along it.
@@ -258,24 +260,7 @@ fn search(first: &[u32], to: &[u32], s: &mut [u32])
     }
 }
 
-// Has vertex v an arc into its own group?
-fn inner(first: &[u32], to: &[u32], s: &[u32], v: usize) -> bool
-    requires { ⌜ Ready (now first) (now to) (now s) × (v < vertices (now first)) ⌝ }
-    ensures { λ r. ⌜ Tells (Inner (now (first .entry)) (now (to .entry)) (state (now (s .entry))) v) r ⌝ }
-{
-    let own = get(s, GROUP, v);
-    let mut e = index(first[v]);
-    let end = index(first[v + 1]);
-    while e < end {
-        if get(s, GROUP, index(to[e])) == own {
-            return true;
-        }
-        e += 1;
-    }
-    false
-}
-
-// The smallest vertex that has one; the number of vertices where none has.
+// The smallest vertex with an arc into its own group; the number of vertices where none has one.
 fn least(first: &[u32], to: &[u32], s: &[u32]) -> usize
     requires { ⌜ Ready (now first) (now to) (now s) ⌝ }
     ensures { λ r. ⌜ Smallest (Inner (now (first .entry)) (now (to .entry)) (state (now (s .entry)))) (vertices (now (first .entry))) r ⌝ }
@@ -289,19 +274,6 @@ fn least(first: &[u32], to: &[u32], s: &[u32]) -> usize
         v += 1;
     }
     n
-}
-
-// Puts each vertex at its place.
-fn arrange(order: &mut [u32], s: &[u32], n: usize)
-    requires { ⌜ Arrangeable (now order) (now s) n ⌝ }
-    ensures { λ _. ⌜ Arranged (now (s .entry)) (now (order .exit)) n ⌝ }
-{
-    let mut v = 0;
-    while v < n {
-        let k = get(s, PLACE, v);
-        order[k] = number(v);
-        v += 1;
-    }
 }
 
 // Puts down the group of each vertex: the number of closed groups starts at 0.

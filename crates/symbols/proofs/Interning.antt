@@ -9,7 +9,7 @@ use native.Mathlib.Omega.{arith}
 use native.Mathlib.Numerals.{add-one}
 use native.Mathlib.Decide.{decLt}
 use lib.Dec.{leb}
-use lib.ListN.{length, getD, set, take, drop, length-set, length-take, length-map}
+use lib.ListN.{length, getD, set, take, length-set, length-take, length-map}
 use lib.Seq.{sets, take-suc, take-all, getD-set-other}
 use borrow.Author.Tests.{leb-true, lt-ltb, le-ltb, not-true, not-false}
 use Rattle.columns.specs.Column.{cleared}
@@ -19,31 +19,24 @@ use Rattle.relations.specs.Select.{span, first-from}
 use Rattle.express.specs.tokens.Spelling.{spelling, is-identifier, symbol-of, symbols-of}
 use Rattle.relations.proofs.Select.{and-fst, and-snd, and-both, untrue, first-is, first-of}
 use Rattle.express.proofs.tokens.Spelling.{same-true, symbol-le, symbol-other, symbol-least, symbol-named, symbol-spelled, symbol-iff, symbols-at}
-use Rattle.index.specs.Bucket.{range-of, InRange}
-use Rattle.spellings.specs.Hash.{hash-of, Hashes}
 use Rattle.index.specs.Link.{last-index-below}
 use Rattle.index.specs.Room.{done, fits, enough}
-use Rattle.symbols.specs.Rounds.{home}
-use Rattle.symbols.specs.Interning.{is-first, entries, home-at, chained, Links, ChainedBelow, Interns, spells, symbol-of-word, SpelledLike, FindsSymbol}
-use Rattle.symbols.specs.Steps.{first-spelled, place-at, place-of, symbol-by, next-by, heads-by, PlacedAlike, Lined, Leads, Along, Places, ReadyToEnter, Enters, Fills, ReadyToFill}
-use Rattle.symbols.specs.declared.Met.the-variants as met
-use Rattle.symbols.specs.declared.Place.{Place}
-use Rattle.symbols.specs.declared.Place.the-variants.{Known, Free}
+use Rattle.chains.specs.Rounds.{home}
+use Rattle.chains.specs.Chains.{is-first, entries, home-at, chained, Links, ChainedBelow}
+use Rattle.chains.specs.Steps.{first-spelled, place-at, place-of, PlacedAlike, Places, PlacesWord}
+use Rattle.chains.specs.declared.Place.{Place}
+use Rattle.chains.specs.declared.Place.the-variants.{Known, Free}
+use Rattle.symbols.specs.Interning.{Interns, spells, symbol-of-word, SpelledLike, FindsSymbol}
+use Rattle.symbols.specs.Steps.{symbol-by, next-by, heads-by, ReadyToEnter, Enters, Fills, ReadyToFill}
 use Rattle.index.specs.Dictionary.{among}
 use Rattle.index.specs.declared.dictionary.Found.{Found}
 use Rattle.index.specs.declared.dictionary.Found.the-variants.{At, Nothing}
 use Rattle.index.specs.declared.Outcome.{Outcome}
 use Rattle.index.specs.declared.Outcome.the-variants.{Done, Short}
 use Rattle.index.proofs.Search.{last-next, last-none-yet, last-le, last-passes, last-none, at-set}
-use Rattle.spellings.specs.Blocks.{SurelyAlike}
 use Rattle.spellings.proofs.Spellings.{same-is}
 use Rattle.index.proofs.Entries.{fits-parts, zeros-at}
-use Rattle.symbols.proofs.Chains.{first-by, first-named, first-itself, symbol-first, on-is, on-first, on-home, Walk, walk-starts, walk-hits}
-use Rattle.symbols.proofs.Rounds.{not-at-full, place-settles}
-
--- the bucket of a number is that of an equal one
-pub in-bucket : {m x y b : ℕ} → InRange m x b → x ≡ y → InRange m y b
-in-bucket {m} B e = record { is = B .is ∙ ap (range-of m) e; small = B .small }
+use Rattle.chains.proofs.Chains.{first-by, first-named, first-itself, symbol-first, on-is, on-first, on-home}
 
 module _ (bytes starts lengths : List ℕ) where
   abbrev spelt : ℕ → List ℕ
@@ -63,48 +56,12 @@ module _ (bytes starts lengths : List ℕ) where
 
   -- ---- where an identifier is
 
-  pub lined-below : {next : List ℕ} {i : ℕ} → Lined bytes starts lengths next (i + 1) → Lined bytes starts lengths next i
-  lined-below L = record { started = omega (arith, L .started); sized = omega (arith, L .sized); linked = omega (arith, L .linked) }
-
-  -- where a spelling is, so are the bytes that have it
-  pub places-as : {heads next xs ys : List ℕ} {i : ℕ} {r : Place} → xs ≡ ys → Places bytes starts lengths heads next xs i r → Places bytes starts lengths heads next ys i r
-  places-as e P = rw e at P
-
   -- a token is below the limit, and a bucket one of them
   pub known-low : {heads next xs : List ℕ} {limit k : ℕ} {p : Place} → Places bytes starts lengths heads next xs limit p → p ≡ Known k → k < limit
   known-low P e = (rw e at P) .holds .0
 
   pub free-low : {heads next xs : List ℕ} {limit b : ℕ} {p : Place} → Places bytes starts lengths heads next xs limit p → p ≡ Free b → b < length heads
   free-low P e = (rw e at P) .holds
-
-  -- the head of the first chain is spelled like the word
-  pub place-leads : {heads next xs : List ℕ} {limit b first : ℕ} → Lined bytes starts lengths next limit → InRange (length heads) (hash-of xs) b → first ≡ getD heads b 0
-      → Leads bytes starts lengths xs limit first → Places bytes starts lengths heads next xs limit (Known (first - 1))
-  place-leads {heads} {next} {xs} {limit} {b} {first} L B e D =
-      let w : Walk bytes starts lengths next xs limit first limit first 0 = walk-starts bytes starts lengths L in
-      let A : Along bytes starts lengths next xs limit first (met.At (first - 1)) = walk-hits bytes starts lengths w (D .some) (D .low) refl (D .alike) in
-      let H : Along bytes starts lengths next xs limit (getD heads b 0) (met.At (first - 1)) =
-      record { holds = A .holds; is = λ t m c K q. A .is t m c K (e ∙ q) } in
-      place-settles bytes starts lengths B (record { low = B .small; along = H }) (not-at-full (first - 1)) refl
-
-  -- the bucket of a token, by its bytes
-  pub token-in :
-      (i : ℕ) {m p n h b : ℕ} → InRange m h b → Hashes (take n (drop p bytes)) h → p ≡ getD starts i 0 → n ≡ getD lengths i 0 → InRange m (hash-of (spelling bytes starts lengths i)) b
-  token-in i B H e f = let G = rw (e, f) at H in in-bucket B (G .is)
-
-  -- the token that a link leads to is as long as token i, and its bytes are surely spelled like it
-  pub leads-to :
-      {i first p q n : ℕ} {r : Bool} → (first ≡ 0 → ⊥) → first ≤ i → p ≡ getD starts (first - 1) 0 → q ≡ getD starts i 0 → n ≡ getD lengths i 0 → getD lengths (first - 1) 0 ≡ n →
-      SurelyAlike bytes p q n r → r ≡ true → Leads bytes starts lengths (spelling bytes starts lengths i) i first
-  leads-to {i} {first} {p} {q} {n} z l ep eq en ek S t =
-      let some : 0 < first = omega (arith, z) in
-      let m : n ≡ getD lengths (first - 1) 0 = sym ek in
-      let a = rw (ep, eq) at (S .is t) in
-      let b : same (map lower (take (getD lengths (first - 1) 0) (drop (getD starts (first - 1) 0) bytes))) (map lower (take (getD lengths i 0) (drop (getD starts i 0) bytes))) ≡ true =
-      ap (λ (x : ℕ). same (map lower (take x (drop (getD starts (first - 1) 0) bytes))) (map lower (take (getD lengths i 0) (drop (getD starts i 0) bytes)))) (sym m)
-      ∙ ap (λ (x : ℕ). same (map lower (take n (drop (getD starts (first - 1) 0) bytes))) (map lower (take x (drop (getD starts i 0) bytes)))) (sym en)
-      ∙ a in
-      record { some = some; low = omega arith; alike = b }
 
   -- ---- the symbol of a word
 
@@ -196,14 +153,15 @@ module _ (bytes starts lengths : List ℕ) where
           ∙ word-found t word (home (entries bytes starts lengths t (length heads) (length starts)) (length heads) (map lower word))
           (last-index-below (sought t (map lower word)) (length starts)) refl
 
-  module _ {heads next word : List ℕ} {limit : ℕ} {p : Place} (low : limit ≤ length starts)
-      (all : length starts ≤ length lengths → length starts ≤ length next → limit ≡ length starts)
-      (P : Places bytes starts lengths heads next (map lower word) limit p) where
+  module _ {heads next word : List ℕ} {p : Place} (some : length heads ≡ 0 → ⊥) (W : PlacesWord bytes starts lengths heads next word p) where
+    found : FindsSymbol bytes starts lengths heads next word (found-by p)
+    found = finds-symbol p (omega arith) (λ a b. omega (arith, a, b)) (W .is (omega (arith, some)))
+
     pub finds-known : {k : ℕ} → p ≡ Known k → FindsSymbol bytes starts lengths heads next word (At k)
-    finds-known e = rw (← ap found-by e) (finds-symbol p low all P)
+    finds-known e = rw (← ap found-by e) found
 
     pub finds-free : {b : ℕ} → p ≡ Free b → FindsSymbol bytes starts lengths heads next word Nothing
-    finds-free e = rw (← ap found-by e) (finds-symbol p low all P)
+    finds-free e = rw (← ap found-by e) found
 
 -- ---- an identifier is entered
 

@@ -1,3 +1,1 @@
-pub mod Chains
-pub mod Rounds
 pub mod Interning

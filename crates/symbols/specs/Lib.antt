@@ -1,3 +1,2 @@
 pub mod Interning
-pub mod Rounds
 pub mod Steps

@@ -1,37 +1,17 @@
--- What the inner functions of interning go by: a walk along one chain, the rounds of a spelling, an identifier entered, and all of them.
+-- What the inner functions of interning go by: an identifier entered, and all of them.
 use mathlib.Core.Path.{_≡_}
-use mathlib.Core.Bool.{Bool, true, false, cond, _&&_}
+use mathlib.Core.Bool.{true, false}
 use mathlib.Core.List.{List}
-use Prim.Native.Nat.{ℕ, zero, suc, _+_, _-_, _≤_, _<_}
-use lib.Dec.{ltb}
+use Prim.Native.Nat.{ℕ, _+_, _≤_, _<_}
 use lib.ListN.{length, getD, set}
 use lib.Seq.{sets}
-use Rattle.express.specs.tokens.Bytes.{same}
 use Rattle.express.specs.tokens.Spelling.{spelling, symbols-of}
-use Rattle.index.specs.Link.{last-index-below}
 use Rattle.index.specs.Room.{enough}
-use Rattle.spellings.specs.Hash.{long-hash-of}
-use Rattle.symbols.specs.Rounds.{full, later, later-home, home}
-use Rattle.symbols.specs.Interning.{is-first, entries, chained, Links, ChainedBelow, Chained}
-use Rattle.symbols.specs.declared.Met.{Met}
-use Rattle.symbols.specs.declared.Met.the-variants.{At, Full, Room}
-use Rattle.symbols.specs.declared.Place.{Place}
-use Rattle.symbols.specs.declared.Place.the-variants.{Known, Free}
-
--- what a walk met, by the link to a token and the entries of the chain
-abbrev pub met-by : ℕ → ℕ → Met
-met-by zero n = cond (ltb n full) Room Full
-met-by (suc k) n = At k
-
--- where a word is, by what was met and its bucket; and by the link to the token that is spelled so
-abbrev pub place-by : Met → ℕ → Place
-place-by (At k) b = Known k
-place-by Full b = Free b
-place-by Room b = Free b
-
-abbrev pub place-at : ℕ → ℕ → Place
-place-at zero b = Free b
-place-at (suc k) b = Known k
+use Rattle.chains.specs.Chains.{is-first}
+use Rattle.chains.specs.Steps.{Lined, Places}
+use Rattle.chains.specs.declared.Place.{Place}
+use Rattle.chains.specs.declared.Place.the-variants.{Known, Free}
+use Rattle.symbols.specs.Interning.{Chained}
 
 -- what is stored where a token is found a place: its symbol, its link and the head
 abbrev pub symbol-by : ℕ → Place → ℕ
@@ -46,81 +26,18 @@ abbrev pub heads-by : ℕ → Place → List ℕ → List ℕ
 heads-by i (Known k) heads = heads
 heads-by i (Free b) heads = set heads b (i + 1)
 
+-- all tokens have their symbols, and the identifiers their chains
+module _ (bytes starts lengths terminals : List ℕ) where
+  pub record Fills (symbols next symbols′ heads′ next′ : List ℕ) : Type 0 where
+    pub is : symbols′ ≡ sets symbols 0 (symbols-of bytes starts lengths terminals)
+    pub chains : Chained bytes starts lengths terminals heads′ next′
+    pub rest : (k : ℕ) → length starts ≤ k → getD next′ k 0 ≡ getD next k 0
+    pub others : (k : ℕ) → is-first bytes starts lengths terminals k ≡ false → getD next′ k 0 ≡ getD next k 0
+
 module _ (bytes starts lengths : List ℕ) where
-  -- token j has a spelling
-  abbrev pub has : List ℕ → ℕ → Bool
-  has xs j = same (spelling bytes starts lengths j) xs
-
-  -- a token that was met lies below the limit, and has the spelling; a place is such a token, or a bucket
-  abbrev pub MetAlike : List ℕ → ℕ → Met → Type 0
-  MetAlike xs limit (At k) = (k < limit) × (has xs k ≡ true)
-  MetAlike xs limit Full = Unit {0}
-  MetAlike xs limit Room = Unit {0}
-
-  abbrev pub PlacedAlike : List ℕ → ℕ → ℕ → Place → Type 0
-  PlacedAlike xs limit buckets (Known k) = (k < limit) × (has xs k ≡ true)
-  PlacedAlike xs limit buckets (Free b) = b < buckets
-
-  -- so many tokens have their starts, lengths and links
-  pub record Lined (next : List ℕ) (limit : ℕ) : Type 0 where
-    pub started : limit ≤ length starts
-    pub sized : limit ≤ length lengths
-    pub linked : limit ≤ length next
-
-  -- a link leads to a token below the limit that has the spelling
-  pub record Leads (xs : List ℕ) (limit first : ℕ) : Type 0 where
-    pub some : 0 < first
-    pub low : first - 1 < limit
-    pub alike : has xs (first - 1) ≡ true
-
-  module _ (terminals : List ℕ) where
-    -- token j is on the chain of bucket b, and has the spelling; is the first that has it
-    abbrev pub wanted : ℕ → ℕ → List ℕ → ℕ → Bool
-    wanted buckets b xs j = chained bytes starts lengths terminals buckets b j && has xs j
-
-    abbrev pub first-spelled : List ℕ → ℕ → Bool
-    first-spelled xs j = is-first bytes starts lengths terminals j && has xs j
-
-    -- where a spelling is, by the chains of the tokens below a limit
-    unfoldable pub place-of : ℕ → List ℕ → ℕ → Place
-    place-of buckets xs limit = place-at (last-index-below (first-spelled xs) limit) (home (entries bytes starts lengths terminals buckets limit) buckets xs)
-
-    -- whoever has the spelling found the chains full before a later round, which goes by a number, with so many behind it; so does who comes next
-    pub record Passed (buckets : ℕ) (xs : List ℕ) (limit h left : ℕ) : Type 0 where
-      pub before :
-          (j : ℕ) → j < limit → first-spelled xs j ≡ true →
-          home (entries bytes starts lengths terminals buckets j) buckets xs ≡ later-home (entries bytes starts lengths terminals buckets j) buckets h left
-      pub now :
-          home (entries bytes starts lengths terminals buckets limit) buckets xs ≡ later-home (entries bytes starts lengths terminals buckets limit) buckets h left
-
-    pub record Fills (symbols next symbols′ heads′ next′ : List ℕ) : Type 0 where
-      pub is : symbols′ ≡ sets symbols 0 (symbols-of bytes starts lengths terminals)
-      pub chains : Chained bytes starts lengths terminals heads′ next′
-      pub rest : (k : ℕ) → length starts ≤ k → getD next′ k 0 ≡ getD next k 0
-      pub others : (k : ℕ) → is-first bytes starts lengths terminals k ≡ false → getD next′ k 0 ≡ getD next k 0
-
-  -- what is met on a chain, whose first link is given
-  pub record Along (next xs : List ℕ) (limit first : ℕ) (r : Met) : Type 0 where
-    pub holds : MetAlike xs limit r
-    pub is :
-        (terminals : List ℕ) (buckets b : ℕ) → Links bytes starts lengths terminals buckets next limit
-        → first ≡ last-index-below (chained bytes starts lengths terminals buckets b) limit
-        → r ≡ met-by (last-index-below (wanted terminals buckets b xs) limit) (entries bytes starts lengths terminals buckets limit b)
-
-  -- where a spelling is, by all its rounds; and by the later ones
-  pub record Places (heads next xs : List ℕ) (limit : ℕ) (r : Place) : Type 0 where
-    pub holds : PlacedAlike xs limit (length heads) r
-    pub is : (terminals : List ℕ) → ChainedBelow bytes starts lengths terminals heads next limit → r ≡ place-of terminals (length heads) xs limit
-
-  pub record PlacesLater (heads next xs : List ℕ) (limit : ℕ) (r : Place) : Type 0 where
-    pub holds : PlacedAlike xs limit (length heads) r
-    pub is :
-        (terminals : List ℕ) → ChainedBelow bytes starts lengths terminals heads next limit → Passed terminals (length heads) xs limit (long-hash-of xs) later
-        → r ≡ place-of terminals (length heads) xs limit
-
   -- room for token i in all columns, and a bucket
   pub record ReadyToEnter (symbols heads next : List ℕ) (i : ℕ) : Type 0 where
-    pub lined : Lined next (i + 1)
+    pub lined : Lined bytes starts lengths next (i + 1)
     pub stored : i < length symbols
     pub some : 0 < length heads
     pub small : i + 1 < 4294967296
@@ -128,7 +45,7 @@ module _ (bytes starts lengths : List ℕ) where
   -- an identifier i is entered: its symbol is stored, and the first of its spelling becomes the head of its chain
   pub record Enters (i : ℕ) (symbols heads next symbols′ heads′ next′ : List ℕ) : Type 0 where
     pub place : Place
-    pub places : Places heads next (spelling bytes starts lengths i) i place
+    pub places : Places bytes starts lengths heads next (spelling bytes starts lengths i) i place
     pub stored : symbols′ ≡ set symbols i (symbol-by i place)
     pub linked : next′ ≡ next-by i place heads next
     pub begun : heads′ ≡ heads-by i place heads

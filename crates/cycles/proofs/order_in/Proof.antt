@@ -39,13 +39,7 @@ returns c =
     }
 
 arrange-requires : tie.Need-arrange-requires
-arrange-requires c κs =
-    arrangeable (c .before .before .before .before .before .before .before .before .before .before .before .before .before .args .order .now) (ready-after
-    (c .before .before .before .before .before .before .before .before .before .before .before .before .before .pre .0)
-    (c .before .before .before .before .before .before .before .search .kept .1 .1 .0)) (placed
-    (c .before .before .before .before .before .before .before .before .before .before .before .before .before .pre .0 .graph)
-    (c .before .before .before .before .before .before .before .search .ensures) (c .before .before .before .least .ensures) (c .before .before .if1 .left))
-    (c .before .before .before .before .before .before .before .before .before .before .before .before .before .pre .1)
+arrange-requires c κs = search needs
 
 clear32-requires-2 : tie.Need-clear32-requires-2
 clear32-requires-2 c κs = search needs
@@ -63,6 +57,7 @@ returns-2 c =
     let c10 = c9 .before in
     let c14 = c10 .before .before .before .before in
     let c20 = c14 .before .before .before .before .before .before in
+    let places = placed (c20 .pre .0 .graph) (c14 .search .ensures) (c10 .least .ensures) (c9 .if1 .left) in
     record {
       found =
           record {
@@ -73,8 +68,8 @@ returns-2 c =
           };
       kept = λ l. absurd (omega arith);
       ordered =
-          λ _. ordered (placed
-          (c20 .pre .0 .graph) (c14 .search .ensures) (c10 .least .ensures) (c9 .if1 .left)) (c6 .arrange .ensures);
+          λ _. ordered places (c6 .arrange .ensures (arrangeable (c20 .args .order .now) (ready-after (c20 .pre .0) (c14 .search .kept .1 .1 .0)) places
+          (c20 .pre .1)));
       zeros =
           all-zeros (c14 .search .last .1 .1 .0)
           (c .before .before .clear322 .ensures)

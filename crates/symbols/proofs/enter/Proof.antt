@@ -3,10 +3,27 @@ use borrow.Author.Needs.{needs}
 use Rattle.symbols.proofs.enter.Statement.{statement}
 use Rattle.symbols.proofs.enter.Tie as tie
 use Rattle.symbols.proofs.Interning.{known-low, free-low, enters-known, enters-free}
+use Rattle.chains.specs.Steps.{Places}
+use Rattle.express.specs.tokens.Spelling.{spelling}
 use native.Mathlib.Omega.{arith}
 
+-- the place that the chains tell, for there is room for token i
+found : (t : tie.After-token-place) → Places (t .before .before .before .before .before .before .before .before .before .args .bytes .now)
+    (t .before .before .before .before .before .before .before .before .before .args .starts .now)
+    (t .before .before .before .before .before .before .before .before .before .args .lengths .now)
+    (t .before .before .before .before .before .before .before .before .before .args .heads .now)
+    (t .before .before .before .before .before .before .before .before .before .args .next .now)
+    (spelling (t .before .before .before .before .before .before .before .before .before .args .bytes .now)
+    (t .before .before .before .before .before .before .before .before .before .args .starts .now)
+    (t .before .before .before .before .before .before .before .before .before .args .lengths .now)
+    (t .before .before .before .before .before .before .before .before .before .args .i))
+    (t .before .before .before .before .before .before .before .before .before .args .i) (t .token-place .result)
+found t =
+    let ready = t .before .before .before .before .before .before .before .before .before .pre in
+    t .token-place .ensures .is (ready .lined) (ready .some)
+
 token-place-requires : tie.Need-token-place-requires
-token-place-requires c κs = (c .before .before .before .before .before .before .before .before .pre .lined, c .before .before .before .before .before .before .before .before .pre .some)
+token-place-requires c κs = search needs
 
 enum-known-place : tie.Need-enum-known-place
 enum-known-place c = search needs
@@ -24,10 +41,10 @@ enum-known-place-2 : tie.Need-enum-known-place-2
 enum-known-place-2 c = search needs
 
 mul-head : tie.Need-mul-head
-mul-head c = let y = free-low _ _ _ (c .before .before .before .token-place .ensures) (c .before .place2 .given .1) in search needs
+mul-head c = let y = free-low _ _ _ (found (c .before .before .before)) (c .before .place2 .given .1) in search needs
 
 slice-read-head : tie.Need-slice-read-head
-slice-read-head c = free-low _ _ _ (c .before .before .before .before .token-place .ensures) (c .before .before .place2 .given .1)
+slice-read-head c = free-low _ _ _ (found (c .before .before .before .before)) (c .before .before .place2 .given .1)
 
 number-requires-2 : tie.Need-number-requires-2
 number-requires-2 c κs = search needs
@@ -51,10 +68,10 @@ number-requires-3 : tie.Need-number-requires-3
 number-requires-3 c κs = search needs
 
 mul-heads : tie.Need-mul-heads
-mul-heads c = let y = free-low _ _ _ (c .before .before .before .before .before .before .token-place .ensures) (c .before .before .before .before .place2 .given .1) in search needs
+mul-heads c = let y = free-low _ _ _ (found (c .before .before .before .before .before .before)) (c .before .before .before .before .place2 .given .1) in search needs
 
 slice-write-heads : tie.Need-slice-write-heads
-slice-write-heads c = free-low _ _ _ (c .before .before .before .before .before .before .token-place .ensures) (c .before .before .before .before .place2 .given .1)
+slice-write-heads c = free-low _ _ _ (found (c .before .before .before .before .before .before)) (c .before .before .before .before .place2 .given .1)
 
 same-length : tie.Need-same-length
 same-length c = search needs
@@ -68,9 +85,9 @@ same-length-3 c = search needs
 returns : tie.Need-returns
 returns c =
     let small = c .before .before .before .before .before .before .before .before .before .before .before .before .before .pre .small in
-    let found = c .before .before .before .before .token-place .ensures in
+    let place = found (c .before .before .before .before) in
     let known = c .before .before .place .given .1 in
-    enters-known found known (c .number .ensures (omega (arith, small, known-low _ _ _ found known)))
+    enters-known place known (c .number .ensures (omega (arith, small, known-low _ _ _ place known)))
 
 same-length-4 : tie.Need-same-length-4
 same-length-4 c = search needs
@@ -84,8 +101,8 @@ same-length-6 c = search needs
 returns-2 : tie.Need-returns-2
 returns-2 c =
     let small = c .before .before .before .before .before .before .before .before .before .before .before .before .before .before .before .pre .small in
-    let found = c .before .before .before .before .before .before .token-place .ensures in
-    enters-free found (c .before .before .before .before .place2 .given .1) (c .before .number2 .ensures (omega (arith, small))) (c .number3 .ensures small)
+    let place = found (c .before .before .before .before .before .before) in
+    enters-free place (c .before .before .before .before .place2 .given .1) (c .before .number2 .ensures (omega (arith, small))) (c .number3 .ensures small)
 
 pub enter-spec : {M : Type 1} → statement M
 enter-spec =
