@@ -2,15 +2,17 @@
 use mathlib.Core.Path.{_≡_, sym}
 use mathlib.Core.Logic.{⊎-elim}
 use mathlib.Core.Bool.{true, false, false≢true}
+use mathlib.Core.List.{List}
 use Prim.Native.Nat.{ℕ, _+_, min, _≤_, _<_}
 use native.Mathlib.Omega.{arith}
 use borrow.Author.Tests.{leb-true, leb-false}
 use lib.Dec.{leb}
-use lib.ListN.{length}
+use lib.ListN.{length, getD}
 use Rattle.relations.proofs.Select.{le-or}
 use Rattle.express.specs.syntax.Tree.{Table, count, token, symbol}
 use Rattle.scopes.specs.Entries.{radix}
 use Rattle.scopes.specs.Preparation.{Consistent, Room, Decides}
+use Rattle.preparation.specs.Fitting.{AtMost, Fitting}
 
 pub refutes : {P : Type 0} → (P → ⊥) → Decides P false
 refutes n = record { yes = λ e. absurd (false≢true e); no = λ e p. n p }
@@ -69,3 +71,28 @@ module _ {t : Table} where
 
   pub too-high : {i : ℕ} → i < count t → radix ≤ symbol t i → Decides (Consistent t) false
   too-high {i} l h = refutes (λ c. omega (arith, c .small i l))
+
+-- ---- columns that surely fit each other
+pub largest-starts : {column : List ℕ} {most : ℕ} → AtMost column 0 most
+largest-starts = record { is = λ i l. absurd (omega arith) }
+
+pub largest-goes-on : {column : List ℕ} {most r i : ℕ} → AtMost column i most → most ≤ r → getD column i 0 ≤ r → AtMost column (i + 1) r
+largest-goes-on {column} {most} {r} {i} A a b =
+    record { is = λ k l. ⊎-elim (λ (h : i ≤ k). let e : k ≡ i = omega arith in rw e b) (λ (h : k < i). omega (arith, A .is k h)) (le-or i k) }
+
+pub largest-ends : {column : List ℕ} {most i : ℕ} → AtMost column i most → length column ≤ i → AtMost column (length column) most
+largest-ends A l = record { is = λ k h. A .is k (omega arith) }
+
+pub fitting : {tokens symbols : List ℕ} {a b : ℕ} → AtMost tokens (length tokens) a → a < length symbols → AtMost symbols (length symbols) b → b < radix → Fitting tokens symbols
+fitting A l B h = record { inside = λ n k. omega (arith, A .is n k); small = λ k n. omega (arith, B .is k n) }
+
+pub fits-surely : {t : Table} → count t < radix → count t ≤ length (t .tokens) → count t ≤ length (t .roles) → Fitting (t .tokens) (t .symbols) → Decides (Consistent t) true
+fits-surely {t} f k r F =
+    confirms
+    (record {
+      few = f;
+      tokens = k;
+      roles = r;
+      inside = λ n l. F .inside n (omega arith);
+      small = λ n l. F .small (token t n) (F .inside n (omega arith));
+    })

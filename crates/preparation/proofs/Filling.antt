@@ -268,7 +268,7 @@ module _ {t : Table} {keys₀ nodes₀ : List ℕ} where
 
   -- nor have nodes that may not declare
   pub entering-passes :
-      {keys nodes : List ℕ} {here : Here} {d i r : ℕ} → Entering t d keys₀ nodes₀ keys nodes here i → NoneFrom may-declare (t .kinds) (t .roles) 0 i r →
+      {keys nodes : List ℕ} {here : Here} {d i r : ℕ} → Entering t d keys₀ nodes₀ keys nodes here i → NoneFrom (λ n. may-declare (getD (t .kinds) n 0) (getD (t .roles) n 0)) 0 i r →
       Entering t d keys₀ nodes₀ keys nodes here r
   entering-passes {keys} {nodes} {here} {d} {i} {r} E D = go (i - r) i E (D .none) (omega (arith, D .low))
     where

@@ -1,12 +1,13 @@
 // The dictionary of what a file declares is made: its nodes are classed and counted, and their entries stored.
 ghost use mathlib.Core.Path.{_≡_};
-ghost use mathlib.Core.Bool.{cond, _&&_};
+ghost use mathlib.Core.Bool.{true, cond, _&&_};
 ghost use Prim.Native.Nat.{_+_, _/_, _%_, _≤_, _<_};
-ghost use lib.ListN.{length, set};
+ghost use lib.ListN.{length, getD, set};
 ghost use Rattle.scopes.specs.Entries.{sorts, Entry, radix};
 ghost use Rattle.scopes.specs.Standing.{table-of, declares, sort-by, entry-count, class-of, class-table, PassedBy, Ended, MoreBy, Counted, Counting};
 ghost use Rattle.preparation.specs.Counting.{CountedTo};
 ghost use Rattle.preparation.specs.Declaring.{may-declare};
+ghost use Rattle.preparation.specs.Fitting.{AtMost, Fitting};
 ghost use Rattle.scopes.specs.NoneFrom.{NoneFrom};
 ghost use Rattle.scopes.specs.Preparation.{Consistent, Room, Answers, Decides, Enterable, Entered, Filled};
 use columns::index;
@@ -208,7 +209,7 @@ fn may_declare(kind: u8, role: u8) -> bool
 // The nodes before an end, without the last ones, of which none may declare something.
 fn declaring_before(kinds: &[u8], roles: &[u8], end: usize) -> usize
     requires { ⌜ (end ≤ length (now kinds)) × (end ≤ length (now roles)) ⌝ }
-    ensures { λ r. ⌜ NoneFrom may-declare (now (kinds .entry)) (now (roles .entry)) 0 end r ⌝ }
+    ensures { λ r. ⌜ NoneFrom (λ n. may-declare (getD (now (kinds .entry)) n 0) (getD (now (roles .entry)) n 0)) 0 end r ⌝ }
 {
     let mut i = end;
     while 0 < i {
@@ -276,6 +277,38 @@ pub fn count_entries(kinds: &[u8], roles: &[u8]) -> Counts
     count_from(kinds, roles, i, so_far)
 }
 
+fn larger(a: u32, b: u32) -> u32
+    ensures { λ r. ⌜ (a ≤ r) × (b ≤ r) ⌝ }
+{
+    if a < b {
+        return b;
+    }
+    a
+}
+
+// A number that is as large as the largest of a column: the compiler takes many at once.
+fn largest(column: &[u32]) -> u32
+    ensures { λ r. ⌜ AtMost (now (column .entry)) (length (now (column .entry))) r ⌝ }
+{
+    let mut most = 0;
+    let mut i = 0;
+    while i < column.len() {
+        most = larger(most, column[i]);
+        i += 1;
+    }
+    most
+}
+
+// Is every number of the one column a place in the other, and every number there small? So it is in all files that are read.
+fn surely_fits(tokens: &[u32], symbols: &[u32]) -> bool
+    ensures { λ r. ⌜ (r ≡ true → Fitting (now (tokens .entry)) (now (symbols .entry))) ⌝ }
+{
+    if symbols.len() <= index(largest(tokens)) {
+        return false;
+    }
+    (largest(symbols) as u64) < RADIX
+}
+
 // Do the columns of nodes and tokens fit each other?
 fn consistent(kinds: &[u8], tokens: &[u32], roles: &[u8], symbols: &[u32]) -> bool
     ensures { λ r. ⌜ Decides (Consistent (table-of (now (kinds .entry)) (now (tokens .entry)) (now (roles .entry)) (now (symbols .entry)))) r ⌝ }
@@ -285,6 +318,9 @@ fn consistent(kinds: &[u8], tokens: &[u32], roles: &[u8], symbols: &[u32]) -> bo
     }
     if shorter(tokens.len(), roles.len()) < kinds.len() {
         return false;
+    }
+    if surely_fits(tokens, symbols) {
+        return true;
     }
     let mut i = 0;
     while i < kinds.len() {

@@ -35,7 +35,8 @@ use Rattle.faults.specs.Meaning.{fault-of}
 use Rattle.dependencies.specs.Target.{behind-all}
 use Rattle.dependencies.proofs.Instances.{constant-targets}
 use Rattle.type_names.specs.TypeName.{is-type-name}
-use Rattle.type_names.specs.Pass.{Pass, Finds, Skipped, RangeOf, WithinDeclarations}
+use Rattle.columns.proofs.Laws.{at-other}
+use Rattle.type_names.specs.Pass.{Pass, Finds, Stored, Skipped, RangeOf, WithinDeclarations}
 use Rattle.type_names.specs.declared.Finding.{Finding}
 use Rattle.type_names.specs.declared.Progress.{Progress}
 use Rattle.type_names.proofs.Passes.{passing-skips, entry-ahead, PassingRange, PassingFile, file-starts, file-goes-on, file-ends}
@@ -51,7 +52,7 @@ use Rattle.meanings.specs.declared.Use.{Use}
 use Rattle.meanings.specs.declared.Use.the-variants.{Nothing, Several, Node}
 use Rattle.meanings.proofs.Nearest.{item-sort, inherited-sort}
 use Rattle.meanings.proofs.NodeLaws.{asked, no-member, chosen, passed, both-false, unbound, member-found}
-use Rattle.uses.specs.Binding.{finds-by, may-find, Decodes, inherited-before, uses, FindingAt, RangeAsked, FileAsked, BindsRange, BindsUses}
+use Rattle.uses.specs.Binding.{finds-by, may-find, may-find-at, Decodes, inherited-before, uses, FindingAt, RangeAsked, FileAsked, BindsRange, BindsUses}
 
 pub or-none : (b : Bool) → b ≡ b || false || false || false
 or-none true = refl
@@ -309,30 +310,54 @@ range-passes {i = i} G more K = record {
 
 -- ---- nodes of kinds of which nothing is found
 
-other-kind : (k q r : ℕ) → may-find k r ≡ false → may-find q r ≡ true → k ≡ q → ⊥
-other-kind k q r h e x = false≢true (sym h ∙ ap (λ (n : ℕ). may-find n r) x ∙ e)
+other-kind : (k q r c : ℕ) → may-find k r c ≡ false → may-find q r c ≡ true → k ≡ q → ⊥
+other-kind k q r c h e x = false≢true (sym h ∙ ap (λ (n : ℕ). may-find n r c) x ∙ e)
 
 first-no : (a b : Bool) → (a || b) ≡ false → a ≡ false
 first-no true b e = e
 first-no false b e = refl
 
-finds-none : (k r c : ℕ) → may-find k r ≡ false → false ≡ finds-by k r c
-finds-none k r c h =
-    rw (
-      first-no (eqb k node.name && eqb r node.in-expression) (ltb node.name k && (leb k node.self || leb node.attribute-name k)) h,
-      ne-eqb k node.qualified-item (other-kind k node.qualified-item r h refl),
-      ne-eqb k node.self (other-kind k node.self r h refl),
-      ne-eqb k node.attribute-name (other-kind k node.attribute-name r h refl),
-      ne-eqb k node.derived-attribute (other-kind k node.derived-attribute r h refl),
-      ne-eqb k node.rule (other-kind k node.rule r h refl),
-    )
+and-no : (a : Bool) → (a && false) ≡ false
+and-no true = refl
+and-no false = refl
+
+finds-none : (k r c : ℕ) → may-find k r c ≡ false → false ≡ finds-by k r c
+finds-none k r c h = by (not (eqb c 0)) refl
+  where
+    used : (eqb k node.name && eqb r node.in-expression) ≡ false
+    used = first-no (eqb k node.name && eqb r node.in-expression) ((ltb node.name k && leb k node.self) || (leb node.attribute-name k && not (eqb c 0))) h
+
+    by : (b : Bool) → not (eqb c 0) ≡ b → false ≡ finds-by k r c
+    by false e =
+        rw (
+          used,
+          ne-eqb k node.qualified-item (other-kind k node.qualified-item r c h refl),
+          ne-eqb k node.self (other-kind k node.self r c h refl),
+          e,
+          and-no (is-member k r),
+        )
+    by true e =
+        rw (
+          used,
+          ne-eqb k node.qualified-item (other-kind k node.qualified-item r c h refl),
+          ne-eqb k node.self (other-kind k node.self r c h refl),
+          ne-eqb k node.attribute-name (other-kind k node.attribute-name r c h e),
+          ne-eqb k node.derived-attribute (other-kind k node.derived-attribute r c h e),
+          ne-eqb k node.rule (other-kind k node.rule r c h e),
+        )
+
+-- a store at a node changes nothing before it
+pub stored-below : {m : ℕ} {f : Finding} {before after : Progress} {bound to bound′ to′ : List ℕ} → Stored m f before bound to after bound′ to′
+    → (n : ℕ) → n < m → getD bound′ n 0 ≡ getD bound n 0
+stored-below {m} {f} {bound = bound} S n l = ap (λ (c : List ℕ). getD c n 0) (S .bound-is) ∙ at-other bound m n (f .binding) 0 (λ z. omega arith)
 
 pub range-leaves-out :
     {kinds tokens sizes roles symbols starts keys nodes heads next items : List ℕ} {stamp schema lo hi i j : ℕ} {before so-far : Progress} {bound to bound′ to′ : List ℕ} →
     PassingRange (RangeAsked kinds tokens sizes roles symbols starts keys nodes heads next items stamp schema) uses lo hi before bound to i so-far bound′ to′ →
-    NoneFrom may-find kinds roles lo i j →
+    (column : List ℕ) → ((n : ℕ) → n < i → getD bound′ n 0 ≡ getD column n 0) → NoneFrom (may-find-at kinds roles column) lo i j →
     PassingRange (RangeAsked kinds tokens sizes roles symbols starts keys nodes heads next items stamp schema) uses lo hi before bound to j so-far bound′ to′
-range-leaves-out {kinds} {tokens} {sizes} {roles} {symbols} {starts} {keys} {nodes} {heads} {next} {items} {stamp} {schema} {lo} {hi} {i} {j} {before} {so-far} {bound} {to} {bound′} {to′} G N =
+range-leaves-out {kinds} {tokens} {sizes} {roles} {symbols} {starts} {keys} {nodes} {heads} {next} {items} {stamp} {schema} {lo} {hi} {i} {j}
+    {before} {so-far} {bound} {to} {bound′} {to′} G column same N =
     go (i - j) i G (omega arith) (omega (arith, N .low))
   where
     Passing : ℕ → Type 0
@@ -342,7 +367,8 @@ range-leaves-out {kinds} {tokens} {sizes} {roles} {symbols} {starts} {keys} {nod
     go zero m G l e = let q : m ≡ j = omega (arith, e) in rw q at G
     go (suc k) m G l e =
         let n = m - 1 in
-        let none = N .none n (omega (arith, e)) (omega (arith, e, l)) in
+        let q = same n (omega (arith, e, l)) in
+        let none : may-find (getD kinds n 0) (getD roles n 0) (getD bound′ n 0) ≡ false = rw q (N .none n (omega (arith, e)) (omega (arith, e, l))) in
         go k n
         (range-passes G (omega (arith, e, N .from (omega (arith, e, l))))
         (range-other m (getD bound′ n 0) refl refl (finds-none (getD kinds n 0) (getD roles n 0) (getD bound′ n 0) none) bound′ refl refl))

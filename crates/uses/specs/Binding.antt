@@ -35,9 +35,13 @@ use Rattle.meanings.specs.declared.Use.{Use}
 abbrev pub finds-by : ℕ → ℕ → ℕ → Bool
 finds-by kind role code = (eqb kind name && eqb role in-expression) || eqb kind qualified-item || eqb kind self || (is-member kind role && not (eqb code 0))
 
--- the nodes of which it may hold, by kind and role: names in expressions, `type.item`, SELF, and those from attributes on
-abbrev pub may-find : ℕ → ℕ → Bool
-may-find k r = (eqb k name && eqb r in-expression) || (ltb name k && (leb k self || leb node.attribute-name k))
+-- the nodes of which it may hold: names in expressions, `type.item`, SELF, and of those from attributes on what has a code
+abbrev pub may-find : ℕ → ℕ → ℕ → Bool
+may-find kind role code =
+    (eqb kind name && eqb role in-expression) || ((ltb name kind && leb kind self) || (leb node.attribute-name kind && not (eqb code 0)))
+
+abbrev pub may-find-at : List ℕ → List ℕ → List ℕ → ℕ → Bool
+may-find-at kinds roles bound n = may-find (getD kinds n 0) (getD roles n 0) (getD bound n 0)
 
 -- what a code of inherited attributes or of items stands for, in a file with fewer nodes than there are codes
 pub record Decodes (c : ℕ) (r : Use) : Type 0 where

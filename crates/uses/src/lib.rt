@@ -4,7 +4,7 @@ ghost use mathlib.Core.Path.{_≡_};
 ghost use Prim.Native.Nat.{_≤_};
 ghost use lib.ListN.{length};
 ghost use Rattle.scopes.specs.NoneFrom.{NoneFrom};
-ghost use Rattle.uses.specs.Binding.{finds-by, may-find, Decodes, FindingAt, BindsRange, BindsUses};
+ghost use Rattle.uses.specs.Binding.{finds-by, may-find, may-find-at, Decodes, FindingAt, BindsRange, BindsUses};
 use columns::index;
 use columns::number;
 use columns::put32;
@@ -41,29 +41,30 @@ fn has_finding(kind: u8, role: u32, code: u32) -> bool
     false
 }
 
-// May something be found of a node of this kind and role? Most nodes are literals and operators.
-fn may_find(kind: u8, role: u8) -> bool
-    ensures { λ r. ⌜ r ≡ may-find kind role ⌝ }
+// May something be found of a node? Most are literals and operators, or attributes that are not inherited too.
+fn may_find(kind: u8, role: u8, code: u32) -> bool
+    ensures { λ r. ⌜ r ≡ may-find kind role code ⌝ }
 {
     let used = both(
         kind == codes::nodes::NAME,
         role as u32 == codes::roles::IN_EXPRESSION,
     );
-    let other = either(
+    let other = both(
+        codes::nodes::NAME < kind,
         kind <= codes::nodes::SELF_REFERENCE,
-        codes::nodes::ATTRIBUTE_NAME <= kind,
     );
-    either(used, both(codes::nodes::NAME < kind, other))
+    let inherited = both(codes::nodes::ATTRIBUTE_NAME <= kind, code != 0);
+    either(used, either(other, inherited))
 }
 
 // The nodes from lo up to an end, without the last ones, of which nothing can be found.
-fn found_before(kinds: &[u8], roles: &[u8], lo: usize, end: usize) -> usize
+fn found_before(kinds: &[u8], roles: &[u8], bound: &[u32], lo: usize, end: usize) -> usize
     requires { ⌜ (end ≤ length (now kinds)) × (end ≤ length (now roles)) ⌝ }
-    ensures { λ r. ⌜ NoneFrom may-find (now (kinds .entry)) (now (roles .entry)) lo end r ⌝ }
+    ensures { λ r. ⌜ NoneFrom (may-find-at (now (kinds .entry)) (now (roles .entry)) (now (bound .entry))) lo end r ⌝ }
 {
     let mut i = end;
     while lo < i {
-        if may_find(kinds[i - 1], roles[i - 1]) {
+        if may_find(kinds[i - 1], roles[i - 1], at(bound, i - 1)) {
             return i;
         }
         i -= 1;
@@ -155,10 +156,10 @@ fn bind_range(
 {
     let mut so_far = before;
     let reach = shorter(hi, shorter(kinds.len(), roles.len()));
-    let mut i = found_before(kinds, roles, lo, reach);
+    let mut i = found_before(kinds, roles, bound, lo, reach);
     while lo < i {
         let n = i - 1;
-        i = found_before(kinds, roles, lo, n);
+        i = found_before(kinds, roles, bound, lo, n);
         let code = at(bound, n);
         if has_finding(kinds[n], roles[n] as u32, code) {
             let found = finding_at(

@@ -1,12 +1,12 @@
--- `preparation::consistent` meets its contract: the nodes below i pass. Assumes nothing.
+-- `preparation::consistent` meets its contract. Assumes nothing.
 use Rattle.preparation.proofs.consistent.Statement.{statement}
 use Rattle.preparation.proofs.consistent.Tie as tie
-use Rattle.preparation.proofs.Checking.{Passing, passing-starts, passing-goes-on, passing-ends, too-many, too-short, outside, too-high}
-use Rattle.scopes.specs.Standing.{table-of}
+use borrow.Author.Needs.{needs}
 use Prim.Native.Nat.{_-_}
 use lib.ListN.{length}
-use borrow.Author.Needs.{needs}
 use native.Mathlib.Omega.{arith}
+use Rattle.scopes.specs.Standing.{table-of}
+use Rattle.preparation.proofs.Checking.{Passing, passing-starts, passing-goes-on, passing-ends, too-many, too-short, outside, too-high, fits-surely}
 
 abbrev Inv-loop : tie.InvT-loop
 Inv-loop kinds tokens roles symbols i₀ i = Passing (table-of kinds tokens roles symbols) i
@@ -23,8 +23,20 @@ shorter-requires c κs = search needs
 returns-2 : tie.Need-returns-2 Inv-loop μ-loop
 returns-2 c = too-short (c .before .shorter .ensures) (c .if2 .taken)
 
+surely-fits-requires : tie.Need-surely-fits-requires Inv-loop μ-loop
+surely-fits-requires c κs = search needs
+
+returns-3 : tie.Need-returns-3 Inv-loop μ-loop
+returns-3 c = fits-surely (c .before .before .before .before .if1 .left) (omega (arith, c .before .before .if2 .left, c .before .before .before .shorter .ensures))
+    (omega (arith, c .before .before .if2 .left, c .before .before .before .shorter .ensures)) (c .before .surely-fits .ensures (c .if3 .taken))
+
 loop-holds : tie.Need-loop-holds Inv-loop μ-loop
-loop-holds c = passing-starts (c .before .before .if1 .left) (omega (arith, c .if2 .left, c .before .shorter .ensures)) (omega (arith, c .if2 .left, c .before .shorter .ensures))
+loop-holds c = passing-starts (c .before .before .before .before .if1 .left) (omega (
+  arith,
+  c .before .before .if2 .left,
+  c .before .before .before .shorter
+      .ensures,
+)) (omega (arith, c .before .before .if2 .left, c .before .before .before .shorter .ensures))
 
 mul-index : tie.Need-mul-index Inv-loop μ-loop
 mul-index c = search needs
@@ -35,20 +47,20 @@ shared-slice-read-index c = omega (arith, c .before .before .loop .inv .tokens, 
 index-requires : tie.Need-index-requires Inv-loop μ-loop
 index-requires c κs = search needs
 
-returns-3 : tie.Need-returns-3 Inv-loop μ-loop
-returns-3 c = outside (c .before .before .before .loop-test .taken) (omega (arith, c .before .index .ensures, c .if3 .taken))
-
-mul-if4 : tie.Need-mul-if4 Inv-loop μ-loop
-mul-if4 c = search needs
-
-shared-slice-read-if4 : tie.Need-shared-slice-read-if4 Inv-loop μ-loop
-shared-slice-read-if4 c = search needs
-
-cast-if4 : tie.Need-cast-if4 Inv-loop μ-loop
-cast-if4 c = omega (arith, c .shared-slice-known6 .given (c .before .before .index .result))
-
 returns-4 : tie.Need-returns-4 Inv-loop μ-loop
-returns-4 c = too-high (c .before .before .before .before .before .loop-test .taken) (rw (c .before .before .before .index .ensures) at (c .if4 .taken))
+returns-4 c = outside (c .before .before .before .loop-test .taken) (omega (arith, c .before .index .ensures, c .if4 .taken))
+
+mul-if5 : tie.Need-mul-if5 Inv-loop μ-loop
+mul-if5 c = search needs
+
+shared-slice-read-if5 : tie.Need-shared-slice-read-if5 Inv-loop μ-loop
+shared-slice-read-if5 c = search needs
+
+cast-if5 : tie.Need-cast-if5 Inv-loop μ-loop
+cast-if5 c = omega (arith, c .shared-slice-known6 .given (c .before .before .index .result))
+
+returns-5 : tie.Need-returns-5 Inv-loop μ-loop
+returns-5 c = too-high (c .before .before .before .before .before .loop-test .taken) (rw (c .before .before .before .index .ensures) at (c .if5 .taken))
 
 add-i : tie.Need-add-i Inv-loop μ-loop
 add-i c = omega (arith, c .before .before .before .before .before .loop-test .taken)
@@ -57,16 +69,15 @@ loop-less : tie.Need-loop-less Inv-loop μ-loop
 loop-less c = omega (arith, c .before .before .before .before .before .loop-test .taken)
 
 loop-again : tie.Need-loop-again Inv-loop μ-loop
-loop-again c =
-    passing-goes-on (c .before .before .before .before .before .before .loop .inv) (omega (
-      arith,
-      c .before .before .before .index .ensures,
-      c .before .before .if3
-          .left,
-    )) (rw (c .before .before .before .index .ensures) at (c .if4 .left))
+loop-again c = passing-goes-on (c .before .before .before .before .before .before .loop .inv) (omega (
+  arith,
+  c .before .before .before .index .ensures,
+  c .before
+      .before .if4 .left,
+)) (rw (c .before .before .before .index .ensures) at (c .if5 .left))
 
-returns-5 : tie.Need-returns-5 Inv-loop μ-loop
-returns-5 c = passing-ends (c .before .loop .inv) (c .loop-test .left)
+returns-6 : tie.Need-returns-6 Inv-loop μ-loop
+returns-6 c = passing-ends (c .before .loop .inv) (c .loop-test .left)
 
 pub consistent-spec : {M : Type 1} → statement M
 consistent-spec =
@@ -77,16 +88,18 @@ consistent-spec =
     returns
     shorter-requires
     returns-2
+    surely-fits-requires
+    returns-3
     loop-holds
     mul-index
     shared-slice-read-index
     index-requires
-    returns-3
-    mul-if4
-    shared-slice-read-if4
-    cast-if4
     returns-4
+    mul-if5
+    shared-slice-read-if5
+    cast-if5
+    returns-5
     add-i
     loop-less
     loop-again
-    returns-5)
+    returns-6)

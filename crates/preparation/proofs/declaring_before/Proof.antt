@@ -3,19 +3,20 @@ use Rattle.preparation.proofs.declaring_before.Statement.{statement}
 use Rattle.preparation.proofs.declaring_before.Tie as tie
 use borrow.Author.Needs.{needs}
 use mathlib.Core.Path.{sym, _∙_}
+use lib.ListN.{getD}
 use native.Mathlib.Omega.{arith}
 use Rattle.scopes.specs.NoneFrom.{NoneFrom}
 use Rattle.preparation.specs.Declaring.{may-declare}
 use Rattle.scopes.proofs.NoneFrom.{none-yet, none-more}
 
 abbrev Inv-loop : tie.InvT-loop
-Inv-loop kinds roles end i₀ i = NoneFrom may-declare kinds roles 0 end i
+Inv-loop kinds roles end i₀ i = NoneFrom (λ n. may-declare (getD kinds n 0) (getD roles n 0)) 0 end i
 
 abbrev μ-loop : tie.MeasureT-loop
 μ-loop kinds roles end i₀ i = i
 
 loop-holds : tie.Need-loop-holds Inv-loop μ-loop
-loop-holds c = none-yet
+loop-holds c = none-yet _
 
 sub-may-declare : tie.Need-sub-may-declare Inv-loop μ-loop
 sub-may-declare c = search needs
@@ -48,7 +49,7 @@ loop-less : tie.Need-loop-less Inv-loop μ-loop
 loop-less c = omega (arith, c .before .before .before .before .loop-test .taken)
 
 loop-again : tie.Need-loop-again Inv-loop μ-loop
-loop-again c = none-more (c .before .before .before .before .before .loop .inv) (c .before .before .before .before .loop-test .taken) (sym (c .before .may-declare
+loop-again c = none-more _ (c .before .before .before .before .before .loop .inv) (c .before .before .before .before .loop-test .taken) (sym (c .before .may-declare
     .ensures) ∙ c .if1 .left)
 
 returns-2 : tie.Need-returns-2 Inv-loop μ-loop
