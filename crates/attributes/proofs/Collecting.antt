@@ -44,11 +44,11 @@ module _ {symbol : ℕ → ℕ} {limit stamp : ℕ} where
 
 -- ---- the attributes among entries, from the last to the first
 module _ (kinds nodes : List ℕ) where
-  between-none : (lo hi : ℕ) → hi ≤ lo → attributes-between kinds nodes lo hi ≡ []
+  pub between-none : (lo hi : ℕ) → hi ≤ lo → attributes-between kinds nodes lo hi ≡ []
   unfolding attributes-between keep
   between-none lo hi l = rw (span-end hi lo l)
 
-  between-step : (e hi : ℕ) → 0 < e → e ≤ hi
+  pub between-step : (e hi : ℕ) → 0 < e → e ≤ hi
       → attributes-between kinds nodes (e - 1) hi
       ≡ cond (attribute-kind (getD kinds (getD nodes (e - 1) 0) 0)) (getD nodes (e - 1) 0 ∷ attributes-between kinds nodes e hi) (attributes-between kinds nodes e hi)
   unfolding attributes-between

@@ -12,7 +12,7 @@ use lib.ListN.{length, getD, length-append, length-map}
 use lib.Seq.{getD-append-seam, getD-append-add}
 use Rattle.relations.specs.Select.{span, keep}
 use Rattle.relations.proofs.Select.{le-or, or-left, span-append, keep-append}
-use Rattle.express.specs.syntax.Tree.{Table, count, symbol, nodes, is-declaration, is-attribute}
+use Rattle.express.specs.syntax.Tree.{Table, count, symbol, nodes, is-declaration, is-attribute, owner}
 use Rattle.express.specs.tokens.Scanned.{Scanned}
 use Rattle.express.specs.names.Fault.{sort}
 use Rattle.scopes.specs.Entries.{declared, members, key-of, Entry, own-entry, declares-other, declaring, entries, vertex, others-before}
@@ -21,7 +21,7 @@ use Rattle.scopes.specs.Range.{declared-nodes, vertex-count, node-of, range-sta
 use Rattle.scopes.proofs.Sorting.{declared-sort, member-sort}
 use Rattle.scopes.proofs.Passing.{others-step}
 use Rattle.scopes.proofs.Numbering.{Ranked, ranked, entry-declares}
-use Rattle.scopes.proofs.Ranges.{node-below, node-declares, range-next, range-rises, range-below, column-node}
+use Rattle.scopes.proofs.Ranges.{node-below, node-declares, range-next, range-rises, range-below, column-node, range-owner}
 use Rattle.symbol_tables.proofs.Symbols.{symbol-within}
 use Rattle.attributes.specs.Attributes.{offset-of, start-in, Back, Fits, attributes-between, attributes-of}
 
@@ -243,6 +243,16 @@ module _ {t : Table} {keys nodes heads next : List ℕ} (P : Prepared t keys nod
           key = omega (arith, k, P .consistent .small (getD nodes e 0) m);
           below = symbol-within S (P .consistent) (getD nodes e 0) m;
         }
+
+    -- each stands in its range
+    pub entry-owner : (e : ℕ) → offset-of t v ≤ e → e < offset-of t (v + 1) → owner t (getD nodes e 0) ≡ node-of t v
+    unfolding offset-of
+    entry-owner e a b =
+        let n = node-below t v l in
+        let h : e < length nodes = omega (arith, offset-next t v l, others-le t (node-of t v) (count t) (omega arith), nodes-long) in
+        let low = other-low (node-of t v) e (omega arith) h (omega (arith, offset-next t v l)) in
+        let high = other-high (range-start t v) e (omega arith) h (omega arith) in
+        range-owner t v (getD nodes e 0) l high (omega (arith, low))
 
   pub offset-within : (v : ℕ) → v ≤ vertex-count t → offset-of t v ≤ length nodes
   unfolding offset-of

@@ -23,7 +23,7 @@ pub fn is_attribute(kind: u8) -> bool
 }
 
 // The first node of a declaration, by its number: that behind the declaration before it.
-fn start(entry_nodes: &[u32], vertex: usize) -> usize
+pub fn start(entry_nodes: &[u32], vertex: usize) -> usize
     ensures { λ r. ⌜ r ≡ start-in (now («entry_nodes» .entry)) vertex ⌝ }
 {
     if vertex == 0 {
@@ -33,7 +33,7 @@ fn start(entry_nodes: &[u32], vertex: usize) -> usize
 }
 
 // Back from the entry hi as long as no node is before one, and not below the entry low.
-fn back(entry_nodes: &[u32], low: usize, hi: usize, from: usize) -> usize
+pub fn back(entry_nodes: &[u32], low: usize, hi: usize, from: usize) -> usize
     ensures { λ r. ⌜ Back (now («entry_nodes» .entry)) low hi from r ⌝ }
 {
     let mut e = hi;
@@ -64,7 +64,7 @@ pub fn store_offsets(entry_nodes: &[u32], offsets: usize, table: &mut [u32])
 }
 
 // The symbol of a key.
-fn symbol_of(key: u64) -> u32
+pub fn symbol_of(key: u64) -> u32
     ensures { λ r. ⌜ r ≡ key % radix ⌝ }
 {
     (key % scopes::RADIX) as u32

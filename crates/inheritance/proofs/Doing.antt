@@ -33,12 +33,12 @@ use Rattle.inheritance.proofs.Queues.{listed-known, listed-inherited}
 use Rattle.attributes.proofs.Collecting.{offsets-kept}
 
 -- where a node stands: before a range, in it, at its declaration, or behind it
-data Standing (t : Table) (v n : ℕ) : Type 0 where
+pub data Standing (t : Table) (v n : ℕ) : Type 0 where
   inside : range-start t v ≤ n → n < node-of t v → Standing t v n
   itself : n ≡ node-of t v → Standing t v n
   behind : range-start t (v + 1) ≤ n → Standing t v n
 
-standing : (t : Table) (v n : ℕ) → range-start t v ≤ n → Standing t v n
+pub standing : (t : Table) (v n : ℕ) → range-start t v ≤ n → Standing t v n
 standing t v n f = by (le-or (node-of t v) n) (le-or n (node-of t v))
   where
     by : (node-of t v ≤ n) ⊎ (n < node-of t v) → (n ≤ node-of t v) ⊎ (node-of t v < n) → Standing t v n
@@ -51,7 +51,7 @@ nothing-code : (t : Table) (n : ℕ) → inherited t (owner t n) (symbol t n) �
 unfolding inherited-code
 nothing-code t n e = rw e
 
-owned-code : (t : Table) (n o : ℕ) → owner t n ≡ o → inherited-code t n ≡ code (meaning (inherited t o (symbol t n)))
+pub owned-code : (t : Table) (n o : ℕ) → owner t n ≡ o → inherited-code t n ≡ code (meaning (inherited t o (symbol t n)))
 unfolding inherited-code
 owned-code t n o e = rw e
 
@@ -63,21 +63,21 @@ kept t was n h = by (asks t n) refl
     by true e = let p = h e in p .0 ∙ sym (p .1)
     by false e = refl
 
-silent : (t : Table) (was : List ℕ) (n x : ℕ) → asks t n ≡ false → x ≡ getD was n 0 → x ≡ cond (asks t n) (inherited-code t n) (getD was n 0)
+pub silent : (t : Table) (was : List ℕ) (n x : ℕ) → asks t n ≡ false → x ≡ getD was n 0 → x ≡ cond (asks t n) (inherited-code t n) (getD was n 0)
 silent t was n x e q = q ∙ ap (λ (b : Bool). cond b (inherited-code t n) (getD was n 0)) (sym e)
 
 module _ {kinds tokens roles symbols entry-keys entry-nodes first to : List ℕ} {t : Table} (C : ColumnsOf t kinds tokens roles symbols) (I : Inheriting t entry-keys entry-nodes first to) where
-  asked : (n : ℕ) → asks t n ≡ asks-by (getD kinds n 0) (getD roles n 0)
+  pub asked : (n : ℕ) → asks t n ≡ asks-by (getD kinds n 0) (getD roles n 0)
   asked n = ap₂ (λ (ks rs : List ℕ). asks-by (getD ks n 0) (getD rs n 0)) (C .kinds-are) (C .roles-are)
 
-  spelling : (n : ℕ) → getD symbols (getD tokens n 0) 0 ≡ symbol t n
+  pub spelling : (n : ℕ) → getD symbols (getD tokens n 0) 0 ≡ symbol t n
   spelling n = sym (ap₂ (λ (ss ts : List ℕ). getD ss (getD ts n 0) 0) (C .symbols-are) (C .tokens-are))
 
-  graph-is : TypeGraph t first to
+  pub graph-is : TypeGraph t first to
   graph-is = type-graph (I .read) (I .right) (I .graph)
 
   -- all vertices are to come
-  stored-end : {was : List ℕ} → ((n : ℕ) → n < count t → asks t n ≡ true → getD was n 0 ≡ 0) → StoredFrom t was (vertex-count t) was
+  pub stored-end : {was : List ℕ} → ((n : ℕ) → n < count t → asks t n ≡ true → getD was n 0 ≡ 0) → StoredFrom t was (vertex-count t) was
   stored-end {was} empty =
       record {
         stored =
@@ -94,11 +94,11 @@ module _ {kinds tokens roles symbols entry-keys entry-nodes first to : List ℕ}
 
   module _ (v : ℕ) (l : v < vertex-count t) {was bound : List ℕ} (empty : (n : ℕ) → n < count t → asks t n ≡ true → getD was n 0 ≡ 0) (D : StoredFrom t was (v + 1) bound) where
     -- what lies before the next range is as it was
-    as-before : (n : ℕ) → n ≤ node-of t v → getD bound n 0 ≡ getD was n 0
+    pub as-before : (n : ℕ) → n ≤ node-of t v → getD bound n 0 ≡ getD was n 0
     as-before n h = D .before n (omega (arith, range-next t v))
 
     -- a vertex that inherits nothing
-    stored-skip : inherits-by kinds first (node-of t v) v ≡ false → StoredFrom t was v bound
+    pub stored-skip : inherits-by kinds first (node-of t v) v ≡ false → StoredFrom t was v bound
     stored-skip e =
         record {
           stored = λ n ln f. by n ln f (standing t v n f);
@@ -265,7 +265,7 @@ pub record Doing (kinds tokens roles symbols entry-keys entry-nodes first to tab
   pub is : (t : Table) → ColumnsOf t kinds tokens roles symbols → Inheriting t entry-keys entry-nodes first to → InheritanceRoom t table₁ mark₁ queue₁ bound₁ → Done t bound₁ v table mark bound
 
 -- room goes by lengths, but for what stands where a node asks
-same-room : {t : Table} {table mark queue table′ mark′ queue′ bound : List ℕ} → length table′ ≡ length table → length mark′ ≡ length mark → length queue′ ≡ length queue
+pub same-room : {t : Table} {table mark queue table′ mark′ queue′ bound : List ℕ} → length table′ ≡ length table → length mark′ ≡ length mark → length queue′ ≡ length queue
     → InheritanceRoom t table mark queue bound → InheritanceRoom t table′ mark′ queue′ bound
 same-room a b c R =
     record {

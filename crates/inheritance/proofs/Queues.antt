@@ -33,13 +33,13 @@ use Rattle.inheritance.proofs.Asking.{declaration-other}
 use Rattle.inheritance.proofs.Reaching.{reached-declares, vertex-reached, reached-iff}
 
 -- an attribute of a declaration, by its number
-record Within (t : Table) (v m : ℕ) : Type 0 where
-  from : range-start t v ≤ m
-  upto : m < node-of t v
-  attribute : is-attribute t m ≡ true
+pub record Within (t : Table) (v m : ℕ) : Type 0 where
+  pub from : range-start t v ≤ m
+  pub upto : m < node-of t v
+  pub attribute : is-attribute t m ≡ true
 
 module _ (t : Table) where
-  attributes-iff : (v m : ℕ) → List·Memᴰ m (attributes-of t v) ↔ Within t v m
+  pub attributes-iff : (v m : ℕ) → List·Memᴰ m (attributes-of t v) ↔ Within t v m
   unfolding attributes-of
   attributes-iff v m =
       let lo = range-start t v in
@@ -48,12 +48,12 @@ module _ (t : Table) where
         λ w. mem-keep (is-attribute t) (span lo d) (mem-span lo d m (w .from) (omega (arith, w .from, w .upto))) (w .attribute),
       )
 
-  attributes-distinct : (v : ℕ) → Distinct (attributes-of t v)
+  pub attributes-distinct : (v : ℕ) → Distinct (attributes-of t v)
   unfolding attributes-of
   attributes-distinct v = ascending-distinct (ascending-keep (is-attribute t) (ascending-span (range-start t v) (node-of t v - range-start t v)))
 
   -- two declarations have no node in common
-  one-owner : (v w m : ℕ) → v < vertex-count t → w < vertex-count t → Within t v m → Within t w m → v ≡ w
+  pub one-owner : (v w m : ℕ) → v < vertex-count t → w < vertex-count t → Within t v m → Within t w m → v ≡ w
   one-owner v w m a b x y =
       sym (node-number t v a) ∙ ap (vertex t) (sym (range-owner t v m a (x .from) (omega (arith, x .upto))) ∙ range-owner t w m b (y .from) (omega (arith, y .upto)))
       ∙ node-number t w b
@@ -86,7 +86,7 @@ module _ (t : Table) where
         once (r .0) k (r .1) (omega arith)
         (one-owner (getD queue (r .0) 0) (getD queue k 0) m (known (r .0) (omega (arith, r .1))) (known k (omega arith)) (r .2) (attributes-iff (getD queue k 0) m .0 x)))
 
-inherited-distinct : (t : Table) (d s : ℕ) → Distinct (inherited t d s)
+pub inherited-distinct : (t : Table) (d s : ℕ) → Distinct (inherited t d s)
 unfolding inherited
 inherited-distinct t d s = ascending-distinct (ascending-keep _ (ascending-span 0 (count t)))
 

@@ -51,7 +51,7 @@ module _ {t : Table} {first to : List ℕ} (G : TypeGraph t first to) where
   vertex-reached (direct a) = omega (arith, arc-target (G .graph) a, vertices-are)
   vertex-reached (onward a r) = vertex-reached r
 
-  types-reached : {v w : ℕ} → Reaches (Arc first to) v w → Reaches (Joins (type-edges t)) (node-of t v) (node-of t w)
+  pub types-reached : {v w : ℕ} → Reaches (Arc first to) v w → Reaches (Joins (type-edges t)) (node-of t v) (node-of t w)
   types-reached (direct {a = v} {b = w} e) = direct (arc-edge v w e)
   types-reached (onward {a = v} {b = w} e r) = onward (arc-edge v w e) (types-reached r)
 

@@ -1,5 +1,5 @@
--- What the nodes of a range inherit, stored from the last to the first.
-use mathlib.Core.Path.{_≡_, refl, sym, ap, _∙_}
+-- What suits the nodes of a range that ask, stored from the last to the first.
+use mathlib.Core.Path.{_≡_, refl, sym, _∙_}
 use mathlib.Core.Logic.{_⊎_, inl, inr, by-cases}
 use mathlib.Core.Bool.{true, false, false≢true}
 use mathlib.Core.List.{List}
@@ -8,18 +8,16 @@ use native.Mathlib.Omega.{arith}
 use native.Mathlib.Decide.{ℕ-discrete, decLt}
 use lib.ListN.{length, getD, set, length-set}
 use Rattle.columns.proofs.Laws.{at-set, at-other}
-use Rattle.symbol_tables.specs.Entry.{says}
-use Rattle.symbol_tables.specs.Table.{symbol-in}
-use Rattle.inheritance.specs.Steps.{asks-by, Stores}
+use Rattle.inheritance.specs.Steps.{asks-by, StoresEach}
 
-pub record Storing (kinds tokens roles symbols table : List ℕ) (stamp lo hi : ℕ) (bound₁ bound : List ℕ) (i : ℕ) : Type 0 where
+pub record Storing (kinds roles : List ℕ) (Suits : ℕ → ℕ → Type 0) (lo hi : ℕ) (bound₁ bound : List ℕ) (i : ℕ) : Type 0 where
   pub long : length bound ≡ length bound₁
   pub upto : i ≤ hi
   pub low : (lo ≤ i) ⊎ (i ≡ hi)
-  pub stores : Stores kinds tokens roles symbols table stamp i hi bound₁ bound
+  pub stores : StoresEach kinds roles Suits i hi bound₁ bound
 
-module _ {kinds tokens roles symbols table : List ℕ} {stamp : ℕ} where
-  pub storing-starts : {lo hi : ℕ} {bound : List ℕ} → Storing kinds tokens roles symbols table stamp lo hi bound bound hi
+module _ {kinds roles : List ℕ} {Suits : ℕ → ℕ → Type 0} where
+  pub storing-starts : {lo hi : ℕ} {bound : List ℕ} → Storing kinds roles Suits lo hi bound bound hi
   storing-starts =
       record {
         long = refl;
@@ -28,8 +26,8 @@ module _ {kinds tokens roles symbols table : List ℕ} {stamp : ℕ} where
         stores = record { stored = λ n l h. absurd (omega arith); other = λ n e. refl; before = λ n l. refl; behind = λ n l. refl };
       }
 
-  module _ {lo hi i : ℕ} {bound₁ bound : List ℕ} (s : Storing kinds tokens roles symbols table stamp lo hi bound₁ bound i) where
-    pub storing-ends : i ≤ lo → Stores kinds tokens roles symbols table stamp lo hi bound₁ bound
+  module _ {lo hi i : ℕ} {bound₁ bound : List ℕ} (s : Storing kinds roles Suits lo hi bound₁ bound i) where
+    pub storing-ends : i ≤ lo → StoresEach kinds roles Suits lo hi bound₁ bound
     storing-ends l =
         record {
           stored = λ n a. s .stores .stored n (omega arith);
@@ -43,7 +41,7 @@ module _ {kinds tokens roles symbols table : List ℕ} {stamp : ℕ} where
         outside n a b (inr h) = s .stores .behind n (omega (arith, b))
 
     module _ (l : lo < i) where
-      pub storing-skip : asks-by (getD kinds (i - 1) 0) (getD roles (i - 1) 0) ≡ false → Storing kinds tokens roles symbols table stamp lo hi bound₁ bound (i - 1)
+      pub storing-skip : asks-by (getD kinds (i - 1) 0) (getD roles (i - 1) 0) ≡ false → Storing kinds roles Suits lo hi bound₁ bound (i - 1)
       storing-skip h =
           record {
             long = s .long;
@@ -60,9 +58,9 @@ module _ {kinds tokens roles symbols table : List ℕ} {stamp : ℕ} where
                 };
           }
 
-      pub storing-more : {x r : ℕ} {bound′ : List ℕ} → asks-by (getD kinds (i - 1) 0) (getD roles (i - 1) 0) ≡ true → x ≡ symbol-in tokens symbols (i - 1)
-          → r ≡ says table stamp x → bound′ ≡ set bound (i - 1) r → Storing kinds tokens roles symbols table stamp lo hi bound₁ bound′ (i - 1)
-      storing-more {x} {r} {bound′} h y g e =
+      pub storing-more : {r : ℕ} {bound′ : List ℕ} → asks-by (getD kinds (i - 1) 0) (getD roles (i - 1) 0) ≡ true → Suits (i - 1) r
+          → bound′ ≡ set bound (i - 1) r → Storing kinds roles Suits lo hi bound₁ bound′ (i - 1)
+      storing-more {r} {bound′} h g e =
           rw e
           (record {
             long = length-set bound (i - 1) r ∙ s .long;
@@ -70,7 +68,7 @@ module _ {kinds tokens roles symbols table : List ℕ} {stamp : ℕ} where
             low = inl (omega arith);
             stores =
                 record {
-                  stored = λ n a b k q. by-cases (ℕ-discrete n (i - 1)) (λ z. here n z k) (λ z. away n z ∙ s .stores .stored n (omega (arith, z)) b k q);
+                  stored = λ n a b k q. by-cases (ℕ-discrete n (i - 1)) (λ z. here n z k) (λ z. let y = away n z in rw y (s .stores .stored n (omega (arith, z)) b k q));
                   other = λ n q. by-cases (ℕ-discrete n (i - 1)) (λ z. absurd (false≢true (sym (rw z at q) ∙ h))) (λ z. away n z ∙ s .stores .other n q);
                   before = λ n a. away n (λ z. omega arith) ∙ s .stores .before n (omega arith);
                   behind = λ n a. away n (λ z. omega (arith, s .upto)) ∙ s .stores .behind n a;
@@ -80,7 +78,7 @@ module _ {kinds tokens roles symbols table : List ℕ} {stamp : ℕ} where
           away : (n : ℕ) → (n ≡ i - 1 → ⊥) → getD (set bound (i - 1) r) n 0 ≡ getD bound n 0
           away n z = at-other bound (i - 1) n r 0 z
 
-          here : (n : ℕ) → n ≡ i - 1 → n < length bound₁ → getD (set bound (i - 1) r) n 0 ≡ says table stamp (symbol-in tokens symbols n)
+          here : (n : ℕ) → n ≡ i - 1 → n < length bound₁ → Suits n (getD (set bound (i - 1) r) n 0)
           here n z k =
               let at : getD (set bound (i - 1) r) (i - 1) 0 ≡ r = at-set bound (i - 1) r 0 (omega (arith, s .long)) in
-              rw z (at ∙ g ∙ ap (says table stamp) y)
+              rw (z, at) g

@@ -36,13 +36,16 @@ inherits-by kinds first node vertex = eqb (getD kinds node 0) entity && ltb (get
 abbrev pub asks-by : ℕ → ℕ → Bool
 asks-by kind role = (eqb kind name && eqb role in-expression) || is-member kind role
 
--- at each node from lo up to hi that asks what the table says; all else is as it was
-pub record Stores (kinds tokens roles symbols table : List ℕ) (stamp lo hi : ℕ) (bound bound′ : List ℕ) : Type 0 where
-  pub stored : (n : ℕ) → lo ≤ n → n < hi → n < length bound → asks-by (getD kinds n 0) (getD roles n 0) ≡ true
-      → getD bound′ n 0 ≡ says table stamp (symbol-in tokens symbols n)
+-- at each node from lo up to hi that asks a number that suits it; all else is as it was
+pub record StoresEach (kinds roles : List ℕ) (Suits : ℕ → ℕ → Type 0) (lo hi : ℕ) (bound bound′ : List ℕ) : Type 0 where
+  pub stored : (n : ℕ) → lo ≤ n → n < hi → n < length bound → asks-by (getD kinds n 0) (getD roles n 0) ≡ true → Suits n (getD bound′ n 0)
   pub other : (n : ℕ) → asks-by (getD kinds n 0) (getD roles n 0) ≡ false → getD bound′ n 0 ≡ getD bound n 0
   pub before : (n : ℕ) → n < lo → getD bound′ n 0 ≡ getD bound n 0
   pub behind : (n : ℕ) → hi ≤ n → getD bound′ n 0 ≡ getD bound n 0
+
+-- what the table says
+abbrev pub Stores : List ℕ → List ℕ → List ℕ → List ℕ → List ℕ → ℕ → ℕ → ℕ → List ℕ → List ℕ → Type 0
+Stores kinds tokens roles symbols table stamp = StoresEach kinds roles (λ n x. x ≡ says table stamp (symbol-in tokens symbols n))
 
 -- ---- vertex by vertex, from the last to the first
 

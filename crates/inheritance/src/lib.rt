@@ -20,14 +20,14 @@ use scopes::both;
 use scopes::either;
 
 // The symbol of a node.
-fn symbol(tokens: &[u32], symbols: &[u32], node: usize) -> u32
+pub fn symbol(tokens: &[u32], symbols: &[u32], node: usize) -> u32
     ensures { λ r. ⌜ r ≡ symbol-in (now (tokens .entry)) (now (symbols .entry)) node ⌝ }
 {
     at(symbols, index(at(tokens, node)))
 }
 
 // Is it a name in an expression, or an attribute or label? The role of such a name has the number of that of a rule with a label.
-fn asks(kind: u8, role: u32) -> bool
+pub fn asks(kind: u8, role: u32) -> bool
     ensures { λ r. ⌜ r ≡ asks-by kind role ⌝ }
 {
     let by_role = either(kind == codes::nodes::NAME, kind == codes::nodes::RULE);
@@ -63,10 +63,12 @@ fn store_inherited(
 }
 
 // Is it an entity with supertypes?
-fn inherits(kinds: &[u8], first: &[u32], node: usize, vertex: usize) -> bool
-    requires { ⌜ vertex < length (now first) ⌝ }
+pub fn inherits(kinds: &[u8], first: &[u32], node: usize, vertex: usize) -> bool
     ensures { λ r. ⌜ r ≡ inherits-by (now (kinds .entry)) (now (first .entry)) node vertex ⌝ }
 {
+    if first.len() <= vertex {
+        return false;
+    }
     if at8(kinds, node) != codes::nodes::ENTITY {
         return false;
     }
@@ -124,7 +126,7 @@ fn inherit_in(
 }
 
 // The number behind the last declaration that inherits; 0 where none does.
-fn inheriting(kinds: &[u8], entry_nodes: &[u32], first: &[u32]) -> usize
+pub fn inheriting(kinds: &[u8], entry_nodes: &[u32], first: &[u32]) -> usize
     ensures { λ r. ⌜ NoneInherits (now (kinds .entry)) (now («entry_nodes» .entry)) (now (first .entry)) r ⌝ }
 {
     let mut v = saturating_sub(first.len(), 1);

@@ -3,9 +3,9 @@ ghost use Rattle.name_binding.specs.Binding.{BindsNames};
 ghost use Rattle.name_binding.specs.Prepared.{PreparesFile};
 use faults::Fault;
 use index::Outcome;
-use inheritance::inherit_all;
 use name_stages::bind_declarations;
 use name_stages::bind_expressions;
+use row_inheritance::inherit_all;
 use scopes::dictionary::Preparation;
 
 // Interns the identifiers of a file, chained in a column of links, and enters what it declares into its dictionary.

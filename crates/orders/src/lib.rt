@@ -124,6 +124,18 @@ fn assign(first: &[u32], to: &[u32], n: usize, s: &mut [u32])
     }
 }
 
+// The most vertices.
+const MOST: usize = 65536;
+
+// Places for all vertices of a graph, in a column of two numbers for each: where there is no cycle its second half has the vertices in an order in which
+// each stands after all that it has arcs to. Nothing is promised of them: who uses them tests what it makes of them.
+pub fn places(first: &[u32], to: &[u32], s: &mut [u32]) {
+    let n = s.len() / 2;
+    if n <= MOST {
+        assign(first, to, n, s);
+    }
+}
+
 // Do the arcs from one place up to another lead to vertices before a place?
 fn lead_before(to: &[u32], from: usize, end: usize, s: &[u32], p: usize) -> bool
     ensures { λ r. ⌜ (r ≡ true → Falls (now (to .entry)) (now (s .entry)) p from end) ⌝ }

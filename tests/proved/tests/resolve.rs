@@ -20,6 +20,8 @@ fn before(i: usize) -> u32 {
 const COLUMNS: usize = 11;
 
 const BUCKETS: usize = 4;
+/// Of the columns for the orders of types and constants.
+const ORDERS: std::ops::RangeInclusive<usize> = 8..=9;
 
 fn lent(lengths: [usize; COLUMNS]) -> NameColumns {
     let narrow = |column: usize| (0..lengths[column]).map(before).collect();
@@ -155,11 +157,13 @@ impl Parsed {
     }
 }
 
-/// The reply to a file that is parsed; what the columns held before plays no part.
-fn hold(text: &[u8], buckets: usize) -> Option<u32> {
+/// The reply to a file that is parsed; what the columns held before plays no part. Into columns of orders that have entries to spare, rows of
+/// bits and chains fit, by which what is inherited is found then; else it is searched for.
+fn hold(text: &[u8], buckets: usize, spare: usize) -> Option<u32> {
     let file = parsed(text)?;
     let mut room = file.room();
     room[BUCKETS] = buckets;
+    ORDERS.for_each(|column| room[column] += spare);
     let mut columns = lent(room);
     let (answer, bindings) = file.resolved(&mut columns);
     let answer = answer.expect("room");
@@ -182,7 +186,8 @@ fn hold_all(files: impl Iterator<Item = Vec<u8>>) -> [u32; 14] {
     let mut seen = [0; 14];
     for (i, file) in files.enumerate() {
         let buckets = if file.len() < 400 { 1 + i % 9 } else { 2_048 };
-        hold(&file, buckets).into_iter().for_each(|reply| seen[reply as usize] += 1);
+        let spare = if i % 2 == 0 { 0 } else { file.len() };
+        hold(&file, buckets, spare).into_iter().for_each(|reply| seen[reply as usize] += 1);
     }
     seen
 }
@@ -235,15 +240,17 @@ fn attribute_of(rng: &mut Rng, entities: &[Entity], entity: usize) -> Option<usi
 /// they have and inherit, and now and then of any name.
 fn hierarchy(seed: u64) -> Vec<u8> {
     let mut rng = Rng::new(seed);
-    let (count, shared, loose) = (2 + rng.below(12), 2 + rng.below(12), rng.one_in(5));
+    let many = rng.one_in(25); // More entities than a word has bits, of which few have a name in common.
+    let count = if many { 30 + rng.below(70) } else { 2 + rng.below(12) };
+    let (shared, alike, loose) = (2 + rng.below(12), if many { 100 } else { 2 }, rng.one_in(5));
     let entities: Vec<Entity> = (0..count)
         .map(|entity| {
-            let (wide, many) = (rng.below(3), rng.below(3));
+            let (wide, named) = (rng.below(3), rng.below(3));
             let above = some(&mut rng, wide, if loose { count } else { entity });
-            let own = some(&mut rng, many, 9);
+            let own = some(&mut rng, named, 9);
             let attributes = own
                 .into_iter()
-                .map(|own| if rng.one_in(2) { rng.below(shared) } else { 100 + 10 * entity + own })
+                .map(|own| if rng.one_in(alike) { rng.below(shared) } else { 100 + 10 * entity + own })
                 .collect();
             Entity { above, attributes }
         })

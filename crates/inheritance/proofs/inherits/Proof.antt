@@ -3,13 +3,30 @@ use borrow.Author.Needs.{needs}
 use Rattle.inheritance.proofs.inherits.Statement.{statement}
 use Rattle.inheritance.proofs.inherits.Tie as tie
 use borrow.Author.Tests.{eq-eqb, ne-eqb}
-use mathlib.Core.Path.{sym}
+use mathlib.Core.Path.{_≡_, refl, sym}
+use mathlib.Core.Bool.{Bool, true, false, _&&_}
+use native.Mathlib.Omega.{arith}
+use lib.Dec.{eqb}
+use Rattle.express.specs.syntax.NodeKind.{entity}
+use lib.ListN.{getD, List·getD-eq-default}
+use Prim.Native.Nat.{_+_}
+
+and-false : (b : Bool) → false ≡ (b && false)
+and-false true = refl
+and-false false = refl
+
+returns : tie.Need-returns
+returns c = rw (
+  List·getD-eq-default (c .before .before .before .args .first .now) 0 {n = c .before .before .before .args .vertex} (c .if1 .taken),
+  List·getD-eq-default (c .before .before .before .args .first .now) 0 {n = c .before .before .before .args .vertex + 1} (omega (arith, c .if1 .taken)),
+)
+    (and-false (eqb (getD (c .before .before .before .args .kinds .now) (c .before .before .before .args .node) 0) entity))
 
 at8-requires : tie.Need-at8-requires
 at8-requires c κs = search needs
 
-returns : tie.Need-returns
-returns c = rw (sym (c .before .at8 .ensures), ne-eqb _ _ (c .if1 .taken))
+returns-2 : tie.Need-returns-2
+returns-2 c = rw (sym (c .before .at8 .ensures), ne-eqb _ _ (c .if2 .taken))
 
 at-requires : tie.Need-at-requires
 at-requires c κs = search needs
@@ -20,9 +37,10 @@ add-at c = search needs
 at-requires-2 : tie.Need-at-requires-2
 at-requires-2 c κs = search needs
 
-returns-2 : tie.Need-returns-2
-returns-2 c = rw (sym (c .before .before .before .at8 .ensures), sym (c .before .at .ensures), sym (c .at2 .ensures)) (simp (eq-eqb _ _ (c .before .before .if1 .left)))
+returns-3 : tie.Need-returns-3
+returns-3 c = rw (sym (c .before .before .before .at8 .ensures), sym (c .before .at .ensures), sym (c .at2 .ensures)) (simp (eq-eqb _ _ (c .before .before .if2
+    .left)))
 
 pub inherits-spec : {M : Type 1} → statement M
 inherits-spec =
-    tie.close (tie.spec at8-requires returns at-requires add-at at-requires-2 returns-2)
+    tie.close (tie.spec returns at8-requires returns-2 at-requires add-at at-requires-2 returns-3)

@@ -2,12 +2,15 @@
 use Rattle.inheritance.proofs.store_inherited.Statement.{statement}
 use Rattle.inheritance.proofs.store_inherited.Tie as tie
 use borrow.Author.Needs.{needs}
-use mathlib.Core.Path.{ap₂, sym, _∙_}
+use mathlib.Core.Path.{_≡_, ap, ap₂, sym, _∙_}
+use Rattle.symbol_tables.specs.Entry.{says}
+use Rattle.symbol_tables.specs.Table.{symbol-in}
 use Rattle.inheritance.specs.Steps.{asks-by}
 use Rattle.inheritance.proofs.Storing.{Storing, storing-starts, storing-ends, storing-skip, storing-more}
 
 abbrev Inv-loop : tie.InvT-loop
-Inv-loop kinds tokens roles symbols table stamp lo hi bound₀ i₀ bound i = Storing kinds tokens roles symbols table stamp lo hi bound₀ bound i
+Inv-loop kinds tokens roles symbols table stamp lo hi bound₀ i₀ bound i = Storing kinds roles (λ n x. x ≡ says table stamp (symbol-in tokens symbols n)) lo hi
+    bound₀ bound i
 
 abbrev μ-loop : tie.MeasureT-loop
 μ-loop kinds tokens roles symbols table stamp lo hi bound₀ i₀ bound i = i
@@ -43,17 +46,20 @@ loop-less : tie.Need-loop-less Inv-loop μ-loop
 loop-less c = search needs
 
 loop-again : tie.Need-loop-again Inv-loop μ-loop
-loop-again c = storing-more (c .before .before .before .before .before .before .before .before .before .before .before .loop .inv) (c .before .before .before .before
-    .before .before .before .before .before .before .loop-test .taken) (ap₂ asks-by (sym (c .before .before .before .before .before .before .before .before .before .at8
-    .ensures)) (sym (c .before .before .before .before .before .before .before .before .at82 .ensures)) ∙ sym (c .before .before .before .before .before .before .before
-    .asks .ensures) ∙ c .before .before .before .before .before .before .if1 .taken) (c .before .before .before .before .before .symbol .ensures) (c .before .before
-    .before .before .meaning-of .ensures) (c .before .before .put32 .ensures)
+loop-again c = storing-more (c .before .before .before .before .before .before .before .before .before .before .before .loop .inv) (c .before .before .before
+    .before .before .before .before .before .before .before .loop-test .taken) (ap₂ asks-by (sym (c .before .before .before .before .before .before .before
+    .before .before .at8 .ensures)) (sym (c .before .before .before .before .before .before .before .before .at82 .ensures)) ∙ sym (c .before .before .before
+    .before .before .before .before .asks .ensures) ∙ c .before .before .before .before .before .before .if1 .taken) (c .before .before .before .before
+    .meaning-of .ensures ∙ ap (says (c .before .before .before .before .before .before .before .before .before .before .before .before .before .before .before
+    .before .before .before .args .table .now) (c .before .before .before .before .before .before .before .before .before .before .before .before .before
+    .before .before .before .before .before .args .stamp)) (c .before .before .before .before .before .symbol .ensures)) (c .before .before .put32 .ensures)
 
 loop-less-2 : tie.Need-loop-less-2 Inv-loop μ-loop
 loop-less-2 c = search needs
 
 loop-again-2 : tie.Need-loop-again-2 Inv-loop μ-loop
-loop-again-2 c = storing-skip (c .before .before .before .before .before .loop .inv) (c .before .before .before .before .loop-test .taken) (ap₂ asks-by (sym (c .before
+loop-again-2 c = storing-skip (c .before .before .before .before .before .loop .inv) (c .before .before .before .before .loop-test .taken) (ap₂ asks-by (sym (c
+    .before
     .before .before .at8 .ensures)) (sym (c .before .before .at82 .ensures)) ∙ sym (c .before .asks .ensures) ∙ c .if1 .left)
 
 same-length : tie.Need-same-length Inv-loop μ-loop
