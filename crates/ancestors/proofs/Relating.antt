@@ -1,7 +1,7 @@
 -- Rows to which no arc adds a bit, and which arcs alone have filled, say what is reached.
 use mathlib.Core.Path.{_≡_, refl, sym, ap, _∙_, subst}
 use mathlib.Core.Logic.{by-cases, ⊎-elim}
-use mathlib.Core.Bool.{Bool, true, false, false≢true, _&&_}
+use mathlib.Core.Bool.{Bool, true, false, false≢true}
 use mathlib.Core.List.{List}
 use Prim.Native.Nat.{ℕ, zero, suc, _+_, _-_, _*_, _/_, _%_, _≤_, _<_}
 use native.Mathlib.Nat.{mul-assoc, mul-le-mul}
@@ -14,6 +14,7 @@ use lib.Bits.{bitOr}
 use lib.ListN.{length, getD}
 use Rattle.columns.specs.Column.{cleared}
 use Rattle.relations.specs.Reach.{Reaches, direct, onward}
+use Rattle.relations.proofs.Select.{and-fst, and-snd}
 use Rattle.graph.specs.Graph.{vertices, Arc}
 use Rattle.graph.proofs.Arcs.{arc-source, arc-target}
 use Rattle.bit_rows.specs.Bits.{word, bit, with-bit}
@@ -55,10 +56,6 @@ module _ (P : ℕ → Type 0) (rows : List ℕ) where
       (bit-merged (merged rows into from k) (into + k) (from + k) i e)
 
 -- ---- what the tests tell
-both : (a b : Bool) → (a && b) ≡ true → (a ≡ true) × (b ≡ true)
-both true b e = (refl, e)
-both false b e = absurd (false≢true e)
-
 contained-has : (rows : List ℕ) (into from k : ℕ) → contained rows into from k ≡ true → (i : ℕ) → i < k * word
     → bit rows (from * word + i) ≡ true → bit rows (into * word + i) ≡ true
 unfolding contained
@@ -66,13 +63,12 @@ contained-has rows into from zero c i l e = absurd (omega arith)
 contained-has rows into from (suc k) c i l e =
     let a = getD rows (into + k) 0 in
     let b = bitOr a (getD rows (from + k) 0) in
-    let t = both (eqb b a) (contained rows into from k) c in
-    by-cases (decLt i (k * word)) (λ h. contained-has rows into from k (t .1) i h e)
+    by-cases (decLt i (k * word)) (λ h. contained-has rows into from k (and-snd (eqb b a) (contained rows into from k) c) i h e)
     (λ h.
     let j = i - k * word in
     let q : from * word + i ≡ (from + k) * word + j = omega (arith, h) in
     let r : into * word + i ≡ (into + k) * word + j = omega (arith, h) in
-    rw r (bit-kept rows (into + k) (from + k) j (omega (arith, h)) (eqb-true b a (t .0)) (rw q at e)))
+    rw r (bit-kept rows (into + k) (from + k) j (omega (arith, h)) (eqb-true b a (and-fst (eqb b a) (contained rows into from k) c)) (rw q at e)))
 
 record Told (width rank other : ℕ) (rows : List ℕ) : Type 0 where
   pub any : bit rows other ≡ true
@@ -82,25 +78,24 @@ record Told (width rank other : ℕ) (rows : List ℕ) : Type 0 where
 arc-told : (width rank other : ℕ) (rows : List ℕ) → arc-closed width rank other rows ≡ true → Told width rank other rows
 unfolding arc-closed
 arc-told width rank other rows e =
-    let s = both (bit rows other) _ e in
-    let t = both (bit rows (place width rank other)) _ (s .1) in
-    record { any = s .0; one = t .0; all = t .1 }
+    let rest = and-snd (bit rows other) _ e in
+    record { any = and-fst (bit rows other) _ e; one = and-fst (bit rows (place width rank other)) _ rest; all = and-snd (bit rows (place width rank other)) _ rest }
 
 arcs-told : (to ranks : List ℕ) (width rank from k : ℕ) (rows : List ℕ) → arcs-closed to ranks width rank from k rows ≡ true
     → (j : ℕ) → j < k → arc-closed width rank (getD ranks (getD to (from + j) 0) 0) rows ≡ true
 unfolding arcs-closed
 arcs-told to ranks width rank from zero rows e j l = absurd (omega arith)
 arcs-told to ranks width rank from (suc k) rows e j l =
-    let t = both (arc-closed width rank (getD ranks (getD to (from + k) 0) 0) rows) _ e in
-    by-cases (ℕ-discrete j k) (λ q. rw q (t .0)) (λ n. arcs-told to ranks width rank from k rows (t .1) j (omega (arith, n)))
+    let last = arc-closed width rank (getD ranks (getD to (from + k) 0) 0) rows in
+    by-cases (ℕ-discrete j k) (λ q. rw q (and-fst last _ e)) (λ n. arcs-told to ranks width rank from k rows (and-snd last _ e) j (omega (arith, n)))
 
 vertices-told : (first to ranks : List ℕ) (width n : ℕ) (rows : List ℕ) → vertices-closed first to ranks width n rows ≡ true
     → (v : ℕ) → v < n → vertex-closed first to ranks width v rows ≡ true
 unfolding vertices-closed
 vertices-told first to ranks width zero rows e v l = absurd (omega arith)
 vertices-told first to ranks width (suc n) rows e v l =
-    let t = both (vertex-closed first to ranks width n rows) _ e in
-    by-cases (ℕ-discrete v n) (λ q. rw q (t .0)) (λ m. vertices-told first to ranks width n rows (t .1) v (omega (arith, m)))
+    let last = vertex-closed first to ranks width n rows in
+    by-cases (ℕ-discrete v n) (λ q. rw q (and-fst last _ e)) (λ m. vertices-told first to ranks width n rows (and-snd last _ e) v (omega (arith, m)))
 
 vertex-told : (first to ranks : List ℕ) (width v : ℕ) (rows : List ℕ) → vertex-closed first to ranks width v rows ≡ true → 0 < getD ranks v 0
     → arcs-closed to ranks width (getD ranks v 0) (getD first v 0) (getD first (v + 1) 0 - getD first v 0) rows ≡ true

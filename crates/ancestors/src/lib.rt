@@ -169,7 +169,7 @@ fn vertices_closed(first: &[u32], to: &[u32], ranks: &[u32], width: usize, rows:
 }
 
 // The widest rows: no index overflows.
-const WIDEST: usize = 65536;
+pub const WIDEST: usize = 65536;
 
 // The rows of all vertices with a rank, each of so many words, by the vertices in a column; or false, where these are no order in which each
 // stands after all that it has arcs to, or where the rows are too short.

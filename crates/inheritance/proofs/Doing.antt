@@ -25,7 +25,7 @@ use Rattle.symbol_tables.proofs.Tables.{untouched}
 use Rattle.symbol_tables.proofs.Symbols.{symbol-within}
 use Rattle.inheritance.specs.Inheritance.{asks, inherited-code, ColumnsOf, Inheriting, InheritanceRoom, Inherits}
 use Rattle.attributes.specs.Attributes.{StoresOffsets, Puts, queued-attributes, Queued, CollectsQueued}
-use Rattle.inheritance.specs.Steps.{TypeGraph, asks-by, inherits-by, Stores, NoneInherits, StoredFrom, Done, InheritsIn}
+use Rattle.inheritance.specs.Steps.{TypeGraph, asks-by, inherits-by, StoresEach, Stores, NoneInherits, StoredFrom, Done, InheritsIn}
 use Rattle.inheritance.proofs.Asking.{declaration-silent}
 use Rattle.inheritance.proofs.TypeGraphs.{type-graph}
 use Rattle.inheritance.proofs.Reaching.{inherits-nothing}
@@ -33,12 +33,12 @@ use Rattle.inheritance.proofs.Queues.{listed-known, listed-inherited}
 use Rattle.attributes.proofs.Collecting.{offsets-kept}
 
 -- where a node stands: before a range, in it, at its declaration, or behind it
-pub data Standing (t : Table) (v n : ℕ) : Type 0 where
+data Standing (t : Table) (v n : ℕ) : Type 0 where
   inside : range-start t v ≤ n → n < node-of t v → Standing t v n
   itself : n ≡ node-of t v → Standing t v n
   behind : range-start t (v + 1) ≤ n → Standing t v n
 
-pub standing : (t : Table) (v n : ℕ) → range-start t v ≤ n → Standing t v n
+standing : (t : Table) (v n : ℕ) → range-start t v ≤ n → Standing t v n
 standing t v n f = by (le-or (node-of t v) n) (le-or n (node-of t v))
   where
     by : (node-of t v ≤ n) ⊎ (n < node-of t v) → (n ≤ node-of t v) ⊎ (node-of t v < n) → Standing t v n
@@ -51,7 +51,7 @@ nothing-code : (t : Table) (n : ℕ) → inherited t (owner t n) (symbol t n) �
 unfolding inherited-code
 nothing-code t n e = rw e
 
-pub owned-code : (t : Table) (n o : ℕ) → owner t n ≡ o → inherited-code t n ≡ code (meaning (inherited t o (symbol t n)))
+owned-code : (t : Table) (n o : ℕ) → owner t n ≡ o → inherited-code t n ≡ code (meaning (inherited t o (symbol t n)))
 unfolding inherited-code
 owned-code t n o e = rw e
 
@@ -63,11 +63,11 @@ kept t was n h = by (asks t n) refl
     by true e = let p = h e in p .0 ∙ sym (p .1)
     by false e = refl
 
-pub silent : (t : Table) (was : List ℕ) (n x : ℕ) → asks t n ≡ false → x ≡ getD was n 0 → x ≡ cond (asks t n) (inherited-code t n) (getD was n 0)
+silent : (t : Table) (was : List ℕ) (n x : ℕ) → asks t n ≡ false → x ≡ getD was n 0 → x ≡ cond (asks t n) (inherited-code t n) (getD was n 0)
 silent t was n x e q = q ∙ ap (λ (b : Bool). cond b (inherited-code t n) (getD was n 0)) (sym e)
 
 module _ {kinds tokens roles symbols entry-keys entry-nodes first to : List ℕ} {t : Table} (C : ColumnsOf t kinds tokens roles symbols) (I : Inheriting t entry-keys entry-nodes first to) where
-  pub asked : (n : ℕ) → asks t n ≡ asks-by (getD kinds n 0) (getD roles n 0)
+  asked : (n : ℕ) → asks t n ≡ asks-by (getD kinds n 0) (getD roles n 0)
   asked n = ap₂ (λ (ks rs : List ℕ). asks-by (getD ks n 0) (getD rs n 0)) (C .kinds-are) (C .roles-are)
 
   pub spelling : (n : ℕ) → getD symbols (getD tokens n 0) 0 ≡ symbol t n
@@ -94,7 +94,7 @@ module _ {kinds tokens roles symbols entry-keys entry-nodes first to : List ℕ}
 
   module _ (v : ℕ) (l : v < vertex-count t) {was bound : List ℕ} (empty : (n : ℕ) → n < count t → asks t n ≡ true → getD was n 0 ≡ 0) (D : StoredFrom t was (v + 1) bound) where
     -- what lies before the next range is as it was
-    pub as-before : (n : ℕ) → n ≤ node-of t v → getD bound n 0 ≡ getD was n 0
+    as-before : (n : ℕ) → n ≤ node-of t v → getD bound n 0 ≡ getD was n 0
     as-before n h = D .before n (omega (arith, range-next t v))
 
     -- a vertex that inherits nothing
@@ -118,6 +118,34 @@ module _ {kinds tokens roles symbols entry-keys entry-nodes first to : List ℕ}
         by n ln f (inside _ u) = at n ln f (omega arith)
         by n ln f (itself q) = at n ln f (omega arith)
         by n ln f (behind g) = D .stored n ln g
+
+    -- a vertex at whose nodes something is stored that suits them: what its declaration inherits
+    pub stored-each : {Suits : ℕ → ℕ → Type 0} {bound′ : List ℕ} → count t ≤ length bound
+        → ((n x : ℕ) → n < count t → Suits n x → x ≡ code (meaning (inherited t (node-of t v) (symbol t n))))
+        → StoresEach kinds roles Suits (range-start t v) (node-of t v) bound bound′ → StoredFrom t was v bound′
+    stored-each {Suits} {bound′} room suits W =
+        record {
+          stored = λ n ln f. by n ln f (standing t v n f) (asks t n) refl;
+          before = λ n h. W .before n h ∙ as-before n (omega (arith, range-rises t v l));
+        }
+      where
+        by : (n : ℕ) → n < count t → range-start t v ≤ n → Standing t v n → (b : Bool) → asks t n ≡ b
+            → getD bound′ n 0 ≡ cond (asks t n) (inherited-code t n) (getD was n 0)
+        by n ln f (inside _ u) true a =
+            suits n (getD bound′ n 0) ln (W .stored n f u (omega (arith, room)) (sym (asked n) ∙ a))
+            ∙ sym (owned-code t n (node-of t v) (range-owner t v n l f (omega arith)))
+            ∙ ap (λ (b : Bool). cond b (inherited-code t n) (getD was n 0)) (sym a)
+        by n ln f (inside _ u) false a = silent t was n (getD bound′ n 0) a (W .other n (sym (asked n) ∙ a) ∙ as-before n (omega arith))
+        by n ln f (itself q) b a =
+            let z : asks t n ≡ false = ap (asks t) q ∙ declaration-silent t (node-of t v) (node-declares t v l) in
+            silent t was n (getD bound′ n 0) z (W .behind n (omega arith) ∙ as-before n (omega arith))
+        by n ln f (behind g) b a = W .behind n (omega (arith, range-next t v)) ∙ D .stored n ln g
+
+  -- what inherits is an entity
+  pub inherits-entity : (v : ℕ) → inherits-by kinds first (node-of t v) v ≡ true → kind t (node-of t v) ≡ entity
+  inherits-entity v e =
+      ap (λ (ks : List ℕ). getD ks (node-of t v) 0) (C .kinds-are)
+      ∙ eqb-true (getD kinds (node-of t v) 0) entity (and-fst (eqb (getD kinds (node-of t v) 0) entity) (ltb (getD first v 0) (getD first (v + 1) 0)) e)
 
   -- none from a number on
   stored-none : {was : List ℕ} {r : ℕ} → ((n : ℕ) → n < count t → asks t n ≡ true → getD was n 0 ≡ 0) → NoneInherits kinds entry-nodes first r → StoredFrom t was r was
@@ -146,9 +174,7 @@ module _ {kinds tokens roles symbols entry-keys entry-nodes first to : List ℕ}
         (Q : CollectsQueued kinds entry-keys entry-nodes queue′ r (length first) stamp table table′)
         (W : Stores kinds tokens roles symbols table′ stamp (range-start t v) (node-of t v) bound bound′) where
       an-entity : kind t (node-of t v) ≡ entity
-      an-entity =
-          ap (λ (ks : List ℕ). getD ks (node-of t v) 0) (C .kinds-are)
-          ∙ eqb-true (getD kinds (node-of t v) 0) entity (and-fst (eqb (getD kinds (node-of t v) 0) entity) (ltb (getD first v 0) (getD first (v + 1) 0)) e)
+      an-entity = inherits-entity v e
 
       searchable : Searchable first to v stamp mark queue
       searchable =
@@ -207,27 +233,9 @@ module _ {kinds tokens roles symbols entry-keys entry-nodes first to : List ℕ}
                 by-cases (ℕ-discrete (getD mark′ k 0) stamp) (λ z. omega arith)
                 (λ z. D .fresh k s a (omega arith) (sym (stamped .others k z) ∙ q));
             from =
-                record {
-                  stored = λ n ln f. by n ln f (standing t v n f) (asks t n) refl;
-                  before = λ n h. W .before n h ∙ back n (omega (arith, range-rises t v l));
-                };
+                stored-each v l (R .empty) (D .from) (omega (arith, R .bound-room))
+                (λ n x ln q. q ∙ ap (says table′ stamp) (spelling n) ∙ says-inherited n ln) W;
           }
-        where
-          back : (n : ℕ) → n ≤ node-of t v → getD bound n 0 ≡ getD was n 0
-          back = as-before v l (R .empty) (D .from)
-
-          by : (n : ℕ) → n < count t → range-start t v ≤ n → Standing t v n → (b : Bool) → asks t n ≡ b
-              → getD bound′ n 0 ≡ cond (asks t n) (inherited-code t n) (getD was n 0)
-          by n ln f (inside _ u) true a =
-              W .stored n f u (omega (arith, R .bound-room)) (sym (asked n) ∙ a)
-              ∙ ap (says table′ stamp) (spelling n) ∙ says-inherited n ln
-              ∙ sym (owned-code t n (node-of t v) (range-owner t v n l f (omega arith)))
-              ∙ ap (λ (b : Bool). cond b (inherited-code t n) (getD was n 0)) (sym a)
-          by n ln f (inside _ u) false a = silent t was n (getD bound′ n 0) a (W .other n (sym (asked n) ∙ a) ∙ back n (omega arith))
-          by n ln f (itself q) b a =
-              let z : asks t n ≡ false = ap (asks t) q ∙ declaration-silent t (node-of t v) (node-declares t v l) in
-              silent t was n (getD bound′ n 0) z (W .behind n (omega arith) ∙ back n (omega arith))
-          by n ln f (behind g) b a = W .behind n (omega (arith, range-next t v)) ∙ D .from .stored n ln g
 
 -- ---- the calls of `inherit_in`
 module _ {kinds tokens roles symbols entry-keys entry-nodes first to table mark queue bound : List ℕ} {v : ℕ} {d : Extent} (X : DeclarationAt entry-keys entry-nodes v d) where

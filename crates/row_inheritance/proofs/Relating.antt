@@ -14,10 +14,10 @@ use lib.Seq.{getD-take}
 use Rattle.graph.specs.Graph.{vertices}
 use Rattle.graph.proofs.Arcs.{arc-target}
 use Rattle.bit_rows.specs.Bits.{word, bit}
-use Rattle.ancestors.specs.Rows.{place}
+use Rattle.ancestors.specs.Rows.{width-limit, place}
 use Rattle.ancestors.specs.Related.{Ranked, Related, Relates}
 use Rattle.row_inheritance.specs.Ranks.{entities-before, rank-in}
-use Rattle.row_inheritance.specs.Steps.{declaration-limit, width-limit, EntityGraph, EntityRows, RanksStand, RelatesEntities}
+use Rattle.row_inheritance.specs.Steps.{declaration-limit, EntityGraph, EntityRows, RanksStand, RelatesEntities}
 use Rattle.row_inheritance.proofs.Ranking.{ranked-entity, entity-ranked, rank-within, rank-once}
 use Rattle.row_inheritance.proofs.Parts.{at-part, part-long}
 

@@ -1,30 +1,26 @@
 -- What the nodes of each declaration inherit, stored from the last declaration to the first.
 use mathlib.Core.Path.{_≡_, refl, sym, ap, _∙_}
-use mathlib.Core.Bool.{Bool, true, false, cond}
+use mathlib.Core.Bool.{true, false}
 use mathlib.Core.List.{List}
 use Prim.Native.Nat.{ℕ, _+_, _-_, _*_, _≤_, _<_, min}
 use native.Mathlib.Nat.{mul-le-mul}
 use native.Mathlib.Omega.{arith}
-use borrow.Author.Tests.{eqb-true}
-use lib.Dec.{eqb, ltb}
 use lib.ListN.{length, getD}
-use Rattle.relations.proofs.Select.{and-fst}
-use Rattle.express.specs.syntax.NodeKind.{entity}
-use Rattle.express.specs.syntax.Tree.{Table, count, kind, symbol}
+use Rattle.express.specs.syntax.Tree.{Table, count, symbol}
 use Rattle.express.specs.names.Scope.{inherited, meaning}
 use Rattle.scopes.specs.Range.{vertex-count, node-of, range-start, DeclarationAt}
 use Rattle.scopes.specs.declared.Extent.{Extent}
-use Rattle.scopes.proofs.Ranges.{node-declares, range-next, range-rises, range-owner, column-node}
+use Rattle.scopes.proofs.Ranges.{column-node}
 use Rattle.symbol_tables.specs.Entry.{code}
 use Rattle.symbol_tables.proofs.Symbols.{symbol-within}
 use Rattle.attribute_chains.specs.Chains.{offset-limit, FindsAmong}
 use Rattle.bit_rows.specs.Bits.{word}
-use Rattle.inheritance.specs.Inheritance.{asks, inherited-code, ColumnsOf, Inheriting}
+use Rattle.ancestors.specs.Rows.{width-limit}
+use Rattle.inheritance.specs.Inheritance.{ColumnsOf, Inheriting}
 use Rattle.inheritance.specs.Steps.{inherits-by, StoredFrom}
-use Rattle.inheritance.proofs.Asking.{declaration-silent}
-use Rattle.inheritance.proofs.Doing.{Standing, inside, itself, behind, standing, owned-code, silent, asked, spelling, graph-is, stored-end, as-before, stored-skip}
+use Rattle.inheritance.proofs.Doing.{spelling, graph-is, stored-end, stored-skip, stored-each, inherits-entity}
 use Rattle.row_inheritance.specs.Ranks.{rank-in}
-use Rattle.row_inheritance.specs.Steps.{width-limit, StoresFound, Ready, StoresInherited}
+use Rattle.row_inheritance.specs.Steps.{StoresFound, Ready, StoresInherited}
 use Rattle.row_inheritance.proofs.Ranking.{rank-within, before-few}
 use Rattle.row_inheritance.proofs.Reached.{Numbered, chosen-inherited}
 
@@ -42,11 +38,6 @@ module _ {kinds tokens roles symbols keys nodes first to table rows pairs : List
 
   I : Inheriting t keys nodes first to
   I = X .inheriting
-
-  an-entity : kind t (node-of t v) ≡ entity
-  an-entity =
-      ap (λ (ks : List ℕ). getD ks (node-of t v) 0) (C .kinds-are)
-      ∙ eqb-true (getD kinds (node-of t v) 0) entity (and-fst (eqb (getD kinds (node-of t v) 0) entity) (ltb (getD first v 0) (getD first (v + 1) 0)) e)
 
   numbered : Numbered t kinds nodes
   numbered = record { kinds-are = C .kinds-are; node-is = column-node (I .prepared) }
@@ -67,29 +58,10 @@ module _ {kinds tokens roles symbols keys nodes first to table rows pairs : List
       let F′ : FindsAmong rows pairs (rank-in kinds nodes v * width * word) (getD table (symbol t n) 0) x = rw (row, s) at F in
       let near′ : rank-in kinds nodes v * width * word ≤ offset-limit = rw row at near in
       F′ .is near′ _ _ (X .charted .chained .is (symbol t n) (symbol-within (I .scanned) (I .prepared .consistent) n ln))
-      ∙ ap code (chosen-inherited numbered (graph-is C I) (I .read) (I .right) (X .rows-are) v l an-entity (symbol t n))
+      ∙ ap code (chosen-inherited numbered (graph-is C I) (I .read) (I .right) (X .rows-are) v l (inherits-entity C I v e) (symbol t n))
 
   stored-more : StoredFrom t was v bound′
-  stored-more =
-      record {
-        stored = λ n ln f. by n ln f (standing t v n f) (asks t n) refl;
-        before = λ n h. W .before n h ∙ back n (omega (arith, range-rises t v l));
-      }
-    where
-      back : (n : ℕ) → n ≤ node-of t v → getD bound n 0 ≡ getD was n 0
-      back = as-before C I v l (X .empty) D
-
-      by : (n : ℕ) → n < count t → range-start t v ≤ n → Standing t v n → (b : Bool) → asks t n ≡ b
-          → getD bound′ n 0 ≡ cond (asks t n) (inherited-code t n) (getD was n 0)
-      by n ln f (inside _ u) true a =
-          found-inherited n (getD bound′ n 0) ln (W .stored n f u (omega (arith, X .room, same)) (sym (asked C I n) ∙ a))
-          ∙ sym (owned-code t n (node-of t v) (range-owner t v n l f (omega arith)))
-          ∙ ap (λ (b : Bool). cond b (inherited-code t n) (getD was n 0)) (sym a)
-      by n ln f (inside _ u) false a = silent t was n (getD bound′ n 0) a (W .other n (sym (asked C I n) ∙ a) ∙ back n (omega arith))
-      by n ln f (itself q) b a =
-          let z : asks t n ≡ false = ap (asks t) q ∙ declaration-silent t (node-of t v) (node-declares t v l) in
-          silent t was n (getD bound′ n 0) z (W .behind n (omega arith) ∙ back n (omega arith))
-      by n ln f (behind g) b a = W .behind n (omega (arith, range-next t v)) ∙ D .stored n ln g
+  stored-more = stored-each C I v l (X .empty) D (omega (arith, X .room, same)) found-inherited W
 
 -- ---- the first bit of a row
 module _ (width : ℕ) {rank r w : ℕ} (p : r ≡ rank) (q : w ≡ min width 65536) where

@@ -15,7 +15,7 @@ use Rattle.scopes.specs.Range.{vertex-count}
 use Rattle.symbol_tables.specs.Table.{symbol-in}
 use Rattle.attributes.specs.Attributes.{attributes-of}
 use Rattle.bit_rows.specs.Bits.{bit}
-use Rattle.ancestors.specs.Rows.{place}
+use Rattle.ancestors.specs.Rows.{width-limit, place}
 use Rattle.attribute_chains.specs.Chains.{link-count, Chained, FindsAmong}
 use Rattle.inheritance.specs.Inheritance.{asks, ColumnsOf, Inheriting, Inherits}
 use Rattle.inheritance.specs.Steps.{StoresEach, StoredFrom}
@@ -23,13 +23,9 @@ use Rattle.row_inheritance.specs.Ranks.{entity-at, entities-before, rank
 
 -- ---- rows
 
--- so that a stamp, too, has 15 bits
+-- one more than the most declarations for which rows are made: what they take is a number of 32 bits
 abbrev pub declaration-limit : ℕ
 declaration-limit = 32768
-
--- no row has more words
-abbrev pub width-limit : ℕ
-width-limit = 65536
 
 -- a graph in which the arcs of entities lead to entities
 pub record EntityGraph (kinds nodes first to : List ℕ) : Type 0 where

@@ -7,8 +7,10 @@ ghost use Rattle.columns.specs.Column.{cleared-before};
 ghost use Rattle.graph.specs.Graph.{Tells};
 ghost use Rattle.inheritance.specs.Inheritance.{Inherits};
 ghost use Rattle.bit_rows.specs.Bits.{word};
+ghost use Rattle.ancestors.specs.Rows.{width-limit};
 ghost use Rattle.row_inheritance.specs.Ranks.{RanksEntities};
-ghost use Rattle.row_inheritance.specs.Steps.{declaration-limit, width-limit, RanksDeclarations, RelatesEntities, ChainsAttributes, StoresFound, StoresInherited, RowsFit, InheritsRows};
+ghost use Rattle.row_inheritance.specs.Steps.{declaration-limit, RanksDeclarations, RelatesEntities, ChainsAttributes, StoresFound, StoresInherited, RowsFit, InheritsRows};
+use ancestors::WIDEST;
 use ancestors::relate;
 use attribute_chains::LINKS;
 use attribute_chains::enter_entries;
@@ -158,9 +160,6 @@ fn chain_attributes(
     }
     count
 }
-
-// The widest rows.
-const WIDEST: usize = 65536;
 
 // The first bit of the row of a rank.
 fn row_start(rank: u32, width: usize) -> usize
