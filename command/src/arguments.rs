@@ -5,24 +5,25 @@ use crate::names;
 use std::ffi::{OsStr, OsString};
 use std::os::unix::ffi::OsStrExt;
 use std::path::Path;
-use woffulent::Rows;
+use woffulent::{Rows, MAX_STRING_BYTES};
 
-pub const USAGE: &str = "usage: woffulent check [--explain | --json] [--rows T,N,A] FILE|DIR|- ..
-       woffulent tables [--rows T,N,A] FILE|-
+pub const USAGE: &str = "usage: woffulent check [--explain | --json] [--rows T,N,A[,R]] FILE|DIR|- ..
+       woffulent tables [--rows T,N,A[,R]] FILE|-
        woffulent --help | --version";
 
 pub const HELP: &str = "woffulent checks EXPRESS schemas and evaluates their constants.
 
   woffulent check FILE|DIR|- ..   the listing of each file; of a folder, of all below it that end in .exp
-  woffulent tables FILE|-         the listing, and every row of the tables: report, token, node, answer
+  woffulent tables FILE|-         the listing, every row of the tables: report, token, node, answer; the room
   woffulent --help                this page
   woffulent --version             the version
 
-  --explain      of a refused file, what is wrong with it in words, with its line and a mark under the place
-  --json         an object on a line for each file
-  --rows T,N,A   lend so many rows for tokens, nodes and answers (8192,8192,1024), or `any` for enough
-  --             what follows is no option
-  -              the standard input
+  --explain          what is wrong with a refused file, in words, with its line and a mark under the place
+  --json             an object on a line for each file
+  --rows T,N,A[,R]   lend so many rows for tokens, nodes and answers (8192,8192,1024) and bytes for strings
+                     (255 for each answer), or `any` for enough
+  --                 what follows is no option
+  -                  the standard input
 
 The exit status is 0 if all files were accepted, 1 if some were refused, 2 if one could not be read, the
 output could not be written, or the arguments made no sense. docs/USE.md has all the rest.
@@ -66,7 +67,7 @@ fn inputs(mut form: Form, mut arguments: impl Iterator<Item = OsString>) -> Resu
             Some("--explain") if options => form = chosen(form, Form::Explain)?,
             Some("--json") if options => form = chosen(form, Form::Json)?,
             Some("--rows") if options => {
-                let given = arguments.next().ok_or("`--rows` needs three numbers behind it, or `any`")?;
+                let given = arguments.next().ok_or("`--rows` needs three or four numbers behind it, or `any`")?;
                 rows = self::rows(&given)?;
             }
             Some(option) if options && option.len() > 1 && option.starts_with('-') => {
@@ -91,13 +92,20 @@ fn chosen(before: Form, form: Form) -> Result<Form, String> {
     }
 }
 
+/// Without a room of its own, one that is never too short for so many answers.
 fn rows(given: &OsStr) -> Result<Rows, String> {
     let text = given.to_str().unwrap_or("");
-    let numbers: Vec<usize> = text.split(',').filter_map(|number| number.parse().ok()).collect();
-    match numbers[..] {
+    let numbers: Option<Vec<usize>> = text.split(',').map(|number| number.parse().ok()).collect();
+    match numbers.as_deref() {
         _ if text == "any" => Ok(Rows::ANY),
-        [tokens, nodes, answers] if text.split(',').count() == 3 => Ok(Rows { tokens, nodes, answers }),
-        _ => Err(format!("`--rows` needs three numbers with commas between them, or `any`, and not {}", shown(given))),
+        Some(&[tokens, nodes, answers, room]) => Ok(Rows { tokens, nodes, answers, room }),
+        Some(&[tokens, nodes, answers]) => {
+            Ok(Rows { tokens, nodes, answers, room: answers.saturating_mul(MAX_STRING_BYTES) })
+        }
+        _ => Err(format!(
+            "`--rows` needs three or four numbers with commas between them, or `any`, and not {}",
+            shown(given)
+        )),
     }
 }
 

@@ -15,7 +15,7 @@ pub enum Form {
     Explain,
     /// An object on a line.
     Json,
-    /// The listing and the rows of all tables.
+    /// The listing, the rows of all tables, and the room.
     Tables,
 }
 
@@ -53,16 +53,16 @@ fn explained(name: &[u8], refusal: &Refusal, out: &mut Vec<u8>) {
     }
 }
 
-/// What the library says of a refusal; where a table is too short, also which option lends more.
+/// What the library says of a refusal; where a table or the room is too short, also which option lends more.
 fn explanation(refusal: &Refusal) -> Explanation {
     let mut explanation = refusal.explain();
-    if refusal.needed().is_some() {
+    if refusal.is_short() {
         explanation.sentence = format!("{}; `--rows any` lends enough.", explanation.sentence.trim_end_matches('.'));
     }
     explanation
 }
 
-/// Every row of the tables.
+/// Every row of the tables, and what is used of the room.
 fn tables(result: &Result<File, Refusal>, out: &mut Vec<u8>) {
     match result {
         Err(refusal) => writeln!(out, "report {} {} 0 0 0", refusal.number(), refusal.beside()).expect(FITS),
@@ -83,6 +83,17 @@ fn rows(file: &File, out: &mut Vec<u8>) {
     for (kind, number, length) in (0..report.constants).filter_map(|row| file.answer_row(row)) {
         writeln!(out, "answer {kind} {number} {length}").expect(FITS);
     }
+    room(file.room(), out);
+}
+
+/// How many bytes all strings have, and the bytes, if there are some.
+fn room(bytes: &[u8], out: &mut Vec<u8>) {
+    write!(out, "room {}", bytes.len()).expect(FITS);
+    if !bytes.is_empty() {
+        out.push(b' ');
+        out.extend_from_slice(bytes);
+    }
+    out.push(b'\n');
 }
 
 fn json_file(name: &[u8], file: &File, out: &mut Vec<u8>) {
@@ -93,8 +104,8 @@ fn json_file(name: &[u8], file: &File, out: &mut Vec<u8>) {
         let comma = if i == 0 { "" } else { "," };
         let [schema, name] = [constant.schema(), constant.name()].map(str::to_ascii_lowercase);
         let answer = constant.answer();
-        let kind = answer.sort();
-        write!(out, r#"{comma}{{"schema":"{schema}","name":"{name}","kind":"{kind}","answer":"{answer}"}}"#)
+        let (kind, printed) = (answer.sort(), json_string(answer.to_string().as_bytes()));
+        write!(out, r#"{comma}{{"schema":"{schema}","name":"{name}","kind":"{kind}","answer":{printed}}}"#)
             .expect(FITS);
     }
     out.extend_from_slice(b"]}\n");

@@ -6,8 +6,8 @@ use woffulent::Reply;
 
 #[derive(Clone, Debug, Default)]
 pub struct Totals {
-    /// How many files had each reply.
-    replies: [usize; Reply::ALL.len()],
+    /// How many files had the reply of each number.
+    replies: [usize; 1 + Reply::RoomShort as usize],
     /// How many could not be read.
     unread: usize,
     /// How many bytes were checked.

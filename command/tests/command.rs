@@ -95,6 +95,36 @@ fn a_refusal_is_explained_where_it_is() {
     assert_eq!(written, SHORT);
     let (written, ..) = told(&run_on(&["check", "--json", "--rows", "17,8,0", "-"], ACCEPTED.as_bytes()));
     assert!(written.contains("in the answer table, and fewer were lent; `--rows any` lends enough."), "{written}");
+    let (written, ..) = told(&run_on(&["check", "--explain", "--rows", "99,99,9,9", "-"], STRINGS.as_bytes()));
+    assert_eq!(written, SHORT_ROOM);
+}
+
+/// Quotes of both sorts and a backslash, a string that is joined, and one without bytes.
+const STRINGS: &str =
+    "SCHEMA s; CONSTANT a : STRING := b + '\"\\'; b : STRING := 'it''s'; c : STRING := ''; END_CONSTANT; END_SCHEMA;";
+const STRINGS_LISTING: &str = "accepted 3\ns.a = 'it''s\"\\'\ns.b = 'it''s'\ns.c = ''\n";
+const SHORT_ROOM: &str =
+    "-: refused by 20: The strings of the constants do not fit into the room of 9 bytes that was lent; `--rows \
+                          any` lends enough.\n";
+
+#[test]
+fn strings_are_written_in_each_form() {
+    assert_eq!(told(&run_on(&["check", "-"], STRINGS.as_bytes())), owned(STRINGS_LISTING, "", 0));
+    let (written, _, status) = told(&run_on(&["tables", "--rows", "99,99,9,10", "-"], STRINGS.as_bytes()));
+    let rest = written.strip_prefix(STRINGS_LISTING).expect("the listing first");
+    let rows: Vec<&str> = rest.lines().skip_while(|line| !line.starts_with("answer")).collect();
+    assert_eq!((rows, status), (vec!["answer 5 0 6", "answer 5 6 4", "answer 5 10 0", "room 10 it's\"\\it's"], 0));
+    let (written, ..) = told(&run_on(&["check", "--json", "-"], STRINGS.as_bytes()));
+    for constant in [
+        r#"{"schema":"s","name":"a","kind":"string","answer":"'it''s\"\\'"}"#,
+        r#"{"schema":"s","name":"c","kind":"string","answer":"''"}"#,
+    ] {
+        assert!(written.contains(constant), "{written}");
+    }
+    let refused = told(&run_on(&["tables", "--rows", "99,99,9,0", "-"], STRINGS.as_bytes()));
+    assert_eq!(refused, owned("refused 20 at 0\nreport 20 0 0 0 0\n", "", 1));
+    // Without a room of its own there is one that suffices.
+    assert_eq!(told(&run_on(&["check", "--rows", "99,99,9", "-"], STRINGS.as_bytes())).2, 0);
 }
 
 /// Bytes that move the cursor do not reach the terminal, and a long line is cut around the place.
@@ -148,7 +178,8 @@ fn tables_are_written_row_by_row() {
         (lines[0], lines[1], lines[18], lines[25]),
         ("report 0 0 17 8 1", "token 1 0 6", "node 13 6 1 0", "node 26 0 8 0")
     );
-    assert_eq!((lines[26], lines.len(), said.as_str(), status), ("answer 1 -4 0", 27, "", 0));
+    assert_eq!((lines[26], lines[27], lines.len()), ("answer 1 -4 0", "room 0", 28));
+    assert_eq!((said.as_str(), status), ("", 0));
     let refused = told(&run_on(&["tables", "-"], REFUSED.as_bytes()));
     assert_eq!(refused, owned(&format!("{REFUSED_LISTING}report 10 43 0 0 0\n"), "", 1));
 }
@@ -236,15 +267,16 @@ fn an_output_that_is_full_is_said() {
 
 #[test]
 fn bad_usage_is_explained() {
-    let mistakes: [(&[&str], &str); 12] = [
+    let mistakes: [(&[&str], &str); 13] = [
         (&[], "a command is missing"),
         (&["chek", "a"], "no command is called `chek`"),
         (&["check"], "no file is named"),
         (&["check", "--explian", "a"], "no option is called `--explian`"),
         (&["check", "--json", "--explain", "a"], "exclude each other"),
-        (&["check", "--rows"], "`--rows` needs three numbers behind it"),
+        (&["check", "--rows"], "`--rows` needs three or four numbers behind it"),
         (&["check", "--rows", "1,2", "a"], "and not `1,2`"),
         (&["check", "--rows", "1,x,3,4", "a"], "and not `1,x,3,4`"),
+        (&["check", "--rows", "1,2,3,4,5", "a"], "and not `1,2,3,4,5`"),
         (&["check", "-", "-"], "`-` can stand once"),
         (&["tables", "a", "b"], "`tables` takes one file"),
         (&["tables", "."], "`tables` takes a file, and `.` is a folder"),

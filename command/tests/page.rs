@@ -46,7 +46,7 @@ fn the_commands_on_the_pages_write_what_the_pages_say() {
 fn the_examples_have_their_listings() {
     let files = fs::read_dir(top().join("examples")).expect("examples").map(|entry| entry.expect("an entry").path());
     let schemas: Vec<PathBuf> = files.filter(|path| path.extension().is_some_and(|end| end == "exp")).collect();
-    assert_eq!(schemas.len(), 3);
+    assert_eq!(schemas.len(), 4);
     for schema in schemas {
         let listing = fs::read_to_string(schema.with_extension("out")).expect("a listing");
         let name = schema.to_str().expect("a path of letters");

@@ -3,6 +3,9 @@
 use crate::codes::{AnswerKind, End};
 use std::fmt::{self, Write};
 
+/// What a string literal begins and ends with.
+const QUOTE: char = '\'';
+
 /// What a constant comes to (K12).
 #[derive(Clone, Copy, Debug, PartialEq, Eq, Hash)]
 pub enum Answer<'a> {
@@ -21,6 +24,8 @@ pub enum Answer<'a> {
         /// The node that declares it.
         node: usize,
     },
+    /// The bytes of a string, from 32 to 126, each pair of quotes in a literal made one.
+    String(&'a [u8]),
     /// No value, and why.
     End(End),
 }
@@ -55,17 +60,23 @@ pub struct Binary {
 }
 
 impl<'a> Answer<'a> {
-    /// The answer of a row (K35); `item` gives the name of the item that a node declares.
-    pub(crate) fn from_row(kind: u8, number: i64, length: u8, item: impl Fn(usize) -> &'a str) -> Self {
+    /// The answer of a row (K35), with the room that its strings lie in; `item` gives the name of the item that a node declares.
+    pub(crate) fn from_row(
+        (kind, number, length): (u8, i64, u8),
+        room: &'a [u8],
+        item: impl Fn(usize) -> &'a str,
+    ) -> Self {
         let unsigned = number.unsigned_abs();
+        let index = usize::try_from(unsigned).unwrap_or(usize::MAX);
         match AnswerKind::from_number(kind) {
             Some(AnswerKind::Indeterminate) => Answer::Indeterminate,
             Some(AnswerKind::Integer) => Answer::Integer(number),
             Some(AnswerKind::Logical) => Answer::Logical(Logical::from_number(number)),
             Some(AnswerKind::Binary) => Answer::Binary(Binary { number: unsigned, length }),
-            Some(AnswerKind::Item) => {
-                let node = usize::try_from(unsigned).unwrap_or(usize::MAX);
-                Answer::Item { name: item(node), node }
+            Some(AnswerKind::Item) => Answer::Item { name: item(index), node: index },
+            Some(AnswerKind::String) => {
+                let bytes = room.get(index..).and_then(|rest| rest.get(..length.into()));
+                Answer::String(bytes.unwrap_or_default())
             }
             None => End::from_number(kind).map_or(Answer::Indeterminate, Answer::End),
         }
@@ -79,6 +90,7 @@ impl<'a> Answer<'a> {
             Answer::Logical(_) => "logical",
             Answer::Binary(_) => "binary",
             Answer::Item { .. } => "item",
+            Answer::String(_) => "string",
             Answer::End(_) => "end",
         }
     }
@@ -93,9 +105,23 @@ impl fmt::Display for Answer<'_> {
             Answer::Logical(logical) => write!(f, "{logical}"),
             Answer::Binary(binary) => write!(f, "{binary}"),
             Answer::Item { name, .. } => name.chars().try_for_each(|letter| f.write_char(letter.to_ascii_lowercase())),
+            Answer::String(bytes) => literal(bytes, f),
             Answer::End(end) => write!(f, "end {}", end.number()),
         }
     }
+}
+
+/// A string as a literal: each quote in it twice.
+fn literal(bytes: &[u8], f: &mut fmt::Formatter) -> fmt::Result {
+    f.write_char(QUOTE)?;
+    for &byte in bytes {
+        let letter = char::from(byte);
+        f.write_char(letter)?;
+        if letter == QUOTE {
+            f.write_char(letter)?;
+        }
+    }
+    f.write_char(QUOTE)
 }
 
 impl fmt::Display for Logical {

@@ -1,10 +1,12 @@
-//! The two proved calls on columns that the caller lends, for those who have tables of their own: the one place where Rust meets them.
+//! The two proved calls on columns and a room that the caller lends, for those who have tables of their own: the one place where Rust
+//! meets them.
 //!
-//! The columns of a table may differ in length: it has as many rows as its shortest. After a refusal every lent entry is zero, and
-//! after acceptance every entry behind the last row.
+//! The columns of a table may differ in length: it has as many rows as its shortest. The room holds the bytes of the string answers, one
+//! after the other in the order of their rows. After a refusal every lent entry and every byte of the room is zero, and after acceptance
+//! all that lies behind the last row and the last string.
 #![allow(unsafe_code)]
 
-/// Declares calls: all take the bytes, the columns of tokens and of nodes, and a place for each number beside the reply.
+/// Declares calls: all take the bytes, the columns of tokens and of nodes, a room, and a place for each number beside the reply.
 macro_rules! declared {
     ($($call:ident($($answers:ty),*);)*) => {
         extern "C" {
@@ -26,6 +28,8 @@ macro_rules! declared {
                 node_bindings: *mut u32,
                 node_bindings_length: usize,
                 $(_: *mut $answers, _: usize,)*
+                room: *mut u8,
+                room_length: usize,
                 number: &mut u32,
                 tokens: &mut u32,
                 nodes: &mut u32,
@@ -42,10 +46,10 @@ declared! {
 
 /// Makes a call with the columns of the answers that it takes.
 macro_rules! called {
-    ($call:ident, $src:expr, $tokens:expr, $nodes:expr, $($answers:expr),*) => {{
+    ($call:ident, $src:expr, $tokens:expr, $nodes:expr, [$($answers:expr),*], $room:expr) => {{
         let mut numbers = UNWRITTEN;
-        // SAFETY: each column is a slice of its own, lent with its length, and is written for the call alone; the call reads and
-        // writes nothing else and ends for every input, as its contract says.
+        // SAFETY: each column, and the room, is a slice of its own, lent with its length, and is written for the call alone; the call
+        // reads and writes nothing else and ends for every input, as its contract says.
         numbers.reply = unsafe {
             $call(
                 $src.as_ptr(),
@@ -65,6 +69,8 @@ macro_rules! called {
                 $nodes.bindings.as_mut_ptr(),
                 $nodes.bindings.len(),
                 $($answers.as_mut_ptr(), $answers.len(),)*
+                $room.as_mut_ptr(),
+                $room.len(),
                 &mut numbers.number,
                 &mut numbers.tokens,
                 &mut numbers.nodes,
@@ -104,9 +110,9 @@ pub struct NodeColumns<'a> {
 pub struct AnswerColumns<'a> {
     /// By [`AnswerKind`](crate::AnswerKind), or an [`End`](crate::End).
     pub kinds: &'a mut [u8],
-    /// The value of each.
+    /// The value of each; of a string where it starts in the room.
     pub numbers: &'a mut [i64],
-    /// The bits of a binary.
+    /// The bits of a binary, the bytes of a string.
     pub lengths: &'a mut [u8],
 }
 
@@ -142,11 +148,17 @@ const UNWRITTEN: Numbers =
     Numbers { reply: u8::MAX, number: u32::MAX, tokens: u32::MAX, nodes: u32::MAX, constants: u32::MAX };
 
 /// Checks a file.
-pub fn check(src: &[u8], tokens: TokenColumns, nodes: NodeColumns, answers: AnswerColumns) -> Numbers {
-    called!(woffulent_check, src, tokens, nodes, answers.kinds, answers.numbers, answers.lengths)
+pub fn check(src: &[u8], tokens: TokenColumns, nodes: NodeColumns, answers: AnswerColumns, room: &mut [u8]) -> Numbers {
+    called!(woffulent_check, src, tokens, nodes, [answers.kinds, answers.numbers, answers.lengths], room)
 }
 
 /// Checks a file, with the answers as records.
-pub fn check_records(src: &[u8], tokens: TokenColumns, nodes: NodeColumns, records: &mut [Record]) -> Numbers {
-    called!(woffulent_check_records, src, tokens, nodes, records)
+pub fn check_records(
+    src: &[u8],
+    tokens: TokenColumns,
+    nodes: NodeColumns,
+    records: &mut [Record],
+    room: &mut [u8],
+) -> Numbers {
+    called!(woffulent_check_records, src, tokens, nodes, [records], room)
 }

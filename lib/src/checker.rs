@@ -1,15 +1,15 @@
-//! Checking: the tables that are lent, kept from one file to the next.
+//! Checking: the tables and the room that are lent, kept from one file to the next.
 
 use crate::call::{self, AnswerColumns, NodeColumns, TokenColumns};
 use crate::file::{File, Report};
 use crate::refusal::Refusal;
-use crate::{Reply, MAX_BYTES};
+use crate::{Reply, MAX_BYTES, MAX_STRING_BYTES};
 use std::borrow::Cow;
 
 /// The fewest tokens of a constant: name, colon, type, `:=`, an operand and a semicolon.
 const TOKENS_OF_A_CONSTANT: usize = 6;
 
-/// How many rows the tables of tokens, nodes and answers have.
+/// How many rows the tables of tokens, nodes and answers have, and how many bytes the room for the strings among the answers.
 #[derive(Clone, Copy, Debug, PartialEq, Eq)]
 pub struct Rows {
     /// Of the token table.
@@ -18,6 +18,8 @@ pub struct Rows {
     pub nodes: usize,
     /// Of the answer table.
     pub answers: usize,
+    /// The bytes of the room.
+    pub room: usize,
 }
 
 impl Rows {
@@ -25,12 +27,19 @@ impl Rows {
     pub const ANY: Rows = Rows::for_bytes(MAX_BYTES);
 
     /// What the proved program `listing` lends (R12).
-    pub const PROGRAM: Rows = Rows { tokens: 8_192, nodes: 8_192, answers: 1_024 };
+    pub const PROGRAM: Rows = Rows { tokens: 8_192, nodes: 8_192, answers: 1_024, room: 1_024 * MAX_STRING_BYTES };
 
     /// Enough for every file of so many bytes: a token has a byte at least, and there are no more nodes than tokens (G36).
     pub const fn for_bytes(bytes: usize) -> Rows {
         let tokens = if bytes < MAX_BYTES { bytes } else { MAX_BYTES };
-        Rows { tokens, nodes: tokens, answers: tokens / TOKENS_OF_A_CONSTANT }
+        let answers = tokens / TOKENS_OF_A_CONSTANT;
+        Rows { tokens, nodes: tokens, answers, room: answers * MAX_STRING_BYTES }
+    }
+
+    /// Enough for one file: its room goes by the constants that it can have.
+    fn for_file(src: &[u8]) -> Rows {
+        let rows = Rows::for_bytes(src.len());
+        Rows { room: rows.room.min(most_constants(src) * MAX_STRING_BYTES), ..rows }
     }
 
     fn least(self, other: Rows) -> Rows {
@@ -38,11 +47,21 @@ impl Rows {
             tokens: self.tokens.min(other.tokens),
             nodes: self.nodes.min(other.nodes),
             answers: self.answers.min(other.answers),
+            room: self.room.min(other.room),
         }
     }
 }
 
-/// The tables, by columns (R8).
+/// No file has more constants with bytes in the room: each has a `:=`, and without a quote no string has a byte. What is too long is
+/// not read.
+fn most_constants(src: &[u8]) -> usize {
+    if src.len() > MAX_BYTES || !src.contains(&b'\'') {
+        return 0;
+    }
+    src.windows(2).filter(|&pair| pair == b":=").count()
+}
+
+/// The tables, by columns (R8), and the room.
 #[derive(Clone, Debug, Default)]
 pub(crate) struct Tables {
     pub token_kinds: Vec<u8>,
@@ -55,10 +74,11 @@ pub(crate) struct Tables {
     pub answer_kinds: Vec<u8>,
     pub answer_numbers: Vec<i64>,
     pub answer_lengths: Vec<u8>,
+    pub room: Vec<u8>,
 }
 
 impl Tables {
-    fn new(Rows { tokens, nodes, answers }: Rows) -> Self {
+    fn new(Rows { tokens, nodes, answers, room }: Rows) -> Self {
         Tables {
             token_kinds: vec![0; tokens],
             token_starts: vec![0; tokens],
@@ -70,12 +90,13 @@ impl Tables {
             answer_kinds: vec![0; answers],
             answer_numbers: vec![0; answers],
             answer_lengths: vec![0; answers],
+            room: vec![0; room],
         }
     }
 
-    /// Checks a file with as many of the first rows as it can need, of which there are as many at least; the rows behind are never read.
+    /// Checks a file with as much of the tables and the room as it can need, where there is as much; what lies behind is never read.
     fn check(&mut self, src: &[u8], rows: Rows) -> Report {
-        let Rows { tokens, nodes, answers } = rows.least(Rows::for_bytes(src.len()));
+        let Rows { tokens, nodes, answers, room } = rows.least(Rows::for_file(src));
         Report::new(call::check(
             src,
             TokenColumns {
@@ -94,11 +115,12 @@ impl Tables {
                 numbers: &mut self.answer_numbers[..answers],
                 lengths: &mut self.answer_lengths[..answers],
             },
+            &mut self.room[..room],
         ))
     }
 }
 
-/// Checks files one after the other with tables that are allocated once.
+/// Checks files one after the other with tables and a room that are allocated once.
 #[derive(Clone, Debug)]
 pub struct Checker {
     rows: Rows,
@@ -111,7 +133,7 @@ impl Checker {
         Checker::with_rows(Rows::ANY)
     }
 
-    /// With tables of so many rows: a file that needs more is refused by 6, 7 or 8. More than [`Rows::ANY`] are of no use.
+    /// With so much: a file that needs more is refused by 6, 7, 8 or 20. More than [`Rows::ANY`] is of no use.
     pub fn with_rows(rows: Rows) -> Self {
         let rows = rows.least(Rows::ANY);
         Checker { rows, tables: Tables::new(rows) }
@@ -132,7 +154,7 @@ impl Default for Checker {
 
 /// Checks one file, with tables of its own that are large enough.
 pub fn check(src: &[u8]) -> Result<File<'_>, Refusal<'_>> {
-    let rows = Rows::for_bytes(src.len());
+    let rows = Rows::for_file(src);
     let mut tables = Tables::new(rows);
     let report = tables.check(src, rows);
     judged(src, Cow::Owned(tables), report)

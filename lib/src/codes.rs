@@ -46,7 +46,7 @@ numbered! {
         TooLong = 1 "TOO_LONG",
         /// A byte begins no token, or a remark, string or binary has no end.
         NoToken = 2 "NO_TOKEN",
-        /// An integer or a binary is larger than is read.
+        /// An integer, a binary or a string is larger than is read.
         TooLarge = 3 "TOO_LARGE",
         /// A token cannot stand where it does, or the file ends too early.
         Unexpected = 4 "UNEXPECTED",
@@ -72,6 +72,8 @@ numbered! {
         NotEvaluated = 14 "NOT_EVALUATED",
         /// Operands, or an expression and its declared type, do not fit.
         Misfit = 15 "MISFIT",
+        /// The room has fewer bytes than all string answers together.
+        RoomShort = 20 "ROOM_SHORT",
     }
 }
 
@@ -95,6 +97,7 @@ impl Reply {
             Reply::Cycle => "This declaration depends on itself.",
             Reply::NotEvaluated => "This is not evaluated.",
             Reply::Misfit => "Two kinds do not fit here.",
+            Reply::RoomShort => "The room has too few bytes for the strings of this file.",
         }
     }
 }
@@ -112,13 +115,15 @@ numbered! {
         Binary = 3 "BINARY",
         /// An item of an enumeration.
         Item = 4 "ITEM",
+        /// A string.
+        String = 5 "STRING",
     }
 }
 
 numbered! {
     /// Why a constant has no value (R4).
     End {
-        /// The result does not fit into 64 signed bits, or a binary has more than 63 bits.
+        /// The result does not fit into 64 signed bits, or a binary has more than 63 bits, or a string more than 255 bytes.
         Outside = 16 "OUTSIDE",
         /// DIV or MOD by 0.
         ZeroDivisor = 17 "ZERO_DIVISOR",
@@ -158,7 +163,7 @@ numbered! {
         Logical = 3 "LOGICAL",
         /// `?`
         Indeterminate = 4 "INDETERMINATE",
-        /// A real, a string, PI or CONST_E.
+        /// A string, or what is not evaluated: a real, PI or CONST_E.
         Other = 5 "OTHER",
         /// A name.
         Name = 6 "NAME",

@@ -3,7 +3,7 @@
 use crate::answer::Answer;
 use crate::call::Numbers;
 use crate::checker::Tables;
-use crate::codes::{NodeKind, Reply, TokenKind};
+use crate::codes::{AnswerKind, NodeKind, Reply, TokenKind};
 use std::borrow::Cow;
 
 /// The five numbers of a report (R1).
@@ -23,7 +23,7 @@ pub struct Report {
 
 impl Report {
     pub(crate) fn new(Numbers { reply, number, tokens, nodes, constants }: Numbers) -> Self {
-        // The proved call gives no other reply than these sixteen.
+        // The proved call gives no other reply than these seventeen.
         let reply = Reply::from_number(reply).unwrap_or(Reply::NoToken);
         Report { reply, number, tokens: tokens as usize, nodes: nodes as usize, constants: constants as usize }
     }
@@ -103,8 +103,8 @@ impl<'a> File<'a> {
 
     /// The answer in a row of the answer table.
     pub fn answer(&self, row: usize) -> Option<Answer<'_>> {
-        let (kind, number, length) = self.answer_row(row)?;
-        Some(Answer::from_row(kind, number, length, |node| self.node(node).map_or("", |item| item.name())))
+        let item = |node| self.node(node).map_or("", |item: Node| item.name());
+        Some(Answer::from_row(self.answer_row(row)?, &self.tables.room, item))
     }
 
     /// Kind, number and length of an answer, as the row holds them (K35).
@@ -112,6 +112,14 @@ impl<'a> File<'a> {
         let (kinds, tables) = (&self.tables.answer_kinds, &self.tables);
         let kind = *kinds.get(row).filter(|_| row < self.report.constants)?;
         Some((kind, *tables.answer_numbers.get(row)?, *tables.answer_lengths.get(row)?))
+    }
+
+    /// The bytes of all string answers, in the order of their rows (K36): what is used of the room.
+    pub fn room(&self) -> &[u8] {
+        let rows = (0..self.report.constants).filter_map(|row| self.answer_row(row));
+        let strings = rows.filter(|&(kind, ..)| kind == AnswerKind::String.number());
+        let used: usize = strings.map(|(.., length)| usize::from(length)).sum();
+        self.tables.room.get(..used).unwrap_or_default()
     }
 }
 

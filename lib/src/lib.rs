@@ -2,7 +2,7 @@
 //!
 //! [`check`] takes the bytes of a file. An accepted [`File`] has its schemas, the [`Answer`] of each constant, and its tokens and
 //! nodes; a [`Refusal`] has its number and place, and says in a sentence what is wrong. [`Checker`] does the same with tables that it
-//! keeps, for those who check many files. [`call`] has the proved calls as they are, on tables that the caller lends.
+//! keeps, for those who check many files. [`call`] has the proved calls as they are, on tables and a room that the caller lends.
 //!
 //! ```
 //! let file = woffulent::check(b"SCHEMA s; CONSTANT a : INTEGER := 7 DIV -2; END_CONSTANT; END_SCHEMA;")?;
@@ -34,3 +34,6 @@ pub use refusal::{Position, Refusal};
 
 /// The most bytes that a file may have.
 pub const MAX_BYTES: usize = 65_536;
+
+/// The most bytes that a string may have.
+pub const MAX_STRING_BYTES: usize = 255;

@@ -36,7 +36,7 @@ impl<'a> Refusal<'a> {
         Refusal { src: Cow::Borrowed(src), reply, beside }
     }
 
-    /// The reply's number, from 1 to 15.
+    /// The reply's number, from 1 to 15, or 20.
     pub fn number(&self) -> u8 {
         self.reply.number()
     }
@@ -57,9 +57,19 @@ impl<'a> Refusal<'a> {
         short.then_some(self.beside as usize)
     }
 
-    /// The byte at fault; none where the file as a whole is (replies 1, 6, 7 and 8).
+    /// How many bytes of room were lent that are too few for the strings (reply 20).
+    pub fn lent(&self) -> Option<usize> {
+        (self.reply == Reply::RoomShort).then_some(self.beside as usize)
+    }
+
+    /// Whether a file is refused for what was lent: a table or the room is too short (replies 6, 7, 8 and 20).
+    pub fn is_short(&self) -> bool {
+        self.needed().is_some() || self.lent().is_some()
+    }
+
+    /// The byte at fault; none where the file as a whole is (replies 1, 6, 7, 8 and 20).
     pub fn place(&self) -> Option<usize> {
-        (self.reply != Reply::TooLong && self.needed().is_none()).then_some(self.beside as usize)
+        (self.reply != Reply::TooLong && !self.is_short()).then_some(self.beside as usize)
     }
 
     /// The line and column of the place.

@@ -28,9 +28,16 @@ unsafe impl GlobalAlloc for Counted {
 #[global_allocator]
 static ALLOCATOR: Counted = Counted;
 
+/// A file with strings of so many bytes and of twice as many.
+fn strings(bytes: usize) -> Vec<u8> {
+    let literal = "x".repeat(bytes);
+    format!("SCHEMA s; CONSTANT a : STRING := '{literal}'; b : STRING := a + a; END_CONSTANT; END_SCHEMA;").into_bytes()
+}
+
 #[test]
 fn a_thousand_files_allocate_once() {
-    let files: Vec<Vec<u8>> = (0..500).flat_map(|seed| [well_typed(seed, 3_000), damaged(seed, 300)]).collect();
+    let random = (0..500).flat_map(|seed| [well_typed(seed, 3_000), damaged(seed, 300)]);
+    let files: Vec<Vec<u8>> = random.chain((0..260).map(strings)).collect();
     let (mut checker, mut out) = (Checker::new(), Vec::with_capacity(1 << 20));
     let before = ALLOCATIONS.get();
     let mut refused = 0;

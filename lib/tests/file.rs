@@ -8,7 +8,7 @@ use woffulent::{check, Answer, Binary, Checker, End, File, Logical, NodeKind, Re
 const SEEDS: u64 = 5_000;
 
 fn by_reference(src: &[u8], rows: Rows) -> Checked {
-    reference::check(src, rows.tokens, rows.nodes, rows.answers)
+    reference::check(src, [rows.tokens, rows.nodes, rows.answers, rows.room])
 }
 
 fn listing(result: &Result<File, Refusal>) -> Vec<u8> {
@@ -20,7 +20,7 @@ fn listing(result: &Result<File, Refusal>) -> Vec<u8> {
     out
 }
 
-/// Report, tokens, nodes and answers of an accepted file are those of the reference.
+/// Report, tokens, nodes, answers and room of an accepted file are those of the reference.
 fn hold_tables(file: &File, wanted: &Checked) {
     let report = file.report();
     let tokens = file.tokens().map(|token| TokenRow {
@@ -39,6 +39,8 @@ fn hold_tables(file: &File, wanted: &Checked) {
     let answers = (0..).map_while(|row| file.answer_row(row));
     let answers = answers.map(|(kind, number, length)| AnswerRow { kind, number, length: length.into() });
     assert_eq!(answers.collect::<Vec<_>>(), wanted.answers[..report.constants]);
+    let (strings, behind) = wanted.room.split_at(file.room().len());
+    assert!(strings == file.room() && behind.iter().all(|&byte| byte == 0));
 }
 
 /// Children lie side by side below their parent, and the file is the last node.
@@ -76,8 +78,9 @@ fn hold(checker: &mut Checker, src: &[u8], rows: Rows) {
 
 #[test]
 fn a_kept_checker_gives_what_the_reference_does() {
-    let mut checkers = [Rows::ANY, Rows::PROGRAM, Rows { tokens: 120, nodes: 60, answers: 3 }]
-        .map(|rows| (Checker::with_rows(rows), rows));
+    let few = Rows { tokens: 120, nodes: 60, answers: 3, room: 9 };
+    let mut checkers =
+        [Rows::ANY, Rows::PROGRAM, Rows { room: 9, ..Rows::ANY }, few].map(|rows| (Checker::with_rows(rows), rows));
     let random = (0..SEEDS).flat_map(|seed| [file(seed), damaged(seed, 300)]);
     for src in random.chain(cases::all().into_iter().map(|case| case.input)) {
         checkers.iter_mut().for_each(|(checker, rows)| hold(checker, &src, *rows));
@@ -101,6 +104,44 @@ fn no_file_needs_more_rows_than_its_bytes_say() {
     let brackets = "(".repeat(woffulent::MAX_BYTES);
     assert_eq!(check(brackets.as_bytes()).expect_err("no schema").reply(), Reply::Unexpected);
     assert_eq!(check(b"").expect_err("no schema").beside(), 0);
+}
+
+/// As many constants as fit, each with a string of as many bytes as one can have: a kept checker has room for them.
+#[test]
+fn no_file_needs_more_room_than_its_constants_say() {
+    let longest = "x".repeat(woffulent::MAX_STRING_BYTES);
+    let copies: String = (0..5_000).map(|i| format!("c{i}:t:=l;")).collect();
+    let head = format!("SCHEMA s;CONSTANT l:t:='{longest}';");
+    let src = format!("{head}{copies}END_CONSTANT;TYPE t=STRING;END_TYPE;END_SCHEMA;");
+    assert!(src.len() < woffulent::MAX_BYTES);
+    let mut checker = Checker::new();
+    for file in [check(src.as_bytes()), checker.check(src.as_bytes())] {
+        let file = file.expect("accepted");
+        assert_eq!(file.room().len(), 5_001 * woffulent::MAX_STRING_BYTES);
+        assert_eq!(file.constant("s", "c4999"), Some(Answer::String(longest.as_bytes())));
+    }
+}
+
+#[test]
+fn strings_are_bytes() {
+    let src = b"SCHEMA Press; CONSTANT
+        die : STRING := size + ' mm'''; size : label := '12'; n : LOGICAL := 'p' < 'q'; none : STRING := ''; open : STRING := ?;
+        END_CONSTANT; TYPE label = STRING; END_TYPE; END_SCHEMA;";
+    let file = check(src).expect("accepted");
+    let answer = |name: &str| file.constant("press", name).expect("a constant");
+    assert_eq!(answer("die"), Answer::String(b"12 mm'"));
+    assert_eq!((answer("size"), answer("none")), (Answer::String(b"12"), Answer::String(b"")));
+    assert_eq!((answer("open"), answer("die").sort()), (Answer::Indeterminate, "string"));
+    let rows = [(5, 0, 6), (5, 6, 2), (2, 2, 0), (5, 8, 0), (0, 0, 0)];
+    assert_eq!((0..).map_while(|row| file.answer_row(row)).collect::<Vec<_>>(), rows);
+    assert_eq!(file.room(), b"12 mm'12");
+    let listed = "press.die = '12 mm'''\npress.size = '12'\npress.n = TRUE\npress.none = ''\npress.open = ?\n";
+    assert_eq!(listing(&Ok(file)), format!("accepted 5\n{listed}").as_bytes());
+    for (room, accepted) in [(8, true), (7, false), (1, false), (0, false)] {
+        let mut checker = Checker::with_rows(Rows { room, ..Rows::ANY });
+        let reply = checker.check(src).map_or_else(|refusal| (refusal.number(), refusal.lent()), |_| (0, None));
+        assert_eq!(reply, if accepted { (0, None) } else { (20, Some(room)) });
+    }
 }
 
 #[test]
@@ -134,10 +175,16 @@ fn a_refusal_knows_where_it_is() {
     let long = vec![b' '; woffulent::MAX_BYTES + 1];
     let refusal = check(&long).expect_err("too long");
     assert_eq!((refusal.number(), refusal.place(), refusal.beside()), (1, None, 65_536));
-    let mut checker = Checker::with_rows(Rows { tokens: 3, nodes: 9, answers: 9 });
+    let mut checker = Checker::with_rows(Rows { tokens: 3, nodes: 9, answers: 9, room: 9 });
     let refusal = checker.check(src).expect_err("too few rows");
     assert_eq!((refusal.number(), refusal.place(), refusal.needed()), (6, None, Some(14)));
     assert_eq!(refusal.to_string(), "The file needs 14 rows in the token table, and fewer were lent.");
+    let mut checker = Checker::with_rows(Rows { room: 1, ..Rows::ANY });
+    let strings = b"SCHEMA s; CONSTANT a : STRING := 'xy'; END_CONSTANT; END_SCHEMA;";
+    let refusal = checker.check(strings).expect_err("too little room");
+    assert_eq!((refusal.number(), refusal.place(), refusal.needed(), refusal.lent()), (20, None, None, Some(1)));
+    let sentence = "The strings of the constants do not fit into the room of 1 byte that was lent.";
+    assert_eq!((refusal.to_string().as_str(), refusal.is_short()), (sentence, true));
 }
 
 /// The call needs less than 1.5 MiB of stack: a thread of Rust's default size has room for every file.

@@ -59,7 +59,7 @@ fn the_header_has_the_numbers_of_codes() {
     let mut answers = prefixed("ANSWER_", kinds);
     answers.extend(prefixed("END_", codes("ends")));
     assert_eq!(header("answer"), answers);
-    for limit in ["BYTES", "BITS"] {
+    for limit in ["BYTES", "BITS", "STRING_BYTES"] {
         let line = format!("#define WOFFULENT_{limit} {}", codes("limits")[limit]);
         assert!(read("include/woffulent.h").lines().any(|found| found == line), "{line}");
     }
@@ -78,4 +78,5 @@ fn this_crate_has_the_numbers_of_codes() {
     answers.extend(logicals.map(|logical| (logical.to_string(), logical as u64)));
     assert_eq!(answers, codes("answers"));
     assert_eq!(codes("limits")["BYTES"], woffulent::MAX_BYTES as u64);
+    assert_eq!(codes("limits")["STRING_BYTES"], woffulent::MAX_STRING_BYTES as u64);
 }

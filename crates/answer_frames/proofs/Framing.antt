@@ -47,6 +47,7 @@ module _ {bytes starts lengths terminals kinds tokens sizes bindings types const
           room = b;
         };
         scanned = F .scanned;
+        few = few;
         bytes-are = sym (F .bytes-are);
         lengths-are = sym (F .lengths-are);
         arranged = F .constants-arranged;
@@ -54,12 +55,12 @@ module _ {bytes starts lengths terminals kinds tokens sizes bindings types const
         answer-room = F .answer-room;
       }
 
-module _ {before : Stage} {bytes starts lengths terminals kinds tokens sizes bindings types constants aks : List ℕ} {azs : List ℤ} {als : List ℕ} {r : Stage} {aks′ : List ℕ} {azs′ : List ℤ}
-    {als′ : List ℕ} where
+module _ {before : Stage} {bytes starts lengths terminals kinds tokens sizes bindings types constants aks : List ℕ} {azs : List ℤ} {als room : List ℕ} {r : Stage}
+    {aks′ : List ℕ} {azs′ : List ℤ} {als′ room′ : List ℕ} where
   -- an entry for each node: the sizes are compared as numbers, for to count a long array's elements takes a step for each
   pub with-arrays : (n : ℕ) → n ≤ most →
       AnswersNamed before bytes starts lengths terminals kinds tokens sizes bindings types constants (replicate n 0) (replicate n 0) aks azs als (replicate n 0) (replicate n (pos 0)) (replicate n 0)
-      r aks′ azs′ als′ → AnswersWithin n before bytes starts lengths terminals kinds tokens sizes bindings types constants aks azs als r aks′ azs′ als′
+      room r aks′ azs′ als′ room′ → AnswersWithin n before bytes starts lengths terminals kinds tokens sizes bindings types constants aks azs als room r aks′ azs′ als′ room′
   with-arrays n m A =
       let k = counted n in
       let l = numbers-counted n in
@@ -72,6 +73,6 @@ module _ {before : Stage} {bytes starts lengths terminals kinds tokens sizes bin
 
   -- so many nodes, whatever is asked of them elsewhere
   pub by-number : (n : ℕ) → length kinds ≤ n →
-      AnswersWithin n before bytes starts lengths terminals kinds tokens sizes bindings types constants aks azs als r aks′ azs′ als′ →
-      AnswersWithin most before bytes starts lengths terminals kinds tokens sizes bindings types constants aks azs als r aks′ azs′ als′
+      AnswersWithin n before bytes starts lengths terminals kinds tokens sizes bindings types constants aks azs als room r aks′ azs′ als′ room′ →
+      AnswersWithin most before bytes starts lengths terminals kinds tokens sizes bindings types constants aks azs als room r aks′ azs′ als′ room′
   by-number n h A = record { passed-on = A .passed-on; is = λ t F few. A .is t F (omega (arith, ap length (F .kinds-are))) }

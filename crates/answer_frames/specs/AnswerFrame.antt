@@ -1,4 +1,4 @@
--- The answers of a file, with what is computed for each node in arrays of their own (replies 14 and 15, and the answer columns).
+-- The answers of a file, with what is computed for each node in arrays of their own (replies 14, 15 and 20, the answer columns and the room).
 use mathlib.Core.Path.{_≡_}
 use mathlib.Core.List.{List}
 use Prim.Native.Nat.{ℕ, _≤_}
@@ -15,12 +15,11 @@ use Rattle.express.specs.names.Scope as scope
 use Rattle.express.specs.names.Fault.{constant-edges}
 use Rattle.express.specs.names.Names.{WellNamed}
 use Rattle.express.specs.kinds.Kind as kind
-use Rattle.express.specs.kinds.Kind.{typing}
 use Rattle.scopes.specs.Range.{vertex-count, declared-nodes}
-use Rattle.constants.specs.Constants.{file-answers, Holds, WrittenRows}
+use Rattle.constants.specs.Constants.{Holds}
 use Rattle.stages.specs.declared.Stage.{Stage}
 use Rattle.stages.specs.declared.Stage.the-variants.{Done, Refused}
-use Rattle.stages.specs.Line.{of-kinds}
+use Rattle.answer_stages.specs.AnswerStage.{Answered}
 
 -- a file whose names are right (R17) and bound (N18): its columns, its declarations in order by types (N7) and by constants (N17) at the fronts of two, and room for its answers
 pub record NamedFile (bytes starts lengths terminals kinds tokens sizes bindings types constants answer-kinds : List ℕ) (answer-numbers : List ℤ) (answer-lengths : List ℕ) (t : Table)
@@ -42,12 +41,11 @@ pub record NamedFile (bytes starts lengths terminals kinds tokens sizes bindings
   pub constants-arranged : Arranged (Joins (constant-edges t)) (declared-nodes t) (take (vertex-count t) constants)
   pub answer-room : Holds (length (kind.constants t)) answer-kinds answer-numbers answer-lengths
 
--- `answer_named`, of every such file with at most so many nodes: how the stage of kinds ends, and where it is done the rows of the answers
+-- `answer_named`, of every such file with at most so many nodes
 pub record AnswersWithin (nodes-most : ℕ) (before : Stage) (bytes starts lengths terminals kinds tokens sizes bindings types constants answer-kinds : List ℕ) (answer-numbers : List ℤ)
-    (answer-lengths : List ℕ) (r : Stage) (answer-kinds′ : List ℕ) (answer-numbers′ : List ℤ) (answer-lengths′ : List ℕ) : Type 0 where
+    (answer-lengths room : List ℕ) (r : Stage) (answer-kinds′ : List ℕ) (answer-numbers′ : List ℤ) (answer-lengths′ room′ : List ℕ) : Type 0 where
   pub passed-on : (k p : ℕ) → before ≡ Refused k p → r ≡ Refused k p
   pub is :
       (t : Table) → NamedFile bytes starts lengths terminals kinds tokens sizes bindings types constants answer-kinds answer-numbers answer-lengths t → count t ≤ nodes-most →
       (n : ℕ) → before ≡ Done n →
-      (r ≡ of-kinds t (typing t bindings) n) ×
-      ((m : ℕ) → r ≡ Done m → WrittenRows answer-kinds answer-numbers answer-lengths (file-answers t) answer-kinds′ answer-numbers′ answer-lengths′)
+      Answered t bindings n r answer-kinds answer-numbers answer-lengths room answer-kinds′ answer-numbers′ answer-lengths′ room′

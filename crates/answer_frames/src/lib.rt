@@ -24,11 +24,12 @@ fn answer_few(
     answer_kinds: &mut [u8],
     answer_numbers: &mut [i64],
     answer_lengths: &mut [u8],
+    room: &mut [u8],
 ) -> Stage
     ensures { λ r. ⌜ AnswersWithin few-rows before (now (src .entry)) (now (starts .entry)) (now (lengths .entry)) (now (terminals .entry)) (now (kinds .entry))
         (now (tokens .entry)) (now (sizes .entry)) (now (bindings .entry)) (now (types .entry)) (now (constants .entry))
-        (now («answer_kinds» .entry)) (now («answer_numbers» .entry)) (now («answer_lengths» .entry)) r
-        (now («answer_kinds» .exit)) (now («answer_numbers» .exit)) (now («answer_lengths» .exit)) ⌝ }
+        (now («answer_kinds» .entry)) (now («answer_numbers» .entry)) (now («answer_lengths» .entry)) (now (room .entry)) r
+        (now («answer_kinds» .exit)) (now («answer_numbers» .exit)) (now («answer_lengths» .exit)) (now (room .exit)) ⌝ }
 {
     let mut declared = [0u32; FEW];
     let mut row_of = [0u32; FEW];
@@ -55,6 +56,7 @@ fn answer_few(
         &mut value_kinds,
         &mut value_numbers,
         &mut value_lengths,
+        room,
     )
 }
 
@@ -73,11 +75,12 @@ fn answer_some(
     answer_kinds: &mut [u8],
     answer_numbers: &mut [i64],
     answer_lengths: &mut [u8],
+    room: &mut [u8],
 ) -> Stage
     ensures { λ r. ⌜ AnswersWithin some-rows before (now (src .entry)) (now (starts .entry)) (now (lengths .entry)) (now (terminals .entry)) (now (kinds .entry))
         (now (tokens .entry)) (now (sizes .entry)) (now (bindings .entry)) (now (types .entry)) (now (constants .entry))
-        (now («answer_kinds» .entry)) (now («answer_numbers» .entry)) (now («answer_lengths» .entry)) r
-        (now («answer_kinds» .exit)) (now («answer_numbers» .exit)) (now («answer_lengths» .exit)) ⌝ }
+        (now («answer_kinds» .entry)) (now («answer_numbers» .entry)) (now («answer_lengths» .entry)) (now (room .entry)) r
+        (now («answer_kinds» .exit)) (now («answer_numbers» .exit)) (now («answer_lengths» .exit)) (now (room .exit)) ⌝ }
 {
     let mut declared = [0u32; SOME];
     let mut row_of = [0u32; SOME];
@@ -104,6 +107,7 @@ fn answer_some(
         &mut value_kinds,
         &mut value_numbers,
         &mut value_lengths,
+        room,
     )
 }
 
@@ -122,11 +126,12 @@ fn answer_many(
     answer_kinds: &mut [u8],
     answer_numbers: &mut [i64],
     answer_lengths: &mut [u8],
+    room: &mut [u8],
 ) -> Stage
     ensures { λ r. ⌜ AnswersWithin many-rows before (now (src .entry)) (now (starts .entry)) (now (lengths .entry)) (now (terminals .entry)) (now (kinds .entry))
         (now (tokens .entry)) (now (sizes .entry)) (now (bindings .entry)) (now (types .entry)) (now (constants .entry))
-        (now («answer_kinds» .entry)) (now («answer_numbers» .entry)) (now («answer_lengths» .entry)) r
-        (now («answer_kinds» .exit)) (now («answer_numbers» .exit)) (now («answer_lengths» .exit)) ⌝ }
+        (now («answer_kinds» .entry)) (now («answer_numbers» .entry)) (now («answer_lengths» .entry)) (now (room .entry)) r
+        (now («answer_kinds» .exit)) (now («answer_numbers» .exit)) (now («answer_lengths» .exit)) (now (room .exit)) ⌝ }
 {
     let mut declared = [0u32; MANY];
     let mut row_of = [0u32; MANY];
@@ -153,6 +158,7 @@ fn answer_many(
         &mut value_kinds,
         &mut value_numbers,
         &mut value_lengths,
+        room,
     )
 }
 
@@ -171,11 +177,12 @@ fn answer_large(
     answer_kinds: &mut [u8],
     answer_numbers: &mut [i64],
     answer_lengths: &mut [u8],
+    room: &mut [u8],
 ) -> Stage
     ensures { λ r. ⌜ AnswersWithin most before (now (src .entry)) (now (starts .entry)) (now (lengths .entry)) (now (terminals .entry)) (now (kinds .entry))
         (now (tokens .entry)) (now (sizes .entry)) (now (bindings .entry)) (now (types .entry)) (now (constants .entry))
-        (now («answer_kinds» .entry)) (now («answer_numbers» .entry)) (now («answer_lengths» .entry)) r
-        (now («answer_kinds» .exit)) (now («answer_numbers» .exit)) (now («answer_lengths» .exit)) ⌝ }
+        (now («answer_kinds» .entry)) (now («answer_numbers» .entry)) (now («answer_lengths» .entry)) (now (room .entry)) r
+        (now («answer_kinds» .exit)) (now («answer_numbers» .exit)) (now («answer_lengths» .exit)) (now (room .exit)) ⌝ }
 {
     let mut declared = [0u32; LARGE];
     let mut row_of = [0u32; LARGE];
@@ -202,6 +209,7 @@ fn answer_large(
         &mut value_kinds,
         &mut value_numbers,
         &mut value_lengths,
+        room,
     )
 }
 
@@ -221,11 +229,12 @@ pub fn answer_framed(
     answer_kinds: &mut [u8],
     answer_numbers: &mut [i64],
     answer_lengths: &mut [u8],
+    room: &mut [u8],
 ) -> Stage
     ensures { λ r. ⌜ AnswersWithin most before (now (src .entry)) (now (starts .entry)) (now (lengths .entry)) (now (terminals .entry)) (now (kinds .entry))
         (now (tokens .entry)) (now (sizes .entry)) (now (bindings .entry)) (now (types .entry)) (now (constants .entry))
-        (now («answer_kinds» .entry)) (now («answer_numbers» .entry)) (now («answer_lengths» .entry)) r
-        (now («answer_kinds» .exit)) (now («answer_numbers» .exit)) (now («answer_lengths» .exit)) ⌝ }
+        (now («answer_kinds» .entry)) (now («answer_numbers» .entry)) (now («answer_lengths» .entry)) (now (room .entry)) r
+        (now («answer_kinds» .exit)) (now («answer_numbers» .exit)) (now («answer_lengths» .exit)) (now (room .exit)) ⌝ }
 {
     if kinds.len() <= SOME {
         return answer_some(
@@ -243,6 +252,7 @@ pub fn answer_framed(
             answer_kinds,
             answer_numbers,
             answer_lengths,
+            room,
         );
     }
     if kinds.len() <= MANY {
@@ -261,6 +271,7 @@ pub fn answer_framed(
             answer_kinds,
             answer_numbers,
             answer_lengths,
+            room,
         );
     }
     answer_large(
@@ -278,6 +289,7 @@ pub fn answer_framed(
         answer_kinds,
         answer_numbers,
         answer_lengths,
+        room,
     )
 }
 
@@ -297,11 +309,12 @@ pub fn answer_short(
     answer_kinds: &mut [u8],
     answer_numbers: &mut [i64],
     answer_lengths: &mut [u8],
+    room: &mut [u8],
 ) -> Stage
     ensures { λ r. ⌜ AnswersWithin most before (now (src .entry)) (now (starts .entry)) (now (lengths .entry)) (now (terminals .entry)) (now (kinds .entry))
         (now (tokens .entry)) (now (sizes .entry)) (now (bindings .entry)) (now (types .entry)) (now (constants .entry))
-        (now («answer_kinds» .entry)) (now («answer_numbers» .entry)) (now («answer_lengths» .entry)) r
-        (now («answer_kinds» .exit)) (now («answer_numbers» .exit)) (now («answer_lengths» .exit)) ⌝ }
+        (now («answer_kinds» .entry)) (now («answer_numbers» .entry)) (now («answer_lengths» .entry)) (now (room .entry)) r
+        (now («answer_kinds» .exit)) (now («answer_numbers» .exit)) (now («answer_lengths» .exit)) (now (room .exit)) ⌝ }
 {
     if kinds.len() <= FEW {
         return answer_few(
@@ -319,6 +332,7 @@ pub fn answer_short(
             answer_kinds,
             answer_numbers,
             answer_lengths,
+            room,
         );
     }
     answer_framed(
@@ -336,5 +350,6 @@ pub fn answer_short(
         answer_kinds,
         answer_numbers,
         answer_lengths,
+        room,
     )
 }

@@ -6,6 +6,7 @@ use native.Mathlib.Nat.{lt-of-lt-of-le, mod-lt}
 use native.Mathlib.Omega.{arith}
 use borrow.Author.Tests.{leb-true, le-leb, lt-leb, lt-ltb, le-ltb, ne-eqb}
 use lib.Dec.{leb}
+use lib.ListN.{length-replicate}
 use lib.IntN.{ℤ, pos, negsuc, natAbs}
 use lib.Pow.{pow-pos, pow-mono}
 use lib.Signed.{ltZ}
@@ -14,7 +15,7 @@ use mir.Val.{SFits, toZ}
 use mir.Facts.{toZ-ofZ, toZ-pos}
 use Rattle.express.specs.kinds.Answer.{FALSE, UNKNOWN, TRUE, Answer, indeterminate, integer, logical, binary, item, end}
 use Rattle.express.specs.kinds.Answer as answer
-use Rattle.express.specs.kinds.AnswerRow.{AnswerRow, row, row-of, row-answer, natural, ranked}
+use Rattle.express.specs.kinds.AnswerRow.{AnswerRow, row, row-of, natural, ranked}
 use Rattle.express.specs.kinds.Bits.{bits}
 use Rattle.express.specs.kinds.Integer.{negative}
 use Rattle.express.specs.kinds.Logic.{rank}
@@ -26,10 +27,10 @@ use Rattle.values.specs.declared.logical.Logical as values
 use Rattle.integers.proofs.Exact.{own, sign-is}
 use Rattle.bits.specs.Meaning.{bits-of}
 use Rattle.bits.specs.declared.Binary as bits
-use Rattle.operations.specs.Meaning.{answer-of}
-use Rattle.answer_rows.specs.Stored.{stored}
+use Rattle.operations.specs.Meaning.{answer-of, of-size}
+use Rattle.answer_rows.specs.Stored.{stored, sized-answer}
 use Rattle.operations.specs.declared.Answer as operations
-use Rattle.operations.specs.declared.Answer.the-variants.{Integer, Logical, Item, Ended}
+use Rattle.operations.specs.declared.Answer.the-variants.{Integer, Logical, Item, Text, Ended}
 
 -- ---- the number of a row
 natural-negative : (z : ℤ) → negative z ≡ true → 0 ≡ natural z
@@ -61,6 +62,9 @@ a-node n h = rw (lt-ltb n 4294967296 h)
 pub no-node : (n : ℕ) → 4294967296 ≤ n → indeterminate ≡ stored (item n)
 no-node n h = rw (le-ltb n 4294967296 h)
 
+pub a-length : (n : ℕ) → n < 256 → of-size n ≡ stored (of-size n)
+a-length n h = rw (length-replicate {A = ℕ} n 0, le-leb n 255 (omega arith))
+
 pub ruleset keeping = (too-long, short, a-node, no-node)
 
 outside-ends : (e : ℕ) (s t : Bool) → leb 16 e ≡ s → leb e 19 ≡ t → (e ≡ 16 → ⊥) → (e ≡ 17 → ⊥) → (e ≡ 18 → ⊥) → (e ≡ 19 → ⊥) → s && t ≡ false
@@ -73,26 +77,31 @@ no-end e a b c d = rw (outside-ends e (leb 16 e) (leb e 19) refl refl a b c d)
 
 -- ---- the answer of a row, by its kind
 module _ {k : ℕ} {z : ℤ} (l : ℕ) (f : SFits w64 z) where
-  pub read-indeterminate : k ≡ 0 → indeterminate ≡ stored (row-answer (row k z l))
+  pub read-indeterminate : k ≡ 0 → indeterminate ≡ stored (sized-answer (row k z l))
   read-indeterminate e = rw e
 
-  pub read-integer : k ≡ 1 → integer (own z) ≡ stored (row-answer (row k z l))
+  pub read-integer : k ≡ 1 → integer (own z) ≡ stored (sized-answer (row k z l))
   read-integer e = rw (e, toZ-ofZ f)
 
   module _ {n : ℕ} (h : n ≡ natural (own z)) where
-    pub read-logical : {x : answer.Logical} → k ≡ 2 → x ≡ ranked n → logical x ≡ stored (row-answer (row k z l))
+    pub read-logical : {x : answer.Logical} → k ≡ 2 → x ≡ ranked n → logical x ≡ stored (sized-answer (row k z l))
     read-logical e g = rw e (ap logical (rw (h, toZ-ofZ f) at g))
 
-    pub read-binary : {a : Answer} → k ≡ 3 → a ≡ stored (binary (bits l n)) → a ≡ stored (row-answer (row k z l))
+    pub read-binary : {a : Answer} → k ≡ 3 → a ≡ stored (binary (bits l n)) → a ≡ stored (sized-answer (row k z l))
     read-binary e g = rw e (rw (h, toZ-ofZ f) at g)
 
-    pub read-item : {a : Answer} → k ≡ 4 → a ≡ stored (item n) → a ≡ stored (row-answer (row k z l))
+    pub read-item : {a : Answer} → k ≡ 4 → a ≡ stored (item n) → a ≡ stored (sized-answer (row k z l))
     read-item e g = rw e (rw (h, toZ-ofZ f) at g)
 
-pub read-end : (k : ℕ) (z : ℤ) (l : ℕ) {a : Answer} → (k ≡ 0 → ⊥) → (k ≡ 1 → ⊥) → (k ≡ 2 → ⊥) → (k ≡ 3 → ⊥) → (k ≡ 4 → ⊥) → a ≡ stored (end k) → a ≡ stored (row-answer (row k z l))
-read-end k z l p q r s t e = rw (ne-eqb k 0 p, ne-eqb k 1 q, ne-eqb k 2 r, ne-eqb k 3 s, ne-eqb k 4 t) e
+pub read-string : {k : ℕ} (z : ℤ) (l : ℕ) → l < 256 → k ≡ 5 → of-size l ≡ stored (sized-answer (row k z l))
+read-string z l h e = rw e (a-length l h)
 
-pub ruleset reading = (read-indeterminate, read-integer, read-logical, read-binary, read-item, read-end)
+pub read-end :
+    (k : ℕ) (z : ℤ) (l : ℕ) {a : Answer} → (k ≡ 0 → ⊥) → (k ≡ 1 → ⊥) → (k ≡ 2 → ⊥) → (k ≡ 3 → ⊥) → (k ≡ 4 → ⊥) → (k ≡ 5 → ⊥) → a ≡ stored (end k) →
+    a ≡ stored (sized-answer (row k z l))
+read-end k z l p q r s t u e = rw (ne-eqb k 0 p, ne-eqb k 1 q, ne-eqb k 2 r, ne-eqb k 3 s, ne-eqb k 4 t, ne-eqb k 5 u) e
+
+pub ruleset reading = (read-indeterminate, read-integer, read-logical, read-binary, read-item, read-string, read-end)
 
 -- ---- the row of an answer
 small-row : (k : ℕ) {n m : ℕ} (l : ℕ) → n ≡ m → m < 2 ^ 63 → row k (toZ w64 n) l ≡ row k (pos m) l
@@ -141,7 +150,10 @@ module _ {a : operations.Answer} where
   pub item-row : {m : ℕ} → m < 4294967296 → a ≡ Item m → row 4 (toZ w64 m) 0 ≡ row-of (stored (answer-of a))
   item-row {m} h p = rw (p, ← a-node m h) (small-row 4 0 refl (omega arith))
 
+  pub string-row : {n : ℕ} → n < 256 → a ≡ Text n → row 5 (pos 0) n ≡ row-of (stored (answer-of a))
+  string-row {n} h p = rw (p, ← a-length n h, length-replicate {A = ℕ} n 0)
+
   pub end-row : {e : End} {n : ℕ} → a ≡ Ended e → n ≡ end-number e → row n (pos 0) 0 ≡ row-of (stored (answer-of a))
   end-row {e} p h = rw (p, ← end-kept e, h)
 
-pub ruleset rows = (same-row, integer-row, logical-row, item-row, end-row)
+pub ruleset rows = (same-row, integer-row, logical-row, item-row, string-row, end-row)

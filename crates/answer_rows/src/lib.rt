@@ -1,12 +1,12 @@
 // The rows in which answers are kept.
 ghost use mathlib.Core.Path.{_≡_};
 ghost use Rattle.express.specs.kinds.Answer.{indeterminate, binary, item, end};
-ghost use Rattle.express.specs.kinds.AnswerRow.{row, row-of, row-answer, natural, ranked};
+ghost use Rattle.express.specs.kinds.AnswerRow.{row, row-of, natural, ranked};
 ghost use Rattle.express.specs.kinds.Bits.{bits};
 ghost use Rattle.values.specs.Meaning.{logical-of};
 ghost use Rattle.bits.specs.Meaning.{bits-of};
 ghost use Rattle.operations.specs.Meaning.{answer-of};
-ghost use Rattle.answer_rows.specs.Stored.{row-in, stored};
+ghost use Rattle.answer_rows.specs.Stored.{row-in, stored, sized-answer};
 use bits::Binary;
 use operations::Answer;
 use values::End;
@@ -50,7 +50,7 @@ fn binary_row(b: Binary) -> Row
     }
 }
 
-// The row of an answer; of what no row can hold, which no operation gives, that of `?`.
+// The row of an answer, that of a string with the start 0; of what no row can hold, which no operation gives, that of `?`.
 pub fn row_of(a: Answer) -> Row
     ensures { λ r. ⌜ row-in r ≡ row-of (stored (answer-of a)) ⌝ }
 {
@@ -71,6 +71,11 @@ pub fn row_of(a: Answer) -> Row
             kind: codes::answers::ITEM,
             number: m as i64,
             length: 0,
+        },
+        Answer::Text(n) => Row {
+            kind: codes::answers::STRING,
+            number: 0,
+            length: n,
         },
         Answer::Ended(e) => Row {
             kind: e.number(),
@@ -131,9 +136,9 @@ fn end(kind: u8) -> Answer
     }
 }
 
-// The answer that a row stands for; `?` for a row of no answer.
+// The answer that a row stands for, a string by its length; `?` for a row of no answer.
 pub fn answer_of_row(kind: u8, number: i64, length: u8) -> Answer
-    ensures { λ r. ⌜ answer-of r ≡ stored (row-answer (row kind number length)) ⌝ }
+    ensures { λ r. ⌜ answer-of r ≡ stored (sized-answer (row kind number length)) ⌝ }
 {
     match kind {
         codes::answers::INDETERMINATE => Answer::Indeterminate,
@@ -141,6 +146,7 @@ pub fn answer_of_row(kind: u8, number: i64, length: u8) -> Answer
         codes::answers::LOGICAL => Answer::Logical(ranked(natural(number))),
         codes::answers::BINARY => binary(natural(number), length),
         codes::answers::ITEM => item(natural(number)),
+        codes::answers::STRING => Answer::Text(length),
         _ => end(kind),
     }
 }

@@ -1,6 +1,6 @@
 // The stages of a check after the names: each is handed how the ones before it ended, and passes a refusal on.
 ghost use mathlib.Core.Path.{_≡_};
-ghost use Rattle.answer_stages.specs.AnswerStage.{EvaluatesFile, AnswersFile};
+ghost use Rattle.answer_stages.specs.AnswerStage.{FitsRoom, EvaluatesFile, AnswersFile};
 ghost use Rattle.answer_stages.specs.KindStage.{of-typing, TypesFile};
 use constants::evaluate_constants;
 use declared_types::declared_types;
@@ -56,6 +56,16 @@ pub fn type_file(
     }
 }
 
+// What the bytes needed come to in a room of so many, of a file with n constants: reply 20.
+fn of_room(needed: usize, room: usize, n: usize) -> Stage
+    ensures { λ r. ⌜ FitsRoom needed room n r ⌝ }
+{
+    if needed <= room {
+        return Stage::Done(n);
+    }
+    Stage::Refused(codes::replies::ROOM_SHORT, columns::number(room))
+}
+
 // The answers of the constants, where all stages are done.
 fn evaluate_file(
     before: Stage,
@@ -76,38 +86,43 @@ fn evaluate_file(
     value_kinds: &mut [u8],
     value_numbers: &mut [i64],
     value_lengths: &mut [u8],
-)
-    ensures { λ _. ⌜ EvaluatesFile (now (src .entry)) (now (starts .entry)) (now (lengths .entry)) (now (terminals .entry)) (now (kinds .entry))
+    room: &mut [u8],
+) -> Stage
+    ensures { λ r. ⌜ EvaluatesFile (now (src .entry)) (now (starts .entry)) (now (lengths .entry)) (now (terminals .entry)) (now (kinds .entry))
         (now (tokens .entry)) (now (sizes .entry)) (now (bindings .entry)) before (now (declared .entry)) (now (order .entry)) (now («row_of» .entry))
         (now («answer_kinds» .entry)) (now («answer_numbers» .entry)) (now («answer_lengths» .entry))
-        (now («value_kinds» .entry)) (now («value_numbers» .entry)) (now («value_lengths» .entry))
-        (now («row_of» .exit)) (now («answer_kinds» .exit)) (now («answer_numbers» .exit)) (now («answer_lengths» .exit)) ⌝ }
+        (now («value_kinds» .entry)) (now («value_numbers» .entry)) (now («value_lengths» .entry)) (now (room .entry)) r
+        (now («row_of» .exit)) (now («answer_kinds» .exit)) (now («answer_numbers» .exit)) (now («answer_lengths» .exit)) (now (room .exit)) ⌝ }
 {
     match before {
-        Stage::Done(_) => evaluate_constants(
-            src,
-            starts,
-            lengths,
-            terminals,
-            kinds,
-            tokens,
-            sizes,
-            bindings,
-            declared,
-            order,
-            row_of,
-            answer_kinds,
-            answer_numbers,
-            answer_lengths,
-            value_kinds,
-            value_numbers,
-            value_lengths,
-        ),
-        Stage::Refused(_, _) => {}
+        Stage::Done(n) => {
+            let needed = evaluate_constants(
+                src,
+                starts,
+                lengths,
+                terminals,
+                kinds,
+                tokens,
+                sizes,
+                bindings,
+                declared,
+                order,
+                row_of,
+                answer_kinds,
+                answer_numbers,
+                answer_lengths,
+                value_kinds,
+                value_numbers,
+                value_lengths,
+                room,
+            );
+            of_room(needed, room.len(), n)
+        }
+        Stage::Refused(k, p) => Stage::Refused(k, p),
     }
 }
 
-// From names to answers: replies 14 and 15, and the answer columns. One column serves the typing, and then the rows by node.
+// From names to answers: replies 14, 15 and 20, the answer columns and the room. One column serves the typing, and then the rows by node.
 pub fn answer_file(
     before: Stage,
     src: &[u8],
@@ -128,12 +143,13 @@ pub fn answer_file(
     value_kinds: &mut [u8],
     value_numbers: &mut [i64],
     value_lengths: &mut [u8],
+    room: &mut [u8],
 ) -> Stage
     ensures { λ r. ⌜ AnswersFile (now (src .entry)) (now (starts .entry)) (now (lengths .entry)) (now (terminals .entry)) (now (kinds .entry))
         (now (tokens .entry)) (now (sizes .entry)) (now (bindings .entry)) before (now («type_order» .entry)) (now («constant_order» .entry))
         (now (declared .entry)) (now («row_of» .entry)) (now («answer_kinds» .entry)) (now («answer_numbers» .entry)) (now («answer_lengths» .entry))
-        (now («value_kinds» .entry)) (now («value_numbers» .entry)) (now («value_lengths» .entry)) r
-        (now («answer_kinds» .exit)) (now («answer_numbers» .exit)) (now («answer_lengths» .exit)) ⌝ }
+        (now («value_kinds» .entry)) (now («value_numbers» .entry)) (now («value_lengths» .entry)) (now (room .entry)) r
+        (now («answer_kinds» .exit)) (now («answer_numbers» .exit)) (now («answer_lengths» .exit)) (now (room .exit)) ⌝ }
 {
     let typed = type_file(
         before,
@@ -166,6 +182,6 @@ pub fn answer_file(
         value_kinds,
         value_numbers,
         value_lengths,
-    );
-    typed
+        room,
+    )
 }

@@ -2,23 +2,23 @@
 use mathlib.Core.Path.{_≡_, refl, sym, ap, _∙_}
 use mathlib.Core.Bool.{Bool, true, false}
 use mathlib.Core.List.{List, [], _∷_, _++_}
-use mathlib.Core.Logic.{_⊎_, inl, inr}
-use Prim.Native.Nat.{ℕ, zero, suc, _+_, _-_, _*_, _/_, _%_, _^_, _≤_, _<_, compare, Ordering, Ordering·lt, Ordering·eq, Ordering·gt, compare·suc-suc}
+use Prim.Native.Nat.{ℕ, zero, suc, min, _+_, _-_, _*_, _/_, _%_, _^_, _≤_, _<_, compare, Ordering, Ordering·lt, Ordering·gt, compare·suc-suc}
 use native.Mathlib.Nat.{lt-of-lt-of-le, zero-add, suc-add, one-mul, mod-lt, mod-eq-of-lt, div-eq-of-lt}
 use native.Mathlib.Omega.{arith}
 use borrow.Author.Tests.{le-leb, lt-leb}
 use lib.Arith.{digits-lt}
-use lib.ListN.{length, take, drop, length-append, length-drop, drop-of-length-le}
+use lib.ListN.{length, take, drop, length-append}
 use lib.Seq.{take-at, length-take-le}
 use lib.Pow.{pow-pos, pow-mono, pow-lt, pow-add, high, low, shl-exact}
 use mir.Syntax.{w64}
 use mir.Val.{Fits}
 use Rattle.relations.specs.Order.{then, compare-lists}
-use Rattle.express.specs.kinds.Bits.{bit, number, bits, join, compare-bits}
+use Rattle.relations.proofs.Order.{by-lengths}
+use Rattle.express.specs.kinds.Bits.{bit, number, bits, join, compare-bit, compare-bits}
 use Rattle.express.proofs.kinds.Bits.{length-bits, number-mod, number-lt, bits-mod, bits-append}
 use Rattle.express.proofs.kinds.Order.{compare-lt, compare-gt, compare-eq}
 use Rattle.values.specs.declared.End.the-variants.{OutOfRange}
-use Rattle.bits.specs.Meaning.{bits-of, Joins, Shorter}
+use Rattle.bits.specs.Meaning.{bits-of, Joins}
 use Rattle.bits.specs.declared.Binary.{Binary}
 use Rattle.bits.specs.declared.Joined.the-variants.{Whole, Ended}
 
@@ -95,20 +95,6 @@ first-is a l h =
 pub first-number : (a : Binary) (l : ℕ) {x y : ℕ} → l ≤ a .length → y ≡ a .number / 2 ^ (a .length - l) → x ≡ y % 2 ^ l → x ≡ number (take l (bits-of a))
 first-number a l h e f = f ∙ rw e (first-is a l h)
 
--- ---- the smaller length
-pub shorter-left : {l k : ℕ} → l < k → Shorter l k l
-shorter-left h = record { first = omega arith; second = omega arith; one = inl refl }
-
-pub shorter-right : {l k : ℕ} → k ≤ l → Shorter l k k
-shorter-right h = record { first = omega arith; second = omega arith; one = inr refl }
-
-one-is : (l k r : ℕ) → (r ≡ l) ⊎ (r ≡ k) → r ≤ l → r ≤ k → (l ≤ k → r ≡ l) × (k ≤ l → r ≡ k)
-one-is l k r (inl e) g h = ((λ i. e), λ i. omega arith)
-one-is l k r (inr e) g h = ((λ i. omega arith), λ i. e)
-
-is-shorter : {l k r : ℕ} → Shorter l k r → (l ≤ k → r ≡ l) × (k ≤ l → r ≡ k)
-is-shorter {l} {k} {r} S = one-is l k r (S .one) (S .first) (S .second)
-
 -- ---- comparing: by the numbers of the first l bits, and then by what follows them
 compare-add : (k m n : ℕ) → compare (k + m) (k + n) ≡ compare m n
 compare-add zero m n = rw (zero-add m, zero-add n)
@@ -148,33 +134,11 @@ compare-first (suc l) (true ∷ xs) (false ∷ ys) g h = rw (head-more l xs ys (
 compare-first (suc l) (false ∷ xs) (false ∷ ys) g h = rw (same-head false l xs ys (omega arith) (omega arith)) (compare-first l xs ys (omega arith) (omega arith))
 compare-first (suc l) (true ∷ xs) (true ∷ ys) g h = rw (same-head true l xs ys (omega arith) (omega arith)) (compare-first l xs ys (omega arith) (omega arith))
 
-nil-less : (ys : List Bool) → 0 < length ys → compare-bits [] ys ≡ Ordering·lt
-unfolding compare-lists
-nil-less [] h = absurd (omega arith)
-nil-less (y ∷ ys) h = refl
-
-more-nil : (xs : List Bool) → 0 < length xs → compare-bits xs [] ≡ Ordering·gt
-unfolding compare-lists
-more-nil [] h = absurd (omega arith)
-more-nil (x ∷ xs) h = refl
-
--- two lists that have their first l bits in common, and one of which has no more
-module _ (l : ℕ) (xs ys : List Bool) where
-  rest-less : length xs ≤ l → l < length ys → compare-bits (drop l xs) (drop l ys) ≡ Ordering·lt
-  rest-less g h = rw (drop-of-length-le xs g) (nil-less (drop l ys) (rw length-drop (omega arith)))
-
-  rest-more : l < length xs → length ys ≤ l → compare-bits (drop l xs) (drop l ys) ≡ Ordering·gt
-  rest-more g h = rw (drop-of-length-le ys h) (more-nil (drop l xs) (rw length-drop (omega arith)))
-
-  rest-same : length xs ≤ l → length ys ≤ l → compare-bits (drop l xs) (drop l ys) ≡ Ordering·eq
-  unfolding compare-lists
-  rest-same g h = rw (drop-of-length-le xs g, drop-of-length-le ys h)
-
-module _ (a b : Binary) {l m n : ℕ} (S : Shorter (a .length) (b .length) l) (e : m ≡ number (take l (bits-of a))) (f : n ≡ number (take l (bits-of b))) where
+module _ (a b : Binary) {l m n : ℕ} (S : l ≡ min (a .length) (b .length)) (e : m ≡ number (take l (bits-of a))) (f : n ≡ number (take l (bits-of b))) where
   by-numbers : {o : Ordering} → compare m n ≡ o → compare-bits (bits-of a) (bits-of b) ≡ then o (compare-bits (drop l (bits-of a)) (drop l (bits-of b)))
   by-numbers {o} h =
       let k : compare (number (take l (bits-of a))) (number (take l (bits-of b))) ≡ o = rw (← e, ← f) h in
-      compare-first l (bits-of a) (bits-of b) (rw (length-bits (a .length) (a .number)) (S .first)) (rw (length-bits (b .length) (b .number)) (S .second))
+      compare-first l (bits-of a) (bits-of b) (rw (length-bits (a .length) (a .number)) (omega arith)) (rw (length-bits (b .length) (b .number)) (omega arith))
       ∙ ap (λ (o : Ordering). then o (compare-bits (drop l (bits-of a)) (drop l (bits-of b)))) k
 
   pub less : m < n → Ordering·lt ≡ compare-bits (bits-of a) (bits-of b)
@@ -183,23 +147,11 @@ module _ (a b : Binary) {l m n : ℕ} (S : Shorter (a .length) (b .length) l) (e
   pub more : n < m → Ordering·gt ≡ compare-bits (bits-of a) (bits-of b)
   more h = sym (by-numbers (compare-gt m n h))
 
-  module _ (g : n ≤ m) (h : m ≤ n) where
-    equal : compare-bits (bits-of a) (bits-of b) ≡ compare-bits (drop l (bits-of a)) (drop l (bits-of b))
-    equal = by-numbers (compare-eq m n (omega arith))
+  pub by-rest : {o : Ordering} → n ≤ m → m ≤ n → o ≡ compare (a .length) (b .length) → o ≡ compare-bits (bits-of a) (bits-of b)
+  by-rest g h k =
+      let r : compare-bits (drop l (bits-of a)) (drop l (bits-of b)) ≡ compare (a .length) (b .length) =
+      by-lengths compare-bit l (bits-of a) (bits-of b) (rw (length-bits (a .length) (a .number), length-bits (b .length) (b .number)) S)
+      ∙ rw (length-bits (a .length) (a .number), length-bits (b .length) (b .number)) in
+      k ∙ sym (by-numbers (compare-eq m n (omega arith)) ∙ r)
 
-    pub shorter-less : a .length < b .length → Ordering·lt ≡ compare-bits (bits-of a) (bits-of b)
-    shorter-less k =
-        let p : l ≡ a .length = is-shorter S .0 (omega arith) in
-        sym (equal ∙ rest-less l (bits-of a) (bits-of b) (rw length-bits (omega arith)) (rw length-bits (omega arith)))
-
-    pub longer-more : b .length < a .length → Ordering·gt ≡ compare-bits (bits-of a) (bits-of b)
-    longer-more k =
-        let p : l ≡ b .length = is-shorter S .1 (omega arith) in
-        sym (equal ∙ rest-more l (bits-of a) (bits-of b) (rw length-bits (omega arith)) (rw length-bits (omega arith)))
-
-    pub both-same : b .length ≤ a .length → a .length ≤ b .length → Ordering·eq ≡ compare-bits (bits-of a) (bits-of b)
-    both-same j k =
-        let p : l ≡ a .length = is-shorter S .0 (omega arith) in
-        sym (equal ∙ rest-same l (bits-of a) (bits-of b) (rw length-bits (omega arith)) (rw length-bits (omega arith)))
-
-pub ruleset comparisons = (less, more, shorter-less, longer-more, both-same)
+pub ruleset comparisons = (less, more, by-rest)

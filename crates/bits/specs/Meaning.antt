@@ -2,8 +2,7 @@
 use mathlib.Core.Path.{_≡_}
 use mathlib.Core.Bool.{Bool}
 use mathlib.Core.List.{List}
-use mathlib.Core.Logic.{_⊎_}
-use Prim.Native.Nat.{ℕ, _^_, _<_, _≤_}
+use Prim.Native.Nat.{_^_, _<_, _≤_}
 use Rattle.express.specs.kinds.Answer.{Answer, binary, end}
 use Rattle.express.specs.kinds.Bits.{bits, join}
 use Rattle.values.specs.Meaning.{end-number}
@@ -28,9 +27,3 @@ Canonical (Ended e) = Unit {0}
 pub record Joins (xs ys : List Bool) (r : Joined) : Type 0 where
   pub is : binary-answer r ≡ join xs ys
   pub canonical : Canonical r
-
--- r is the smaller of l and k
-pub record Shorter (l k r : ℕ) : Type 0 where
-  pub first : r ≤ l
-  pub second : r ≤ k
-  pub one : (r ≡ l) ⊎ (r ≡ k)

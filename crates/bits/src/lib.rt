@@ -1,11 +1,11 @@
 // Binaries: joining and comparing.
 ghost use mathlib.Core.Path.{_≡_};
-ghost use Prim.Native.Nat.{_≤_, _/_, _%_, _^_};
+ghost use Prim.Native.Nat.{min, _≤_, _/_, _%_, _^_};
 ghost use lib.ListN.{take};
 ghost use Rattle.express.specs.kinds.AnswerRow.{row, row-of};
 ghost use Rattle.express.specs.kinds.Bits.{join, number, compare-bits};
 ghost use Rattle.values.specs.Meaning.{ordering-of};
-ghost use Rattle.bits.specs.Meaning.{bits-of, Joins, Shorter};
+ghost use Rattle.bits.specs.Meaning.{bits-of, Joins};
 use values::End;
 use values::order::Order;
 
@@ -92,7 +92,7 @@ fn first(a: Binary, l: u8) -> u64
 
 // The smaller of two lengths.
 fn shorter(l: u8, k: u8) -> u8
-    ensures { λ r. ⌜ Shorter l k r ⌝ }
+    ensures { λ r. ⌜ r ≡ min l k ⌝ }
 {
     if l < k { l } else { k }
 }
@@ -110,11 +110,5 @@ pub fn compare(a: Binary, b: Binary) -> Order
     if n < m {
         return Order::More;
     }
-    if a.length < b.length {
-        return Order::Less;
-    }
-    if b.length < a.length {
-        return Order::More;
-    }
-    Order::Same
+    Order::of(a.length as u64, b.length as u64)
 }

@@ -9,6 +9,8 @@ pub const BINARY: u8 = 3;
 
 pub const ITEM: u8 = 4;
 
+pub const STRING: u8 = 5;
+
 // The numbers of logical answers.
 pub const FALSE: u8 = 0;
 

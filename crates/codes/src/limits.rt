@@ -11,5 +11,8 @@ pub const INTEGER_DIGITS: usize = 19;
 // The bits of a binary.
 pub const BITS: usize = 63;
 
+// The bytes of a string.
+pub const STRING_BYTES: usize = 255;
+
 // The brackets that are open at once.
 pub const NESTING: usize = 64;

@@ -30,3 +30,6 @@ pub const CYCLE: u8 = 13;
 pub const NOT_EVALUATED: u8 = 14;
 
 pub const MISFIT: u8 = 15;
+
+// The ends have the numbers between.
+pub const ROOM_SHORT: u8 = 20;

@@ -10,7 +10,9 @@ pub const LOGICAL: u32 = 3;
 
 pub const BINARY: u32 = 4;
 
-pub const FIRST_ENUMERATION: u32 = 5;
+pub const STRING: u32 = 5;
+
+pub const FIRST_ENUMERATION: u32 = 6;
 
 // The last node whose number as an enumeration fits into 32 bits.
-pub const LAST_NODE: usize = 4294967290;
+pub const LAST_NODE: usize = 4294967289;

@@ -1,56 +1,56 @@
--- After a file is evaluated its columns give the answer of each constant by its node: what an expression that is read later asks for.
-use mathlib.Core.Path.{_≡_, ap, _∙_}
-use mathlib.Core.Bool.{true}
-use mathlib.Core.List.{List, map}
+-- After a file is evaluated its columns and the room give the answer of each constant by its node: what an expression that is read later asks for.
+use mathlib.Core.Path.{_≡_, sym, ap, ap₂, subst, _∙_}
+use mathlib.Core.List.{List, [], map}
 use Prim.Native.Nat.{ℕ, _+_, _-_, _≤_, _<_}
 use native.Mathlib.Omega.{arith}
-use borrow.Author.Tests.{eq-eqb}
 use lib.IntN.{ℤ, pos}
-use lib.ListN.{length, getD, drop, length-map, List·getD-append}
-use lib.Seq.{sets, length-sets, sets-eq}
-use Rattle.relations.proofs.Select.{placed}
+use lib.ListN.{length, getD, drop, replicate, length-map, List·getD-append}
+use lib.Seq.{sets, sets-eq}
+use Rattle.columns.specs.Column.{padded}
 use Rattle.express.specs.syntax.NodeKind as node
-use Rattle.express.specs.syntax.Tree.{Table, count, kind, is}
-use Rattle.express.specs.kinds.Answer.{Answer}
+use Rattle.express.specs.syntax.Tree.{Table, count, kind}
+use Rattle.express.specs.names.Scope as scope
+use Rattle.express.specs.kinds.Answer.{indeterminate}
+use Rattle.express.specs.kinds.AnswerRow.{AnswerRow, row-of, rows-from, room-of, row-answer}
 use Rattle.express.specs.kinds.AnswerRow as answer-row
-use Rattle.express.specs.kinds.Evaluate.{answer-at}
-use Rattle.express.specs.kinds.Kind.{constants}
-use Rattle.node_answers.specs.Answers.{answers-in}
-use Rattle.evaluate.specs.Evaluation.{known-in}
-use Rattle.constants.specs.Constants.{file-answers, WrittenRows}
-use Rattle.schemas.specs.Rows.{row, answer-of-constant, OfFile, Rows, Holds}
-use Rattle.schemas.proofs.Settled.{answer-storable}
-use Rattle.schemas.proofs.Passing.{row-read}
-use Rattle.constants.proofs.Written.{map-there}
+use Rattle.express.specs.kinds.Declared.{declared-type}
+use Rattle.express.specs.kinds.Kind.{constants, WellTyped}
+use Rattle.express.specs.kinds.Rule as rule
+use Rattle.express.proofs.whole.AnswerRow.{row-back}
+use Rattle.string_laws.proofs.Answers.{answer-holds}
+use Rattle.constants.specs.Constants.{WrittenRows}
+use Rattle.schemas.specs.Rows.{row, answer-of-constant, file-answers, OfFile, Rows, Holds}
+use Rattle.schemas.proofs.Room.{rows-long}
+use Rattle.schemas.proofs.Answers.{map-there, answers-long, row-within, answer-there}
 
--- what stands in the row of a constant
+-- what stands in a row of a column
 column-there :
-    {A : Type 0} (z : A) (f : Answer → A) (t : Table) (was : List A) → length (constants t) ≤ length was → (c : ℕ) → c < count t → is t node.constant c ≡ true →
-    getD (sets was 0 (map f (file-answers t))) (row t c) z ≡ f (answer-of-constant t c)
-column-there z f t was l c k h =
-    let P = placed (is t node.constant) (count t) c k h in
-    let vs = map f (file-answers t) in
-    let long : length vs ≡ length (constants t) = length-map (file-answers t) f ∙ length-map (constants t) (answer-of-constant t) in
-    let u = P .within in
-    ap (λ x. getD x (row t c) z) (sets-eq vs was 0 (omega (arith, long))) ∙ List·getD-append vs (drop (0 + length vs) was) z (row t c) (omega (arith, long, u)) ∙
-    map-there f (file-answers t) (row t c) (answer-of-constant t 0) z (omega (arith, u, length-map (constants t) (answer-of-constant t))) ∙
-    ap f (map-there (answer-of-constant t) (constants t) (row t c) 0 (answer-of-constant t 0) u) ∙ ap (λ (x : ℕ). f (answer-of-constant t x)) (P .there)
+    {A : Type 0} (z : A) (f : AnswerRow → A) (t : Table) (was : List A) → length (constants t) ≤ length was → (i : ℕ) → i < length (constants t) →
+    getD (sets was 0 (map f (rows-from 0 (file-answers t)))) i z ≡ f (getD (rows-from 0 (file-answers t)) i (row-of indeterminate))
+column-there z f t was l i b =
+    let rs = rows-from 0 (file-answers t) in
+    let vs = map f rs in
+    let many : length rs ≡ length (constants t) = rows-long 0 (file-answers t) ∙ answers-long t in
+    let long : length vs ≡ length (constants t) = length-map rs f ∙ many in
+    ap (λ x. getD x i z) (sets-eq vs was 0 (omega (arith, long))) ∙ List·getD-append vs (drop (0 + length vs) was) z i (omega (arith, long)) ∙
+    map-there f rs i (row-of indeterminate) z (omega (arith, many))
 
 pub known-after :
-    {t : Table} {bytes starts lengths terminals kinds tokens sizes bindings declared order row-of aks : List ℕ} {azs : List ℤ} {als aks′ : List ℕ} {azs′ : List ℤ} {als′ : List ℕ} →
+    {t : Table} {bytes starts lengths terminals kinds tokens sizes bindings declared order row-of aks : List ℕ} {azs : List ℤ} {als aks′ : List ℕ} {azs′ : List ℤ} {als′ room : List ℕ} →
     OfFile t bytes starts lengths terminals kinds tokens sizes bindings declared order → Rows t row-of → Holds (length (constants t)) aks azs als →
-    WrittenRows aks azs als (file-answers t) aks′ azs′ als′ → (c : ℕ) → c < count t → kind t c ≡ node.constant →
-    known-in row-of 0 aks′ azs′ als′ c ≡ answer-of-constant t c
-known-after {t = t} {row-of = row-of} {aks = aks} {azs = azs} {als = als} {aks′ = aks′} {azs′ = azs′} {als′ = als′} O W R F c l k =
-    let h = eq-eqb (kind t c) node.constant k in
-    let u = placed (is t node.constant) (count t) c l h .within in
-    let q : getD row-of c 0 - 0 ≡ row t c = omega (arith, W .is c l) in
-    let a : length aks′ ≡ length aks = ap length (F .kinds-are) ∙ length-sets aks 0 (map (λ v. answer-row.row-of v .kind) (file-answers t)) in
-    let b : length azs′ ≡ length azs = ap length (F .numbers-are) ∙ length-sets azs 0 (map (λ v. answer-row.row-of v .number) (file-answers t)) in
-    let d : length als′ ≡ length als = ap length (F .lengths-are) ∙ length-sets als 0 (map (λ v. answer-row.row-of v .length) (file-answers t)) in
-    ap (answer-at (answers-in aks′ azs′ als′)) q ∙
-    row-read aks′ azs′ als′ (row t c) (answer-of-constant t c) (answer-storable (O .read) (O .named) (O .scanned) (O .few) c) (omega (arith, u, a, R .kinds-long))
-    (omega (arith, u, b, R .numbers-long)) (omega (arith, u, d, R .lengths-long))
-    (ap (λ x. getD x (row t c) 0) (F .kinds-are) ∙ column-there 0 (λ v. answer-row.row-of v .kind) t aks (R .kinds-long) c l h)
-    (ap (λ x. getD x (row t c) (pos 0)) (F .numbers-are) ∙ column-there (pos 0) (λ v. answer-row.row-of v .number) t azs (R .numbers-long) c l h)
-    (ap (λ x. getD x (row t c) 0) (F .lengths-are) ∙ column-there 0 (λ v. answer-row.row-of v .length) t als (R .lengths-long) c l h)
+    WrittenRows aks azs als (file-answers t) aks′ azs′ als′ → (n : ℕ) → room ≡ padded 0 n (room-of (file-answers t)) → (c : ℕ) → c < count t → kind t c ≡ node.constant →
+    row-answer room (answer-row.row (getD aks′ (getD row-of c 0) 0) (getD azs′ (getD row-of c 0) (pos 0)) (getD als′ (getD row-of c 0) 0)) ≡ answer-of-constant t c
+known-after {t} {row-of = row-of} {aks = aks} {azs = azs} {als = als} {aks′ = aks′} {azs′ = azs′} {als′ = als′} {room = room} O W R F n e c l k =
+    let i = row t c in
+    let b = row-within t c l k in
+    let q = W .is c l in
+    let rest : List ℕ = replicate (n - length (room-of (file-answers t))) 0 in
+    let well : WellTyped t (scope.bindings t) = subst (WellTyped t) (sym (O .bindings-are)) (O .typed) in
+    let h = subst (rule.Holds t (declared-type t (scope.bindings t) c)) (sym (answer-there t c l k)) (answer-holds t (O .scanned) (O .read) (O .named) well c l k) in
+    let a : getD aks′ (getD row-of c 0) 0 ≡ getD (rows-from 0 (file-answers t)) i (answer-row.row-of indeterminate) .kind =
+    ap₂ (λ (x : List ℕ) (j : ℕ). getD x j 0) (F .kinds-are) q ∙ column-there 0 (λ (r : AnswerRow). r .kind) t aks (R .kinds-long) i b in
+    let d : getD azs′ (getD row-of c 0) (pos 0) ≡ getD (rows-from 0 (file-answers t)) i (answer-row.row-of indeterminate) .number =
+    ap₂ (λ (x : List ℤ) (j : ℕ). getD x j (pos 0)) (F .numbers-are) q ∙ column-there (pos 0) (λ (r : AnswerRow). r .number) t azs (R .numbers-long) i b in
+    let g : getD als′ (getD row-of c 0) 0 ≡ getD (rows-from 0 (file-answers t)) i (answer-row.row-of indeterminate) .length =
+    ap₂ (λ (x : List ℕ) (j : ℕ). getD x j 0) (F .lengths-are) q ∙ column-there 0 (λ (r : AnswerRow). r .length) t als (R .lengths-long) i b in
+    rw (a, d, g, e) (row-back (file-answers t) [] rest i h ∙ answer-there t c l k)

@@ -1,4 +1,5 @@
 pub mod Numbering
+pub mod Starting
 pub mod Written
 pub mod Parted
 pub mod Schemas

@@ -11,15 +11,15 @@ use lib.ListN.{length, getD, take, drop, length-take, length-drop, length-map}
 use lib.Seq.{take-all, getD-take, getD-drop}
 use Rattle.relations.specs.Select.{first-from}
 use Rattle.relations.specs.Reach.{Joins}
-use Rattle.relations.specs.Sorted.{Sorted, done, next}
 use Rattle.relations.proofs.Select.{le-or, First, first-is, mem-keep, mem-upto}
 use Rattle.express.specs.syntax.NodeKind as node
 use Rattle.express.specs.syntax.Tree.{Table, count, kind, is-declaration, nodes}
 use Rattle.express.specs.names.Fault.{constant-edges}
 use Rattle.constant_rows.specs.Parts.{schema-in, grouped}
 use Rattle.schemas.specs.Rows.{OfFile, Part}
+use Rattle.schemas.proofs.Held.{sorted-at}
 use Rattle.constant_rows.proofs.Grouping.{schema-from, schema-upto, falls-not}
-use Rattle.constants.proofs.Written.{map-there}
+use Rattle.schemas.proofs.Answers.{map-there}
 
 -- ---- places in a list
 record Place (xs : List ℕ) (n c : ℕ) : Type 0 where
@@ -43,16 +43,6 @@ mem-of [] n i c b k e = absurd (omega arith)
 mem-of (x ∷ xs) zero i c b k e = absurd (omega arith)
 mem-of (x ∷ xs) (suc n) zero c b k e = List·Memᴰ·head (sym e)
 mem-of (x ∷ xs) (suc n) (suc i) c b k e = List·Memᴰ·tail (mem-of xs n i c (omega arith) (omega arith) e)
-
-sorted-at : {E : ℕ → ℕ → Type 0} {passed ds : List ℕ} → Sorted E passed ds → (i c : ℕ) → i < length ds → E (getD ds i 0) c → List·Memᴰ c passed ⊎ List·Memᴰ c (take i ds)
-sorted-at done i c l e = absurd (omega arith)
-sorted-at (next h more) zero c l e = inl (h c e)
-sorted-at (next h more) (suc i) c l e = by (sorted-at more i c (omega arith) e)
-  where
-    by : {d : ℕ} {ps qs : List ℕ} → List·Memᴰ c (d ∷ ps) ⊎ List·Memᴰ c qs → List·Memᴰ c ps ⊎ List·Memᴰ c (d ∷ qs)
-    by (inl (List·Memᴰ·head q)) = inr (List·Memᴰ·head q)
-    by (inl (List·Memᴰ·tail m)) = inl m
-    by (inr m) = inr (List·Memᴰ·tail m)
 
 -- ---- the part from one place up to another
 module _ (order : List ℕ) (from to : ℕ) (l : from ≤ to) (k : to ≤ length order) where

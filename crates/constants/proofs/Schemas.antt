@@ -17,19 +17,21 @@ use Rattle.express.specs.syntax.NodeKind as node
 use Rattle.express.specs.syntax.Grammar.{file}
 use Rattle.express.specs.syntax.Syntax.{Read}
 use Rattle.express.specs.syntax.Tree.{Table, count, kind, is, schema-of}
-use Rattle.express.specs.kinds.Answer.{Answer}
+use Rattle.express.specs.kinds.AnswerRow.{bytes-of}
 use Rattle.express.specs.kinds.Kind.{constants}
 use Rattle.express.proofs.syntax.Within.{schema-over}
 use Rattle.express.proofs.names.Owned.{in-schema}
 use Rattle.express.proofs.kinds.Backward.{schema-step, schema-end, schema-rises}
 use Rattle.constants.specs.Constants.{FillsSchemas}
-use Rattle.schemas.specs.Rows.{row, answer-of-constant, OfFile, Rows, Room, Holds, Schema, Filled, FilledRows, FillsSchema}
+use Rattle.schemas.specs.Rows.{row, answer-of-constant, start-of, row-of-constant, is-string, OfFile, Rows, Room, Holds, Schema, Filled, FilledRows, Placed, FilledRoom, FillsSchema}
 use Rattle.constant_rows.specs.Parts.{grouped}
+use Rattle.schemas.proofs.Room.{part-same}
+use Rattle.schemas.proofs.Answers.{start-none, start-other, start-rises, start-behind}
 use Rattle.constants.proofs.Parted.{Started, started, started-next, parted}
 use Rattle.constant_rows.proofs.Numbering.{row-none, row-rises, row-before, row-other}
 
 -- ---- one column, of which the part from row h on was lent
-module _ {A : Type 0} {z : A} {f : Answer → A} {t : Table} {lo n at h : ℕ} {was column part′ : List A} (post : List A) where
+module _ {A : Type 0} {z : A} {f : ℕ → A} {t : Table} {lo n at h : ℕ} {was column part′ : List A} (post : List A) where
   joined :
       Filled z f t 0 lo 0 was column → h ≡ min at (length column) → at ≡ row t lo → lo ≤ n → row t n ≤ length column → length column ≡ length was →
       (kind t n ≡ node.constant → ⊥) → Filled z f t lo n at (take (length column - h) (drop h column)) part′ →
@@ -56,13 +58,13 @@ module _ {A : Type 0} {z : A} {f : Answer → A} {t : Table} {lo n at h : ℕ} {
       back i b =
           rw (e, ← front-long) (getD-append-add (take h column) (part′ ++ post) i z) ∙ List·getD-append part′ post z i b
 
-      all : (c : ℕ) → 0 ≤ c → c < n + 1 → kind t c ≡ node.constant → getD after (row t c - 0) z ≡ f (answer-of-constant t c)
+      all : (c : ℕ) → 0 ≤ c → c < n + 1 → kind t c ≡ node.constant → getD after (row t c - 0) z ≡ f c
       all c o hi i = by (le-or lo c)
         where
           less : c < n
           less = ⊎-elim (λ (a : n ≤ c). let q : c ≡ n = omega arith in absurd (k (subst (λ (x : ℕ). kind t x ≡ node.constant) q i))) (λ a. a) (le-or n c)
 
-          by : (lo ≤ c) ⊎ (c < lo) → getD after (row t c - 0) z ≡ f (answer-of-constant t c)
+          by : (lo ≤ c) ⊎ (c < lo) → getD after (row t c - 0) z ≡ f c
           by (inl a) =
               let b = row-rises (t .kinds) lo c a in
               let d = row-before (t .kinds) c n less i in
@@ -86,6 +88,44 @@ module _ {A : Type 0} {z : A} {f : Answer → A} {t : Table} {lo n at h : ℕ} {
               ap (λ (x : ℕ). getD after x z) g ∙ back (r - at) (omega (arith, below, bound, part-long)) ∙ G .rest (r - at) (omega (arith, bound)) ∙
               getD-take (length column - h) (drop h column) (r - at) z (omega (arith, below, bound, seam)) ∙ getD-drop h column (r - at) z ∙
               ap (λ (x : ℕ). getD column x z) j ∙ F .rest r (omega (arith, below, bound))
+
+-- ---- the rows of strings that are there stand in the part that is lent
+module _ {A : Type 0} {z : A} {f : ℕ → A} (g : ℕ → A) {t : Table} {lo n at h : ℕ} {was column : List A} where
+  placed-part :
+      ((c : ℕ) → 0 ≤ c → c < count t → kind t c ≡ node.constant → is-string t c ≡ true → getD was (row t c - 0) z ≡ g c) → Filled z f t 0 lo 0 was column →
+      h ≡ min at (length column) → at ≡ row t lo → n < count t → row t n ≤ length column →
+      (c : ℕ) → lo ≤ c → c < n → kind t c ≡ node.constant → is-string t c ≡ true → getD (take (length column - h) (drop h column)) (row t c - at) z ≡ g c
+  placed-part P F m s l u c a b k i =
+      let d = row-before (t .kinds) c n b k in
+      let e = row-rises (t .kinds) lo c a in
+      let q : h + (row t c - at) ≡ row t c - 0 = omega arith in
+      getD-take (length column - h) (drop h column) (row t c - at) z (omega arith) ∙ getD-drop h column (row t c - at) z ∙ ap (λ (x : ℕ). getD column x z) q ∙
+      F .rest (row t c - 0) (omega arith) ∙ P c (omega arith) (omega arith) k i
+
+-- ---- the room: a schema's strings lie behind those of the earlier schemas
+room-joined :
+    {t : Table} {lo n : ℕ} {was room room′ : List ℕ} → FilledRoom t 0 lo was room → lo ≤ n → n < count t → (kind t n ≡ node.constant → ⊥) → FilledRoom t lo n room room′ →
+    FilledRoom t 0 (n + 1) was room′
+room-joined {t} {lo} {n} {was} {room} {room′} F l h k G = record { long = G .long ∙ F .long; strings-are = strings; rest = rest }
+  where
+    strings : (c : ℕ) → 0 ≤ c → c < n + 1 → kind t c ≡ node.constant →
+        take (length (bytes-of (answer-of-constant t c))) (drop (start-of t c) room′) ≡ bytes-of (answer-of-constant t c)
+    strings c o b i = by (le-or lo c)
+      where
+        less : c < n
+        less = ⊎-elim (λ (a : n ≤ c). let q : c ≡ n = omega arith in absurd (k (subst (λ (x : ℕ). kind t x ≡ node.constant) q i))) (λ a. a) (le-or n c)
+
+        by : (lo ≤ c) ⊎ (c < lo) → take (length (bytes-of (answer-of-constant t c))) (drop (start-of t c) room′) ≡ bytes-of (answer-of-constant t c)
+        by (inl a) = G .strings-are c a less i
+        by (inr a) =
+            part-same room room′ (G .long) (start-of t c) (length (bytes-of (answer-of-constant t c)))
+            (λ j d. G .rest j (inl (let e = start-behind t c lo (omega arith) i a in omega arith))) ∙ F .strings-are c o a i
+
+    rest : (i : ℕ) → (i < start-of t 0) ⊎ (start-of t (n + 1) ≤ i) → getD room′ i 0 ≡ getD was i 0
+    rest i (inl a) = absurd (omega (arith, start-none t))
+    rest i (inr a) =
+        let e = start-other t n k in
+        let r = start-rises t lo n l in G .rest i (inr (omega arith)) ∙ F .rest i (inr (omega arith))
 
 -- ---- where the loop stands: the schemas that end before lo are done, and those from lo up to n are nodes of one schema
 pub record Stage (t : Table) (n lo at : ℕ) : Type 0 where
@@ -185,24 +225,26 @@ schema-among kinds q = let u = first-is (λ j. eqb (getD kinds j 0) node.schema)
 
 -- ---- THE LOOP'S INVARIANT
 pub record Filling (bytes starts lengths terminals kinds tokens sizes bindings declared order row-of aks₀ : List ℕ) (azs₀ : List ℤ) (als₀ vks₀ : List ℕ) (vzs₀ : List ℤ)
-    (vls₀ aks : List ℕ) (azs : List ℤ) (als vks : List ℕ) (vzs : List ℤ) (vls : List ℕ) (n lo at from : ℕ) : Type 0 where
+    (vls₀ room₀ aks : List ℕ) (azs : List ℤ) (als vks : List ℕ) (vzs : List ℤ) (vls room : List ℕ) (n lo at from : ℕ) : Type 0 where
   pub kinds-kept : length aks ≡ length aks₀
   pub numbers-kept : length azs ≡ length azs₀
   pub lengths-kept : length als ≡ length als₀
   pub value-kinds-kept : length vks ≡ length vks₀
   pub value-numbers-kept : length vzs ≡ length vzs₀
   pub value-lengths-kept : length vls ≡ length vls₀
+  pub room-kept : length room ≡ length room₀
   pub ahead : lo ≤ n
   pub begun : Started order lo from
   pub is :
       (t : Table) → OfFile t bytes starts lengths terminals kinds tokens sizes bindings declared order → Rows t row-of → Room t vks₀ vzs₀ vls₀ →
-      Holds (length (constants t)) aks₀ azs₀ als₀ → Stage t n lo at × FilledRows t 0 lo 0 aks₀ azs₀ als₀ aks azs als
+      Holds (length (constants t)) aks₀ azs₀ als₀ → Placed t 0 (count t) 0 aks₀ azs₀ als₀ → start-of t (count t) ≤ length room₀ →
+      Stage t n lo at × FilledRows (row-of-constant t) t 0 lo 0 aks₀ azs₀ als₀ aks azs als × FilledRoom t 0 lo room₀ room
 
 -- where a schema stands at n, unless all have passed
 pub record Here (bytes starts lengths terminals kinds tokens sizes bindings declared order row-of aks₀ : List ℕ) (azs₀ : List ℤ) (als₀ vks₀ : List ℕ) (vzs₀ : List ℤ)
-    (vls₀ aks : List ℕ) (azs : List ℤ) (als vks : List ℕ) (vzs : List ℤ) (vls : List ℕ) (n lo at from : ℕ) : Type 0 where
+    (vls₀ room₀ aks : List ℕ) (azs : List ℤ) (als vks : List ℕ) (vzs : List ℤ) (vls room : List ℕ) (n lo at from : ℕ) : Type 0 where
   pub filling :
-      Filling bytes starts lengths terminals kinds tokens sizes bindings declared order row-of aks₀ azs₀ als₀ vks₀ vzs₀ vls₀ aks azs als vks vzs vls n lo at from
+      Filling bytes starts lengths terminals kinds tokens sizes bindings declared order row-of aks₀ azs₀ als₀ vks₀ vzs₀ vls₀ room₀ aks azs als vks vzs vls room n lo at from
   pub stands : n < length kinds → getD kinds n 0 ≡ node.schema
 
 -- a part of a column is long enough for the rows of a schema
@@ -211,8 +253,8 @@ part-long : {A : Type 0} (t : Table) {lo n at h : ℕ} (column : List A) → h �
 part-long t {lo} {n} {at} {h} column m s l u =
     omega (arith, row-rises (t .kinds) lo n l, length-take (length column - h) (drop h column), length-drop h column)
 
-module _ {bytes starts lengths terminals kinds tokens sizes bindings declared order row-of aks₀ : List ℕ} {azs₀ : List ℤ} {als₀ vks₀ : List ℕ} {vzs₀ : List ℤ} {vls₀ : List ℕ} where
-  pub filling-starts : Filling bytes starts lengths terminals kinds tokens sizes bindings declared order row-of aks₀ azs₀ als₀ vks₀ vzs₀ vls₀ aks₀ azs₀ als₀ vks₀ vzs₀ vls₀ 0 0 0 0
+module _ {bytes starts lengths terminals kinds tokens sizes bindings declared order row-of aks₀ : List ℕ} {azs₀ : List ℤ} {als₀ vks₀ : List ℕ} {vzs₀ : List ℤ} {vls₀ room₀ : List ℕ} where
+  pub filling-starts : Filling bytes starts lengths terminals kinds tokens sizes bindings declared order row-of aks₀ azs₀ als₀ vks₀ vzs₀ vls₀ room₀ aks₀ azs₀ als₀ vks₀ vzs₀ vls₀ room₀ 0 0 0 0
   filling-starts =
       record {
         kinds-kept = refl;
@@ -221,24 +263,26 @@ module _ {bytes starts lengths terminals kinds tokens sizes bindings declared or
         value-kinds-kept = refl;
         value-numbers-kept = refl;
         value-lengths-kept = refl;
+        room-kept = refl;
         ahead = omega arith;
         begun = started order;
-        is = λ t O W M R. (
+        is = λ t O W M R X e. (
           stage-starts t,
           record {
             kinds-are = record { constants-are = λ c a b k. absurd (omega arith); rest = λ r h. refl };
             numbers-are = record { constants-are = λ c a b k. absurd (omega arith); rest = λ r h. refl };
             lengths-are = record { constants-are = λ c a b k. absurd (omega arith); rest = λ r h. refl };
           },
+          record { long = refl; strings-are = λ c a b k. absurd (omega arith); rest = λ i h. refl },
         );
       }
 
-  module _ {aks : List ℕ} {azs : List ℤ} {als vks : List ℕ} {vzs : List ℤ} {vls : List ℕ} {n lo at from : ℕ}
-      (P : Filling bytes starts lengths terminals kinds tokens sizes bindings declared order row-of aks₀ azs₀ als₀ vks₀ vzs₀ vls₀ aks azs als vks vzs vls n lo at from) where
+  module _ {aks : List ℕ} {azs : List ℤ} {als vks : List ℕ} {vzs : List ℤ} {vls room : List ℕ} {n lo at from : ℕ}
+      (P : Filling bytes starts lengths terminals kinds tokens sizes bindings declared order row-of aks₀ azs₀ als₀ vks₀ vzs₀ vls₀ room₀ aks azs als vks vzs vls room n lo at from) where
     -- the next schema
     pub filling-next :
         {m : ℕ} → m ≡ first-from (λ j. eqb (getD kinds j 0) node.schema) n (length kinds - n) →
-        Here bytes starts lengths terminals kinds tokens sizes bindings declared order row-of aks₀ azs₀ als₀ vks₀ vzs₀ vls₀ aks azs als vks vzs vls m lo at from
+        Here bytes starts lengths terminals kinds tokens sizes bindings declared order row-of aks₀ azs₀ als₀ vks₀ vzs₀ vls₀ room₀ aks azs als vks vzs vls room m lo at from
     filling-next {m} q =
         record {
           filling = record {
@@ -248,12 +292,13 @@ module _ {bytes starts lengths terminals kinds tokens sizes bindings declared or
             value-kinds-kept = P .value-kinds-kept;
             value-numbers-kept = P .value-numbers-kept;
             value-lengths-kept = P .value-lengths-kept;
+            room-kept = P .room-kept;
             ahead = let g = next-beyond (λ j. eqb (getD kinds j 0) node.schema) n (length kinds - n) q in omega (arith, P .ahead);
             begun = P .begun;
-            is = λ t O W M R.
-                let Q = P .is t O W M R in
+            is = λ t O W M R X f.
+                let Q = P .is t O W M R X f in
                 let e = ap (λ (ks : List ℕ). first-from (λ j. eqb (getD ks j 0) node.schema) n (length ks - n)) (O .kinds-are) in
-                (stage-next (Q .0) (q ∙ sym e), Q .1);
+                (stage-next (Q .0) (q ∙ sym e), Q .1, Q .2);
           };
           stands = next-is kinds node.schema n q;
         }
@@ -262,17 +307,17 @@ module _ {bytes starts lengths terminals kinds tokens sizes bindings declared or
       module _ (k : getD kinds n 0 ≡ node.schema) {a b c o : ℕ} (a-is : a ≡ min at (length aks)) (b-is : b ≡ min at (length azs)) (c-is : c ≡ min at (length als)) (o-is : o ≡ getD row-of n 0)
           {next to : ℕ} (g : Bool) (next-is : next ≡ cond g (first-from (λ i. ltb n (getD order i 0)) from (length order - from)) from) (g-is : g ≡ true → grouped kinds order ≡ true)
           (to-is : to ≡ cond g next (length order))
-          {aks′ : List ℕ} {azs′ : List ℤ} {als′ : List ℕ} (post₁ : List ℕ) (post₂ : List ℤ) (post₃ : List ℕ) {vks′ : List ℕ} {vzs′ : List ℤ} {vls′ : List ℕ} where
+          {aks′ : List ℕ} {azs′ : List ℤ} {als′ : List ℕ} (post₁ : List ℕ) (post₂ : List ℤ) (post₃ : List ℕ) {vks′ : List ℕ} {vzs′ : List ℤ} {vls′ room′ : List ℕ} where
         pub filling-schema :
             FillsSchema bytes starts lengths terminals kinds tokens sizes bindings declared (take (to - from) (drop from order)) row-of lo n at
-            (take (length aks - a) (drop a aks)) (take (length azs - b) (drop b azs)) (take (length als - c) (drop c als)) vks vzs vls aks′ azs′ als′ →
+            (take (length aks - a) (drop a aks)) (take (length azs - b) (drop b azs)) (take (length als - c) (drop c als)) vks vzs vls room aks′ azs′ als′ room′ →
             length aks′ ≡ length (take (length aks - a) (drop a aks)) → length azs′ ≡ length (take (length azs - b) (drop b azs)) →
             length als′ ≡ length (take (length als - c) (drop c als)) →
             length (take a aks ++ (aks′ ++ post₁)) ≡ length aks → length (take b azs ++ (azs′ ++ post₂)) ≡ length azs → length (take c als ++ (als′ ++ post₃)) ≡ length als →
-            length vks′ ≡ length vks → length vzs′ ≡ length vzs → length vls′ ≡ length vls →
-            Filling bytes starts lengths terminals kinds tokens sizes bindings declared order row-of aks₀ azs₀ als₀ vks₀ vzs₀ vls₀
-            (take a aks ++ (aks′ ++ post₁)) (take b azs ++ (azs′ ++ post₂)) (take c als ++ (als′ ++ post₃)) vks′ vzs′ vls′ (n + 1) (n + 1) o next
-        filling-schema E p₁ p₂ p₃ a₁ a₂ a₃ v₁ v₂ v₃ =
+            length vks′ ≡ length vks → length vzs′ ≡ length vzs → length vls′ ≡ length vls → length room′ ≡ length room →
+            Filling bytes starts lengths terminals kinds tokens sizes bindings declared order row-of aks₀ azs₀ als₀ vks₀ vzs₀ vls₀ room₀
+            (take a aks ++ (aks′ ++ post₁)) (take b azs ++ (azs′ ++ post₂)) (take c als ++ (als′ ++ post₃)) vks′ vzs′ vls′ room′ (n + 1) (n + 1) o next
+        filling-schema E p₁ p₂ p₃ a₁ a₂ a₃ v₁ v₂ v₃ w =
             record {
               kinds-kept = a₁ ∙ P .kinds-kept;
               numbers-kept = a₂ ∙ P .numbers-kept;
@@ -280,6 +325,7 @@ module _ {bytes starts lengths terminals kinds tokens sizes bindings declared or
               value-kinds-kept = v₁ ∙ P .value-kinds-kept;
               value-numbers-kept = v₂ ∙ P .value-numbers-kept;
               value-lengths-kept = v₃ ∙ P .value-lengths-kept;
+              room-kept = w ∙ P .room-kept;
               ahead = omega arith;
               begun = started-next (P .begun) n g low next-is;
               is = rows;
@@ -290,10 +336,12 @@ module _ {bytes starts lengths terminals kinds tokens sizes bindings declared or
 
             rows :
                 (t : Table) → OfFile t bytes starts lengths terminals kinds tokens sizes bindings declared order → Rows t row-of → Room t vks₀ vzs₀ vls₀ →
-                Holds (length (constants t)) aks₀ azs₀ als₀ →
-                Stage t (n + 1) (n + 1) o × FilledRows t 0 (n + 1) 0 aks₀ azs₀ als₀ (take a aks ++ (aks′ ++ post₁)) (take b azs ++ (azs′ ++ post₂)) (take c als ++ (als′ ++ post₃))
-            rows t O W M R =
-                let Q = P .is t O W M R in
+                Holds (length (constants t)) aks₀ azs₀ als₀ → Placed t 0 (count t) 0 aks₀ azs₀ als₀ → start-of t (count t) ≤ length room₀ →
+                Stage t (n + 1) (n + 1) o ×
+                FilledRows (row-of-constant t) t 0 (n + 1) 0 aks₀ azs₀ als₀ (take a aks ++ (aks′ ++ post₁)) (take b azs ++ (azs′ ++ post₂)) (take c als ++ (als′ ++ post₃)) ×
+                FilledRoom t 0 (n + 1) room₀ room′
+            rows t O W M R X f =
+                let Q = P .is t O W M R X f in
                 let S = Q .0 in
                 let F = Q .1 in
                 let e = O .kinds-are in
@@ -314,41 +362,62 @@ module _ {bytes starts lengths terminals kinds tokens sizes bindings declared or
                   kinds-long = part-long t aks a-is (S .start) (S .from) u₁;
                   numbers-long = part-long t azs b-is (S .start) (S .from) u₂;
                   lengths-long = part-long t als c-is (S .start) (S .from) u₃;
-                }) in (
+                })
+                (record {
+                  kinds-are = placed-part (λ (d : ℕ). row-of-constant t d .kind) (X .kinds-are) (F .kinds-are) a-is (S .start) l′ u₁;
+                  numbers-are = placed-part (λ (d : ℕ). row-of-constant t d .number) (X .numbers-are) (F .numbers-are) b-is (S .start) l′ u₂;
+                  lengths-are = placed-part (λ (d : ℕ). row-of-constant t d .length) (X .lengths-are) (F .lengths-are) c-is (S .start) l′ u₃;
+                }) (omega (arith, start-rises t n (count t) (omega arith), P .room-kept)) in (
                   stage-schema S l′ k′ (o-is ∙ W .is n l′),
                   record {
-                    kinds-are = joined post₁ (F .kinds-are) a-is (S .start) (S .from) u₁ (P .kinds-kept) i (G .kinds-are) p₁ refl a₁;
-                    numbers-are = joined post₂ (F .numbers-are) b-is (S .start) (S .from) u₂ (P .numbers-kept) i (G .numbers-are) p₂ refl a₂;
-                    lengths-are = joined post₃ (F .lengths-are) c-is (S .start) (S .from) u₃ (P .lengths-kept) i (G .lengths-are) p₃ refl a₃;
+                    kinds-are = joined post₁ (F .kinds-are) a-is (S .start) (S .from) u₁ (P .kinds-kept) i (G .0 .kinds-are) p₁ refl a₁;
+                    numbers-are = joined post₂ (F .numbers-are) b-is (S .start) (S .from) u₂ (P .numbers-kept) i (G .0 .numbers-are) p₂ refl a₂;
+                    lengths-are = joined post₃ (F .lengths-are) c-is (S .start) (S .from) u₃ (P .lengths-kept) i (G .0 .lengths-are) p₃ refl a₃;
                   },
+                  room-joined (Q .2) (S .from) l′ i (G .1),
                 )
 
     -- every constant lies in a schema, so all have passed
-    pub filling-ends : length kinds ≤ n → FillsSchemas bytes starts lengths terminals kinds tokens sizes bindings declared order row-of aks₀ azs₀ als₀ vks₀ vzs₀ vls₀ aks azs als
+    pub filling-ends : length kinds ≤ n → FillsSchemas bytes starts lengths terminals kinds tokens sizes bindings declared order row-of aks₀ azs₀ als₀ vks₀ vzs₀ vls₀ room₀ aks azs als room
     filling-ends h =
         record {
-          is = λ t O W M R.
-              let Q = P .is t O W M R in
-              record {
-                kinds-are = all O (Q .0) (Q .1 .kinds-are);
-                numbers-are = all O (Q .0) (Q .1 .numbers-are);
-                lengths-are = all O (Q .0) (Q .1 .lengths-are);
-              };
+          is = λ t O W M R X f.
+              let Q = P .is t O W M R X f in (
+                record {
+                  kinds-are = all O (Q .0) (Q .1 .kinds-are);
+                  numbers-are = all O (Q .0) (Q .1 .numbers-are);
+                  lengths-are = all O (Q .0) (Q .1 .lengths-are);
+                },
+                record {
+                  long = Q .2 .long;
+                  strings-are = λ c a b k. Q .2 .strings-are c a (passed O (Q .0) c b k) k;
+                  rest = λ i o.
+                      Q .2 .rest i
+                      (⊎-elim (λ (x : i < start-of t 0). inl x) (λ (x : start-of t (count t) ≤ i). inr (let y = start-rises t lo (count t) (upto (Q .0)) in omega arith)) o);
+                },
+              );
         }
       where
-        all :
-            {A : Type 0} {z : A} {f : Answer → A} {t : Table} {was column : List A} → OfFile t bytes starts lengths terminals kinds tokens sizes bindings declared order →
-            Stage t n lo at → Filled z f t 0 lo 0 was column → Filled z f t 0 (count t) 0 was column
-        all {t = t} O S F =
+        upto : {t : Table} → Stage t n lo at → lo ≤ count t
+        upto S = omega (arith, S .from, S .upto)
+
+        passed :
+            {t : Table} → OfFile t bytes starts lengths terminals kinds tokens sizes bindings declared order → Stage t n lo at →
+            (c : ℕ) → c < count t → kind t c ≡ node.constant → c < lo
+        passed {t} O S c b k =
             let e : count t ≤ n = rw (O .kinds-are) h in
             let q : n ≡ count t = omega (arith, S .upto) in
+            ⊎-elim
+            (λ (x : lo ≤ c).
+            let y = S .same c x (omega arith) ∙ ap (schema-of t) q ∙ schema-end t in
+            let w = in-a-schema (O .read) c b k in absurd (omega arith))
+            (λ (x : c < lo). x) (le-or lo c)
+
+        all :
+            {A : Type 0} {z : A} {f : ℕ → A} {t : Table} {was column : List A} → OfFile t bytes starts lengths terminals kinds tokens sizes bindings declared order →
+            Stage t n lo at → Filled z f t 0 lo 0 was column → Filled z f t 0 (count t) 0 was column
+        all {t = t} O S F =
             record {
-              constants-are = λ c a b k.
-                  F .constants-are c a
-                  (⊎-elim
-                  (λ (x : lo ≤ c).
-                  let y = S .same c x (omega arith) ∙ ap (schema-of t) q ∙ schema-end t in
-                  let w = in-a-schema (O .read) c b k in absurd (omega arith))
-                  (λ (x : c < lo). x) (le-or lo c)) k;
-              rest = λ r g. F .rest r (let y = row-rises (t .kinds) lo (count t) (omega (arith, S .from)) in omega arith);
+              constants-are = λ c a b k. F .constants-are c a (passed O S c b k) k;
+              rest = λ r g. F .rest r (let y = row-rises (t .kinds) lo (count t) (upto S) in omega arith);
             }

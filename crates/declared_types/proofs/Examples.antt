@@ -40,7 +40,7 @@ small-order = 2 ∷ 6 ∷ 7 ∷ 10 ∷ 12 ∷ 16 ∷ 18 ∷ 21 ∷ []
 
 its-numbers :
     constants-stored small-file small-bindings small-order (types-stored small-file small-bindings small-order (replicate 24 99))
-    ≡ 99 ∷ 99 ∷ 15 ∷ 99 ∷ 99 ∷ 99 ∷ 0 ∷ 99 ∷ 15 ∷ 99 ∷ 15 ∷ 99 ∷ 15 ∷ 99 ∷ 99 ∷ 99 ∷ 0 ∷ 99 ∷ 3 ∷ 99 ∷ 99 ∷ 15 ∷ 99 ∷ 99 ∷ []
+    ≡ 99 ∷ 99 ∷ 16 ∷ 99 ∷ 99 ∷ 99 ∷ 0 ∷ 99 ∷ 16 ∷ 99 ∷ 16 ∷ 99 ∷ 16 ∷ 99 ∷ 99 ∷ 99 ∷ 0 ∷ 99 ∷ 3 ∷ 99 ∷ 99 ∷ 16 ∷ 99 ∷ 99 ∷ []
 unfolding small-file small-bindings small-order constants-stored types-stored constant-stored type-stored type-items-stored type-number base-number
     enumeration-number simple span
 its-numbers = refl

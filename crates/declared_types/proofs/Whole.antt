@@ -36,14 +36,14 @@ is-other t j k n d h = untrue (is t k n) (λ g. d (sym (eqb-true (kind t n) j h)
 abbrev type-declared : Table → List ℕ → ℕ → Declared
 type-declared t b d = cond (is t node.enumeration-item (first t d)) (enumeration d) (cond (renames t d) (denoted t b (first t d)) other)
 
-module _ {t : Table} (R : Read file t) (W : WellNamed t) (few : count t + 5 < 4294967296) where
+module _ {t : Table} (R : Read file t) (W : WellNamed t) (few : count t + 6 < 4294967296) where
   abbrev b : List ℕ
   b = bindings t
 
   abbrev wanted : ℕ → ℕ
   wanted d = declared-number (type-declared t b d)
 
-  numbered : (y : ℕ) → y ≤ count t → enumeration-number y ≡ y + 5
+  numbered : (y : ℕ) → y ≤ count t → enumeration-number y ≡ y + 6
   unfolding enumeration-number
   numbered y l = rw (le-leb y last-node (omega arith))
 

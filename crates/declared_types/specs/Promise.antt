@@ -29,7 +29,7 @@ pub record Accepted (t : Table) (b order column : List ℕ) : Type 0 where
   pub named : WellNamed t
   pub bound : b ≡ bindings t
   pub arranged : Arranged (Joins (type-edges t)) (keep (is-declaration t) (nodes t)) order
-  pub few : count t + 5 < 4294967296
+  pub few : count t + 6 < 4294967296
   pub room : count t ≤ length column
 
 -- THE COLUMN OF DECLARED TYPES of such a file; whatever the columns hold, only the entries of items, types and constants change.

@@ -19,11 +19,11 @@ table-of terminals kinds tokens sizes =
 
 -- the last node whose number as an enumeration fits into 32 bits
 abbrev pub last-node : ℕ
-last-node = 4294967290
+last-node = 4294967289
 
 -- the enumeration that is the type y; 0 where its number does not fit
 unfoldable pub enumeration-number : ℕ → ℕ
-enumeration-number y = cond (leb y last-node) (y + 5) 0
+enumeration-number y = cond (leb y last-node) (y + 6) 0
 
 -- what node n is or names (K2); a type that it names has its number in the column
 unfoldable pub base-number : Table → List ℕ → List ℕ → ℕ → ℕ

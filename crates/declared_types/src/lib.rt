@@ -44,6 +44,9 @@ fn simple_type(word: u8) -> u32
     if word == codes::BINARY {
         return types::BINARY;
     }
+    if word == codes::STRING {
+        return types::STRING;
+    }
     types::OTHER
 }
 

@@ -1,6 +1,6 @@
 -- THE CONTRACT OF THE PUBLIC CALL (R1, R16 to R18). Handed the bytes s and the lent tables l, it answers the report r and leaves the tables m.
 use mathlib.Core.Path.{_≡_}
-use mathlib.Core.Logic.{_↔_, _≢_}
+use mathlib.Core.Logic.{_↔_, _≢_, _⊎_}
 use mathlib.Core.List.{List}
 use Prim.Native.Nat.{ℕ, _≤_, _<_}
 use lib.IntN.{ℤ, pos}
@@ -12,9 +12,9 @@ use Rattle.express.specs.kinds.Rule.{Exactly}
 use Rattle.express.specs.whole.Reply.{Accepted, accepted, Report, report, Tables, token-entries, node-entries, answer-entries, outcome, tables-after}
 use Rattle.express.specs.whole.Acceptance.{Acceptable}
 
--- the ten columns together
-abbrev pub tables-of : List ℕ → List ℕ → List ℕ → List ℕ → List ℕ → List ℕ → List ℕ → List ℕ → List ℤ → List ℕ → Tables
-tables-of token-kinds token-starts token-lengths node-kinds node-tokens node-sizes node-bindings answer-kinds answer-numbers answer-lengths =
+-- the ten columns and the room together
+abbrev pub tables-of : List ℕ → List ℕ → List ℕ → List ℕ → List ℕ → List ℕ → List ℕ → List ℕ → List ℤ → List ℕ → List ℕ → Tables
+tables-of token-kinds token-starts token-lengths node-kinds node-tokens node-sizes node-bindings answer-kinds answer-numbers answer-lengths room =
     record {
       token-kinds = token-kinds;
       token-starts = token-starts;
@@ -26,6 +26,7 @@ tables-of token-kinds token-starts token-lengths node-kinds node-tokens node-siz
       answer-kinds = answer-kinds;
       answer-numbers = answer-numbers;
       answer-lengths = answer-lengths;
+      room = room;
     }
 
 -- R7: tables of zeros, each column as long as it was
@@ -42,6 +43,7 @@ zeros l =
       answer-kinds = replicate (length (l .answer-kinds)) 0;
       answer-numbers = replicate (length (l .answer-numbers)) (pos 0);
       answer-lengths = replicate (length (l .answer-lengths)) 0;
+      room = replicate (length (l .room)) 0;
     }
 
 -- R9, R17: the file is acceptable within the tables lent, and a is its tokens, its tree, its bindings and its answers
@@ -49,18 +51,18 @@ abbrev pub AcceptableIn : List ℕ → Tables → Accepted → Type 0
 AcceptableIn s l a =
     Acceptable s (token-entries (l .token-kinds) (l .token-starts) (l .token-lengths))
     (node-entries (l .node-kinds) (l .node-tokens) (l .node-sizes) (l .node-bindings))
-    (answer-entries (l .answer-kinds) (l .answer-numbers) (l .answer-lengths)) a
+    (answer-entries (l .answer-kinds) (l .answer-numbers) (l .answer-lengths)) (length (l .room)) a
 
--- K35: the answer that row i of the answer columns stands for
+-- K35: the answer that row i of the answer columns stands for, a string by its bytes in the room
 abbrev pub row-answer-at : Tables → ℕ → Answer
-row-answer-at m i = row-answer (row (getD (m .answer-kinds) i 0) (getD (m .answer-numbers) i (pos 0)) (getD (m .answer-lengths) i 0))
+row-answer-at m i = row-answer (m .room) (row (getD (m .answer-kinds) i 0) (getD (m .answer-numbers) i (pos 0)) (getD (m .answer-lengths) i 0))
 
 pub record Checks (s : List ℕ) (l m : Tables) (r : Report) : Type 0 where
-  -- R1 to R9: the report and each of the ten columns are those of the outcome, whatever the bytes and the lengths
+  -- R1 to R9: the report, each of the ten columns and the room are those of the outcome, whatever the bytes and the lengths
   pub reports : r ≡ report (outcome s l)
   pub holds : m ≡ tables-after (outcome s l) l
-  -- THE FIRST DEMAND (R16). R2: every reply is 0, or a refusal from 1 to 15
-  pub numbered : r .reply ≤ 15
+  -- THE FIRST DEMAND (R16). R2: every reply is 0, or a refusal from 1 to 15, or 20
+  pub numbered : (r .reply ≤ 15) ⊎ (r .reply ≡ 20)
   -- R6, R7: after a refusal the counts are 0 and the tables zeros
   pub cleared : r .reply ≢ 0 → (r .tokens ≡ 0) × (r .nodes ≡ 0) × (r .constants ≡ 0) × (m ≡ zeros l)
   -- THE SECOND (R17). Reply 0 is given exactly to the acceptable files

@@ -1,7 +1,7 @@
 -- What the functions at a node answer, from what their calls gave and their tests said.
 use mathlib.Core.Path.{_≡_, refl, sym, ap, subst, _∙_}
 use mathlib.Core.Logic.{_⊎_, inl, inr, ⊎-elim}
-use mathlib.Core.Bool.{Bool, true, false, _||_}
+use mathlib.Core.Bool.{Bool, true, false, cond, _||_}
 use mathlib.Core.List.{List}
 use Prim.Native.Nat.{ℕ, _-_, _<_}
 use native.Mathlib.Decide.{ℕ-discrete}
@@ -12,10 +12,12 @@ use lib.ListN.{getD}
 use Rattle.express.specs.syntax.NodeKind as node
 use Rattle.express.specs.syntax.Tree.{Table, kind}
 use Rattle.express.specs.kinds.Answer.{Answer}
-use Rattle.express.specs.kinds.Shape.{name-shape-in}
+use Rattle.express.specs.kinds.Declared.{declaration, bound, denoted}
+use Rattle.express.specs.kinds.Shape.{Shape, name, name-shape-in, shape-in}
+use Rattle.express.specs.kinds.Shape as shapes
 use Rattle.express.specs.kinds.Evaluate.{answer-in, answer-at}
 use Rattle.relations.proofs.Select.{or-cases}
-use Rattle.operations.specs.Meaning.{answer-of}
+use Rattle.operations.specs.Meaning.{answer-of, sized}
 use Rattle.operations.specs.declared.Answer as code
 use Rattle.operations.specs.declared.Answer.the-variants.{Indeterminate}
 use Rattle.operations.specs.declared.Answer.the-variants as variants
@@ -23,8 +25,11 @@ use Rattle.answer_rows.specs.Stored.{stored}
 use Rattle.node_answers.specs.Answers.{answers-in, Gives, Stores, Keeps}
 use Rattle.node_answers.specs.NodeAnswer.{Answered}
 use Rattle.evaluate.specs.Evaluation.{known-in, Item, Named, EvaluatesNode}
-use Rattle.node_answers.proofs.Rows.{same, nothing, stored-rows}
-use Rattle.node_answers.proofs.Nodes.{at-name, at-item, unbound, bound-item, bound-constant, bound-other}
+use Rattle.node_answers.proofs.Rows.{same, nothing, stored-rows, gives-sized}
+use Rattle.string_relations.specs.Comparing.{Compares}
+use Rattle.string_relations.specs.Compared.{Compared}
+use Rattle.evaluate.proofs.Operations.{answered-value, compared-value}
+use Rattle.node_answers.proofs.Nodes.{unbound, bound-item, bound-constant, bound-other}
 
 -- ---- names
 bound-kind : (x : ℕ) {m k : ℕ} {file-kinds : List ℕ} → m ≡ x - 1 → k ≡ getD file-kinds m 0 → (t : Table) → t .kinds ≡ file-kinds → kind t (x - 1) ≡ k
@@ -64,29 +69,73 @@ module _ {x : ℕ} {file-kinds row-of : List ℕ} {at : ℕ} {aks : List ℕ} {a
             same (bound-other t e c f _ n x q z (λ g. i (sym (bound-kind x M K t h) ∙ g)) (λ g. v (sym (bound-kind x M K t h) ∙ g))) (I .is-none i)
 
 -- ---- a node
+
+-- the shape of a name, or of an item by its type
+name-shape : (t e : Table) (c : List ℕ) (n : ℕ) → (kind e n ≡ node.name) ⊎ (kind e n ≡ node.qualified-item) → shape-in t e c n ≡ name-shape-in t e c n
+unfolding shape-in
+name-shape t e c n (inl h) = rw h
+name-shape t e c n (inr h) = rw h
+
 named-kind : (k : ℕ) → eqb k node.name || eqb k node.qualified-item ≡ true → (k ≡ node.name) ⊎ (k ≡ node.qualified-item)
 named-kind k h = ⊎-elim (λ a. inl (eqb-true k node.name a)) (λ a. inr (eqb-true k node.qualified-item a)) (or-cases (eqb k node.name) (eqb k node.qualified-item) h)
 
 kind-of : (n : ℕ) {k : ℕ} {kinds : List ℕ} → k ≡ getD kinds n 0 → (e : Table) → e .kinds ≡ kinds → kind e n ≡ k
 kind-of n K e h = rw h (sym K)
 
-module _ {bytes starts lengths terminals kinds tokens sizes bindings file-kinds declared row-of : List ℕ} {at : ℕ} {aks : List ℕ} {azs : List ℤ} {als ks : List ℕ}
+-- what a name is bound to tells its value
+name-value :
+    (t e : Table) (c : List ℕ) (f values g h : ℕ → Answer) (n : ℕ) → ((d : ℕ) → name-shape-in t e c n ≡ name d → h d ≡ sized (g d)) →
+    answer-in e f h n (name-shape-in t e c n) ≡ sized (answer-in e values g n (name-shape-in t e c n))
+name-value t e c f values g h n k = by (bound t c node.enumeration-item n) (bound t c node.constant n) refl k
+  where
+    by : (x y : Bool) → name-shape-in t e c n ≡ cond x (shapes.item (declaration c n)) (cond y (name (declaration c n)) (shapes.type (denoted e c n))) →
+        ((d : ℕ) → name-shape-in t e c n ≡ name d → h d ≡ sized (g d)) →
+        answer-in e f h n (name-shape-in t e c n) ≡ sized (answer-in e values g n (name-shape-in t e c n))
+    by true y q k = rw q
+    by false true q k = rw q (k (declaration c n) q)
+    by false false q k = rw q
+
+module _ {bytes starts lengths terminals kinds tokens sizes bindings file-kinds declared row-of : List ℕ} {at : ℕ} {aks : List ℕ} {azs : List ℤ} {als room ks : List ℕ}
     {zs : List ℤ} {ls ks′ : List ℕ} {zs′ : List ℤ} {ls′ : List ℕ} {n k : ℕ} (K : k ≡ getD kinds n 0) {b : Bool} (B : b ≡ (eqb k node.name || eqb k node.qualified-item)) where
   pub node-named :
       b ≡ true → {x : ℕ} → x ≡ getD bindings n 0 → Named x file-kinds row-of at aks azs als ks zs ls ks′ zs′ ls′ n →
-      EvaluatesNode bytes starts lengths terminals kinds tokens sizes bindings file-kinds declared row-of at aks azs als ks zs ls ks′ zs′ ls′ n
+      EvaluatesNode bytes starts lengths terminals kinds tokens sizes bindings file-kinds declared row-of at aks azs als room ks zs ls ks′ zs′ ls′ n
   node-named h {x} X N =
       record {
-        is = λ t e A.
+        is = λ t e g values lo hi A L Q R i j T.
             let f = answer-at (answers-in ks zs ls) in
-            let g = known-in row-of at aks azs als in
-            let q = kind-of n K e (A .kinds-are) in
-            keeps-same (⊎-elim (λ m. at-name t e bindings f g n (q ∙ m)) (λ m. at-item t e bindings f g n (q ∙ m)) (named-kind k (sym B ∙ h)))
+            let s = name-shape t e bindings n (⊎-elim (λ m. inl (kind-of n K e (A .kinds-are) ∙ m)) (λ m. inr (kind-of n K e (A .kinds-are) ∙ m)) (named-kind k (sym B ∙ h))) in
+            keeps-same
+            (name-value t e bindings f values g (known-in row-of at aks azs als) n (λ d q. Q .is n i j d (s ∙ q)) ∙
+            ap (λ (v : Shape). sized (answer-in e values g n v)) (sym s) ∙ ap sized (sym (L .step n i j)))
             (N .is t e bindings f (A .file-kinds-are) (sym X));
       }
 
-  pub node-answered :
-      b ≡ false → {r : code.Answer} → Answered bytes starts lengths terminals tokens sizes declared ks zs ls k n r → Stores (stored (answer-of r)) n ks zs ls ks′ zs′ ls′ →
-      EvaluatesNode bytes starts lengths terminals kinds tokens sizes bindings file-kinds declared row-of at aks azs als ks zs ls ks′ zs′ ls′ n
-  node-answered h N S =
-      record { is = λ t e A. record { is = stored-rows (N .is t e kinds bindings file-kinds _ A (kind-of n K e (A .kinds-are)) (sym B ∙ h)) S } }
+  module _ (h : b ≡ false) {c : Bool} (C : Compares k terminals tokens sizes ks n c) where
+    pub node-compared :
+        c ≡ true → {r : code.Answer} →
+        Compared bytes starts lengths terminals kinds tokens sizes bindings file-kinds row-of at aks azs als room ks zs ls k n r →
+        Stores (stored (answer-of r)) n ks zs ls ks′ zs′ ls′ →
+        EvaluatesNode bytes starts lengths terminals kinds tokens sizes bindings file-kinds declared row-of at aks azs als room ks zs ls ks′ zs′ ls′ n
+    node-compared q G S =
+        record {
+          is = λ t e g values lo hi A L Q R i j T.
+              record {
+                is =
+                    stored-rows
+                    (gives-sized
+                    (compared-value A L R i j T (kind-of n K e (A .kinds-are)) G (subst (λ (v : Bool). Compares k terminals tokens sizes ks n v) q C)))
+                    S;
+              };
+        }
+
+    pub node-answered :
+        c ≡ false → {r : code.Answer} → Answered bytes starts lengths terminals tokens sizes declared ks zs ls k n r → Stores (stored (answer-of r)) n ks zs ls ks′ zs′ ls′ →
+        EvaluatesNode bytes starts lengths terminals kinds tokens sizes bindings file-kinds declared row-of at aks azs als room ks zs ls ks′ zs′ ls′ n
+    node-answered q N S =
+        record {
+          is = λ t e g values lo hi A L Q R i j T.
+              let u = kind-of n K e (A .kinds-are) in
+              let v = answered-value L i j T (A .terminals-are) (A .tokens-are) (A .sizes-are) u (subst (λ (v : Bool). Compares k terminals tokens sizes ks n v) q C) in
+              record { is = stored-rows (same v (N .is t e kinds bindings file-kinds g A u (sym B ∙ h))) S };
+        }

@@ -1,3 +1,4 @@
+pub mod NoString
+pub mod Operations
 pub mod Assembled
 pub mod Walking
-pub mod Value

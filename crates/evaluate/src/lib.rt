@@ -1,5 +1,5 @@
 // The evaluation of one expression against a file: its own columns and the file's are apart, and the answers of the file's constants are known.
-// The answer of each node is kept in a row of three lent columns, for its parent.
+// The answer of each node is kept in a row of three lent columns, for its parent; of a string the length.
 ghost use mathlib.Core.Path.{_≡_};
 ghost use mathlib.Core.Bool.{_||_};
 ghost use lib.Dec.{eqb};
@@ -10,6 +10,8 @@ ghost use Rattle.evaluate.specs.Evaluation.{Named, Item, EvaluatesNode, 
 use node_answers::answered;
 use node_answers::put_answer;
 use operations::Answer;
+use string_relations::compared;
+use string_relations::compares;
 use tree::at8;
 use tree::at32;
 use tree::index_at;
@@ -129,6 +131,7 @@ fn evaluate_node(
     answer_kinds: &[u8],
     answer_numbers: &[i64],
     answer_lengths: &[u8],
+    room: &[u8],
     value_kinds: &mut [u8],
     value_numbers: &mut [i64],
     value_lengths: &mut [u8],
@@ -136,7 +139,7 @@ fn evaluate_node(
 )
     ensures { λ _. ⌜ EvaluatesNode (now (src .entry)) (now (starts .entry)) (now (lengths .entry)) (now (terminals .entry)) (now (kinds .entry))
         (now (tokens .entry)) (now (sizes .entry)) (now (bindings .entry))
-        (now («file_kinds» .entry)) (now (declared .entry)) (now («row_of» .entry)) at (now («answer_kinds» .entry)) (now («answer_numbers» .entry)) (now («answer_lengths» .entry))
+        (now («file_kinds» .entry)) (now (declared .entry)) (now («row_of» .entry)) at (now («answer_kinds» .entry)) (now («answer_numbers» .entry)) (now («answer_lengths» .entry)) (now (room .entry))
         (now («value_kinds» .entry)) (now («value_numbers» .entry)) (now («value_lengths» .entry))
         (now («value_kinds» .exit)) (now («value_numbers» .exit)) (now («value_lengths» .exit)) n ⌝ }
 {
@@ -155,6 +158,32 @@ fn evaluate_node(
             value_lengths,
             n,
         );
+        return;
+    }
+    if compares(kind, terminals, tokens, sizes, value_kinds, n) {
+        let answer = compared(
+            kind,
+            src,
+            starts,
+            lengths,
+            terminals,
+            kinds,
+            tokens,
+            sizes,
+            bindings,
+            file_kinds,
+            row_of,
+            at,
+            answer_kinds,
+            answer_numbers,
+            answer_lengths,
+            room,
+            value_kinds,
+            value_numbers,
+            value_lengths,
+            n,
+        );
+        put_answer(value_kinds, value_numbers, value_lengths, n, answer);
         return;
     }
     let answer = answered(
@@ -193,13 +222,14 @@ pub fn evaluate_expression(
     answer_kinds: &[u8],
     answer_numbers: &[i64],
     answer_lengths: &[u8],
+    room: &[u8],
     value_kinds: &mut [u8],
     value_numbers: &mut [i64],
     value_lengths: &mut [u8],
 )
     ensures { λ _. ⌜ EvaluatesNodes (now (src .entry)) (now (starts .entry)) (now (lengths .entry)) (now (terminals .entry)) (now (kinds .entry))
         (now (tokens .entry)) (now (sizes .entry)) (now (bindings .entry)) lo hi
-        (now («file_kinds» .entry)) (now (declared .entry)) (now («row_of» .entry)) at (now («answer_kinds» .entry)) (now («answer_numbers» .entry)) (now («answer_lengths» .entry))
+        (now («file_kinds» .entry)) (now (declared .entry)) (now («row_of» .entry)) at (now («answer_kinds» .entry)) (now («answer_numbers» .entry)) (now («answer_lengths» .entry)) (now (room .entry))
         (now («value_kinds» .entry)) (now («value_numbers» .entry)) (now («value_lengths» .entry))
         (now («value_kinds» .exit)) (now («value_numbers» .exit)) (now («value_lengths» .exit)) ⌝ }
 {
@@ -221,6 +251,7 @@ pub fn evaluate_expression(
             answer_kinds,
             answer_numbers,
             answer_lengths,
+            room,
             value_kinds,
             value_numbers,
             value_lengths,

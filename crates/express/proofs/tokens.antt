@@ -4,6 +4,7 @@ pub mod Longest
 pub mod Places
 pub mod Spelling
 pub mod Stops
+pub mod Strings
 pub mod Symbols
 pub mod Terminal
 pub mod TokenRows

@@ -12,3 +12,4 @@ pub mod Order
 pub mod Relation
 pub mod Rule
 pub mod Shape
+pub mod Strings

@@ -8,7 +8,7 @@ use native.Mathlib.Omega.{arith}
 use types.Run.{OneOf}
 use borrow.Author.Tests.{eq-eqb, ne-eqb}
 use lib.Dec.{eqb}
-use Rattle.express.specs.kinds.Declared.{Declared, INTEGER, BOOLEAN, LOGICAL, BINARY, enumeration, other}
+use Rattle.express.specs.kinds.Declared.{Declared, INTEGER, BOOLEAN, LOGICAL, BINARY, STRING, enumeration, other}
 use Rattle.express.specs.kinds.DeclaredColumn.{declared-number}
 use Rattle.express.specs.kinds.Shape.{negative, positive, operator-of}
 use Rattle.express.specs.kinds.Operate.{Kind, logicals, items, integral, truthful, summable, comparable}
@@ -25,7 +25,7 @@ module _ (k : ℕ) where
   pub truthful-is : truthful (of-number k) ≡ (eqb k 3 || eqb k 1)
   truthful-is = rw number-there at (truthful-number (of-number k))
 
-  pub summable-is : summable (of-number k) ≡ (eqb k 2 || (eqb k 4 || eqb k 1))
+  pub summable-is : summable (of-number k) ≡ (eqb k 2 || (eqb k 4 || (eqb k 5 || eqb k 1)))
   summable-is = rw number-there at (summable-number (of-number k))
 
   pub comparable-is : comparable (of-number k) ≡ not (eqb k 0)
@@ -66,6 +66,7 @@ boolean-kind INTEGER e = absurd (omega arith)
 boolean-kind BOOLEAN e = refl
 boolean-kind LOGICAL e = absurd (omega arith)
 boolean-kind BINARY e = absurd (omega arith)
+boolean-kind STRING e = absurd (omega arith)
 boolean-kind (enumeration y) e = absurd (omega arith)
 boolean-kind other e = absurd (omega arith)
 
@@ -74,6 +75,7 @@ other-kind INTEGER n = refl
 other-kind BOOLEAN n = absurd (n refl)
 other-kind LOGICAL n = refl
 other-kind BINARY n = refl
+other-kind STRING n = refl
 other-kind (enumeration y) n = number-back (items y)
 other-kind other n = refl
 
@@ -82,6 +84,7 @@ not-evaluated INTEGER k e = absurd (omega arith)
 not-evaluated BOOLEAN k e = absurd (omega arith)
 not-evaluated LOGICAL k e = absurd (omega arith)
 not-evaluated BINARY k e = absurd (omega arith)
+not-evaluated STRING k e = absurd (omega arith)
 not-evaluated (enumeration y) k e = absurd (omega arith)
 not-evaluated other k e = refl
 
@@ -90,6 +93,7 @@ is-evaluated INTEGER k n = refl
 is-evaluated BOOLEAN k n = refl
 is-evaluated LOGICAL k n = refl
 is-evaluated BINARY k n = refl
+is-evaluated STRING k n = refl
 is-evaluated (enumeration y) k n = refl
 is-evaluated other k n = absurd (n refl)
 

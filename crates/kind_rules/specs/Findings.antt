@@ -1,14 +1,16 @@
 -- What is found at a node, from the numbers of kinds and of declared types.
 use mathlib.Core.Path.{_≡_}
-use mathlib.Core.Bool.{cond}
+use mathlib.Core.Bool.{cond, _&&_}
 use mathlib.Core.Option.{Option, none, some}
 use Prim.Native.Nat.{ℕ}
 use lib.Dec.{eqb}
+use Rattle.express.specs.tokens.Terminal.{the}
+use Rattle.express.specs.tokens.Terminal as word
 use Rattle.express.specs.syntax.NodeKind as node
 use Rattle.express.specs.kinds.Declared.{Declared}
 use Rattle.express.specs.kinds.DeclaredColumn.{declared-number}
 use Rattle.express.specs.kinds.Shape.{Operator, plus, arithmetic, relation, connective, Sign, positive, negative, not}
-use Rattle.express.specs.kinds.Operate.{Kind, integers, logicals, binaries, undetermined, untyped, integral, truthful, summable, comparable}
+use Rattle.express.specs.kinds.Operate.{Kind, integers, logicals, binaries, strings, undetermined, untyped, integral, truthful, summable, comparable}
 use Rattle.express.specs.kinds.Kind.{of-number, common, kind-of-type, of-kind, fault, if-fits, if-evaluated}
 use Rattle.express.specs.kinds.Kind as express
 use Rattle.kind_rules.specs.declared.Class.{Class}
@@ -43,13 +45,14 @@ applied Relation k = if-fits (comparable k) logicals
 applied Connective k = if-fits (truthful k) logicals
 applied Unevaluated k = fault 14
 
--- K5, K10: a node that has neither operands nor a name, and is no type
-abbrev pub leaf-found : ℕ → express.Finding
-leaf-found k =
+-- K5, K10: a node that has neither operands nor a name, and is no type, by its kind and its terminal
+abbrev pub leaf-found : ℕ → ℕ → express.Finding
+leaf-found k w =
     cond (eqb k node.integer-literal) (of-kind integers)
     (cond (eqb k node.binary-literal) (of-kind binaries)
     (cond (eqb k node.logical-literal) (of-kind logicals)
-    (cond (eqb k node.question) (of-kind undetermined) (cond (eqb k node.interval-operator) (of-kind untyped) (fault 14)))))
+    (cond (eqb k node.other-literal && eqb w (the word.string)) (of-kind strings)
+    (cond (eqb k node.question) (of-kind undetermined) (cond (eqb k node.interval-operator) (of-kind untyped) (fault 14))))))
 
 -- K4: the kind of a declared type, by their numbers
 pub record KindOfType (number r : ℕ) : Type 0 where

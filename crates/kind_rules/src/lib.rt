@@ -1,6 +1,7 @@
 // Kinds and declared types by their numbers: what is found at a node, from the kinds of its operands.
 ghost use mathlib.Core.Path.{_≡_};
 ghost use mathlib.Core.Bool.{_&&_};
+ghost use Rattle.express.specs.syntax.NodeKind.{other-literal};
 ghost use Rattle.express.specs.kinds.DeclaredColumn.{declared-number};
 ghost use Rattle.express.specs.kinds.Declared as Declared;
 ghost use Rattle.express.specs.kinds.Shape.{operator-of, sign-of};
@@ -10,7 +11,7 @@ ghost use Rattle.express.specs.kinds.Kind as Kind;
 ghost use Rattle.kind_rules.specs.Findings.{finding-of, class-of, class-of-sign, applied, leaf-found, KindOfType, Evaluated, Held};
 use codes::types;
 
-// The kinds; that of the items of an enumeration is 5 more than the node of its type.
+// The kinds; that of the items of an enumeration is 6 more than the node of its type.
 pub const UNTYPED: u32 = 0;
 
 pub const UNDETERMINED: u32 = 1;
@@ -20,6 +21,8 @@ pub const INTEGERS: u32 = 2;
 pub const LOGICALS: u32 = 3;
 
 pub const BINARIES: u32 = 4;
+
+pub const STRINGS: u32 = 5;
 
 // Operators by what they take and give; `/` is not evaluated.
 pub enum Class {
@@ -88,6 +91,9 @@ fn is_summable(k: u32) -> bool
         return true;
     }
     if k == BINARIES {
+        return true;
+    }
+    if k == STRINGS {
         return true;
     }
     k == UNDETERMINED
@@ -192,19 +198,31 @@ pub fn simple(terminal: u8) -> u32
         codes::BOOLEAN => types::BOOLEAN,
         codes::LOGICAL => types::LOGICAL,
         codes::BINARY => types::BINARY,
+        codes::STRING => types::STRING,
         _ => types::OTHER,
     }
 }
 
+// A real, a string, PI or CONST_E: the string alone is evaluated.
+fn other_literal(terminal: u8) -> Finding
+    ensures { λ r. ⌜ finding-of r ≡ leaf-found other-literal terminal ⌝ }
+{
+    if terminal == codes::STRING_LITERAL {
+        return Finding::OfKind(STRINGS);
+    }
+    Finding::Fault(codes::replies::NOT_EVALUATED)
+}
+
 // A node that has neither operands nor a name, and is no type.
-pub fn leaf(kind: u8) -> Finding
-    ensures { λ r. ⌜ finding-of r ≡ leaf-found kind ⌝ }
+pub fn leaf(kind: u8, terminal: u8) -> Finding
+    ensures { λ r. ⌜ finding-of r ≡ leaf-found kind terminal ⌝ }
 {
     match kind {
         codes::nodes::INTEGER => Finding::OfKind(INTEGERS),
         codes::nodes::BINARY => Finding::OfKind(BINARIES),
         codes::nodes::LOGICAL => Finding::OfKind(LOGICALS),
         codes::nodes::INDETERMINATE => Finding::OfKind(UNDETERMINED),
+        codes::nodes::OTHER => other_literal(terminal),
         codes::nodes::INTERVAL_OPERATOR => Finding::OfKind(UNTYPED),
         _ => Finding::Fault(codes::replies::NOT_EVALUATED),
     }

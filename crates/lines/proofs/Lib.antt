@@ -1,4 +1,5 @@
 pub mod Pieces
+pub mod Strings
 pub mod Numbers
 pub mod Lines
 pub mod Walk

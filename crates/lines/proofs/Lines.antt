@@ -5,7 +5,7 @@ use mathlib.Core.Logic.{⊎-elim}
 use Prim.Native.Nat.{ℕ, _+_, _≤_, _<_}
 use native.Mathlib.Omega.{arith}
 use borrow.Author.Tests.{ne-eqb, le-leb, lt-leb}
-use lib.ListN.{length, set, take}
+use lib.ListN.{length, set, take, drop}
 use mir.Facts.{toZ-ofZ}
 use mir.Syntax.{w64}
 use mir.Val.{SFits, toZ, ofZ}
@@ -14,10 +14,10 @@ use Rattle.relations.proofs.Select.{le-or}
 use Rattle.express.specs.tokens.Terminal.{bytes}
 use Rattle.express.specs.syntax.Tree.{Table, schema-of}
 use Rattle.express.specs.kinds.Answer as express
-use Rattle.express.specs.kinds.Answer.{indeterminate, integer, logical, binary, item, end}
+use Rattle.express.specs.kinds.Answer.{indeterminate, integer, logical, binary, item, string, end}
 use Rattle.express.specs.kinds.AnswerRow.{natural, ranked}
 use Rattle.express.specs.kinds.Bits.{bits}
-use Rattle.express.specs.whole.Listing.{decimal, signed, logical-name, bit-digit, name-of, printed, line, refused-line, accepted-line}
+use Rattle.express.specs.whole.Listing.{decimal, signed, logical-name, bit-digit, literal, name-of, printed, line, refused-line, accepted-line}
 use Rattle.records.specs.declared.Answer.{Answer}
 use Rattle.lines.specs.declared.Line.{Line}
 use Rattle.lines.specs.declared.Line.the-variants.{Written, Short}
@@ -27,31 +27,34 @@ use Rattle.lines.proofs.Pieces.{then, kept}
 
 -- ---- how an answer is printed, by the kind of its record; its number is read from its bits
 
-module _ (t : Table) (a : Answer) where
-  pub prints-indeterminate : a .kind ≡ 0 → bytes "?" ≡ printed t (record-answer a)
+module _ (t : Table) (room : List ℕ) (a : Answer) where
+  pub prints-indeterminate : a .kind ≡ 0 → bytes "?" ≡ printed t (record-answer room a)
   prints-indeterminate e = rw e
 
-  pub prints-end : (a .kind ≡ 0 → ⊥) → (a .kind ≡ 1 → ⊥) → (a .kind ≡ 2 → ⊥) → (a .kind ≡ 3 → ⊥) → (a .kind ≡ 4 → ⊥)
-      → bytes "end " ++ decimal (a .kind) ≡ printed t (record-answer a)
-  prints-end n₀ n₁ n₂ n₃ n₄ =
-      rw (ne-eqb (a .kind) 0 n₀, ne-eqb (a .kind) 1 n₁, ne-eqb (a .kind) 2 n₂, ne-eqb (a .kind) 3 n₃, ne-eqb (a .kind) 4 n₄)
+  pub prints-end : (a .kind ≡ 0 → ⊥) → (a .kind ≡ 1 → ⊥) → (a .kind ≡ 2 → ⊥) → (a .kind ≡ 3 → ⊥) → (a .kind ≡ 4 → ⊥) → (a .kind ≡ 5 → ⊥)
+      → bytes "end " ++ decimal (a .kind) ≡ printed t (record-answer room a)
+  prints-end n₀ n₁ n₂ n₃ n₄ n₅ =
+      rw (ne-eqb (a .kind) 0 n₀, ne-eqb (a .kind) 1 n₁, ne-eqb (a .kind) 2 n₂, ne-eqb (a .kind) 3 n₃, ne-eqb (a .kind) 4 n₄, ne-eqb (a .kind) 5 n₅)
 
   module _ (f : SFits w64 (a .number)) where
-    pub prints-integer : a .kind ≡ 1 → signed (toZ w64 (ofZ w64 (a .number))) ≡ printed t (record-answer a)
+    pub prints-integer : a .kind ≡ 1 → signed (toZ w64 (ofZ w64 (a .number))) ≡ printed t (record-answer room a)
     prints-integer e = ap signed (toZ-ofZ f) ∙ rw e
 
     module _ {n : ℕ} (is : n ≡ natural (toZ w64 (ofZ w64 (a .number)))) where
       number-is : n ≡ natural (a .number)
       number-is = is ∙ ap natural (toZ-ofZ f)
 
-      pub prints-logical : a .kind ≡ 2 → bytes (logical-name (ranked n)) ≡ printed t (record-answer a)
+      pub prints-logical : a .kind ≡ 2 → bytes (logical-name (ranked n)) ≡ printed t (record-answer room a)
       prints-logical e = ap (λ (k : ℕ). bytes (logical-name (ranked k))) number-is ∙ rw e
 
-      pub prints-binary : a .kind ≡ 3 → bytes "%" ++ map bit-digit (bits (a .length) n) ≡ printed t (record-answer a)
+      pub prints-binary : a .kind ≡ 3 → bytes "%" ++ map bit-digit (bits (a .length) n) ≡ printed t (record-answer room a)
       prints-binary e = ap (λ (k : ℕ). bytes "%" ++ map bit-digit (bits (a .length) k)) number-is ∙ rw e
 
-      pub prints-item : a .kind ≡ 4 → name-of t n ≡ printed t (record-answer a)
+      pub prints-item : a .kind ≡ 4 → name-of t n ≡ printed t (record-answer room a)
       prints-item e = ap (name-of t) number-is ∙ rw e
+
+      pub prints-string : a .kind ≡ 5 → literal (take (a .length) (drop n room)) ≡ printed t (record-answer room a)
+      prints-string e = ap (λ (k : ℕ). literal (take (a .length) (drop k room))) number-is ∙ rw e
 
 -- the kinds of nodes play no part in it
 pub printed-kinds : (text starts lengths ks tokens : List ℕ) (x : express.Answer)
@@ -61,6 +64,7 @@ printed-kinds text starts lengths ks tokens (integer z) = refl
 printed-kinds text starts lengths ks tokens (logical l) = refl
 printed-kinds text starts lengths ks tokens (binary s) = refl
 printed-kinds text starts lengths ks tokens (item m) = refl
+printed-kinds text starts lengths ks tokens (string s) = refl
 printed-kinds text starts lengths ks tokens (end e) = refl
 
 -- ---- the front of a constant's line

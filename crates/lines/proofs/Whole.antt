@@ -1,7 +1,7 @@
 -- The lines that this crate prints from the lent columns of an accepted file, zeros behind their values and all, are the listing of the outcome
 -- (`accepted-listing`, `refused-listing`); a loop that goes from one constant to the next meets them all, in the order of the text (`walking-goes-on`).
 use mathlib.Core.Path.{_≡_, refl, sym, ap, _∙_}
-use mathlib.Core.List.{List, _++_, map, flatMap}
+use mathlib.Core.List.{List, [], _∷_, _++_, map, flatMap}
 use mathlib.Core.Logic.{⊎-elim}
 use Prim.Native.Nat.{ℕ, zero, suc, _+_, _-_, _≤_, _<_}
 use native.Mathlib.Omega.{arith}
@@ -17,10 +17,12 @@ use Rattle.express.specs.tokens.Spelling.{spelling}
 use Rattle.express.specs.syntax.NodeKind.{constant, schema}
 use Rattle.express.specs.syntax.Tree.{Table, count, kind, token, is, schema-of}
 use Rattle.express.specs.kinds.Answer as express
-use Rattle.express.specs.kinds.Answer.{indeterminate, integer, logical, binary, item, end}
+use Rattle.express.specs.kinds.Answer.{indeterminate, integer, logical, binary, item, string, end}
+use Rattle.express.specs.kinds.Declared.{Declared}
 use Rattle.express.specs.kinds.Kind.{constants}
-use Rattle.express.specs.kinds.AnswerRow.{AnswerRow, row-of, row-answer}
-use Rattle.express.specs.whole.Reply.{Accepted, accepted, refused, checked, answer-rows, answer-kinds, answer-numbers, answer-lengths}
+use Rattle.express.specs.kinds.Rule.{Holds}
+use Rattle.express.specs.kinds.AnswerRow.{AnswerRow, row-of, bytes-of, rows-from}
+use Rattle.express.specs.whole.Reply.{Accepted, accepted, refused, checked, answer-rows, answer-kinds, answer-numbers, answer-lengths, answer-room}
 use Rattle.express.specs.whole.Acceptance.{Acceptable}
 use Rattle.express.specs.whole.Listing.{name-of, printed, answer-line, constant-line, accepted-line, refused-line, listing}
 use Rattle.express.proofs.whole.AnswerRow.{row-back}
@@ -48,6 +50,7 @@ module _ (t : Table) (n₁ n₂ n₃ n₄ : ℕ) where
   printed-lent (logical l) = refl
   printed-lent (binary s) = refl
   printed-lent (item m) = name-lent m
+  printed-lent (string s) = refl
   printed-lent (end e) = refl
 
   is-lent : (k m : ℕ) → is lent k m ≡ is t k m
@@ -89,32 +92,38 @@ module _ (t : Table) (n₁ n₂ n₃ n₄ : ℕ) where
       → (first-from (is lent constant) from (count lent - from) ≡ getD (constants t) i 0) × Walking (i + 1) (getD (constants t) i 0 + 1)
   walking-goes-on i from here h = walk-goes-on (is lent constant) (count lent) (constants t) i from here h
 
--- ---- an answer, read back from its row of the lent columns
+-- ---- an answer, read back from its row of the lent columns and the room
 
-module _ (a : Accepted) (m₁ m₂ m₃ : ℕ) where
+rows-counted : (start : ℕ) (xs : List express.Answer) → length (rows-from start xs) ≡ length xs
+unfolding rows-from
+rows-counted start [] = refl
+rows-counted start (x ∷ xs) = ap suc (rows-counted (start + length (bytes-of x)) xs)
+
+module _ (a : Accepted) (m₁ m₂ m₃ m₄ : ℕ) where
   -- what `records::record_at` gives of them
   abbrev pub record-lent : ℕ → Answer
   record-lent i =
       getD (take (length (a .answers)) (rows (padded 0 m₁ (answer-kinds a)) (padded (pos 0) m₂ (answer-numbers a)) (padded 0 m₃ (answer-lengths a))))
       i zeros
 
-  row-at : (i : ℕ) → getD (answer-rows a) i (row-of indeterminate) ≡ row-of (getD (a .answers) i indeterminate)
-  row-at i = List·getD-map row-of (a .answers) i indeterminate
+  -- and the answer that it stands for
+  abbrev pub answer-lent : ℕ → express.Answer
+  answer-lent i = record-answer (padded 0 m₄ (answer-room a)) (record-lent i)
 
-  kind-at : (i : ℕ) → getD (padded 0 m₁ (answer-kinds a)) i 0 ≡ row-of (getD (a .answers) i indeterminate) .kind
+  abbrev row-lent : ℕ → AnswerRow
+  row-lent i = getD (answer-rows a) i (row-of indeterminate)
+
+  kind-at : (i : ℕ) → getD (padded 0 m₁ (answer-kinds a)) i 0 ≡ row-lent i .kind
   kind-at i =
       getD-padded 0 m₁ (answer-kinds a) i ∙ List·getD-map (λ (r : AnswerRow). r .kind) (answer-rows a) i (row-of indeterminate)
-      ∙ ap (λ (r : AnswerRow). r .kind) (row-at i)
 
-  number-at : (i : ℕ) → getD (padded (pos 0) m₂ (answer-numbers a)) i (pos 0) ≡ row-of (getD (a .answers) i indeterminate) .number
+  number-at : (i : ℕ) → getD (padded (pos 0) m₂ (answer-numbers a)) i (pos 0) ≡ row-lent i .number
   number-at i =
       getD-padded (pos 0) m₂ (answer-numbers a) i ∙ List·getD-map (λ (r : AnswerRow). r .number) (answer-rows a) i (row-of indeterminate)
-      ∙ ap (λ (r : AnswerRow). r .number) (row-at i)
 
-  length-at : (i : ℕ) → getD (padded 0 m₃ (answer-lengths a)) i 0 ≡ row-of (getD (a .answers) i indeterminate) .length
+  length-at : (i : ℕ) → getD (padded 0 m₃ (answer-lengths a)) i 0 ≡ row-lent i .length
   length-at i =
       getD-padded 0 m₃ (answer-lengths a) i ∙ List·getD-map (λ (r : AnswerRow). r .length) (answer-rows a) i (row-of indeterminate)
-      ∙ ap (λ (r : AnswerRow). r .length) (row-at i)
 
   long : {A : Type 0} (z : A) (f : AnswerRow → A) (m : ℕ) → length (a .answers) ≤ length (padded z m (map f (answer-rows a)))
   long z f m =
@@ -122,15 +131,18 @@ module _ (a : Accepted) (m₁ m₂ m₃ : ℕ) where
         arith,
         length-append (map f (answer-rows a)) (replicate (m - length (map f (answer-rows a))) z),
         length-map (answer-rows a) f,
-        length-map (a .answers) row-of,
+        rows-counted 0 (a .answers),
       )
 
-  pub answer-lent : (i : ℕ) → i < length (a .answers) → record-answer (record-lent i) ≡ row-answer (row-of (getD (a .answers) i indeterminate))
-  answer-lent i h =
-      ap record-answer (row-within (padded 0 m₁ (answer-kinds a)) (padded (pos 0) m₂ (answer-numbers a)) (padded 0 m₃ (answer-lengths a))
+  answer-is : (i : ℕ) → i < length (a .answers) → {t : Table} {d : Declared} → Holds t d (getD (a .answers) i indeterminate)
+      → answer-lent i ≡ getD (a .answers) i indeterminate
+  answer-is i h holds =
+      let room = padded 0 m₄ (answer-room a) in
+      let back = row-back (a .answers) [] (replicate (m₄ - length (answer-room a)) 0) i holds in
+      ap (record-answer room) (row-within (padded 0 m₁ (answer-kinds a)) (padded (pos 0) m₂ (answer-numbers a)) (padded 0 m₃ (answer-lengths a))
       (length (a .answers)) i
       (omega (arith, long 0 (λ (r : AnswerRow). r .kind) m₁, long (pos 0) (λ (r : AnswerRow). r .number) m₂, long 0 (λ (r : AnswerRow). r .length) m₃)))
-      ∙ rw (kind-at i, number-at i, length-at i)
+      ∙ rw (kind-at i, number-at i, length-at i) back
 
 -- ---- the listing
 
@@ -139,15 +151,15 @@ unfolding span flatMap
 flat-same f g i zero h = refl
 flat-same f g i (suc d) h = rw (h i (omega arith), flat-same f g (suc i) d (λ k l. h k (omega arith)))
 
-module _ (a : Accepted) (n₁ n₂ n₃ n₄ m₁ m₂ m₃ : ℕ) where
+module _ (a : Accepted) (n₁ n₂ n₃ n₄ m₁ m₂ m₃ m₄ : ℕ) where
   -- the line printed for the i-th constant, and all that is printed
   abbrev pub printed-line : ℕ → List ℕ
-  printed-line i = answer-line (lent (a .table) n₁ n₂ n₃ n₄) (getD (constants (a .table)) i 0) (record-answer (record-lent a m₁ m₂ m₃ i))
+  printed-line i = answer-line (lent (a .table) n₁ n₂ n₃ n₄) (getD (constants (a .table)) i 0) (answer-lent a m₁ m₂ m₃ m₄ i)
 
   abbrev pub printed-lines : List ℕ
   printed-lines = accepted-line (length (a .answers)) ++ flatMap printed-line (span 0 (length (a .answers)))
 
-  module _ {s : List ℕ} {token-rows node-rows answer-rows : ℕ} (ok : Acceptable s token-rows node-rows answer-rows a) where
+  module _ {s : List ℕ} {token-rows node-rows answer-rows room-bytes : ℕ} (ok : Acceptable s token-rows node-rows answer-rows room-bytes a) where
     short : length (a .table .tokens) ≤ count (a .table)
     short =
         rw (ok .table-is)
@@ -155,9 +167,8 @@ module _ (a : Accepted) (n₁ n₂ n₃ n₄ m₁ m₂ m₃ : ℕ) where
 
     pub line-is : (i : ℕ) → i < length (a .answers) → printed-line i ≡ constant-line a i
     line-is i h =
-        line-lent (a .table) n₁ n₂ n₃ n₄ short (getD (constants (a .table)) i 0) (record-answer (record-lent a m₁ m₂ m₃ i))
-        ∙ ap (answer-line (a .table) (getD (constants (a .table)) i 0))
-        (answer-lent a m₁ m₂ m₃ i h ∙ row-back (ok .exact i (omega (arith, ok .as-many)) .holds))
+        line-lent (a .table) n₁ n₂ n₃ n₄ short (getD (constants (a .table)) i 0) (answer-lent a m₁ m₂ m₃ m₄ i)
+        ∙ ap (answer-line (a .table) (getD (constants (a .table)) i 0)) (answer-is a m₁ m₂ m₃ m₄ i h (ok .exact i (omega (arith, ok .as-many)) .holds))
 
     listing-is : printed-lines ≡ listing (accepted a)
     unfolding listing
@@ -165,14 +176,14 @@ module _ (a : Accepted) (n₁ n₂ n₃ n₄ m₁ m₂ m₃ : ℕ) where
         ap (λ (l : List ℕ). accepted-line (length (a .answers)) ++ l)
         (flat-same printed-line (constant-line a) 0 (length (a .answers)) (λ k l. line-is k (omega arith)))
 
--- THE LISTING, of a file and tables of three lengths: what is printed is that of the outcome, accepted or refused
-module _ (s : List ℕ) (token-rows node-rows answer-rows : ℕ) where
-  pub accepted-listing : (a : Accepted) (n₁ n₂ n₃ n₄ m₁ m₂ m₃ : ℕ) → checked s token-rows node-rows answer-rows ≡ accepted a
-      → printed-lines a n₁ n₂ n₃ n₄ m₁ m₂ m₃ ≡ listing (checked s token-rows node-rows answer-rows)
-  accepted-listing a n₁ n₂ n₃ n₄ m₁ m₂ m₃ e =
-      listing-is a n₁ n₂ n₃ n₄ m₁ m₂ m₃ (accepted-iff s token-rows node-rows answer-rows a .0 e) ∙ ap listing (sym e)
+-- THE LISTING, of a file, tables of three lengths and a room: what is printed is that of the outcome, accepted or refused
+module _ (s : List ℕ) (token-rows node-rows answer-rows room-bytes : ℕ) where
+  pub accepted-listing : (a : Accepted) (n₁ n₂ n₃ n₄ m₁ m₂ m₃ m₄ : ℕ) → checked s token-rows node-rows answer-rows room-bytes ≡ accepted a
+      → printed-lines a n₁ n₂ n₃ n₄ m₁ m₂ m₃ m₄ ≡ listing (checked s token-rows node-rows answer-rows room-bytes)
+  accepted-listing a n₁ n₂ n₃ n₄ m₁ m₂ m₃ m₄ e =
+      listing-is a n₁ n₂ n₃ n₄ m₁ m₂ m₃ m₄ (accepted-iff s token-rows node-rows answer-rows room-bytes a .0 e) ∙ ap listing (sym e)
 
-  pub refused-listing : (k p : ℕ) → checked s token-rows node-rows answer-rows ≡ refused k p
-      → refused-line k p ≡ listing (checked s token-rows node-rows answer-rows)
+  pub refused-listing : (k p : ℕ) → checked s token-rows node-rows answer-rows room-bytes ≡ refused k p
+      → refused-line k p ≡ listing (checked s token-rows node-rows answer-rows room-bytes)
   unfolding listing
   refused-listing k p e = rw e

@@ -37,6 +37,6 @@ table-of text starts lengths kinds tokens =
       roles = [];
     }
 
--- the answer that a record stands for
-abbrev pub record-answer : Answer → express.Answer
-record-answer a = row-answer (row (a .kind) (a .number) (a .length))
+-- the answer that a record stands for, a string by its bytes in the room
+abbrev pub record-answer : List ℕ → Answer → express.Answer
+record-answer room a = row-answer room (row (a .kind) (a .number) (a .length))

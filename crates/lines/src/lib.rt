@@ -1,6 +1,6 @@
 // The lines of the listing, each written into a lent buffer as far as it fits.
 ghost use mathlib.Core.Path.{_≡_};
-ghost use mathlib.Core.List.{[], _∷_, _++_, map};
+ghost use mathlib.Core.List.{[], _∷_, _++_, map, flatMap};
 ghost use Prim.Native.Nat.{_<_, _≤_, _+_, _-_, _^_, _/_, _%_};
 ghost use lib.Dec.{eqb};
 ghost use lib.ListN.{length, getD, set, take, drop};
@@ -10,7 +10,7 @@ ghost use Rattle.express.specs.syntax.Tree.{is};
 ghost use Rattle.express.specs.syntax.NodeKind.{constant};
 ghost use Rattle.express.specs.kinds.Bits.{bits};
 ghost use Rattle.express.specs.kinds.AnswerRow.{natural, ranked};
-ghost use Rattle.express.specs.whole.Listing.{digit-byte, line-feed, decimal, signed, logical-name, bit-digit, name-of, printed, refused-line, accepted-line, answer-line};
+ghost use Rattle.express.specs.whole.Listing.{digit-byte, line-feed, decimal, signed, logical-name, bit-digit, quoted-byte, literal, name-of, printed, refused-line, accepted-line, answer-line};
 ghost use Rattle.relations.specs.Select.{first-from};
 ghost use Rattle.lines.specs.Piece.{Puts, Titled};
 ghost use Rattle.lines.specs.Print.{Prints, fitted, table-of, record-answer};
@@ -164,6 +164,44 @@ fn put_binary(out: &mut [u8], at: usize, n: u64, length: u8) -> usize
     put_bits(out, next, n, length)
 }
 
+// A byte of a string; a quote twice.
+fn put_quoted_byte(out: &mut [u8], at: usize, byte: u8) -> usize
+    requires { ⌜ at < 2 ^ 62 ⌝ }
+    ensures { λ r. ⌜ Puts (now (out .entry)) at (quoted-byte byte) (now (out .exit)) r ⌝ }
+{
+    let next = put_byte(out, at, byte);
+    if byte == b'\'' {
+        return put_byte(out, next, b'\'');
+    }
+    next
+}
+
+// The bytes of a string, each quote twice.
+fn put_quoted(out: &mut [u8], at: usize, text: &[u8]) -> usize
+    requires { ⌜ (at < 2 ^ 61) × (length (now text) ≤ 2 ^ 31) ⌝ }
+    ensures { λ r. ⌜ Puts (now (out .entry)) at (flatMap quoted-byte (now (text .entry))) (now (out .exit)) r ⌝ }
+{
+    let mut i = 0;
+    let mut next = at;
+    while i < text.len() {
+        next = put_quoted_byte(out, next, text[i]);
+        i += 1;
+    }
+    next
+}
+
+// A string as a literal; what of it is outside the room is left out.
+fn put_string(out: &mut [u8], at: usize, room: &[u8], start: usize, length: u8) -> usize
+    requires { ⌜ at < 2 ^ 60 ⌝ }
+    ensures { λ r. ⌜ Puts (now (out .entry)) at (literal (take length (drop start (now (room .entry))))) (now (out .exit)) r ⌝ }
+{
+    let first = columns::shorter(start, room.len());
+    let end = first + columns::shorter(columns::byte_index(length), room.len() - first);
+    let a = put_byte(out, at, b'\'');
+    let b = put_quoted(out, a, &room[first..end]);
+    put_byte(out, b, b'\'')
+}
+
 // The logical of a rank.
 fn put_logical(out: &mut [u8], at: usize, rank: u64) -> usize
     requires { ⌜ at < 2 ^ 61 ⌝ }
@@ -233,7 +271,7 @@ fn first_of_kind(kinds: &[u8], kind: u8, from: usize) -> usize
 
 // ---- lines
 
-// An answer by its record; an item by its name.
+// An answer by its record; an item by its name, a string by its bytes in the room.
 fn put_answer<'a>(
     out: &mut [u8],
     at: usize,
@@ -241,11 +279,12 @@ fn put_answer<'a>(
     starts: &'a [u32],
     lengths: &'a [u32],
     tokens: &'a [u32],
+    room: &'a [u8],
     answer: Answer,
 ) -> usize
-    requires { ⌜ at < 2 ^ 61 ⌝ }
+    requires { ⌜ at < 2 ^ 60 ⌝ }
     ensures { λ r. ⌜ Puts (now (out .entry)) at
-        (printed (table-of (now (text .entry)) (now (starts .entry)) (now (lengths .entry)) [] (now (tokens .entry))) (record-answer answer))
+        (printed (table-of (now (text .entry)) (now (starts .entry)) (now (lengths .entry)) [] (now (tokens .entry))) (record-answer (now (room .entry)) answer))
         (now (out .exit)) r ⌝ }
 {
     let kind = answer.kind;
@@ -263,6 +302,13 @@ fn put_answer<'a>(
             lengths,
             tokens,
             natural(number) as usize,
+        ),
+        codes::answers::STRING => put_string(
+            out,
+            at,
+            room,
+            natural(number) as usize,
+            answer.length,
         ),
         _ => put_end(out, at, kind),
     }
@@ -334,14 +380,15 @@ pub fn constant<'a>(
     lengths: &'a [u32],
     kinds: &'a [u8],
     tokens: &'a [u32],
+    room: &'a [u8],
     node: usize,
     answer: Answer,
 ) -> Line
     ensures { λ r. ⌜ Prints
         (answer-line (table-of (now (text .entry)) (now (starts .entry)) (now (lengths .entry)) (now (kinds .entry)) (now (tokens .entry))) node
-        (record-answer answer)) (now (out .entry)) (now (out .exit)) r ⌝ }
+        (record-answer (now (room .entry)) answer)) (now (out .entry)) (now (out .exit)) r ⌝ }
 {
     let a = put_title(out, text, starts, lengths, kinds, tokens, node);
-    let b = put_answer(out, a, text, starts, lengths, tokens, answer);
+    let b = put_answer(out, a, text, starts, lengths, tokens, room, answer);
     end_line(out, b)
 }

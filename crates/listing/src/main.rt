@@ -15,8 +15,11 @@ const NODES: usize = 8192;
 
 const ANSWERS: usize = 1024;
 
-// Room for any line: three names, each no longer than the file, and an answer.
-const ROOM: usize = 262144;
+// Room for the strings of any file: no answer has more bytes.
+const ROOM: usize = ANSWERS * codes::limits::STRING_BYTES;
+
+// A buffer for any line: three names, each no longer than the file, or two and an answer.
+const LINES: usize = 262144;
 
 // Whether the whole listing was written.
 fn list(src: &[u8]) -> bool {
@@ -30,6 +33,7 @@ fn list(src: &[u8]) -> bool {
     let mut answer_kinds = [0u8; ANSWERS];
     let mut answer_numbers = [0i64; ANSWERS];
     let mut answer_lengths = [0u8; ANSWERS];
+    let mut room = [0u8; ROOM];
     let report = check(
         src,
         &mut token_kinds,
@@ -42,8 +46,9 @@ fn list(src: &[u8]) -> bool {
         &mut answer_kinds,
         &mut answer_numbers,
         &mut answer_lengths,
+        &mut room,
     );
-    let mut out = [0u8; ROOM];
+    let mut out = [0u8; LINES];
     print(
         &mut out,
         src,
@@ -54,6 +59,7 @@ fn list(src: &[u8]) -> bool {
         &answer_kinds,
         &answer_numbers,
         &answer_lengths,
+        &room,
         report.reply,
         index(report.number),
         index(report.constants),

@@ -95,41 +95,41 @@ ends-within {line} {was} {have} {n} q =
 pub ended-by : {line was have : List ℕ} {r s : Line} → Prints line was have r → r ≡ s → Prints line was have s
 ended-by {line} {was} {have} p e = subst (Prints line was have) e p
 
-pub recorded : {t : Table} {rs : List Answer} {i n : ℕ} {a : Answer} {was have : List ℕ} {r : Line} → a ≡ getD rs i zeros
-    → Prints (answer-line t n (record-answer a)) was have r → PrintsAnswer t rs i n was have r
-recorded {t} {n = n} {was = was} {have} {r} e p = record { prints = subst (λ (x : Answer). Prints (answer-line t n (record-answer x)) was have r) e p }
+pub recorded : {t : Table} {room : List ℕ} {rs : List Answer} {i n : ℕ} {a : Answer} {was have : List ℕ} {r : Line} → a ≡ getD rs i zeros
+    → Prints (answer-line t n (record-answer room a)) was have r → PrintsAnswer t room rs i n was have r
+recorded {t} {room} {n = n} {was = was} {have} {r} e p = record { prints = subst (λ (x : Answer). Prints (answer-line t n (record-answer room x)) was have r) e p }
 
 -- the constant that comes next, and how its line ends
-pub printed-by : {t : Table} {rs : List Answer} (n : ℕ) {i c : ℕ} {was have : List ℕ} {r s : Line} → PrintsAnswer t rs i c was have r → c ≡ next t n → r ≡ s
-    → Prints (next-line t rs i n) was have s
+pub printed-by : {t : Table} {room : List ℕ} {rs : List Answer} (n : ℕ) {i c : ℕ} {was have : List ℕ} {r s : Line} → PrintsAnswer t room rs i c was have r → c ≡ next t n → r ≡ s
+    → Prints (next-line t room rs i n) was have s
 printed-by n p e f = ended-by (rw (← e) (p .prints)) f
 
 -- ---- the loop
 
-module _ (t : Table) (rs : List Answer) (constants : ℕ) where
-  lines-step : (i n : ℕ) → i < constants → lines-from t rs i n (constants - i) ≡ next-line t rs i n ++ lines-from t rs (i + 1) (after t n) (constants - (i + 1))
+module _ (t : Table) (room : List ℕ) (rs : List Answer) (constants : ℕ) where
+  lines-step : (i n : ℕ) → i < constants → lines-from t room rs i n (constants - i) ≡ next-line t room rs i n ++ lines-from t room rs (i + 1) (after t n) (constants - (i + 1))
   unfolding lines-from
   lines-step i n h = let e : constants - i ≡ suc (constants - (i + 1)) = omega arith in rw e
 
-  lines-end : (i n : ℕ) → constants ≤ i → lines-from t rs i n (constants - i) ≡ []
+  lines-end : (i n : ℕ) → constants ≤ i → lines-from t room rs i n (constants - i) ≡ []
   unfolding lines-from
   lines-end i n h = let e : constants - i ≡ 0 = omega arith in rw e
 
   -- the place behind the next line
   abbrev pub step : Place → Place
-  step p = record { at = p .at + length (next-line t rs (p .line) (p .node)); line = p .line + 1; node = after t (p .node) }
+  step p = record { at = p .at + length (next-line t room rs (p .line) (p .node)); line = p .line + 1; node = after t (p .node) }
 
-  pub end-step : (m : ℕ) (p : Place) → p .line < constants → step p .at ≤ m → part-end t rs m (constants - p .line) p ≡ part-end t rs m (constants - (p .line + 1)) (step p)
+  pub end-step : (m : ℕ) (p : Place) → p .line < constants → step p .at ≤ m → part-end t room rs m (constants - p .line) p ≡ part-end t room rs m (constants - (p .line + 1)) (step p)
   unfolding part-end
   end-step m p h fits =
       let e : constants - p .line ≡ suc (constants - (p .line + 1)) = omega arith in rw (e, le-leb (step p .at) m fits)
 
-  end-here : (m : ℕ) (p : Place) → p .line < constants → m < step p .at → part-end t rs m (constants - p .line) p ≡ p
+  end-here : (m : ℕ) (p : Place) → p .line < constants → m < step p .at → part-end t room rs m (constants - p .line) p ≡ p
   unfolding part-end
   end-here m p h over =
       let e : constants - p .line ≡ suc (constants - (p .line + 1)) = omega arith in rw (e, lt-leb (step p .at) m over)
 
-  end-last : (m : ℕ) (p : Place) → constants ≤ p .line → part-end t rs m (constants - p .line) p ≡ p
+  end-last : (m : ℕ) (p : Place) → constants ≤ p .line → part-end t room rs m (constants - p .line) p ≡ p
   unfolding part-end
   end-last m p h = let e : constants - p .line ≡ 0 = omega arith in rw e
 
@@ -137,62 +137,62 @@ module _ (t : Table) (rs : List Answer) (constants : ℕ) where
   pub record Going (was : List ℕ) (p₀ : Place) (have : List ℕ) (p : Place) : Type 0 where
     pub within : p .at ≤ length have
     pub kept : length have ≡ length was
-    pub is : sets have (p .at) (lines-from t rs (p .line) (p .node) (constants - p .line)) ≡ sets was (p₀ .at) (lines-from t rs (p₀ .line) (p₀ .node) (constants - p₀ .line))
-    pub ends : part-end t rs (length was) (constants - p .line) p ≡ part-end t rs (length was) (constants - p₀ .line) p₀
+    pub is : sets have (p .at) (lines-from t room rs (p .line) (p .node) (constants - p .line)) ≡ sets was (p₀ .at) (lines-from t room rs (p₀ .line) (p₀ .node) (constants - p₀ .line))
+    pub ends : part-end t room rs (length was) (constants - p .line) p ≡ part-end t room rs (length was) (constants - p₀ .line) p₀
 
   pub going-starts : (was : List ℕ) (p : Place) → p .at ≤ length was → Going was p was p
   going-starts was p h = record { within = h; kept = refl; is = refl; ends = refl }
 
   module _ {was : List ℕ} {p₀ : Place} {have : List ℕ} {p : Place} (g : Going was p₀ have p) where
     module _ (h : p .line < constants) where
-      now-is : {last : List ℕ} {r : Line} → Prints (next-line t rs (p .line) (p .node)) (rest have (p .at)) last r
-          → with-rest have (p .at) last ≡ sets have (p .at) (next-line t rs (p .line) (p .node))
-      now-is q = ap (with-rest have (p .at)) (q .is) ∙ sets-rest have (p .at) (next-line t rs (p .line) (p .node)) (g .within)
+      now-is : {last : List ℕ} {r : Line} → Prints (next-line t room rs (p .line) (p .node)) (rest have (p .at)) last r
+          → with-rest have (p .at) last ≡ sets have (p .at) (next-line t room rs (p .line) (p .node))
+      now-is q = ap (with-rest have (p .at)) (q .is) ∙ sets-rest have (p .at) (next-line t room rs (p .line) (p .node)) (g .within)
 
-      to-come : sets have (p .at) (lines-from t rs (p .line) (p .node) (constants - p .line))
-          ≡ sets (sets have (p .at) (next-line t rs (p .line) (p .node))) (step p .at) (lines-from t rs (p .line + 1) (after t (p .node)) (constants - (p .line + 1)))
+      to-come : sets have (p .at) (lines-from t room rs (p .line) (p .node) (constants - p .line))
+          ≡ sets (sets have (p .at) (next-line t room rs (p .line) (p .node))) (step p .at) (lines-from t room rs (p .line + 1) (after t (p .node)) (constants - (p .line + 1)))
       to-come =
           ap (sets have (p .at)) (lines-step (p .line) (p .node) h)
-          ∙ sets-append have (p .at) (next-line t rs (p .line) (p .node)) (lines-from t rs (p .line + 1) (after t (p .node)) (constants - (p .line + 1)))
+          ∙ sets-append have (p .at) (next-line t room rs (p .line) (p .node)) (lines-from t room rs (p .line + 1) (after t (p .node)) (constants - (p .line + 1)))
 
       -- a line that is written ends in the buffer
-      pub going-fits : {last : List ℕ} {n : ℕ} → Prints (next-line t rs (p .line) (p .node)) (rest have (p .at)) last (Written n) → p .at + n ≤ length have
+      pub going-fits : {last : List ℕ} {n : ℕ} → Prints (next-line t room rs (p .line) (p .node)) (rest have (p .at)) last (Written n) → p .at + n ≤ length have
       going-fits {n = n} q =
-          let f = fit (length (next-line t rs (p .line) (p .node))) (length (rest have (p .at))) n (q .answer) in
+          let f = fit (length (next-line t room rs (p .line) (p .node))) (length (rest have (p .at))) n (q .answer) in
           omega (arith, f .0, f .1, g .within, rest-long have (p .at))
 
-      pub going-goes-on : {last : List ℕ} {n here node : ℕ} → Prints (next-line t rs (p .line) (p .node)) (rest have (p .at)) last (Written n)
+      pub going-goes-on : {last : List ℕ} {n here node : ℕ} → Prints (next-line t room rs (p .line) (p .node)) (rest have (p .at)) last (Written n)
           → here ≡ next t (p .node) → node ≡ min (here + 1) (count t)
           → Going was p₀ (with-rest have (p .at) last) (record { at = p .at + n; line = p .line + 1; node = node })
       going-goes-on {n = n} q e b =
-          let f = fit (length (next-line t rs (p .line) (p .node))) (length (rest have (p .at))) n (q .answer) in
-          let room : step p .at ≤ length have = omega (arith, f .0, g .within, rest-long have (p .at)) in
-          let go : Going was p₀ (sets have (p .at) (next-line t rs (p .line) (p .node))) (step p) =
+          let f = fit (length (next-line t room rs (p .line) (p .node))) (length (rest have (p .at))) n (q .answer) in
+          let fits : step p .at ≤ length have = omega (arith, f .0, g .within, rest-long have (p .at)) in
+          let go : Going was p₀ (sets have (p .at) (next-line t room rs (p .line) (p .node))) (step p) =
           record {
-            within = omega (arith, room, length-sets have (p .at) (next-line t rs (p .line) (p .node)));
-            kept = length-sets have (p .at) (next-line t rs (p .line) (p .node)) ∙ g .kept;
+            within = omega (arith, fits, length-sets have (p .at) (next-line t room rs (p .line) (p .node)));
+            kept = length-sets have (p .at) (next-line t room rs (p .line) (p .node)) ∙ g .kept;
             is = sym to-come ∙ g .is;
-            ends = sym (end-step (length was) p h (omega (arith, room, g .kept))) ∙ g .ends;
+            ends = sym (end-step (length was) p h (omega (arith, fits, g .kept))) ∙ g .ends;
           } in
           rw (now-is q, f .1, b, e) go
 
-      pub going-stops : {last : List ℕ} {n : ℕ} → Prints (next-line t rs (p .line) (p .node)) (rest have (p .at)) last (Short n)
-          → Parts t rs constants was p₀ (with-rest have (p .at) last) p
+      pub going-stops : {last : List ℕ} {n : ℕ} → Prints (next-line t room rs (p .line) (p .node)) (rest have (p .at)) last (Short n)
+          → Parts t room rs constants was p₀ (with-rest have (p .at) last) p
       going-stops {n = n} q =
-          let f = misfit (length (next-line t rs (p .line) (p .node))) (length (rest have (p .at))) n (q .answer) in
+          let f = misfit (length (next-line t room rs (p .line) (p .node))) (length (rest have (p .at))) n (q .answer) in
           let over : length have < step p .at = omega (arith, f, g .within, rest-long have (p .at)) in
           record {
             is =
                 now-is q
-                ∙ sym (sets-out (sets have (p .at) (next-line t rs (p .line) (p .node))) (step p .at) (lines-from t rs (p .line + 1) (after t (p .node)) (constants - (p .line + 1)))
-                (omega (arith, over, length-sets have (p .at) (next-line t rs (p .line) (p .node)))))
+                ∙ sym (sets-out (sets have (p .at) (next-line t room rs (p .line) (p .node))) (step p .at) (lines-from t room rs (p .line + 1) (after t (p .node)) (constants - (p .line + 1)))
+                (omega (arith, over, length-sets have (p .at) (next-line t room rs (p .line) (p .node)))))
                 ∙ sym to-come
                 ∙ g .is;
             ends = sym (end-here (length was) p h (omega (arith, over, g .kept))) ∙ g .ends;
-            within = omega (arith, g .within, ap length (now-is q), length-sets have (p .at) (next-line t rs (p .line) (p .node)));
+            within = omega (arith, g .within, ap length (now-is q), length-sets have (p .at) (next-line t room rs (p .line) (p .node)));
           }
 
-    pub going-ends : constants ≤ p .line → Parts t rs constants was p₀ have p
+    pub going-ends : constants ≤ p .line → Parts t room rs constants was p₀ have p
     going-ends h = record {
       is = sym (ap (sets have (p .at)) (lines-end (p .line) (p .node) h)) ∙ g .is;
       ends = sym (end-last (length was) p h) ∙ g .ends;
@@ -203,7 +203,7 @@ module _ (t : Table) (rs : List Answer) (constants : ℕ) where
 
   module _ (reply number : ℕ) {was mid : List ℕ} {n : ℕ} where
     pub first-goes-on : {have : List ℕ} {r : Place} → Prints (head-line reply number constants) was mid (Written n)
-        → Parts t rs constants mid (record { at = n; line = 0; node = 0 }) have r → FirstPart t rs reply number constants was have r
+        → Parts t room rs constants mid (record { at = n; line = 0; node = 0 }) have r → FirstPart t room rs reply number constants was have r
     first-goes-on {have} {r} q g =
         let f = fit (length (head-line reply number constants)) (length was) n (q .answer) in
         let all : constants - 0 ≡ constants = omega arith in
@@ -211,24 +211,24 @@ module _ (t : Table) (rs : List Answer) (constants : ℕ) where
         let long : length mid ≡ length was = ap length (q .is) ∙ length-sets was 0 (head-line reply number constants) in
         record {
           is =
-              g .is ∙ ap (λ (k : ℕ). sets mid n (lines-from t rs 0 0 k)) all
-              ∙ ap (λ (l : List ℕ). sets l n (lines-from t rs 0 0 constants)) (q .is)
-              ∙ ap (λ (k : ℕ). sets (sets was 0 (head-line reply number constants)) k (lines-from t rs 0 0 constants)) end
-              ∙ sym (sets-append was 0 (head-line reply number constants) (lines-from t rs 0 0 constants));
+              g .is ∙ ap (λ (k : ℕ). sets mid n (lines-from t room rs 0 0 k)) all
+              ∙ ap (λ (l : List ℕ). sets l n (lines-from t room rs 0 0 constants)) (q .is)
+              ∙ ap (λ (k : ℕ). sets (sets was 0 (head-line reply number constants)) k (lines-from t room rs 0 0 constants)) end
+              ∙ sym (sets-append was 0 (head-line reply number constants) (lines-from t room rs 0 0 constants));
           ends =
               g .ends ∙ rw (all, long, f .1, le-leb (length (head-line reply number constants)) (length was) (f .0));
           within = g .within;
         }
 
-    pub first-stops : Prints (head-line reply number constants) was mid (Short n) → FirstPart t rs reply number constants was mid start
+    pub first-stops : Prints (head-line reply number constants) was mid (Short n) → FirstPart t room rs reply number constants was mid start
     first-stops q =
         let f = misfit (length (head-line reply number constants)) (length was) n (q .answer) in
         record {
           is =
               q .is
-              ∙ sym (sets-out (sets was 0 (head-line reply number constants)) (0 + length (head-line reply number constants)) (lines-from t rs 0 0 constants)
+              ∙ sym (sets-out (sets was 0 (head-line reply number constants)) (0 + length (head-line reply number constants)) (lines-from t room rs 0 0 constants)
               (omega (arith, f, length-sets was 0 (head-line reply number constants))))
-              ∙ sym (sets-append was 0 (head-line reply number constants) (lines-from t rs 0 0 constants));
+              ∙ sym (sets-append was 0 (head-line reply number constants) (lines-from t room rs 0 0 constants));
           ends = rw (lt-leb (length (head-line reply number constants)) (length was) f);
           within = zero-le;
         }

@@ -27,42 +27,42 @@ next t n = first-from (is t constant) n (count t - n)
 abbrev pub after : Table → ℕ → ℕ
 after t n = min (next t n + 1) (count t)
 
--- R14: the line of answer i, of the constant that comes next
-abbrev pub next-line : Table → List Answer → ℕ → ℕ → List ℕ
-next-line t rs i n = answer-line t (next t n) (record-answer (getD rs i zeros))
+-- R14: the line of answer i, of the constant that comes next; the answers are records, their strings in the room
+abbrev pub next-line : Table → List ℕ → List Answer → ℕ → ℕ → List ℕ
+next-line t room rs i n = answer-line t (next t n) (record-answer room (getD rs i zeros))
 
 -- THE LINES TO COME: d of them, from answer i and a node on
-unfoldable pub lines-from : Table → List Answer → ℕ → ℕ → ℕ → List ℕ
-lines-from t rs i n zero = []
-lines-from t rs i n (suc d) = next-line t rs i n ++ lines-from t rs (i + 1) (after t n) d
+unfoldable pub lines-from : Table → List ℕ → List Answer → ℕ → ℕ → ℕ → List ℕ
+lines-from t room rs i n zero = []
+lines-from t room rs i n (suc d) = next-line t room rs i n ++ lines-from t room rs (i + 1) (after t n) d
 
 -- WHERE A PART ENDS: before the first of d lines that a buffer of m bytes does not hold whole
-unfoldable pub part-end : Table → List Answer → ℕ → ℕ → Place → Place
-part-end t rs m zero p = p
-part-end t rs m (suc d) p =
-    let end = p .at + length (next-line t rs (p .line) (p .node)) in
-    let more = part-end t rs m d (record { at = end; line = p .line + 1; node = after t (p .node) }) in
+unfoldable pub part-end : Table → List ℕ → List Answer → ℕ → ℕ → Place → Place
+part-end t room rs m zero p = p
+part-end t room rs m (suc d) p =
+    let end = p .at + length (next-line t room rs (p .line) (p .node)) in
+    let more = part-end t room rs m d (record { at = end; line = p .line + 1; node = after t (p .node) }) in
     cond (leb end m) more p
 
 -- the line of answer i, of the constant at a node
-pub record PrintsAnswer (t : Table) (rs : List Answer) (i node : ℕ) (was have : List ℕ) (r : Line) : Type 0 where
-  pub prints : Prints (answer-line t node (record-answer (getD rs i zeros))) was have r
+pub record PrintsAnswer (t : Table) (room : List ℕ) (rs : List Answer) (i node : ℕ) (was have : List ℕ) (r : Line) : Type 0 where
+  pub prints : Prints (answer-line t node (record-answer room (getD rs i zeros))) was have r
 
 -- a part: from an index of the buffer on it holds what is to come, as far as it goes
-pub record Parts (t : Table) (rs : List Answer) (constants : ℕ) (was : List ℕ) (p : Place) (have : List ℕ) (r : Place) : Type 0 where
-  pub is : have ≡ sets was (p .at) (lines-from t rs (p .line) (p .node) (constants - p .line))
-  pub ends : r ≡ part-end t rs (length was) (constants - p .line) p
+pub record Parts (t : Table) (room : List ℕ) (rs : List Answer) (constants : ℕ) (was : List ℕ) (p : Place) (have : List ℕ) (r : Place) : Type 0 where
+  pub is : have ≡ sets was (p .at) (lines-from t room rs (p .line) (p .node) (constants - p .line))
+  pub ends : r ≡ part-end t room rs (length was) (constants - p .line) p
   pub within : r .at ≤ length have
 
 -- where the first part ends: nowhere, if not even the first line fits
 abbrev pub start : Place
 start = record { at = 0; line = 0; node = 0 }
 
-abbrev pub first-end : Table → List Answer → ℕ → ℕ → ℕ → Place
-first-end t rs constants m n = let end = part-end t rs m constants (record { at = n; line = 0; node = 0 }) in cond (leb n m) end start
+abbrev pub first-end : Table → List ℕ → List Answer → ℕ → ℕ → ℕ → Place
+first-end t room rs constants m n = let end = part-end t room rs m constants (record { at = n; line = 0; node = 0 }) in cond (leb n m) end start
 
 -- the first part: the first line, and the lines of the constants from the first on
-pub record FirstPart (t : Table) (rs : List Answer) (reply number constants : ℕ) (was have : List ℕ) (r : Place) : Type 0 where
-  pub is : have ≡ sets was 0 (head-line reply number constants ++ lines-from t rs 0 0 constants)
-  pub ends : r ≡ first-end t rs constants (length was) (length (head-line reply number constants))
+pub record FirstPart (t : Table) (room : List ℕ) (rs : List Answer) (reply number constants : ℕ) (was have : List ℕ) (r : Place) : Type 0 where
+  pub is : have ≡ sets was 0 (head-line reply number constants ++ lines-from t room rs 0 0 constants)
+  pub ends : r ≡ first-end t room rs constants (length was) (length (head-line reply number constants))
   pub within : r .at ≤ length have

@@ -48,12 +48,13 @@ fn line_at<'a>(
     answer_kinds: &'a [u8],
     answer_numbers: &'a [i64],
     answer_lengths: &'a [u8],
+    room: &'a [u8],
     constants: usize,
     line: usize,
     node: usize,
 ) -> Line
     ensures { λ r. ⌜ PrintsAnswer
-        (table-of (now (text .entry)) (now (starts .entry)) (now (lengths .entry)) (now (kinds .entry)) (now (tokens .entry)))
+        (table-of (now (text .entry)) (now (starts .entry)) (now (lengths .entry)) (now (kinds .entry)) (now (tokens .entry))) (now (room .entry))
         (take constants (rows (now («answer_kinds» .entry)) (now («answer_numbers» .entry)) (now («answer_lengths» .entry)))) line node
         (now (out .entry)) (now (out .exit)) r ⌝ }
 {
@@ -64,7 +65,17 @@ fn line_at<'a>(
         constants,
         line,
     );
-    constant(out, text, starts, lengths, kinds, tokens, node, answer)
+    constant(
+        out,
+        text,
+        starts,
+        lengths,
+        kinds,
+        tokens,
+        room,
+        node,
+        answer,
+    )
 }
 
 // From a place on, as many whole lines as fit.
@@ -78,12 +89,13 @@ fn part<'a>(
     answer_kinds: &'a [u8],
     answer_numbers: &'a [i64],
     answer_lengths: &'a [u8],
+    room: &'a [u8],
     constants: usize,
     from: Place,
 ) -> Place
     requires { ⌜ from .at ≤ length (now out) ⌝ }
     ensures { λ r. ⌜ Parts
-        (table-of (now (text .entry)) (now (starts .entry)) (now (lengths .entry)) (now (kinds .entry)) (now (tokens .entry)))
+        (table-of (now (text .entry)) (now (starts .entry)) (now (lengths .entry)) (now (kinds .entry)) (now (tokens .entry))) (now (room .entry))
         (take constants (rows (now («answer_kinds» .entry)) (now («answer_numbers» .entry)) (now («answer_lengths» .entry)))) constants
         (now (out .entry)) from (now (out .exit)) r ⌝ }
 {
@@ -102,6 +114,7 @@ fn part<'a>(
             answer_kinds,
             answer_numbers,
             answer_lengths,
+            room,
             constants,
             line,
             here,
@@ -135,12 +148,13 @@ pub fn first_part<'a>(
     answer_kinds: &'a [u8],
     answer_numbers: &'a [i64],
     answer_lengths: &'a [u8],
+    room: &'a [u8],
     reply: u8,
     number: usize,
     constants: usize,
 ) -> Place
     ensures { λ r. ⌜ FirstPart
-        (table-of (now (text .entry)) (now (starts .entry)) (now (lengths .entry)) (now (kinds .entry)) (now (tokens .entry)))
+        (table-of (now (text .entry)) (now (starts .entry)) (now (lengths .entry)) (now (kinds .entry)) (now (tokens .entry))) (now (room .entry))
         (take constants (rows (now («answer_kinds» .entry)) (now («answer_numbers» .entry)) (now («answer_lengths» .entry)))) reply number constants
         (now (out .entry)) (now (out .exit)) r ⌝ }
 {
@@ -167,6 +181,7 @@ pub fn first_part<'a>(
         answer_kinds,
         answer_numbers,
         answer_lengths,
+        room,
         constants,
         from,
     )
@@ -183,12 +198,13 @@ pub fn next_part<'a>(
     answer_kinds: &'a [u8],
     answer_numbers: &'a [i64],
     answer_lengths: &'a [u8],
+    room: &'a [u8],
     constants: usize,
     line: usize,
     node: usize,
 ) -> Place
     ensures { λ r. ⌜ Parts
-        (table-of (now (text .entry)) (now (starts .entry)) (now (lengths .entry)) (now (kinds .entry)) (now (tokens .entry)))
+        (table-of (now (text .entry)) (now (starts .entry)) (now (lengths .entry)) (now (kinds .entry)) (now (tokens .entry))) (now (room .entry))
         (take constants (rows (now («answer_kinds» .entry)) (now («answer_numbers» .entry)) (now («answer_lengths» .entry)))) constants
         (now (out .entry)) (record { at = 0; line = line; node = node }) (now (out .exit)) r ⌝ }
 {
@@ -207,6 +223,7 @@ pub fn next_part<'a>(
         answer_kinds,
         answer_numbers,
         answer_lengths,
+        room,
         constants,
         from,
     )

@@ -1,9 +1,11 @@
-// Where the literals of a text end: integers, the exponents of reals, binaries.
+// Where the literals of a text end: integers, the exponents of reals, strings, binaries.
 ghost use mathlib.Core.Path.{_≡_};
-ghost use Prim.Native.Nat.{_<_};
-ghost use lib.ListN.{length};
+ghost use mathlib.Core.Bool.{false};
+ghost use Prim.Native.Nat.{_+_, _<_};
+ghost use lib.ListN.{length, drop};
 ghost use Rattle.express.specs.tokens.Bytes.{digit};
-ghost use Rattle.express.specs.tokens.Lexis.{run, end-of-integer, digits-of-exponent, end-of-exponent, end-of-binary};
+ghost use Rattle.express.specs.tokens.Lexis.{run, end-of-integer, digits-of-exponent, end-of-exponent, end-of-binary, end-of-string};
+ghost use Rattle.express.specs.tokens.Lexis.{end-of-short-string};
 ghost use Rattle.blanks.specs.Step.{reading};
 use blanks::Class;
 use blanks::Step;
@@ -66,6 +68,58 @@ pub fn binary_end(s: &[u8], at: usize) -> Step
         return Step::Refused(codes::replies::NO_TOKEN, at);
     }
     if bits > codes::limits::BITS {
+        return Step::Refused(codes::replies::TOO_LARGE, at);
+    }
+    Step::At(end)
+}
+
+// The end of the string at a place, however long its value is.
+fn quoted_end(s: &[u8], at: usize) -> Step
+    requires { ⌜ at < length (now s) ⌝ }
+    ensures { λ r. ⌜ reading r ≡ end-of-string at false (at + 1) (drop (at + 1) (now (s .entry))) ⌝ }
+{
+    let mut i = at + 1;
+    let mut quote = false;
+    while i < s.len() {
+        let b = s[i];
+        if quote {
+            if b != b'\'' {
+                return Step::At(i);
+            }
+            quote = false;
+            i += 1;
+        } else if b == b'\'' {
+            quote = true;
+            i += 1;
+        } else {
+            if !is_within(b' ', b'~', b) {
+                return Step::Refused(codes::replies::NO_TOKEN, at);
+            }
+            i += 1;
+        }
+    }
+    if quote {
+        return Step::At(i);
+    }
+    Step::Refused(codes::replies::NO_TOKEN, at)
+}
+
+// The end of the string at a place, if its value is not too long. The quotes around it are no part of the value, so a short token is not counted.
+pub fn string_end(s: &[u8], at: usize) -> Step
+    ensures { λ r. ⌜ reading r ≡ end-of-short-string (now (s .entry)) at ⌝ }
+{
+    if at >= s.len() {
+        return Step::Refused(codes::replies::NO_TOKEN, at);
+    }
+    let read = quoted_end(s, at);
+    let Step::At(end) = read else {
+        return read;
+    };
+    let size = columns::saturating_sub(end, at);
+    if size <= codes::limits::STRING_BYTES + 2 {
+        return Step::At(end);
+    }
+    if literals::string_length(s, at, size) > codes::limits::STRING_BYTES {
         return Step::Refused(codes::replies::TOO_LARGE, at);
     }
     Step::At(end)

@@ -1,8 +1,11 @@
-// The values of integer and binary literals, from the bytes of their tokens.
+// The values of integer, binary and string literals, from the bytes of their tokens.
 ghost use mathlib.Core.Path.{_≡_};
-ghost use Prim.Native.Nat.{_-_, _≤_, _<_};
-ghost use lib.ListN.{length as size, take, drop};
-ghost use Rattle.express.specs.tokens.Lexis.{numeral, greatest, integer-value, binary-value};
+ghost use mathlib.Core.Bool.{cond};
+ghost use Prim.Native.Nat.{_+_, _-_, _≤_, _<_};
+ghost use lib.Dec.{eqb};
+ghost use lib.ListN.{length as size, take, drop, set};
+ghost use lib.Seq.{sets};
+ghost use Rattle.express.specs.tokens.Lexis.{numeral, greatest, integer-value, binary-value, quote, string-value};
 ghost use Rattle.literals.specs.Literal.{digit-value, greatest-base, few, capped, FewBits, Zeros};
 use columns::shorter;
 
@@ -101,4 +104,62 @@ pub fn binary(s: &[u8], start: usize, length: usize) -> u64
     let few = shorter(shorter(length - 1, FEW), s.len() - first);
     let v = few_bits(s, first, first + few);
     numeral_of(s, first + few, length - 1 - few, BINARY, v)
+}
+
+// How many bytes stand between the quotes of a string, as far as the text goes.
+fn between(s: &[u8], start: usize, length: usize) -> usize
+    ensures { λ r. ⌜ r ≡ size (take length (drop start (now (s .entry)))) - 2 ⌝ }
+{
+    let left = columns::saturating_sub(s.len(), start);
+    columns::saturating_sub(shorter(length, left), 2)
+}
+
+// How many bytes stand there for one byte of the value: a quote is a pair.
+fn width(b: u8) -> usize
+    ensures { λ r. ⌜ r ≡ cond (eqb b quote) 2 1 ⌝ }
+{
+    if b == b'\'' {
+        return 2;
+    }
+    1
+}
+
+// How many bytes the value of the string literal has that lies from a start on.
+pub fn string_length(s: &[u8], start: usize, length: usize) -> usize
+    ensures { λ r. ⌜ r ≡ size (string-value (take length (drop start (now (s .entry))))) ⌝ }
+{
+    let end = between(s, start, length);
+    let mut i: usize = 0;
+    let mut n: usize = 0;
+    while i < end {
+        i += width(s[start + 1 + i]);
+        n += 1;
+    }
+    n
+}
+
+// A byte into a place so far behind another, if there is one.
+pub fn put_behind(out: &mut [u8], at: usize, n: usize, b: u8)
+    ensures { λ _. ⌜ now (out .exit) ≡ set (now (out .entry)) (at + n) b ⌝ }
+{
+    if n < columns::saturating_sub(out.len(), at) {
+        out[at + n] = b;
+    }
+}
+
+// The value of the string literal that lies from a start on, into the places from `at` on as far as they go; how many bytes it has.
+pub fn string_bytes(s: &[u8], start: usize, length: usize, out: &mut [u8], at: usize) -> usize
+    ensures { λ r. ⌜ (r ≡ size (string-value (take length (drop start (now (s .entry))))))
+        × (now (out .exit) ≡ sets (now (out .entry)) at (string-value (take length (drop start (now (s .entry)))))) ⌝ }
+{
+    let end = between(s, start, length);
+    let mut i: usize = 0;
+    let mut n: usize = 0;
+    while i < end {
+        let b = s[start + 1 + i];
+        put_behind(out, at, n, b);
+        i += width(b);
+        n += 1;
+    }
+    n
 }

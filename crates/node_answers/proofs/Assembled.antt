@@ -12,14 +12,14 @@ use lib.ListN.{getD, List·getD-eq-default}
 use Rattle.express.specs.syntax.NodeKind as node
 use Rattle.express.specs.syntax.Tree.{Table, count, kind, terminal, last, left, upper, lower, middle, low}
 use Rattle.express.specs.kinds.Answer.{Answer}
-use Rattle.express.specs.kinds.Declared.{Declared, INTEGER, BOOLEAN, LOGICAL, BINARY, enumeration, other, declared-type}
+use Rattle.express.specs.kinds.Declared.{Declared, INTEGER, BOOLEAN, LOGICAL, BINARY, STRING, enumeration, other, declared-type}
 use Rattle.express.specs.kinds.DeclaredColumn.{declared-number}
 use Rattle.express.specs.kinds.Relation.{Relation}
-use Rattle.express.specs.kinds.Shape.{Sign, operator-of, sign-of, bound-of, text}
+use Rattle.express.specs.kinds.Shape.{Sign, operator-of, sign-of, bound-of, text, shape-in}
 use Rattle.express.specs.kinds.Operate.{combined, applied, between}
-use Rattle.express.specs.kinds.Evaluate.{held, answer-at}
+use Rattle.express.specs.kinds.Evaluate.{held, answer-in, answer-at}
 use Rattle.relations.proofs.Select.{or-cases, le-or}
-use Rattle.operations.specs.Meaning.{answer-of, is-boolean, Holds}
+use Rattle.operations.specs.Meaning.{answer-of, sized, is-boolean, Holds}
 use Rattle.operations.specs.Meaning as operations
 use Rattle.operations.specs.declared.Answer as code
 use Rattle.operations.specs.declared.Answer.the-variants.{Indeterminate}
@@ -30,8 +30,8 @@ use Rattle.node_answers.specs.declared.operators.Reading.the-variants.{E
 use Rattle.node_answers.specs.Operators.{reading-of, combined-by}
 use Rattle.node_answers.specs.Answers.{answers-in, Gives}
 use Rattle.tree.specs.Children.{Child}
-use Rattle.node_answers.specs.NodeAnswer.{part, LiteralBytes, Leaf, Combines, Intervals, Operation, Operates, Plain, HeldIn, Others, Answered}
-use Rattle.node_answers.proofs.Rows.{held-whole, same, nothing, whole-of}
+use Rattle.node_answers.specs.NodeAnswer.{part, LiteralBytes, leaf-answer, Leaf, Combines, Intervals, Operation, Operates, Plain, HeldIn, Others, Answered}
+use Rattle.node_answers.proofs.Rows.{held-whole, same, nothing, whole-of, gives-sized}
 use Rattle.node_answers.proofs.Nodes.{at-sign, at-operator, at-interval, at-constant, at-leaf}
 
 -- ---- two operands
@@ -125,7 +125,8 @@ boolean-number INTEGER = refl
 boolean-number BOOLEAN = refl
 boolean-number LOGICAL = refl
 boolean-number BINARY = refl
-boolean-number (enumeration y) = sym (ne-eqb (y + 5) 1 (λ (h : y + 5 ≡ 1). omega arith))
+boolean-number STRING = refl
+boolean-number (enumeration y) = sym (ne-eqb (y + 6) 1 (λ (h : y + 6 ≡ 1). omega arith))
 boolean-number other = refl
 
 pub held-in :
@@ -147,7 +148,7 @@ module _ {k : ℕ} {bytes starts lengths terminals : List ℕ} {token declared :
   others-constant h H =
       record {
         is = λ t e c g P i B S L T K D Y.
-            same (at-constant t e c (answer-at (answers-in ks zs ls)) g n (i ∙ h)) (H .is (declared-type e c n) (D h));
+            gives-sized (same (at-constant t e c (answer-at (answers-in ks zs ls)) g n (i ∙ h)) (H .is (declared-type e c n) (D h)));
       }
 
   pub others-leaf :
@@ -159,7 +160,9 @@ module _ {k : ℕ} {bytes starts lengths terminals : List ℕ} {token declared :
             let f = answer-at (answers-in ks zs ls) in
             let s : part bytes p l ≡ text e n = rw (B, S, Z, K, P, L) in
             let u : w ≡ terminal e n = W ∙ rw (T, K) in
-            same (rw (s, u, ← i) (at-leaf t e c f g n (subst Plain (sym i) Q) (λ q. h (sym i ∙ q)))) (F .is (subst (LiteralBytes k) (sym s) Y));
+            let v : leaf-answer k w (part bytes p l) ≡ answer-in e f g n (shape-in t e c n) =
+            rw (s, u, ← i) (at-leaf t e c f g n (subst Plain (sym i) Q) (λ q. h (sym i ∙ q))) in
+            same (ap sized v) (F .is (rw (s, u) Y));
       }
 
 -- ---- a node
@@ -197,7 +200,8 @@ module _ {bytes starts lengths terminals tokens sizes declared ks : List ℕ} {z
       Answered bytes starts lengths terminals tokens sizes declared ks zs ls k n r
   answered-operation B h O =
       record {
-        is = λ t e kinds bindings file-kinds g A q i. O .is t e bindings g (A .terminals-are) (A .tokens-are) (A .sizes-are) q (operation-kind k (sym B ∙ h));
+        is = λ t e kinds bindings file-kinds g A q i.
+            gives-sized (O .is t e bindings g (A .terminals-are) (A .tokens-are) (A .sizes-are) q (operation-kind k (sym B ∙ h)));
       }
 
   pub answered-other :
@@ -207,5 +211,5 @@ module _ {bytes starts lengths terminals tokens sizes declared ks : List ℕ} {z
       record {
         is = λ t e kinds bindings file-kinds g A q i.
             Q .is t e bindings g (plain-kind k i (sym C ∙ h)) q (A .bytes-are) (A .starts-are) (A .lengths-are) (A .terminals-are) (rw (A .tokens-are) (sym O))
-            (λ j. D ∙ A .declares .constants n (known e n 16 (q ∙ j)) (q ∙ j)) (subst (λ (u : ℕ). LiteralBytes u (text e n)) q (A .spelled .each n));
+            (λ j. D ∙ A .declares .constants n (known e n 16 (q ∙ j)) (q ∙ j)) (subst (λ (u : ℕ). LiteralBytes u (terminal e n) (text e n)) q (A .spelled .each n));
       }

@@ -1,19 +1,24 @@
 -- The values of literals.
-use mathlib.Core.Path.{_≡_, refl, ap, ap₂, _∙_}
+use mathlib.Core.Path.{_≡_, refl, sym, ap, ap₂, _∙_}
+use mathlib.Core.Bool.{Bool, true, false, _&&_}
 use mathlib.Core.List.{List}
 use Prim.Native.Nat.{ℕ, min, _-_, _^_, _≤_, _<_}
 use native.Mathlib.Nat.{lt-of-lt-of-le}
 use native.Mathlib.Omega.{arith}
-use borrow.Author.Tests.{le-leb, ne-eqb}
+use borrow.Author.Tests.{le-leb, eqb-true, ne-eqb}
+use lib.Dec.{eqb}
 use lib.IntN.{pos}
-use lib.ListN.{length, drop, length-take, length-drop, length-map}
+use lib.ListN.{length, drop, length-take, length-drop, length-map, length-replicate}
 use lib.Pow.{pow-mono}
 use mir.Syntax.{w64}
 use mir.Val.{SFits, toZ}
 use mir.Facts.{toZ-pos}
-use Rattle.express.specs.tokens.Lexis.{integer-value, binary-bits, binary-value}
+use Rattle.express.specs.tokens.Lexis.{integer-value, binary-bits, binary-value, string-value, most-bytes}
+use Rattle.express.specs.tokens.Terminal.{the}
+use Rattle.express.specs.tokens.Terminal as word
 use Rattle.express.specs.tokens.Scanned.{Scanned}
 use Rattle.express.specs.syntax.Grammar.{Nonterminal}
+use Rattle.express.specs.syntax.NodeKind as node
 use Rattle.express.specs.syntax.Syntax.{Read}
 use Rattle.express.specs.syntax.Tree.{Table}
 use Rattle.express.specs.kinds.Answer.{integer, binary}
@@ -25,9 +30,10 @@ use Rattle.values.specs.Meaning as values
 use Rattle.values.specs.declared.logical.Logical as logicals
 use Rattle.literals.specs.Literal.{capped}
 use Rattle.bits.specs.declared.Binary as bits-crate
+use Rattle.operations.specs.Meaning.{of-size}
 use Rattle.operations.specs.declared.Answer as operations
-use Rattle.operations.specs.declared.Answer.the-variants.{Indeterminate, Integer, Logical, Binary}
-use Rattle.node_answers.specs.NodeAnswer.{part, IntegerRead, BinaryRead, Leaf, Spelled}
+use Rattle.operations.specs.declared.Answer.the-variants.{Indeterminate, Integer, Logical, Binary, Text}
+use Rattle.node_answers.specs.NodeAnswer.{part, IntegerRead, BinaryRead, StringRead, Leaf, Spelled}
 use Rattle.node_answers.proofs.Rows.{same, nothing}
 
 -- ---- integers
@@ -72,7 +78,20 @@ module _ (s : List ℕ) (p n : ℕ) {k m b : ℕ} (K : k ≡ length s - p) (M : 
               };
         }
 
+-- ---- strings
+module _ (s : List ℕ) {n : ℕ} (e : n ≡ length (string-value s)) where
+  pub string-long : most-bytes < n → StringRead s Indeterminate
+  string-long h = record { is = λ (l : length (string-value s) ≤ most-bytes). absurd (omega arith) }
+
+  pub string-short : n ≤ most-bytes → StringRead s (Text n)
+  string-short h =
+      record { is = λ l. record { is = ap of-size e; whole = rw (length-replicate {A = ℕ} (length (string-value s)) 0) (le-leb (length (string-value s)) most-bytes l) } }
+
 -- ---- leaves
+and-both : (a b : Bool) → a && b ≡ true → (a ≡ true) × (b ≡ true)
+and-both true b e = (refl, e)
+and-both false b e = let z : _≡_ {A = ℕ} 0 1 = cc in absurd (omega arith)
+
 module _ {k w : ℕ} {s : List ℕ} where
   pub leaf-integer : k ≡ 1 → {r : operations.Answer} → IntegerRead s r → Leaf k w s r
   leaf-integer h R = record { is = λ L. same (rw h) (R .is (L .small h)) }
@@ -83,11 +102,23 @@ module _ {k w : ℕ} {s : List ℕ} where
   pub leaf-logical : k ≡ 3 → {l : logicals.Logical} → values.logical-of l ≡ logical-of w → Leaf k w s (Logical l)
   leaf-logical h e = record { is = λ L. record { is = rw (h, e); whole = rw h } }
 
-  pub leaf-other : (k ≡ 1 → ⊥) → (k ≡ 2 → ⊥) → (k ≡ 3 → ⊥) → Leaf k w s Indeterminate
-  leaf-other a b c = record { is = λ L. same (rw (ne-eqb k 1 a, ne-eqb k 2 b, ne-eqb k 3 c)) nothing }
+  module _ {q : Bool} (e : q ≡ (eqb k node.other-literal && eqb w (the word.string))) where
+    pub leaf-string : q ≡ true → {r : operations.Answer} → StringRead s r → Leaf k w s r
+    leaf-string h R =
+        let p = and-both (eqb k node.other-literal) (eqb w (the word.string)) (sym e ∙ h) in
+        let i = eqb-true k node.other-literal (p .0) in
+        let j = eqb-true w (the word.string) (p .1) in
+        record { is = λ L. same (rw (i, j)) (R .is (L .few-bytes i j)) }
+
+    pub leaf-other : (k ≡ 1 → ⊥) → (k ≡ 2 → ⊥) → (k ≡ 3 → ⊥) → q ≡ false → Leaf k w s Indeterminate
+    leaf-other a b c h = record { is = λ L. same (rw (ne-eqb k 1 a, ne-eqb k 2 b, ne-eqb k 3 c, ← e, h)) nothing }
+
+  -- the kinds of literals are the first
+  pub leaf-none : 5 < k → Leaf k w s Indeterminate
+  leaf-none h = leaf-other (rw (ne-eqb k 5 (λ (q : k ≡ 5). omega arith))) (λ (q : k ≡ 1). omega arith) (λ (q : k ≡ 2). omega arith) (λ (q : k ≡ 3). omega arith) refl
 
 -- THE LITERALS of a text that is read
 pub spelled : {x : Nonterminal} {t : Table} → Read x t → Scanned t → Spelled t
 spelled R S =
     let v = literals R S in
-    record { each = λ n. record { small = v .small n; few-bits = v .few-bits n; read = binary-read R S n } }
+    record { each = λ n. record { small = v .small n; few-bits = v .few-bits n; read = binary-read R S n; few-bytes = v .few-bytes n } }

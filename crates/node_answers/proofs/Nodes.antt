@@ -1,6 +1,6 @@
 -- The answer of a node, by what its row and the columns hold.
 use mathlib.Core.Path.{_≡_, refl, sym, ap, _∙_}
-use mathlib.Core.Bool.{Bool, true, false, cond}
+use mathlib.Core.Bool.{Bool, true, false, cond, _&&_}
 use mathlib.Core.Option.{Option, none, some}
 use mathlib.Core.List.{List}
 use Prim.Native.Nat.{ℕ, _-_}
@@ -8,10 +8,12 @@ use borrow.Author.Tests.{ne-eqb}
 use lib.Dec.{eqb}
 use lib.IntN.{pos}
 use lib.ListN.{getD}
-use Rattle.express.specs.tokens.Lexis.{integer-value, binary-bits}
+use Rattle.express.specs.tokens.Lexis.{integer-value, binary-bits, string-value}
+use Rattle.express.specs.tokens.Terminal.{the}
+use Rattle.express.specs.tokens.Terminal as word
 use Rattle.express.specs.syntax.NodeKind as node
 use Rattle.express.specs.syntax.Tree.{Table, kind, terminal, last, left, upper, lower, middle, low}
-use Rattle.express.specs.kinds.Answer.{Logical, Answer, indeterminate, integer, logical, binary, item}
+use Rattle.express.specs.kinds.Answer.{Logical, Answer, indeterminate, integer, logical, binary, item, string}
 use Rattle.express.specs.kinds.Declared.{Declared, declaration, denoted, declared-type}
 use Rattle.express.specs.kinds.Shape.{Operator, unevaluated, text, logical-of, operator-of, sign-of, bound-of, evaluated, name-shape-in, shape-in}
 use Rattle.express.specs.kinds.Shape as shape
@@ -56,18 +58,21 @@ module _ (t e : Table) (c : List ℕ) (f g : ℕ → Answer) (n : ℕ) where
 
   -- a leaf
   leaf-by :
-      (v : ℕ) (s : List Bool) (l : Logical) (d : Declared) (x y z w o p : Bool) →
-      cond x (integer (pos v)) (cond y (binary s) (cond z (logical l) indeterminate))
+      (v : ℕ) (s : List Bool) (l : Logical) (u : List ℕ) (d : Declared) (x y z q w o p : Bool) →
+      cond x (integer (pos v)) (cond y (binary s) (cond z (logical l) (cond q (string u) indeterminate)))
       ≡ answer-in e f g n
       (cond x (shape.integer-literal v)
-      (cond y (shape.binary-literal s) (cond z (shape.logical-literal l) (cond w shape.question (cond o shape.interval-operator (cond p (shape.type d) unevaluated))))))
-  leaf-by v s l d true y z w o p = refl
-  leaf-by v s l d false true z w o p = refl
-  leaf-by v s l d false false true w o p = refl
-  leaf-by v s l d false false false true o p = refl
-  leaf-by v s l d false false false false true p = refl
-  leaf-by v s l d false false false false false true = refl
-  leaf-by v s l d false false false false false false = refl
+      (cond y (shape.binary-literal s)
+      (cond z (shape.logical-literal l)
+      (cond q (shape.string-literal u) (cond w shape.question (cond o shape.interval-operator (cond p (shape.type d) unevaluated)))))))
+  leaf-by v s l u d true y z q w o p = refl
+  leaf-by v s l u d false true z q w o p = refl
+  leaf-by v s l u d false false true q w o p = refl
+  leaf-by v s l u d false false false true w o p = refl
+  leaf-by v s l u d false false false false true o p = refl
+  leaf-by v s l u d false false false false false true p = refl
+  leaf-by v s l u d false false false false false false true = refl
+  leaf-by v s l u d false false false false false false false = refl
 
   pub at-leaf : Plain (kind e n) → (kind e n ≡ node.constant → ⊥) → Here (leaf-answer (kind e n) (terminal e n) (text e n))
   unfolding shape-in
@@ -80,9 +85,10 @@ module _ (t e : Table) (c : List ℕ) (f g : ℕ → Answer) (n : ℕ) where
         ne-eqb (kind e n) node.interval (p .no-interval),
         ne-eqb (kind e n) node.constant q,
       )
-      (leaf-by (integer-value (text e n)) (binary-bits (text e n)) (logical-of (terminal e n)) (denoted e c n) (eqb (kind e n) node.integer-literal)
-      (eqb (kind e n) node.binary-literal) (eqb (kind e n) node.logical-literal) (eqb (kind e n) node.question) (eqb (kind e n) node.interval-operator)
-      (eqb (kind e n) node.simple-type))
+      (leaf-by (integer-value (text e n)) (binary-bits (text e n)) (logical-of (terminal e n)) (string-value (text e n)) (denoted e c n)
+      (eqb (kind e n) node.integer-literal) (eqb (kind e n) node.binary-literal) (eqb (kind e n) node.logical-literal)
+      (eqb (kind e n) node.other-literal && eqb (terminal e n) (the word.string)) (eqb (kind e n) node.question)
+      (eqb (kind e n) node.interval-operator) (eqb (kind e n) node.simple-type))
 
   -- ---- names: of a node that is bound to x - 1
   module _ (x : ℕ) (q : getD c n 0 ≡ x) where

@@ -8,14 +8,15 @@ use native.Mathlib.Omega.{arith}
 use lib.IntN.{ℤ, pos}
 use lib.ListN.{length, getD, set}
 use Rattle.express.specs.kinds.Answer.{Answer, indeterminate}
-use Rattle.express.specs.kinds.AnswerRow.{row, row-of, row-answer}
+use Rattle.express.specs.kinds.AnswerRow.{row, row-of}
 use Rattle.express.specs.kinds.Evaluate.{answer-at}
-use Rattle.operations.specs.Meaning.{answer-of}
-use Rattle.answer_rows.specs.Stored.{storable, stored, row-in}
+use Rattle.operations.specs.Meaning.{answer-of, sized}
+use Rattle.operations.proofs.Sized.{answer-sized}
+use Rattle.answer_rows.specs.Stored.{storable, stored, sized-answer, row-in}
 use Rattle.operations.specs.declared.Answer as operations
 use Rattle.operations.specs.declared.Answer.the-variants.{Indeterminate}
 use Rattle.answer_rows.specs.declared.Row.{Row}
-use Rattle.answer_rows.proofs.Stored.{Storable, kept, row-back}
+use Rattle.answer_rows.proofs.Stored.{Storable, kept, sized-storable, row-back}
 use Rattle.node_answers.specs.Answers.{answers-in, Gives, Stores, Keeps}
 use Rattle.relations.proofs.Select.{le-or}
 
@@ -32,12 +33,12 @@ unfolding answers-in
 held-whole [] zs ls i = refl
 held-whole (k ∷ ks) [] ls i = refl
 held-whole (k ∷ ks) (z ∷ zs) [] i = refl
-held-whole (k ∷ ks) (z ∷ zs) (l ∷ ls) zero = stored-storable (row-answer (row k z l))
+held-whole (k ∷ ks) (z ∷ zs) (l ∷ ls) zero = stored-storable (sized-answer (row k z l))
 held-whole (k ∷ ks) (z ∷ zs) (l ∷ ls) (suc i) = held-whole ks zs ls i
 
 pub row-there :
     (ks : List ℕ) (zs : List ℤ) (ls : List ℕ) (i : ℕ) → i < length ks → i < length zs → i < length ls →
-    answer-at (answers-in ks zs ls) i ≡ stored (row-answer (row (getD ks i 0) (getD zs i (pos 0)) (getD ls i 0)))
+    answer-at (answers-in ks zs ls) i ≡ stored (sized-answer (row (getD ks i 0) (getD zs i (pos 0)) (getD ls i 0)))
 unfolding answers-in
 row-there [] zs ls i a b c = absurd (omega arith)
 row-there (k ∷ ks) [] ls i a b c = absurd (omega arith)
@@ -80,7 +81,7 @@ past-lengths (k ∷ ks) (z ∷ zs) (l ∷ ls) (suc i) h = past-lengths ks zs ls 
 
 set-rows :
     (ks : List ℕ) (zs : List ℤ) (ls : List ℕ) (i k : ℕ) (z : ℤ) (l : ℕ) →
-    answers-in (set ks i k) (set zs i z) (set ls i l) ≡ set (answers-in ks zs ls) i (stored (row-answer (row k z l)))
+    answers-in (set ks i k) (set zs i z) (set ls i l) ≡ set (answers-in ks zs ls) i (stored (sized-answer (row k z l)))
 unfolding answers-in
 set-rows [] zs ls i k z l = refl
 set-rows (x ∷ ks) [] ls zero k z l = refl
@@ -88,7 +89,7 @@ set-rows (x ∷ ks) [] ls (suc i) k z l = refl
 set-rows (x ∷ ks) (y ∷ zs) [] zero k z l = refl
 set-rows (x ∷ ks) (y ∷ zs) [] (suc i) k z l = refl
 set-rows (x ∷ ks) (y ∷ zs) (w ∷ ls) zero k z l = refl
-set-rows (x ∷ ks) (y ∷ zs) (w ∷ ls) (suc i) k z l = ap (λ (r : List Answer). stored (row-answer (row x y w)) ∷ r) (set-rows ks zs ls i k z l)
+set-rows (x ∷ ks) (y ∷ zs) (w ∷ ls) (suc i) k z l = ap (λ (r : List Answer). stored (sized-answer (row x y w)) ∷ r) (set-rows ks zs ls i k z l)
 
 -- ---- an answer of the code
 pub same : {r : operations.Answer} {a b : Answer} → a ≡ b → Gives r a → Gives r b
@@ -112,10 +113,10 @@ module _ (ks : List ℕ) (zs : List ℤ) (ls : List ℕ) (i : ℕ) where
 
   pub read-row :
       i < length ks → i < length zs → i < length ls → {z : ℤ} → z ≡ getD zs i (pos 0) → {r : operations.Answer} →
-      answer-of r ≡ stored (row-answer (row (getD ks i 0) z (getD ls i 0))) → Gives r (answer-at (answers-in ks zs ls) i)
+      answer-of r ≡ stored (sized-answer (row (getD ks i 0) z (getD ls i 0))) → Gives r (answer-at (answers-in ks zs ls) i)
   read-row a b c q e =
       record {
-        is = e ∙ ap (λ (z : ℤ). stored (row-answer (row (getD ks i 0) z (getD ls i 0)))) q ∙ sym (row-there ks zs ls i a b c);
+        is = e ∙ ap (λ (z : ℤ). stored (sized-answer (row (getD ks i 0) z (getD ls i 0)))) q ∙ sym (row-there ks zs ls i a b c);
         whole = held-whole ks zs ls i;
       }
 
@@ -135,8 +136,15 @@ module _ {a : operations.Answer} {x : Answer} (g : Gives a x) where
   pub made : stored (answer-of a) ≡ x
   made = ap stored (g .is) ∙ kept (whole-of g)
 
-  back : stored (row-answer (row-of x)) ≡ x
-  back = row-back {a = x} {w = row-of x} (whole-of g) refl refl
+  -- an answer of the code is told as it is
+  whole-sized : sized x ≡ x
+  whole-sized = sym (ap sized (g .is)) ∙ answer-sized a ∙ g .is
+
+  pub gives-sized : Gives a (sized x)
+  gives-sized = record { is = g .is ∙ sym whole-sized; whole = sized-storable (whole-of g) .is }
+
+  back : stored (sized-answer (row-of x)) ≡ x
+  back = row-back 0 {a = x} {w = row-of x} (whole-of g) refl refl ∙ whole-sized
 
   -- the row of an answer leads back to it
   pub stored-rows :
@@ -147,7 +155,7 @@ module _ {a : operations.Answer} {x : Answer} (g : Gives a x) where
       let y = stored (answer-of a) in
       rw (S .kinds-are, S .numbers-are, S .lengths-are)
       (set-rows ks zs ls i (row-of y .kind) (row-of y .number) (row-of y .length) ∙
-      ap (λ (v : Answer). set (answers-in ks zs ls) i (stored (row-answer (row-of v)))) made ∙ ap (set (answers-in ks zs ls) i) back)
+      ap (λ (v : Answer). set (answers-in ks zs ls) i (stored (sized-answer (row-of v)))) made ∙ ap (set (answers-in ks zs ls) i) back)
 
 -- ---- copying a row
 module _ (aks : List ℕ) (azs : List ℤ) (als : List ℕ) (i : ℕ) {ks : List ℕ} {zs : List ℤ} {ls ks′ : List ℕ} {zs′ : List ℤ} {ls′ : List ℕ} {n : ℕ} where
@@ -158,7 +166,7 @@ module _ (aks : List ℕ) (azs : List ℤ) (als : List ℕ) (i : ℕ) {ks : List
       record {
         is = rw (p, s, u)
             (set-rows ks zs ls n (getD aks i 0) z (getD als i 0) ∙
-            ap (set (answers-in ks zs ls) n) (ap (λ (y : ℤ). stored (row-answer (row (getD aks i 0) y (getD als i 0)))) q ∙ sym (row-there aks azs als i a b c)));
+            ap (set (answers-in ks zs ls) n) (ap (λ (y : ℤ). stored (sized-answer (row (getD aks i 0) y (getD als i 0)))) q ∙ sym (row-there aks azs als i a b c)));
       }
 
   pub copies-none :

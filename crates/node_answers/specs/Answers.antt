@@ -6,17 +6,17 @@ use Prim.Native.Nat.{ℕ}
 use lib.IntN.{ℤ}
 use lib.ListN.{set}
 use Rattle.express.specs.kinds.Answer.{Answer}
-use Rattle.express.specs.kinds.AnswerRow.{row, row-of, row-answer}
+use Rattle.express.specs.kinds.AnswerRow.{row, row-of}
 use Rattle.operations.specs.Meaning.{answer-of}
-use Rattle.answer_rows.specs.Stored.{storable, stored}
+use Rattle.answer_rows.specs.Stored.{storable, stored, sized-answer}
 use Rattle.operations.specs.declared.Answer as operations
 
--- the answers that three columns hold, as many as the shortest has rows
+-- the answers that three columns hold, strings by their lengths, as many as the shortest has rows
 unfoldable pub answers-in : List ℕ → List ℤ → List ℕ → List Answer
 answers-in [] zs ls = []
 answers-in (k ∷ ks) [] ls = []
 answers-in (k ∷ ks) (z ∷ zs) [] = []
-answers-in (k ∷ ks) (z ∷ zs) (l ∷ ls) = stored (row-answer (row k z l)) ∷ answers-in ks zs ls
+answers-in (k ∷ ks) (z ∷ zs) (l ∷ ls) = stored (sized-answer (row k z l)) ∷ answers-in ks zs ls
 
 -- an answer of the code stands for a, which a row holds
 pub record Gives (r : operations.Answer) (a : Answer) : Type 0 where

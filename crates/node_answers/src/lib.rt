@@ -2,15 +2,17 @@
 pub mod operators;
 
 ghost use mathlib.Core.Path.{_≡_};
-ghost use mathlib.Core.Bool.{_||_};
+ghost use mathlib.Core.Bool.{_&&_, _||_};
 ghost use lib.Dec.{eqb};
 ghost use lib.ListN.{getD};
+ghost use Rattle.express.specs.tokens.Terminal.{the};
+ghost use Rattle.express.specs.tokens.Terminal as word;
 ghost use Rattle.express.specs.syntax.NodeKind as node;
 ghost use Rattle.express.specs.kinds.Evaluate.{answer-at};
 ghost use Rattle.operations.specs.Meaning.{answer-of};
 ghost use Rattle.answer_rows.specs.Stored.{stored};
 ghost use Rattle.node_answers.specs.Answers.{Gives, Stores, answers-in};
-ghost use Rattle.node_answers.specs.NodeAnswer.{part, IntegerRead, BinaryRead, Leaf, Combines, Intervals, Operates, HeldIn, Others, Answered};
+ghost use Rattle.node_answers.specs.NodeAnswer.{part, IntegerRead, BinaryRead, StringRead, Leaf, Combines, Intervals, Operates, HeldIn, Others, Answered};
 use crate::operators::Reading;
 use crate::operators::bound;
 use crate::operators::logical;
@@ -92,6 +94,27 @@ fn binary(src: &[u8], start: usize, length: usize) -> Answer
     })
 }
 
+// A string literal by its length; one of more bytes than the language allows is `?`.
+fn string(src: &[u8], start: usize, length: usize) -> Answer
+    ensures { λ r. ⌜ StringRead (part (now (src .entry)) start length) r ⌝ }
+{
+    let n = literals::string_length(src, start, length);
+    if n > codes::limits::STRING_BYTES {
+        return Answer::Indeterminate;
+    }
+    Answer::Text(n as u8)
+}
+
+// Of the literals that have a kind in common strings alone are evaluated.
+fn is_string(kind: u8, terminal: u8) -> bool
+    ensures { λ r. ⌜ r ≡ (eqb kind node.other-literal && eqb terminal (the word.string)) ⌝ }
+{
+    if kind == codes::nodes::OTHER {
+        return terminal == codes::STRING_LITERAL;
+    }
+    false
+}
+
 // A literal; every other leaf is `?`.
 fn leaf(kind: u8, terminal: u8, src: &[u8], start: usize, length: usize) -> Answer
     ensures { λ r. ⌜ Leaf kind terminal (part (now (src .entry)) start length) r ⌝ }
@@ -104,6 +127,9 @@ fn leaf(kind: u8, terminal: u8, src: &[u8], start: usize, length: usize) -> Answ
     }
     if kind == codes::nodes::LOGICAL {
         return Answer::Logical(logical(terminal));
+    }
+    if is_string(kind, terminal) {
+        return string(src, start, length);
     }
     Answer::Indeterminate
 }
@@ -212,7 +238,7 @@ fn other(
         return held_answer(declared, value_kinds, value_numbers, value_lengths, n);
     }
     // The kinds of literals are the first; of any other node no token is read.
-    if kind > codes::nodes::LOGICAL {
+    if kind > codes::nodes::OTHER {
         return Answer::Indeterminate;
     }
     leaf(

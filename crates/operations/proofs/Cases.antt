@@ -8,10 +8,10 @@ use lib.Dec.{T}
 use mir.Val.{hasKey}
 use types.Run.{OneOf, miss}
 use denote.Enum.Declared.{tagOf}
-use Rattle.express.specs.kinds.Operate.{integer-in, logical-in, binary-in, item-in, end-in}
+use Rattle.express.specs.kinds.Operate.{integer-in, logical-in, binary-in, item-in, string-in, end-in}
 use Rattle.operations.specs.Meaning.{answer-of}
 use Rattle.operations.specs.declared.Answer.{Answer}
-use Rattle.operations.specs.declared.Answer.the-variants.{Indeterminate, Integer, Logical, Binary, Item, Ended}
+use Rattle.operations.specs.declared.Answer.the-variants.{Indeterminate, Integer, Logical, Binary, Item, Text, Ended}
 use Rattle.operations.proofs.Answer.{the-type}
 
 -- the variants by their tags
@@ -27,8 +27,11 @@ a-binary = 3
 abbrev pub an-item : ℕ
 an-item = 4
 
+abbrev pub a-string : ℕ
+a-string = 5
+
 abbrev pub an-end : ℕ
-an-end = 5
+an-end = 6
 
 -- those of ts that are none of ks
 abbrev pub without : List ℕ → List ℕ → List ℕ
@@ -36,7 +39,7 @@ without ks [] = []
 without ks (t ∷ ts) = cond (hasKey ks t) (without ks ts) (t ∷ without ks ts)
 
 abbrev pub rest : List ℕ → List ℕ
-rest ks = without ks (0 ∷ an-integer ∷ a-logical ∷ a-binary ∷ an-item ∷ an-end ∷ [])
+rest ks = without ks (0 ∷ an-integer ∷ a-logical ∷ a-binary ∷ an-item ∷ a-string ∷ an-end ∷ [])
 
 -- x is at a variant that is none of ks
 abbrev pub Other : List ℕ → Answer → Type 0
@@ -49,6 +52,7 @@ module _ (ks : List ℕ) where
   not-integer (Logical l) n h = refl
   not-integer (Binary b) n h = refl
   not-integer (Item m) n h = refl
+  not-integer (Text k) n h = refl
   not-integer (Ended e) n h = refl
 
   pub not-logical : (x : Answer) → T (not (hasKey (rest ks) a-logical)) → Other ks x → logical-in (answer-of x) ≡ none
@@ -57,6 +61,7 @@ module _ (ks : List ℕ) where
   not-logical (Logical l) n h = absurd (miss (rest ks) a-logical n h)
   not-logical (Binary b) n h = refl
   not-logical (Item m) n h = refl
+  not-logical (Text k) n h = refl
   not-logical (Ended e) n h = refl
 
   pub not-binary : (x : Answer) → T (not (hasKey (rest ks) a-binary)) → Other ks x → binary-in (answer-of x) ≡ none
@@ -65,6 +70,7 @@ module _ (ks : List ℕ) where
   not-binary (Logical l) n h = refl
   not-binary (Binary b) n h = absurd (miss (rest ks) a-binary n h)
   not-binary (Item m) n h = refl
+  not-binary (Text k) n h = refl
   not-binary (Ended e) n h = refl
 
   pub not-item : (x : Answer) → T (not (hasKey (rest ks) an-item)) → Other ks x → item-in (answer-of x) ≡ none
@@ -73,7 +79,17 @@ module _ (ks : List ℕ) where
   not-item (Logical l) n h = refl
   not-item (Binary b) n h = refl
   not-item (Item m) n h = absurd (miss (rest ks) an-item n h)
+  not-item (Text k) n h = refl
   not-item (Ended e) n h = refl
+
+  pub not-string : (x : Answer) → T (not (hasKey (rest ks) a-string)) → Other ks x → string-in (answer-of x) ≡ none
+  not-string Indeterminate n h = refl
+  not-string (Integer z) n h = refl
+  not-string (Logical l) n h = refl
+  not-string (Binary b) n h = refl
+  not-string (Item m) n h = refl
+  not-string (Text k) n h = absurd (miss (rest ks) a-string n h)
+  not-string (Ended e) n h = refl
 
   pub not-end : (x : Answer) → T (not (hasKey (rest ks) an-end)) → Other ks x → end-in (answer-of x) ≡ none
   not-end Indeterminate n h = refl
@@ -81,4 +97,5 @@ module _ (ks : List ℕ) where
   not-end (Logical l) n h = refl
   not-end (Binary b) n h = refl
   not-end (Item m) n h = refl
+  not-end (Text k) n h = refl
   not-end (Ended e) n h = absurd (miss (rest ks) an-end n h)

@@ -6,12 +6,14 @@ use mathlib.Core.List.{[], _∷_}
 use mathlib.Core.Option.{Option, some, none}
 use Prim.Native.Nat.{ℕ, compare, Ordering}
 use lib.IntN.{ℤ}
+use lib.ListN.{replicate}
 use mir.Syntax.{w64}
 use mir.Val.{SFits}
 use Rattle.express.specs.kinds.Answer.{UNKNOWN, indeterminate, logical, end}
 use Rattle.express.specs.kinds.Answer as answer
 use Rattle.express.specs.kinds.Bits.{compare-bits}
-use Rattle.express.specs.kinds.Declared.{Declared, INTEGER, BOOLEAN, LOGICAL, BINARY, enumeration, other}
+use Rattle.express.specs.kinds.Strings.{join-strings}
+use Rattle.express.specs.kinds.Declared.{Declared, INTEGER, BOOLEAN, LOGICAL, BINARY, STRING, enumeration, other}
 use Rattle.express.specs.kinds.Evaluate.{boolean-answer, held}
 use Rattle.express.specs.kinds.Integer.{sum, negation, compareℤ}
 use Rattle.express.specs.kinds.Logic.{NOT, compare-logical}
@@ -28,12 +30,13 @@ use Rattle.integers.proofs.Exact.{own}
 use Rattle.bits.specs.Meaning.{bits-of, binary-answer, Joins}
 use Rattle.bits.specs.declared.Binary as bits
 use Rattle.bits.specs.declared.Joined.{Joined}
+use Rattle.strings.proofs.Laws.{compare-zeros}
 use Rattle.operations.specs.Meaning.{answer-of, comparison-of, is-boolean, Holds}
 use Rattle.operations.specs.declared.Answer.{Answer}
-use Rattle.operations.specs.declared.Answer.the-variants.{Integer, Logical, Binary, Item, Ended}
+use Rattle.operations.specs.declared.Answer.the-variants.{Integer, Logical, Binary, Item, Text, Ended}
 use Rattle.operations.specs.declared.Comparison.{Comparison}
 use Rattle.operations.specs.declared.Comparison.the-variants.{Ordered, Unordered}
-use Rattle.operations.proofs.Cases.{an-integer, a-logical, a-binary, an-item, an-end, Other, not-integer, not-logical, not-binary, not-item, not-end}
+use Rattle.operations.proofs.Cases.{an-integer, a-logical, a-binary, an-item, a-string, an-end, Other, not-integer, not-logical, not-binary, not-item, not-string, not-end}
 
 -- ---- `+` and arithmetic
 module _ {x y : Answer} {z w : answer.Answer} {a b : ℤ} (f : SFits w64 a) (g : SFits w64 b) (p : x ≡ Integer a) (q : y ≡ Integer b) (k : z ≡ w) where
@@ -48,6 +51,11 @@ pub sum-binaries :
     x ≡ Binary a → y ≡ Binary b → z ≡ binary-answer j → Joins (bits-of a) (bits-of b) j → z ≡ operated plus (answer-of x) (answer-of y)
 sum-binaries p q k J = rw (p, q) (k ∙ J .is)
 
+pub sum-strings :
+    {x y : Answer} {z w : answer.Answer} {a b : ℕ} →
+    x ≡ Text a → y ≡ Text b → z ≡ w → w ≡ join-strings (replicate a 0) (replicate b 0) → z ≡ operated plus (answer-of x) (answer-of y)
+sum-strings p q k h = rw (p, q) (k ∙ h)
+
 module _ {x : Answer} (y : Answer) where
   pub sum-integer : {a : ℤ} → x ≡ Integer a → Other (an-integer ∷ []) y → indeterminate ≡ operated plus (answer-of x) (answer-of y)
   sum-integer p h = rw (p, not-integer (an-integer ∷ []) y tt h)
@@ -55,17 +63,20 @@ module _ {x : Answer} (y : Answer) where
   pub sum-binary : {a : bits.Binary} → x ≡ Binary a → Other (a-binary ∷ []) y → indeterminate ≡ operated plus (answer-of x) (answer-of y)
   sum-binary p h = rw (p, not-binary (a-binary ∷ []) y tt h)
 
+  pub sum-string : {a : ℕ} → x ≡ Text a → Other (a-string ∷ []) y → indeterminate ≡ operated plus (answer-of x) (answer-of y)
+  sum-string p h = rw (p, not-string (a-string ∷ []) y tt h)
+
   pub one-integer : (c : shape.Arithmetic) {a : ℤ} → x ≡ Integer a → Other (an-integer ∷ []) y → indeterminate ≡ operated (arithmetic c) (answer-of x) (answer-of y)
   one-integer c p h = rw (p, not-integer (an-integer ∷ []) y tt h)
 
 module _ (x y : Answer) where
-  pub sum-neither : Other (an-integer ∷ a-binary ∷ []) x → indeterminate ≡ operated plus (answer-of x) (answer-of y)
-  sum-neither h = rw (not-integer (an-integer ∷ a-binary ∷ []) x tt h, not-binary (an-integer ∷ a-binary ∷ []) x tt h)
+  pub sum-neither : Other (an-integer ∷ a-binary ∷ a-string ∷ []) x → indeterminate ≡ operated plus (answer-of x) (answer-of y)
+  sum-neither h = let ks = an-integer ∷ a-binary ∷ a-string ∷ [] in rw (not-integer ks x tt h, not-binary ks x tt h, not-string ks x tt h)
 
   pub no-integer : (c : shape.Arithmetic) → Other (an-integer ∷ []) x → indeterminate ≡ operated (arithmetic c) (answer-of x) (answer-of y)
   no-integer c h = rw (not-integer (an-integer ∷ []) x tt h)
 
-pub ruleset sums = (sum-integers, sum-binaries, sum-integer, sum-binary, sum-neither, two-integers, one-integer, no-integer)
+pub ruleset sums = (sum-integers, sum-binaries, sum-strings, sum-integer, sum-binary, sum-string, sum-neither, two-integers, one-integer, no-integer)
 
 -- ---- the order of two answers
 module _ {x y : Answer} {o : Ordering} where
@@ -81,6 +92,9 @@ module _ {x y : Answer} {o : Ordering} where
   pub items-ordered : {m n : ℕ} → x ≡ Item m → y ≡ Item n → o ≡ compare m n → some o ≡ compared (answer-of x) (answer-of y)
   items-ordered p q h = rw (p, q) (ap some h)
 
+  pub strings-ordered : {m n : ℕ} → x ≡ Text m → y ≡ Text n → o ≡ compare m n → some o ≡ compared (answer-of x) (answer-of y)
+  strings-ordered {m} {n} p q h = rw (p, q) (ap some (h ∙ sym (compare-zeros m n)))
+
 module _ {x : Answer} (y : Answer) where
   pub one-ordered : {a : ℤ} → x ≡ Integer a → Other (an-integer ∷ []) y → none ≡ compared (answer-of x) (answer-of y)
   one-ordered p h = rw (p, not-integer (an-integer ∷ []) y tt h)
@@ -94,13 +108,16 @@ module _ {x : Answer} (y : Answer) where
   pub one-item : {m : ℕ} → x ≡ Item m → Other (an-item ∷ []) y → none ≡ compared (answer-of x) (answer-of y)
   one-item p h = rw (p, not-item (an-item ∷ []) y tt h)
 
-module _ (x y : Answer) (h : Other (an-integer ∷ a-logical ∷ a-binary ∷ an-item ∷ []) x) where
+  pub one-string : {m : ℕ} → x ≡ Text m → Other (a-string ∷ []) y → none ≡ compared (answer-of x) (answer-of y)
+  one-string p h = rw (p, not-string (a-string ∷ []) y tt h)
+
+module _ (x y : Answer) (h : Other (an-integer ∷ a-logical ∷ a-binary ∷ an-item ∷ a-string ∷ []) x) where
   pub no-value : none ≡ compared (answer-of x) (answer-of y)
   no-value =
-      let ks = an-integer ∷ a-logical ∷ a-binary ∷ an-item ∷ [] in
-      rw (not-integer ks x tt h, not-logical ks x tt h, not-binary ks x tt h, not-item ks x tt h)
+      let ks = an-integer ∷ a-logical ∷ a-binary ∷ an-item ∷ a-string ∷ [] in
+      rw (not-integer ks x tt h, not-logical ks x tt h, not-binary ks x tt h, not-item ks x tt h, not-string ks x tt h)
 
-pub ruleset orders = (two-ordered, logicals-ordered, binaries-ordered, items-ordered, one-ordered, one-logical, one-binary, one-item, no-value)
+pub ruleset orders = (two-ordered, logicals-ordered, binaries-ordered, items-ordered, strings-ordered, one-ordered, one-logical, one-binary, one-item, one-string, no-value)
 
 -- ---- relations, by the order that was found
 module _ {c : Comparison} {v : Option Ordering} (k : Relation) (e : comparison-of c ≡ v) where
@@ -160,6 +177,7 @@ boolean-is INTEGER e = absurd (true≢false (sym e))
 boolean-is BOOLEAN e = refl
 boolean-is LOGICAL e = absurd (true≢false (sym e))
 boolean-is BINARY e = absurd (true≢false (sym e))
+boolean-is STRING e = absurd (true≢false (sym e))
 boolean-is (enumeration y) e = absurd (true≢false (sym e))
 boolean-is other e = absurd (true≢false (sym e))
 
@@ -168,6 +186,7 @@ other-is INTEGER a e = refl
 other-is BOOLEAN a e = absurd (true≢false e)
 other-is LOGICAL a e = refl
 other-is BINARY a e = refl
+other-is STRING a e = refl
 other-is (enumeration y) a e = refl
 other-is other a e = refl
 

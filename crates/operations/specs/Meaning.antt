@@ -3,14 +3,16 @@ use mathlib.Core.Path.{_≡_}
 use mathlib.Core.Bool.{Bool, true, false}
 use mathlib.Core.Option.{Option, none, some}
 use Prim.Native.Nat.{Ordering}
-use Rattle.express.specs.kinds.Answer.{indeterminate, integer, logical, binary, item, end}
+use lib.ListN.{length}
+use Rattle.express.specs.kinds.Answer.{indeterminate, integer, logical, binary, item, string, end}
 use Rattle.express.specs.kinds.Answer as answer
-use Rattle.express.specs.kinds.Declared.{Declared, INTEGER, BOOLEAN, LOGICAL, BINARY, enumeration, other}
+use Rattle.express.specs.kinds.Declared.{Declared, INTEGER, BOOLEAN, LOGICAL, BINARY, STRING, enumeration, other}
 use Rattle.express.specs.kinds.Evaluate.{held}
 use Rattle.express.specs.kinds.Shape.{minus, times, divide, modulo, power, and, or, xor, plus, arithmetic, relation, connective, positive, negative, not}
 use Rattle.express.specs.kinds.Shape as shape
 use Rattle.values.specs.Meaning.{end-number, logical-of, ordering-of, relation-of}
 use Rattle.bits.specs.Meaning.{bits-of}
+pub use Rattle.strings.specs.Meaning.{of-size}
 use Rattle.operations.specs.declared.Answer.{Answer}
 use Rattle.operations.specs.declared.Answer.the-variants as an-answer
 use Rattle.operations.specs.declared.Arithmetic.{Arithmetic}
@@ -24,14 +26,25 @@ use Rattle.operations.specs.declared.Sign.the-variants.{Positive, Negati
 use Rattle.operations.specs.declared.Comparison.{Comparison}
 use Rattle.operations.specs.declared.Comparison.the-variants.{Ordered, Unordered}
 
--- an item by its node, an end by its number
+-- an item by its node, a string by its length, an end by its number
 abbrev pub answer-of : Answer → answer.Answer
 answer-of an-answer.Indeterminate = indeterminate
 answer-of (an-answer.Integer z) = integer z
 answer-of (an-answer.Logical l) = logical (logical-of l)
 answer-of (an-answer.Binary b) = binary (bits-of b)
 answer-of (an-answer.Item m) = item m
+answer-of (an-answer.Text n) = of-size n
 answer-of (an-answer.Ended e) = end (end-number e)
+
+-- what the code tells of an answer: of a string the length alone
+abbrev pub sized : answer.Answer → answer.Answer
+sized indeterminate = indeterminate
+sized (integer z) = integer z
+sized (logical l) = logical l
+sized (binary s) = binary s
+sized (item m) = item m
+sized (string s) = of-size (length s)
+sized (end e) = end e
 
 abbrev pub arithmetic-of : Arithmetic → shape.Arithmetic
 arithmetic-of Minus = minus
@@ -67,6 +80,7 @@ is-boolean INTEGER = false
 is-boolean BOOLEAN = true
 is-boolean LOGICAL = false
 is-boolean BINARY = false
+is-boolean STRING = false
 is-boolean (enumeration y) = false
 is-boolean other = false
 

@@ -1,12 +1,12 @@
 // What operators make of the answers of their operands where none is an end.
 
 ghost use mathlib.Core.Path.{_≡_};
-ghost use Prim.Native.Nat.{compare};
 ghost use Rattle.express.specs.kinds.Operate.{computed, combined-logicals, compared, counted, operated};
 ghost use Rattle.express.specs.kinds.Shape.{plus, arithmetic, relation};
-ghost use Rattle.values.specs.Meaning.{logical-of, ordering-of, relation-of};
+ghost use Rattle.values.specs.Meaning.{logical-of, relation-of};
 ghost use Rattle.integers.specs.Meaning.{integer-answer};
 ghost use Rattle.bits.specs.Meaning.{binary-answer};
+ghost use Rattle.strings.specs.Meaning.{joined-answer};
 ghost use Rattle.operations.specs.Meaning.{answer-of, arithmetic-of, connective-of, comparison-of};
 use bits::Binary;
 use bits::Joined;
@@ -16,13 +16,14 @@ use values::logical::Logical;
 use values::order::Order;
 use values::order::Relation;
 
-// What an expression comes to: an item by its node.
+// What an expression comes to: an item by its node; of a string the length alone is told.
 pub enum Answer {
     Indeterminate,
     Integer(i64),
     Logical(Logical),
     Binary(Binary),
     Item(u32),
+    Text(u8),
     Ended(End),
 }
 
@@ -42,7 +43,7 @@ pub enum Connective {
     Xor,
 }
 
-// The operators of two operands. `+` adds integers and joins binaries.
+// The operators of two operands. `+` adds integers and joins binaries and strings.
 pub enum Operator {
     Plus,
     Arithmetic(Arithmetic),
@@ -81,6 +82,15 @@ fn from_joined(joined: Joined) -> Answer
     }
 }
 
+fn from_text(joined: strings::Joined) -> Answer
+    ensures { λ r. ⌜ answer-of r ≡ joined-answer joined ⌝ }
+{
+    match joined {
+        strings::Joined::Whole(n) => Answer::Text(n),
+        strings::Joined::Ended(e) => Answer::Ended(e),
+    }
+}
+
 // `+` where no operand is an end.
 pub fn sum(x: Answer, y: Answer) -> Answer
     ensures { λ r. ⌜ answer-of r ≡ operated plus (answer-of x) (answer-of y) ⌝ }
@@ -92,6 +102,10 @@ pub fn sum(x: Answer, y: Answer) -> Answer
         },
         Answer::Binary(a) => match y {
             Answer::Binary(b) => from_joined(bits::join(a, b)),
+            _ => Answer::Indeterminate,
+        },
+        Answer::Text(a) => match y {
+            Answer::Text(b) => from_text(strings::join(a, b)),
             _ => Answer::Indeterminate,
         },
         _ => Answer::Indeterminate,
@@ -123,19 +137,8 @@ pub fn calculated(o: Arithmetic, x: Answer, y: Answer) -> Answer
     }
 }
 
-// Items of one enumeration have their nodes in the order in which it lists them.
-fn compare_nodes(m: u32, n: u32) -> Order
-    ensures { λ r. ⌜ ordering-of r ≡ compare m n ⌝ }
-{
-    if m < n {
-        return Order::Less;
-    }
-    if n < m {
-        return Order::More;
-    }
-    Order::Same
-}
-
+// Items of one enumeration have their nodes in the order in which it lists them. Strings of which the lengths alone are told are ordered by them;
+// with their bytes strings are compared where the bytes are at hand (`evaluate`).
 fn compared(x: Answer, y: Answer) -> Comparison
     ensures { λ r. ⌜ comparison-of r ≡ compared (answer-of x) (answer-of y) ⌝ }
 {
@@ -153,7 +156,11 @@ fn compared(x: Answer, y: Answer) -> Comparison
             _ => Comparison::Unordered,
         },
         Answer::Item(a) => match y {
-            Answer::Item(b) => Comparison::Ordered(compare_nodes(a, b)),
+            Answer::Item(b) => Comparison::Ordered(Order::of(a as u64, b as u64)),
+            _ => Comparison::Unordered,
+        },
+        Answer::Text(a) => match y {
+            Answer::Text(b) => Comparison::Ordered(Order::of(a as u64, b as u64)),
             _ => Comparison::Unordered,
         },
         _ => Comparison::Unordered,

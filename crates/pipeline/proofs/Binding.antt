@@ -50,10 +50,10 @@ vertices-are t kinds e D = D .is ∙ ap (λ (k : List ℕ). so-far k (length k))
 -- ---- the orders at the fronts of their columns
 
 module _ (before : Stage) (bytes starts lengths terminals kinds tokens sizes bindings types constants declared row-of aks : List ℕ) (azs : List ℤ) (als vks : List ℕ) (vzs : List ℤ)
-    (vls : List ℕ) (r : Stage) (aks′ : List ℕ) (azs′ : List ℤ) (als′ : List ℕ) (d v i : ℕ) where
+    (vls room : List ℕ) (r : Stage) (aks′ : List ℕ) (azs′ : List ℤ) (als′ room′ : List ℕ) (d v i : ℕ) where
   pub named-answered : Declarations kinds d → i ≡ min (length types) (length constants) → v ≡ min d i →
-      AnswersFile bytes starts lengths terminals kinds tokens sizes bindings before (take v types) (take v constants) declared row-of aks azs als vks vzs vls r aks′ azs′ als′ →
-      AnswersNamed before bytes starts lengths terminals kinds tokens sizes bindings types constants declared row-of aks azs als vks vzs vls r aks′ azs′ als′
+      AnswersFile bytes starts lengths terminals kinds tokens sizes bindings before (take v types) (take v constants) declared row-of aks azs als vks vzs vls room r aks′ azs′ als′ room′ →
+      AnswersNamed before bytes starts lengths terminals kinds tokens sizes bindings types constants declared row-of aks azs als vks vzs vls room r aks′ azs′ als′ room′
   named-answered D im vm A =
       record {
         passed-on = A .passed-on;

@@ -18,9 +18,9 @@ pub record Declarations (kinds : List ℕ) (n : ℕ) : Type 0 where
 
 -- `answer_named`, of a file with these nodes, whose declarations stand in order at the fronts of two columns
 pub record AnswersNamed (before : Stage) (bytes starts lengths terminals kinds tokens sizes bindings types constants declared row-of aks : List ℕ) (azs : List ℤ) (als vks : List ℕ)
-    (vzs : List ℤ) (vls : List ℕ) (r : Stage) (aks′ : List ℕ) (azs′ : List ℤ) (als′ : List ℕ) : Type 0 where
+    (vzs : List ℤ) (vls room : List ℕ) (r : Stage) (aks′ : List ℕ) (azs′ : List ℤ) (als′ room′ : List ℕ) : Type 0 where
   pub passed-on : (k p : ℕ) → before ≡ Refused k p → r ≡ Refused k p
   pub is :
       (t : Table) → kinds ≡ t .kinds → vertex-count t ≤ length types → vertex-count t ≤ length constants →
-      AnswersFile bytes starts lengths terminals kinds tokens sizes bindings before (take (vertex-count t) types) (take (vertex-count t) constants) declared row-of aks azs als vks vzs vls r
-      aks′ azs′ als′
+      AnswersFile bytes starts lengths terminals kinds tokens sizes bindings before (take (vertex-count t) types) (take (vertex-count t) constants) declared row-of aks azs als vks vzs vls room r
+      aks′ azs′ als′ room′

@@ -114,12 +114,13 @@ pub fn answer_named(
     value_kinds: &mut [u8],
     value_numbers: &mut [i64],
     value_lengths: &mut [u8],
+    room: &mut [u8],
 ) -> Stage
     ensures { λ r. ⌜ AnswersNamed before (now (src .entry)) (now (starts .entry)) (now (lengths .entry)) (now (terminals .entry))
         (now (kinds .entry)) (now (tokens .entry)) (now (sizes .entry)) (now (bindings .entry)) (now (types .entry)) (now (constants .entry))
         (now (declared .entry)) (now («row_of» .entry)) (now («answer_kinds» .entry)) (now («answer_numbers» .entry)) (now («answer_lengths» .entry))
-        (now («value_kinds» .entry)) (now («value_numbers» .entry)) (now («value_lengths» .entry)) r (now («answer_kinds» .exit))
-        (now («answer_numbers» .exit)) (now («answer_lengths» .exit)) ⌝ }
+        (now («value_kinds» .entry)) (now («value_numbers» .entry)) (now («value_lengths» .entry)) (now (room .entry)) r (now («answer_kinds» .exit))
+        (now («answer_numbers» .exit)) (now («answer_lengths» .exit)) (now (room .exit)) ⌝ }
 {
     let v = shorter(
         count_declarations(kinds),
@@ -145,5 +146,6 @@ pub fn answer_named(
         value_kinds,
         value_numbers,
         value_lengths,
+        room,
     )
 }

@@ -33,15 +33,16 @@ fn check_rows(
     answer_kinds: &mut [u8],
     answer_numbers: &mut [i64],
     answer_lengths: &mut [u8],
+    room: &mut [u8],
     rows: usize,
 ) -> Report
     ensures { λ r. ⌜ ChecksRows (now (src .entry))
         (tables-of (now («token_kinds» .entry)) (now («token_starts» .entry)) (now («token_lengths» .entry))
         (now («node_kinds» .entry)) (now («node_tokens» .entry)) (now («node_sizes» .entry)) (now («node_bindings» .entry))
-        (now («answer_kinds» .entry)) (now («answer_numbers» .entry)) (now («answer_lengths» .entry)))
+        (now («answer_kinds» .entry)) (now («answer_numbers» .entry)) (now («answer_lengths» .entry)) (now (room .entry)))
         (tables-of (now («token_kinds» .exit)) (now («token_starts» .exit)) (now («token_lengths» .exit))
         (now («node_kinds» .exit)) (now («node_tokens» .exit)) (now («node_sizes» .exit)) (now («node_bindings» .exit))
-        (now («answer_kinds» .exit)) (now («answer_numbers» .exit)) (now («answer_lengths» .exit))) rows (report-of r) ⌝ }
+        (now («answer_kinds» .exit)) (now («answer_numbers» .exit)) (now («answer_lengths» .exit)) (now (room .exit))) rows (report-of r) ⌝ }
 {
     let a = shorter(rows, answer_kinds.len());
     let b = shorter(rows, answer_numbers.len());
@@ -58,6 +59,7 @@ fn check_rows(
         &mut answer_kinds[..a],
         &mut answer_numbers[..b],
         &mut answer_lengths[..c],
+        room,
     )
 }
 
@@ -72,12 +74,13 @@ fn records_small(
     node_sizes: &mut [u32],
     node_bindings: &mut [u32],
     records: &mut [Answer],
+    room: &mut [u8],
 ) -> Report
     ensures { λ r. ⌜ RecordsWithin small-bytes (now (src .entry))
         (record-tables (now («token_kinds» .entry)) (now («token_starts» .entry)) (now («token_lengths» .entry))
-        (now («node_kinds» .entry)) (now («node_tokens» .entry)) (now («node_sizes» .entry)) (now («node_bindings» .entry)) (now (records .entry)))
+        (now («node_kinds» .entry)) (now («node_tokens» .entry)) (now («node_sizes» .entry)) (now («node_bindings» .entry)) (now (records .entry)) (now (room .entry)))
         (record-tables (now («token_kinds» .exit)) (now («token_starts» .exit)) (now («token_lengths» .exit))
-        (now («node_kinds» .exit)) (now («node_tokens» .exit)) (now («node_sizes» .exit)) (now («node_bindings» .exit)) (now (records .exit))) (report-of r) ⌝ }
+        (now («node_kinds» .exit)) (now («node_tokens» .exit)) (now («node_sizes» .exit)) (now («node_bindings» .exit)) (now (records .exit)) (now (room .exit))) (report-of r) ⌝ }
 {
     let mut kinds = [0u8; SMALL_ROWS];
     let mut numbers = [0i64; SMALL_ROWS];
@@ -94,6 +97,7 @@ fn records_small(
         &mut kinds,
         &mut numbers,
         &mut lengths,
+        room,
         records.len(),
     );
     fill(
@@ -116,12 +120,13 @@ fn records_middle(
     node_sizes: &mut [u32],
     node_bindings: &mut [u32],
     records: &mut [Answer],
+    room: &mut [u8],
 ) -> Report
     ensures { λ r. ⌜ RecordsWithin middle-bytes (now (src .entry))
         (record-tables (now («token_kinds» .entry)) (now («token_starts» .entry)) (now («token_lengths» .entry))
-        (now («node_kinds» .entry)) (now («node_tokens» .entry)) (now («node_sizes» .entry)) (now («node_bindings» .entry)) (now (records .entry)))
+        (now («node_kinds» .entry)) (now («node_tokens» .entry)) (now («node_sizes» .entry)) (now («node_bindings» .entry)) (now (records .entry)) (now (room .entry)))
         (record-tables (now («token_kinds» .exit)) (now («token_starts» .exit)) (now («token_lengths» .exit))
-        (now («node_kinds» .exit)) (now («node_tokens» .exit)) (now («node_sizes» .exit)) (now («node_bindings» .exit)) (now (records .exit))) (report-of r) ⌝ }
+        (now («node_kinds» .exit)) (now («node_tokens» .exit)) (now («node_sizes» .exit)) (now («node_bindings» .exit)) (now (records .exit)) (now (room .exit))) (report-of r) ⌝ }
 {
     let mut kinds = [0u8; MIDDLE_ROWS];
     let mut numbers = [0i64; MIDDLE_ROWS];
@@ -138,6 +143,7 @@ fn records_middle(
         &mut kinds,
         &mut numbers,
         &mut lengths,
+        room,
         records.len(),
     );
     fill(
@@ -160,12 +166,13 @@ fn records_large(
     node_sizes: &mut [u32],
     node_bindings: &mut [u32],
     records: &mut [Answer],
+    room: &mut [u8],
 ) -> Report
     ensures { λ r. ⌜ RecordsWithin most (now (src .entry))
         (record-tables (now («token_kinds» .entry)) (now («token_starts» .entry)) (now («token_lengths» .entry))
-        (now («node_kinds» .entry)) (now («node_tokens» .entry)) (now («node_sizes» .entry)) (now («node_bindings» .entry)) (now (records .entry)))
+        (now («node_kinds» .entry)) (now («node_tokens» .entry)) (now («node_sizes» .entry)) (now («node_bindings» .entry)) (now (records .entry)) (now (room .entry)))
         (record-tables (now («token_kinds» .exit)) (now («token_starts» .exit)) (now («token_lengths» .exit))
-        (now («node_kinds» .exit)) (now («node_tokens» .exit)) (now («node_sizes» .exit)) (now («node_bindings» .exit)) (now (records .exit))) (report-of r) ⌝ }
+        (now («node_kinds» .exit)) (now («node_tokens» .exit)) (now («node_sizes» .exit)) (now («node_bindings» .exit)) (now (records .exit)) (now (room .exit))) (report-of r) ⌝ }
 {
     let mut kinds = [0u8; LARGE_ROWS];
     let mut numbers = [0i64; LARGE_ROWS];
@@ -182,6 +189,7 @@ fn records_large(
         &mut kinds,
         &mut numbers,
         &mut lengths,
+        room,
         records.len(),
     );
     fill(
@@ -205,12 +213,13 @@ pub fn check_records(
     node_sizes: &mut [u32],
     node_bindings: &mut [u32],
     records: &mut [Answer],
+    room: &mut [u8],
 ) -> Report
     ensures { λ r. ⌜ Checks (now (src .entry))
         (record-tables (now («token_kinds» .entry)) (now («token_starts» .entry)) (now («token_lengths» .entry))
-        (now («node_kinds» .entry)) (now («node_tokens» .entry)) (now («node_sizes» .entry)) (now («node_bindings» .entry)) (now (records .entry)))
+        (now («node_kinds» .entry)) (now («node_tokens» .entry)) (now («node_sizes» .entry)) (now («node_bindings» .entry)) (now (records .entry)) (now (room .entry)))
         (record-tables (now («token_kinds» .exit)) (now («token_starts» .exit)) (now («token_lengths» .exit))
-        (now («node_kinds» .exit)) (now («node_tokens» .exit)) (now («node_sizes» .exit)) (now («node_bindings» .exit)) (now (records .exit))) (report-of r) ⌝ }
+        (now («node_kinds» .exit)) (now («node_tokens» .exit)) (now («node_sizes» .exit)) (now («node_bindings» .exit)) (now (records .exit)) (now (room .exit))) (report-of r) ⌝ }
 {
     if src.len() <= SMALL {
         return records_small(
@@ -223,6 +232,7 @@ pub fn check_records(
             node_sizes,
             node_bindings,
             records,
+            room,
         );
     }
     if src.len() <= MIDDLE {
@@ -236,6 +246,7 @@ pub fn check_records(
             node_sizes,
             node_bindings,
             records,
+            room,
         );
     }
     records_large(
@@ -248,5 +259,6 @@ pub fn check_records(
         node_sizes,
         node_bindings,
         records,
+        room,
     )
 }

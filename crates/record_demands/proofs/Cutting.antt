@@ -29,11 +29,11 @@ module _ {A : Type 0} (rows n : ℕ) (xs : List A) (e : n ≡ min rows (length x
       ∙ take-all rows ys (omega (arith, long, length-take n xs)))
       (le-or rows (length xs))
 
-pub rows-of-check : {s tk ts tl nk nt ns nb ks : List ℕ} {zs : List ℤ} {ls tk′ ts′ tl′ nk′ nt′ ns′ nb′ ks′ : List ℕ} {zs′ : List ℤ} {ls′ : List ℕ} {r : Report} (rows a b c : ℕ)
+pub rows-of-check : {s tk ts tl nk nt ns nb ks : List ℕ} {zs : List ℤ} {ls rm tk′ ts′ tl′ nk′ nt′ ns′ nb′ ks′ : List ℕ} {zs′ : List ℤ} {ls′ rm′ : List ℕ} {r : Report} (rows a b c : ℕ)
     → a ≡ min rows (length ks) → b ≡ min rows (length zs) → c ≡ min rows (length ls)
     → length ks′ ≡ length (take a ks) → length zs′ ≡ length (take b zs) → length ls′ ≡ length (take c ls)
-    → Checks s (tables-of tk ts tl nk nt ns nb (take a ks) (take b zs) (take c ls)) (tables-of tk′ ts′ tl′ nk′ nt′ ns′ nb′ ks′ zs′ ls′) r
-    → ChecksRows s (tables-of tk ts tl nk nt ns nb ks zs ls) (tables-of tk′ ts′ tl′ nk′ nt′ ns′ nb′ (ks′ ++ drop a ks) (zs′ ++ drop b zs) (ls′ ++ drop c ls)) rows r
+    → Checks s (tables-of tk ts tl nk nt ns nb (take a ks) (take b zs) (take c ls) rm) (tables-of tk′ ts′ tl′ nk′ nt′ ns′ nb′ ks′ zs′ ls′ rm′) r
+    → ChecksRows s (tables-of tk ts tl nk nt ns nb ks zs ls rm) (tables-of tk′ ts′ tl′ nk′ nt′ ns′ nb′ (ks′ ++ drop a ks) (zs′ ++ drop b zs) (ls′ ++ drop c ls) rm′) rows r
 rows-of-check {ks = ks} {zs} {ls} {ks′ = ks′} {zs′} {ls′} rows a b c e f g h i j checked = record {
   checks =
       rw (front-is rows a ks e, front-is rows b zs f, front-is rows c ls g, back-is rows a ks e ks′ h, back-is rows b zs f zs′ i, back-is rows c ls g ls′ j)

@@ -28,7 +28,7 @@ within c n most h = ⊎-elim
     (λ (out : n < c). let both : min n most < c = omega arith in rw (lt-leb c n out, lt-leb c (min n most) both))
     (le-or c n)
 
-module _ (s : List ℕ) (token-rows node-rows n most : ℕ) (few-tokens : length (lexed s .rows) < 6 * most + 6) where
+module _ (s : List ℕ) (token-rows node-rows room n most : ℕ) (few-tokens : length (lexed s .rows) < 6 * most + 6) where
   few : (r : Rows) → parsed file (token-table s .terminals) ≡ good r → length (constants (with-rows (token-table s) (r .rows))) ≤ most
   few r e =
       omega (
@@ -39,15 +39,15 @@ module _ (s : List ℕ) (token-rows node-rows n most : ℕ) (few-tokens : length
       )
 
   by-syntax : (o : Outcome Rows) → parsed file (token-table s .terminals) ≡ o
-      → after-syntax s (lexed s) node-rows n o ≡ after-syntax s (lexed s) node-rows (min n most) o
+      → after-syntax s (lexed s) node-rows n room o ≡ after-syntax s (lexed s) node-rows (min n most) room o
   by-syntax (good r) e = rw (within (length (constants (with-rows (token-table s) (r .rows)))) n most (few r e))
   by-syntax (unexpected j) e = refl
   by-syntax (too-deep k) e = refl
 
-  by-tokens : (x : Reading) → after-tokens s (lexed s) node-rows n x ≡ after-tokens s (lexed s) node-rows (min n most) x
+  by-tokens : (x : Reading) → after-tokens s (lexed s) node-rows n room x ≡ after-tokens s (lexed s) node-rows (min n most) room x
   by-tokens (at k) = by-syntax (parsed file (token-table s .terminals)) refl
   by-tokens (lexis.refused k p) = refl
 
-  pub enough : checked s token-rows node-rows n ≡ checked s token-rows node-rows (min n most)
+  pub enough : checked s token-rows node-rows n room ≡ checked s token-rows node-rows (min n most) room
   unfolding checked
   enough = by-tokens (tokens (lexed s) token-rows)

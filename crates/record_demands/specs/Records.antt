@@ -7,17 +7,17 @@ use Rattle.express.specs.whole.Reply.{Report, Tables}
 use Rattle.demands.specs.Checks.{tables-of, Checks}
 use Rattle.records.specs.declared.Answer.{Answer}
 
--- seven columns, and the kinds, numbers and lengths of the records
-abbrev pub record-tables : List ℕ → List ℕ → List ℕ → List ℕ → List ℕ → List ℕ → List ℕ → List Answer → Tables
-record-tables token-kinds token-starts token-lengths node-kinds node-tokens node-sizes node-bindings rs =
+-- seven columns, the kinds, numbers and lengths of the records, and the room
+abbrev pub record-tables : List ℕ → List ℕ → List ℕ → List ℕ → List ℕ → List ℕ → List ℕ → List Answer → List ℕ → Tables
+record-tables token-kinds token-starts token-lengths node-kinds node-tokens node-sizes node-bindings rs room =
     tables-of token-kinds token-starts token-lengths node-kinds node-tokens node-sizes node-bindings
-    (map (λ (r : Answer). r .kind) rs) (map (λ (r : Answer). r .number) rs) (map (λ (r : Answer). r .length) rs)
+    (map (λ (r : Answer). r .kind) rs) (map (λ (r : Answer). r .number) rs) (map (λ (r : Answer). r .length) rs) room
 
 -- tables with the first rows of the answer columns alone
 abbrev pub cut : ℕ → Tables → Tables
 cut rows l =
     tables-of (l .token-kinds) (l .token-starts) (l .token-lengths) (l .node-kinds) (l .node-tokens) (l .node-sizes) (l .node-bindings)
-    (take rows (l .answer-kinds)) (take rows (l .answer-numbers)) (take rows (l .answer-lengths))
+    (take rows (l .answer-kinds)) (take rows (l .answer-numbers)) (take rows (l .answer-lengths)) (l .room)
 
 -- the public call, lent these alone
 pub record ChecksRows (s : List ℕ) (l m : Tables) (rows : ℕ) (r : Report) : Type 0 where

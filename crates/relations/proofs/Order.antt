@@ -2,8 +2,9 @@
 use mathlib.Core.Path.{_≡_, refl, sym, _∙_}
 use mathlib.Core.Logic.{⊎-elim}
 use mathlib.Core.List.{List, [], _∷_, _++_}
-use Prim.Native.Nat.{ℕ, zero, suc, _<_, compare, Ordering, Ordering·lt, Ordering·eq, Ordering·gt, compare·zero-zero, compare·zero-suc, compare·suc-zero, compare·suc-suc}
+use Prim.Native.Nat.{ℕ, zero, suc, min, _<_, compare, Ordering, Ordering·lt, Ordering·eq, Ordering·gt, compare·zero-zero, compare·zero-suc, compare·suc-zero, compare·suc-suc}
 use native.Mathlib.Omega.{arith}
+use lib.ListN.{length, drop}
 use Rattle.relations.specs.Order.{then, opposite, compare-lists, Total}
 use Rattle.relations.proofs.Select.{le-or}
 
@@ -65,6 +66,19 @@ pub total-numbers : Total compare
 total-numbers = total-by (λ (n : ℕ). n) (λ x y e. e)
 
 -- ---- lists
+
+-- behind as many elements as the shorter of two lists has, their lengths decide
+module _ {A : Type 0} (c : A → A → Ordering) where
+  pub by-lengths : (l : ℕ) (xs ys : List A) → l ≡ min (length xs) (length ys) → compare-lists c (drop l xs) (drop l ys) ≡ compare (length xs) (length ys)
+  unfolding compare-lists
+  by-lengths zero [] [] e = sym compare·zero-zero
+  by-lengths zero [] (y ∷ ys) e = sym (compare·zero-suc (length ys))
+  by-lengths zero (x ∷ xs) [] e = sym (compare·suc-zero (length xs))
+  by-lengths zero (x ∷ xs) (y ∷ ys) e = absurd (omega arith)
+  by-lengths (suc l) [] ys e = absurd (omega arith)
+  by-lengths (suc l) (x ∷ xs) [] e = absurd (omega arith)
+  by-lengths (suc l) (x ∷ xs) (y ∷ ys) e = by-lengths l xs ys (omega arith) ∙ sym (compare·suc-suc (length xs) (length ys))
+
 module _ {A : Type 0} (c : A → A → Ordering) (T : Total c) where
   then-opposite : (o p : Ordering) → opposite (then o p) ≡ then (opposite o) (opposite p)
   then-opposite Ordering·lt p = refl

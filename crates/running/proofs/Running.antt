@@ -1,6 +1,6 @@
 -- ALL STAGES IN A LINE: from what each call promises to what the stages leave (`Ran`).
 use mathlib.Core.Path.{_≡_, refl, sym, ap, _∙_}
-use mathlib.Core.List.{List, [], _∷_, _++_, map}
+use mathlib.Core.List.{List, _++_, map}
 use Prim.Native.Nat.{ℕ, min, _*_, _+_, _≤_, _<_}
 use native.Mathlib.Omega.{arith}
 use lib.IntN.{ℤ}
@@ -10,11 +10,10 @@ use Rattle.columns.proofs.Laws.{take-rows}
 use Rattle.express.specs.tokens.Lexis.{TokenRow, most, lexed}
 use Rattle.express.specs.tokens.Scanned.{row-bytes}
 use Rattle.express.specs.tokens.Terminal.{terminal-of}
-use Rattle.express.specs.syntax.Tree.{count}
 use Rattle.express.specs.names.Names.{names}
 use Rattle.express.specs.names.Scope as scope
 use Rattle.express.specs.kinds.Answer.{Answer}
-use Rattle.express.specs.kinds.AnswerRow.{AnswerRow, row-of}
+use Rattle.express.specs.kinds.AnswerRow.{AnswerRow, rows-from}
 use Rattle.express.specs.kinds.Kind.{constants, typing}
 use Rattle.express.specs.whole.Reply.{Tables}
 use Rattle.express.proofs.tokens.TokenRows.{tokens-of}
@@ -24,14 +23,16 @@ use Rattle.bounds.proofs.Bounds.{vertices-few}
 use Rattle.names.specs.Resolution.{FileRead}
 use Rattle.stages.specs.declared.Stage.{Stage}
 use Rattle.stages.specs.declared.Stage.the-variants.{Done, Refused}
-use Rattle.stages.specs.Line.{then-stage, of-names, of-kinds, table-of, accepted-with, constant-stage, name-stage, kind-stage}
+use Rattle.stages.specs.Line.{then-stage, of-names, of-kinds, of-room, table-of, accepted-with, constant-stage, name-stage, room-needed, room-stage}
 use Rattle.stages.proofs.Bounds.{tokens-few}
-use Rattle.stages.proofs.Straight.{constant-done, name-done, kind-done, table-scanned, nodes-few}
+use Rattle.stages.proofs.Straight.{constant-done, name-done, kind-done, room-done, table-scanned, nodes-few}
 use Rattle.pipeline.specs.NameStage.{NamesEnd}
 use Rattle.reading.specs.declared.Reading.{Reading}
 use Rattle.reading.specs.FileReading as reading
 use Rattle.reading.specs.FileReading.{ReadsFile}
 use Rattle.name_frames.specs.NameFrame.{NamesWithin}
+use Rattle.demands.proofs.Theorem.{rows-counted}
+use Rattle.answer_stages.specs.AnswerStage.{Answered}
 use Rattle.answer_frames.specs.AnswerFrame.{NamedFile, AnswersWithin}
 use Rattle.running.specs.Run.{Begins, AsLong, token-rows, node-rows, answer-rows, Ran, RunsWithin}
 
@@ -94,37 +95,35 @@ module _ (s : List ℕ) (tr nr ar : ℕ) where
       by (Done n) e = is n e ∙ ap (λ (x : Stage). then-stage x (of-names (names (table-of s)))) (sym e ∙ fit-as)
       by (Refused k p) e = passed k p e ∙ ap (λ (x : Stage). then-stage x (of-names (names (table-of s)))) (sym e ∙ fit-as)
 
-  -- THE KINDS
-  pub last-is : {named last : Stage} → named ≡ name-stage s tr nr ar → ((k p : ℕ) → named ≡ Refused k p → last ≡ Refused k p) →
-      ((n : ℕ) → named ≡ Done n → last ≡ of-kinds (table-of s) (typing (table-of s) (scope.bindings (table-of s))) n) → last ≡ kind-stage s tr nr ar
-  last-is {named} {last} named-as passed is = by named refl
-    where
-      by : (x : Stage) → named ≡ x → last ≡ kind-stage s tr nr ar
-      by (Done n) e = is n e ∙ ap (λ (x : Stage). then-stage x (of-kinds (table-of s) (typing (table-of s) (scope.bindings (table-of s))))) (sym e ∙ named-as)
-      by (Refused k p) e = passed k p e ∙ ap (λ (x : Stage). then-stage x (of-kinds (table-of s) (typing (table-of s) (scope.bindings (table-of s))))) (sym e ∙ named-as)
+  -- THE KINDS, AND THE ROOM
+  module _ (room : ℕ) where
+    abbrev to-end : Stage → Stage
+    to-end x = then-stage (then-stage x (of-kinds (table-of s) (typing (table-of s) (scope.bindings (table-of s))))) (of-room (room-needed (table-of s)) room)
+
+    pub last-is : {named last : Stage} → named ≡ name-stage s tr nr ar → ((k p : ℕ) → named ≡ Refused k p → last ≡ Refused k p) →
+        ((n : ℕ) → named ≡ Done n → last ≡ to-end (Done n)) → last ≡ room-stage s tr nr ar room
+    last-is {named} {last} named-as passed is = by named refl
+      where
+        by : (x : Stage) → named ≡ x → last ≡ room-stage s tr nr ar room
+        by (Done n) e = is n e ∙ ap to-end (sym e ∙ named-as)
+        by (Refused k p) e = passed k p e ∙ ap to-end (sym e ∙ named-as)
 
 -- ---- the rows of the answers
 
-map-map : {A B C : Type 0} (f : A → B) (g : B → C) (xs : List A) → map (λ x. g (f x)) xs ≡ map g (map f xs)
-map-map f g [] = refl
-map-map f g (x ∷ xs) = ap (λ ys. g (f x) ∷ ys) (map-map f g xs)
-
 module _ {A : Type 0} (f : AnswerRow → A) where
-  answer-front : (xs : List Answer) (column column′ : List A) (n : ℕ) → n ≡ length xs → n ≤ length column → column′ ≡ sets column 0 (map (λ a. f (row-of a)) xs) →
-      take n column′ ≡ map f (map row-of xs)
-  answer-front xs column column′ n c l e =
-      let k : length (map (λ a. f (row-of a)) xs) ≡ length xs = length-map xs _ in
-      rw e (front column (map (λ a. f (row-of a)) xs) n (c ∙ sym k) l) ∙ map-map row-of f xs
+  answer-front : (xs : List Answer) (column column′ : List A) (n : ℕ) → n ≡ length xs → n ≤ length column → column′ ≡ sets column 0 (map f (rows-from 0 xs)) →
+      take n column′ ≡ map f (rows-from 0 xs)
+  answer-front xs column column′ n c l e = rw e (front column (map f (rows-from 0 xs)) n (c ∙ sym (length-map (rows-from 0 xs) f ∙ rows-counted 0 xs)) l)
 
 module _ {aks : List ℕ} {azs : List ℤ} {als aks′ : List ℕ} {azs′ : List ℤ} {als′ : List ℕ} {xs : List Answer} (W : WrittenRows aks azs als xs aks′ azs′ als′) (n : ℕ) (c : n ≡ length xs)
   where
-    pub answer-kinds-front : n ≤ length aks → take n aks′ ≡ map (λ (r : AnswerRow). r .kind) (map row-of xs)
+    pub answer-kinds-front : n ≤ length aks → take n aks′ ≡ map (λ (r : AnswerRow). r .kind) (rows-from 0 xs)
     answer-kinds-front l = answer-front (λ (r : AnswerRow). r .kind) xs aks aks′ n c l (W .kinds-are)
 
-    pub answer-numbers-front : n ≤ length azs → take n azs′ ≡ map (λ (r : AnswerRow). r .number) (map row-of xs)
+    pub answer-numbers-front : n ≤ length azs → take n azs′ ≡ map (λ (r : AnswerRow). r .number) (rows-from 0 xs)
     answer-numbers-front l = answer-front (λ (r : AnswerRow). r .number) xs azs azs′ n c l (W .numbers-are)
 
-    pub answer-lengths-front : n ≤ length als → take n als′ ≡ map (λ (r : AnswerRow). r .length) (map row-of xs)
+    pub answer-lengths-front : n ≤ length als → take n als′ ≡ map (λ (r : AnswerRow). r .length) (rows-from 0 xs)
     answer-lengths-front l = answer-front (λ (r : AnswerRow). r .length) xs als als′ n c l (W .lengths-are)
 
 -- ---- the line
@@ -138,7 +137,7 @@ module _ {s : List ℕ} {l m : Tables} {read : Reading} {named last : Stage} {an
     (bindings-are : take (read .nodes) (m .node-bindings) ≡ b)
     (A : AnswersWithin most named s (take (read .tokens) (m .token-starts)) (take (read .tokens) (m .token-lengths)) (take (read .tokens) terms′)
     (take (read .nodes) (m .node-kinds)) (take (read .nodes) (m .node-tokens)) (take (read .nodes) (m .node-sizes)) (take (read .nodes) (m .node-bindings)) types′ orders′
-    (l .answer-kinds) (l .answer-numbers) (l .answer-lengths) last (m .answer-kinds) (m .answer-numbers) (m .answer-lengths))
+    (l .answer-kinds) (l .answer-numbers) (l .answer-lengths) (l .room) last (m .answer-kinds) (m .answer-numbers) (m .answer-lengths) (m .room))
     (as-long : AsLong l m) (types-long : length types′ ≡ length types) (orders-long : length orders′ ≡ length orders) where
   -- where there is room for terminals and orders
   module _ (few : length (lexed s .rows) ≤ length terms) (types-room : length (lexed s .rows) < 5 * length types + 5) (orders-room : length (lexed s .rows) < 5 * length orders + 5) where
@@ -220,25 +219,30 @@ module _ {s : List ℕ} {l m : Tables} {read : Reading} {named last : Stage} {an
           answer-room = record { kinds-long = omega arith; numbers-long = omega arith; lengths-long = omega arith };
         }
 
-    kinds-end : (n : ℕ) → named ≡ Done n → (last ≡ of-kinds (table-of s) (typing (table-of s) (take (read .nodes) (m .node-bindings))) n) ×
-        ((k : ℕ) → last ≡ Done k →
-        WrittenRows (l .answer-kinds) (l .answer-numbers) (l .answer-lengths) (file-answers (table-of s)) (m .answer-kinds) (m .answer-numbers) (m .answer-lengths))
-    kinds-end n e =
+    answered : (n : ℕ) → named ≡ Done n → Answered (table-of s) (take (read .nodes) (m .node-bindings)) n last
+        (l .answer-kinds) (l .answer-numbers) (l .answer-lengths) (l .room) (m .answer-kinds) (m .answer-numbers) (m .answer-lengths) (m .room)
+    answered n e =
         let C = constant-done s (token-rows l) (node-rows l) (answer-rows l) n (done n (fit-done n e)) in
         A .is (table-of s) (named-file n e) (nodes-few (C .of-nodes)) n e
 
-    last-as : last ≡ kind-stage s (token-rows l) (node-rows l) (answer-rows l)
+    last-as : last ≡ room-stage s (token-rows l) (node-rows l) (answer-rows l) (length (l .room))
     last-as =
-        last-is s (token-rows l) (node-rows l) (answer-rows l) named-as (A .passed-on)
-        (λ n e. kinds-end n e .0 ∙ ap (λ (x : List ℕ). of-kinds (table-of s) (typing (table-of s) x) n) (bound n e))
+        last-is s (token-rows l) (node-rows l) (answer-rows l) (length (l .room)) named-as (A .passed-on)
+        (λ n e. answered n e .is
+        ∙ ap (λ (x : List ℕ). then-stage (of-kinds (table-of s) (typing (table-of s) x) n) (of-room (room-needed (table-of s)) (length (l .room)))) (bound n e))
+
+    named-done : (n : ℕ) → last ≡ Done n → named ≡ Done n
+    named-done n e =
+        let k = room-done s (token-rows l) (node-rows l) (answer-rows l) (length (l .room)) n (sym last-as ∙ e) in
+        named-as ∙ kind-done s (token-rows l) (node-rows l) (answer-rows l) n k
 
     begins : (n : ℕ) → last ≡ Done n → Begins (accepted-with s) (read .tokens) (read .nodes) n m
     begins n e =
-        let nd : named ≡ Done n = named-as ∙ kind-done s (token-rows l) (node-rows l) (answer-rows l) n (sym last-as ∙ e) in
+        let nd = named-done n e in
         let fd = fit-done n nd in
         let C = constant-done s (token-rows l) (node-rows l) (answer-rows l) n (done n fd) in
         let B = file .begins n fd in
-        let W = kinds-end n nd .1 n e in
+        let W = answered n nd .rows n e in
         let c : n ≡ length (file-answers (table-of s)) = C .is ∙ sym (length-map (constants (table-of s)) _) in
         let i = C .is in
         let room = C .room in
@@ -263,6 +267,7 @@ module _ {s : List ℕ} {l m : Tables} {read : Reading} {named last : Stage} {an
           nodes-are = file .nodes-are;
           last-is = last-as;
           begins = begins;
+          strings = λ n e. answered n (named-done n e) .strings n e;
           as-long = as-long;
         }
 

@@ -3,12 +3,13 @@ use mathlib.Core.Path.{_≡_}
 use Prim.Native.Nat.{ℕ, _≤_}
 use mathlib.Core.List.{List}
 use lib.ListN.{length, take}
+use Rattle.columns.specs.Column.{padded}
 use Rattle.express.specs.tokens.Lexis.{lexed}
 use Rattle.express.specs.whole.Reply.{Accepted, Tables, token-entries, node-entries, answer-entries}
 use Rattle.express.specs.whole.Reply as express
 use Rattle.stages.specs.declared.Stage.{Stage}
 use Rattle.stages.specs.declared.Stage.the-variants.{Done}
-use Rattle.stages.specs.Line.{count-of, accepted-with, token-stage, node-stage, kind-stage}
+use Rattle.stages.specs.Line.{count-of, accepted-with, token-stage, node-stage, room-stage}
 use Rattle.reading.specs.declared.Reading.{Reading}
 
 -- tables begin with the rows of what is accepted
@@ -24,7 +25,7 @@ pub record Begins (a : Accepted) (tokens nodes answers : ℕ) (m : Tables) : Typ
   pub answer-numbers : take answers (m .answer-numbers) ≡ express.answer-numbers a
   pub answer-lengths : take answers (m .answer-lengths) ≡ express.answer-lengths a
 
--- columns are as long as they were
+-- columns and the room are as long as they were
 pub record AsLong (l m : Tables) : Type 0 where
   pub token-kinds : length (m .token-kinds) ≡ length (l .token-kinds)
   pub token-starts : length (m .token-starts) ≡ length (l .token-starts)
@@ -36,6 +37,7 @@ pub record AsLong (l m : Tables) : Type 0 where
   pub answer-kinds : length (m .answer-kinds) ≡ length (l .answer-kinds)
   pub answer-numbers : length (m .answer-numbers) ≡ length (l .answer-numbers)
   pub answer-lengths : length (m .answer-lengths) ≡ length (l .answer-lengths)
+  pub room : length (m .room) ≡ length (l .room)
 
 -- R9: the entries of the three tables
 abbrev pub token-rows : Tables → ℕ
@@ -47,12 +49,14 @@ node-rows l = node-entries (l .node-kinds) (l .node-tokens) (l .node-sizes) (l .
 abbrev pub answer-rows : Tables → ℕ
 answer-rows l = answer-entries (l .answer-kinds) (l .answer-numbers) (l .answer-lengths)
 
--- ALL STAGES OF A FILE, from the tables l to m: how many tokens and nodes there are, how the last stage ended, and where it is done the rows
+-- ALL STAGES OF A FILE, from the tables l to m: how many tokens and nodes there are, how the last stage ended, and where it is done the rows, and the
+-- strings with zeros behind
 pub record Ran (s : List ℕ) (l m : Tables) (tokens nodes : ℕ) (last : Stage) : Type 0 where
   pub tokens-are : tokens ≡ count-of (token-stage s (token-rows l))
   pub nodes-are : nodes ≡ count-of (node-stage s (token-rows l) (node-rows l))
-  pub last-is : last ≡ kind-stage s (token-rows l) (node-rows l) (answer-rows l)
+  pub last-is : last ≡ room-stage s (token-rows l) (node-rows l) (answer-rows l) (length (l .room))
   pub begins : (n : ℕ) → last ≡ Done n → Begins (accepted-with s) tokens nodes n m
+  pub strings : (n : ℕ) → last ≡ Done n → m .room ≡ padded 0 (length (l .room)) (express.answer-room (accepted-with s))
   pub as-long : AsLong l m
 
 -- the same of a file that has at most so many tokens

@@ -28,14 +28,15 @@ fn run_small(
     answer_kinds: &mut [u8],
     answer_numbers: &mut [i64],
     answer_lengths: &mut [u8],
+    room: &mut [u8],
 ) -> Reading
     ensures { λ r. ⌜ RunsWithin small-bytes (now (src .entry))
         (tables-of (now («token_kinds» .entry)) (now («token_starts» .entry)) (now («token_lengths» .entry))
         (now («node_kinds» .entry)) (now («node_tokens» .entry)) (now («node_sizes» .entry)) (now («node_bindings» .entry))
-        (now («answer_kinds» .entry)) (now («answer_numbers» .entry)) (now («answer_lengths» .entry)))
+        (now («answer_kinds» .entry)) (now («answer_numbers» .entry)) (now («answer_lengths» .entry)) (now (room .entry)))
         (tables-of (now («token_kinds» .exit)) (now («token_starts» .exit)) (now («token_lengths» .exit))
         (now («node_kinds» .exit)) (now («node_tokens» .exit)) (now («node_sizes» .exit)) (now («node_bindings» .exit))
-        (now («answer_kinds» .exit)) (now («answer_numbers» .exit)) (now («answer_lengths» .exit))) r ⌝ }
+        (now («answer_kinds» .exit)) (now («answer_numbers» .exit)) (now («answer_lengths» .exit)) (now (room .exit))) r ⌝ }
 {
     let mut terminals = [0u8; SMALL];
     let mut types = [0u32; SMALL / 5];
@@ -87,6 +88,7 @@ fn run_small(
         answer_kinds,
         answer_numbers,
         answer_lengths,
+        room,
     );
     Reading {
         tokens: tokens,
@@ -107,14 +109,15 @@ fn run_middle(
     answer_kinds: &mut [u8],
     answer_numbers: &mut [i64],
     answer_lengths: &mut [u8],
+    room: &mut [u8],
 ) -> Reading
     ensures { λ r. ⌜ RunsWithin middle-bytes (now (src .entry))
         (tables-of (now («token_kinds» .entry)) (now («token_starts» .entry)) (now («token_lengths» .entry))
         (now («node_kinds» .entry)) (now («node_tokens» .entry)) (now («node_sizes» .entry)) (now («node_bindings» .entry))
-        (now («answer_kinds» .entry)) (now («answer_numbers» .entry)) (now («answer_lengths» .entry)))
+        (now («answer_kinds» .entry)) (now («answer_numbers» .entry)) (now («answer_lengths» .entry)) (now (room .entry)))
         (tables-of (now («token_kinds» .exit)) (now («token_starts» .exit)) (now («token_lengths» .exit))
         (now («node_kinds» .exit)) (now («node_tokens» .exit)) (now («node_sizes» .exit)) (now («node_bindings» .exit))
-        (now («answer_kinds» .exit)) (now («answer_numbers» .exit)) (now («answer_lengths» .exit))) r ⌝ }
+        (now («answer_kinds» .exit)) (now («answer_numbers» .exit)) (now («answer_lengths» .exit)) (now (room .exit))) r ⌝ }
 {
     let mut terminals = [0u8; MIDDLE];
     let mut types = [0u32; MIDDLE / 5];
@@ -166,6 +169,7 @@ fn run_middle(
         answer_kinds,
         answer_numbers,
         answer_lengths,
+        room,
     );
     Reading {
         tokens: tokens,
@@ -186,14 +190,15 @@ fn run_large(
     answer_kinds: &mut [u8],
     answer_numbers: &mut [i64],
     answer_lengths: &mut [u8],
+    room: &mut [u8],
 ) -> Reading
     ensures { λ r. ⌜ RunsWithin most (now (src .entry))
         (tables-of (now («token_kinds» .entry)) (now («token_starts» .entry)) (now («token_lengths» .entry))
         (now («node_kinds» .entry)) (now («node_tokens» .entry)) (now («node_sizes» .entry)) (now («node_bindings» .entry))
-        (now («answer_kinds» .entry)) (now («answer_numbers» .entry)) (now («answer_lengths» .entry)))
+        (now («answer_kinds» .entry)) (now («answer_numbers» .entry)) (now («answer_lengths» .entry)) (now (room .entry)))
         (tables-of (now («token_kinds» .exit)) (now («token_starts» .exit)) (now («token_lengths» .exit))
         (now («node_kinds» .exit)) (now («node_tokens» .exit)) (now («node_sizes» .exit)) (now («node_bindings» .exit))
-        (now («answer_kinds» .exit)) (now («answer_numbers» .exit)) (now («answer_lengths» .exit))) r ⌝ }
+        (now («answer_kinds» .exit)) (now («answer_numbers» .exit)) (now («answer_lengths» .exit)) (now (room .exit))) r ⌝ }
 {
     let mut terminals = [0u8; LARGE];
     let mut types = [0u32; LARGE / 5];
@@ -245,6 +250,7 @@ fn run_large(
         answer_kinds,
         answer_numbers,
         answer_lengths,
+        room,
     );
     Reading {
         tokens: tokens,
@@ -266,14 +272,15 @@ pub fn run(
     answer_kinds: &mut [u8],
     answer_numbers: &mut [i64],
     answer_lengths: &mut [u8],
+    room: &mut [u8],
 ) -> Reading
     ensures { λ r. ⌜ Ran (now (src .entry))
         (tables-of (now («token_kinds» .entry)) (now («token_starts» .entry)) (now («token_lengths» .entry))
         (now («node_kinds» .entry)) (now («node_tokens» .entry)) (now («node_sizes» .entry)) (now («node_bindings» .entry))
-        (now («answer_kinds» .entry)) (now («answer_numbers» .entry)) (now («answer_lengths» .entry)))
+        (now («answer_kinds» .entry)) (now («answer_numbers» .entry)) (now («answer_lengths» .entry)) (now (room .entry)))
         (tables-of (now («token_kinds» .exit)) (now («token_starts» .exit)) (now («token_lengths» .exit))
         (now («node_kinds» .exit)) (now («node_tokens» .exit)) (now («node_sizes» .exit)) (now («node_bindings» .exit))
-        (now («answer_kinds» .exit)) (now («answer_numbers» .exit)) (now («answer_lengths» .exit))) (r .tokens) (r .nodes) (r .stage) ⌝ }
+        (now («answer_kinds» .exit)) (now («answer_numbers» .exit)) (now («answer_lengths» .exit)) (now (room .exit))) (r .tokens) (r .nodes) (r .stage) ⌝ }
 {
     if src.len() <= SMALL {
         return run_small(
@@ -288,6 +295,7 @@ pub fn run(
             answer_kinds,
             answer_numbers,
             answer_lengths,
+            room,
         );
     }
     if src.len() <= MIDDLE {
@@ -303,6 +311,7 @@ pub fn run(
             answer_kinds,
             answer_numbers,
             answer_lengths,
+            room,
         );
     }
     run_large(
@@ -317,5 +326,6 @@ pub fn run(
         answer_kinds,
         answer_numbers,
         answer_lengths,
+        room,
     )
 }

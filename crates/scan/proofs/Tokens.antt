@@ -4,10 +4,10 @@ use mathlib.Core.Bool.{true, false}
 use mathlib.Core.List.{List}
 use Prim.Native.Nat.{ℕ, _+_, _<_}
 use native.Mathlib.Omega.{arith}
-use lib.ListN.{length, drop, getD}
+use lib.ListN.{length, getD}
 use borrow.Author.Tests.{eq-eqb, ne-eqb}
 use Rattle.express.specs.tokens.Bytes.{letter, digit, word-byte}
-use Rattle.express.specs.tokens.Lexis.{at, run, lone, size-of-symbol, end-of-symbol, end-of-string, end-of-binary}
+use Rattle.express.specs.tokens.Lexis.{at, run, lone, size-of-symbol, end-of-symbol, end-of-short-string, end-of-binary}
 use Rattle.express.specs.tokens.Lexis.{end-of-integer, end-of-real, end-of-exponent, token-kind-at, end-of-token}
 use Rattle.blanks.specs.Step.{reading}
 use Rattle.scan.specs.Scan.{TokenRead}
@@ -44,7 +44,7 @@ module _ (s : List ℕ) (p : ℕ) where
     integer-token d q is = token-is 2 (rw (n, d, ne-eqb _ _ q)) is
 
     module _ (d : digit first ≡ false) where
-      pub string-token : first ≡ 39 → {r : Step} → reading r ≡ end-of-string p false (p + 1) (drop (p + 1) s) → TokenRead s p r 4
+      pub string-token : first ≡ 39 → {r : Step} → reading r ≡ end-of-short-string s p → TokenRead s p r 4
       unfolding token-kind-at end-of-token
       string-token q is = token-is 4 (rw (n, d, eq-eqb _ _ q)) is
 

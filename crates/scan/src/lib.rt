@@ -2,10 +2,10 @@
 ghost use mathlib.Core.Path.{_≡_};
 ghost use mathlib.Core.Bool.{true, false};
 ghost use Prim.Native.Nat.{_+_, _≤_, _<_};
-ghost use lib.ListN.{length, drop, getD, set};
+ghost use lib.ListN.{length, getD, set};
 ghost use Rattle.express.specs.tokens.Bytes.{digit, letter, word-byte};
 ghost use Rattle.express.specs.tokens.Lexis.{run, end-of-exponent};
-ghost use Rattle.express.specs.tokens.Lexis.{end-of-string, lone, size-of-symbol, end-of-symbol, lexed-to};
+ghost use Rattle.express.specs.tokens.Lexis.{lone, size-of-symbol, end-of-symbol, lexed-to};
 ghost use Rattle.blanks.specs.Step.{reading};
 ghost use Rattle.scan.specs.Scan.{mark, word-table, lone-table, colon, TokenRead, Filled, ScanResult};
 use blanks::Class;
@@ -19,6 +19,7 @@ use blanks::skip;
 use literal_ends::binary_end;
 use literal_ends::exponent_end;
 use literal_ends::integer_end;
+use literal_ends::string_end;
 
 // By its byte: `1` for what a word goes on with, `0` for the others. A line has 32 bytes: the digits are in the second, the
 // capital letters and the underscore in the third, the small letters in the fourth.
@@ -92,36 +93,6 @@ fn real_end(s: &[u8], point: usize) -> usize
     ensures { λ r. ⌜ r ≡ end-of-exponent (now (s .entry)) (run digit (now (s .entry)) (point + 1)) ⌝ }
 {
     exponent_end(s, run_end(s, point + 1, Class::Digit))
-}
-
-fn string_end(s: &[u8], at: usize) -> Step
-    requires { ⌜ at < length (now s) ⌝ }
-    ensures { λ r. ⌜ reading r ≡ end-of-string at false (at + 1) (drop (at + 1) (now (s .entry))) ⌝ }
-{
-    let mut i = at + 1;
-    let mut quote = false;
-    while i < s.len() {
-        let b = s[i];
-        if quote {
-            if b != b'\'' {
-                return Step::At(i);
-            }
-            quote = false;
-            i += 1;
-        } else if b == b'\'' {
-            quote = true;
-            i += 1;
-        } else {
-            if !is_within(b' ', b'~', b) {
-                return Step::Refused(codes::replies::NO_TOKEN, at);
-            }
-            i += 1;
-        }
-    }
-    if quote {
-        return Step::At(i);
-    }
-    Step::Refused(codes::replies::NO_TOKEN, at)
 }
 
 // Whether a byte is a symbol that begins no longer one.

@@ -1,3 +1,9 @@
 pub mod Settled
+pub mod Room
+pub mod Answers
+pub mod Nodes
 pub mod OneConstant
+pub mod Writing
+pub mod Held
+pub mod Measuring
 pub mod Passing

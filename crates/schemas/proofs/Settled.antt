@@ -22,7 +22,7 @@ use Rattle.express.specs.names.Scope.{bindings}
 use Rattle.express.specs.names.Fault.{constant-edges}
 use Rattle.express.specs.names.Names.{WellNamed}
 use Rattle.express.specs.kinds.Answer.{Answer, indeterminate}
-use Rattle.express.specs.kinds.Shape.{Shape, integer-literal, logical-literal, binary-literal, question, item, name, unary, operator, interval}
+use Rattle.express.specs.kinds.Shape.{Shape, integer-literal, logical-literal, binary-literal, string-literal, question, item, name, unary, operator, interval}
 use Rattle.express.specs.kinds.Shape.{interval-operator, type, constant, unevaluated, shape}
 use Rattle.express.specs.kinds.Order.{constant-order}
 use Rattle.express.specs.kinds.Evaluate.{answer-in, answer-at, run-in, value, evaluate, answers}
@@ -46,6 +46,7 @@ module _ (t : Table) (b : List ℕ) (g h : ℕ → Answer) where
       by (integer-literal v) q = refl
       by (logical-literal v) q = refl
       by (binary-literal v) q = refl
+      by (string-literal v) q = refl
       by question q = refl
       by (item m) q = refl
       by (name c) q = q c refl
@@ -67,7 +68,7 @@ module _ (t : Table) (b : List ℕ) (g h : ℕ → Answer) where
   pub value-alike : (d : ℕ) → Alike (within t d) → value t b g d ≡ value t b h d
   value-alike d a = ap (λ (xs : List Answer). answer-at xs d) (run-alike (within t d) (replicate (suc d) indeterminate) a)
 
-blank : (n m : ℕ) → answer-at (replicate n indeterminate) m ≡ indeterminate
+pub blank : (n m : ℕ) → answer-at (replicate n indeterminate) m ≡ indeterminate
 blank zero m = refl
 blank (suc n) zero = refl
 blank (suc n) (suc m) = blank n m

@@ -26,10 +26,10 @@ use Rattle.parsing.specs.Parsing.{rows-of}
 use Rattle.constants.specs.Constants.{file-answers}
 use Rattle.stages.specs.declared.Stage.{Stage}
 use Rattle.stages.specs.declared.Stage.the-variants.{Done, Refused}
-use Rattle.stages.specs.Line.{then-stage, of-reading, of-syntax, of-constants, of-names, of-kinds}
+use Rattle.stages.specs.Line.{then-stage, of-reading, of-syntax, of-constants, of-names, of-kinds, of-room}
 use Rattle.stages.proofs.Bounds.{clash, tokens-few, rows-few}
 use Rattle.stages.proofs.Counting.{row-short}
-use Rattle.stages.specs.Line.{table-of, token-stage, node-stage, constant-stage, name-stage, kind-stage, outcome-by}
+use Rattle.stages.specs.Line.{table-of, token-stage, node-stage, constant-stage, name-stage, kind-stage, room-needed, room-stage, outcome-by}
 
 -- ---- the outcome, from the stages, the last of them first
 
@@ -38,45 +38,55 @@ abbrev outcome-of : List ℕ → Table → Stage → Checked
 outcome-of s t (Done n) = accepted (record { tokens = lexed s .rows; table = t; bindings = bindings t; answers = file-answers t })
 outcome-of s t (Refused k p) = refused k p
 
-module _ (s : List ℕ) (t : Table) where
-  by-kinds : (y : Typing) (n : ℕ) → after-kinds (lexed s .rows) t y ≡ outcome-of s t (of-kinds t y n)
-  by-kinds (typed ks) n = refl
+module _ (s : List ℕ) (t : Table) (room : ℕ) where
+  -- the last two stages
+  abbrev to-room : Stage → Stage
+  to-room x = then-stage x (of-room (room-needed t) room)
+
+  abbrev to-kinds : Stage → Stage
+  to-kinds x = to-room (then-stage x (of-kinds t (typing t (bindings t))))
+
+  by-room : (b : Bool) (n : ℕ) → cond b (outcome-of s t (Done n)) (refused 20 room) ≡ outcome-of s t (cond b (Done n) (Refused 20 room))
+  by-room true n = refl
+  by-room false n = refl
+
+  by-kinds : (y : Typing) (n : ℕ) → after-kinds (lexed s .rows) t room y ≡ outcome-of s t (to-room (of-kinds t y n))
+  by-kinds (typed ks) n = by-room (leb (room-needed t) room) n
   by-kinds (ill-typed f m) n = refl
 
-  by-names : (b : Bool) (n : ℕ) → cond b (after-kinds (lexed s .rows) t (typing t (bindings t))) (refused (names t .number) (names t .place)) ≡
-      outcome-of s t (then-stage (cond b (Done n) (Refused (names t .number) (names t .place))) (of-kinds t (typing t (bindings t))))
+  by-names : (b : Bool) (n : ℕ) → cond b (after-kinds (lexed s .rows) t room (typing t (bindings t))) (refused (names t .number) (names t .place)) ≡
+      outcome-of s t (to-kinds (cond b (Done n) (Refused (names t .number) (names t .place))))
   by-names true n = by-kinds (typing t (bindings t)) n
   by-names false n = refl
 
-  by-constants : (b : Bool) → cond b (after-names (lexed s .rows) t (names t)) (refused 8 (length (constants t))) ≡
-      outcome-of s t (then-stage (then-stage (cond b (Done (length (constants t))) (Refused 8 (length (constants t)))) (of-names (names t))) (of-kinds t (typing t (bindings t))))
+  by-constants : (b : Bool) → cond b (after-names (lexed s .rows) t room (names t)) (refused 8 (length (constants t))) ≡
+      outcome-of s t (to-kinds (then-stage (cond b (Done (length (constants t))) (Refused 8 (length (constants t)))) (of-names (names t))))
   by-constants true = by-names (eqb (names t .number) 0) (length (constants t))
   by-constants false = refl
 
-  by-rows : (entries ar : ℕ) (b : Bool) → cond b (cond (leb (length (constants t)) ar) (after-names (lexed s .rows) t (names t)) (refused 8 (length (constants t)))) (refused 7 entries) ≡
-      outcome-of s t (then-stage (then-stage (then-stage (cond b (Done entries) (Refused 7 entries)) (λ _. of-constants (t .kinds) ar)) (of-names (names t))) (of-kinds t (typing t (bindings
-      t))))
+  by-rows : (entries ar : ℕ) (b : Bool) →
+      cond b (cond (leb (length (constants t)) ar) (after-names (lexed s .rows) t room (names t)) (refused 8 (length (constants t)))) (refused 7 entries) ≡
+      outcome-of s t (to-kinds (then-stage (then-stage (cond b (Done entries) (Refused 7 entries)) (λ _. of-constants (t .kinds) ar)) (of-names (names t))))
   by-rows entries ar true = by-constants (leb (length (constants t)) ar)
   by-rows entries ar false = refl
 
-module _ (s : List ℕ) (nr ar : ℕ) where
+module _ (s : List ℕ) (nr ar room : ℕ) where
   abbrev table-by : Outcome Rows → Table
   table-by o = with-rows (token-table s) (rows-of o)
 
   -- the stages after the tokens
   abbrev rest : Outcome Rows → Stage → Stage
-  rest o x =
-      then-stage (then-stage (then-stage x (λ _. of-constants (table-by o .kinds) ar)) (of-names (names (table-by o)))) (of-kinds (table-by o) (typing (table-by o) (bindings (table-by o))))
+  rest o x = to-kinds s (table-by o) room (then-stage (then-stage x (λ _. of-constants (table-by o .kinds) ar)) (of-names (names (table-by o))))
 
-  by-syntax : (o : Outcome Rows) → after-syntax s (lexed s) nr ar o ≡ outcome-of s (table-by o) (rest o (of-syntax (lexis.starts (lexed s)) (length s) nr o))
+  by-syntax : (o : Outcome Rows) → after-syntax s (lexed s) nr ar room o ≡ outcome-of s (table-by o) (rest o (of-syntax (lexis.starts (lexed s)) (length s) nr o))
   by-syntax (good r) =
       let t = table-by (good r) in
-      by-rows s t (count t) ar (leb (count t) nr)
+      by-rows s t room (count t) ar (leb (count t) nr)
       ∙ ap (λ (e : ℕ). outcome-of s t (rest (good r) (cond (leb e nr) (Done e) (Refused 7 e)))) (length-map (r .rows) (λ (x : Row). x .kind))
   by-syntax (unexpected j) = refl
   by-syntax (too-deep k) = refl
 
-  by-tokens : (x : Reading) → after-tokens s (lexed s) nr ar x ≡
+  by-tokens : (x : Reading) → after-tokens s (lexed s) nr ar room x ≡
       outcome-of s (table-of s) (rest (parsed file (token-table s .terminals))
       (then-stage (of-reading x) (λ _. of-syntax (lexis.starts (lexed s)) (length s) nr (parsed file (token-table s .terminals)))))
   by-tokens (lexis.at n) = by-syntax (parsed file (token-table s .terminals))
@@ -87,9 +97,9 @@ same-outcome : (s : List ℕ) (x : Stage) → outcome-of s (table-of s) x ≡ ou
 same-outcome s (Done n) = refl
 same-outcome s (Refused k p) = refl
 
-pub straight : (s : List ℕ) (tr nr ar : ℕ) → checked s tr nr ar ≡ outcome-by s (kind-stage s tr nr ar)
+pub straight : (s : List ℕ) (tr nr ar room : ℕ) → checked s tr nr ar room ≡ outcome-by s (room-stage s tr nr ar room)
 unfolding checked
-straight s tr nr ar = by-tokens s nr ar (tokens (lexed s) tr) ∙ same-outcome s (kind-stage s tr nr ar)
+straight s tr nr ar room = by-tokens s nr ar room (tokens (lexed s) tr) ∙ same-outcome s (room-stage s tr nr ar room)
 
 -- ---- a stage that is done
 
@@ -193,6 +203,15 @@ module _ (s : List ℕ) (tr : ℕ) where
           by : (m : ℕ) → name-stage s tr nr ar ≡ Done m → (y : Typing) → of-kinds (table-of s) y m ≡ Done n → name-stage s tr nr ar ≡ Done n
           by m q (typed ks) v = q ∙ v
           by m q (ill-typed f k) v = clash (cc)
+
+      -- and there is room for the strings
+      pub room-done : (room n : ℕ) → room-stage s tr nr ar room ≡ Done n → kind-stage s tr nr ar ≡ Done n
+      room-done room n e =
+          let d = then-done (kind-stage s tr nr ar) _ n e in by (d .0) (d .1) (leb (room-needed (table-of s)) room) (d .2)
+        where
+          by : (m : ℕ) → kind-stage s tr nr ar ≡ Done m → (b : Bool) → cond b (Done m) (Refused 20 room) ≡ Done n → kind-stage s tr nr ar ≡ Done n
+          by m q true v = q ∙ v
+          by m q false v = clash (cc)
 
 -- the token columns of the table are those of the bytes
 pub table-scanned : (s : List ℕ) → Scanned (table-of s)

@@ -16,6 +16,7 @@ use Rattle.express.specs.names.Scope.{bindings}
 use Rattle.express.specs.names.Fault.{Fault}
 use Rattle.express.specs.names.Names.{names}
 use Rattle.express.specs.kinds.Kind.{Typing, typed, ill-typed, typing}
+use Rattle.express.specs.kinds.AnswerRow.{room-of}
 use Rattle.express.specs.whole.Reply.{Accepted, Checked, accepted, refused, Report}
 use Rattle.parsing.specs.Parsing.{rows-of}
 use Rattle.constants.specs.Constants.{row-in, file-answers}
@@ -58,7 +59,11 @@ abbrev pub of-kinds : Table → Typing → ℕ → Stage
 of-kinds t (typed ks) n = Done n
 of-kinds t (ill-typed f m) n = Refused f (place t m)
 
--- ---- the stages of a file s, with tables of so many entries
+-- K36, 20: the bytes that the strings among the answers take, where the room has so many; the number is the room's
+abbrev pub of-room : ℕ → ℕ → ℕ → Stage
+of-room needed room n = cond (leb needed room) (Done n) (Refused 20 room)
+
+-- ---- the stages of a file s, with tables of so many entries and a room of so many bytes
 
 -- its tokens and its nodes; there are none where it is refused by then
 abbrev pub table-of : List ℕ → Table
@@ -83,6 +88,14 @@ name-stage s token-rows node-rows answer-rows = then-stage (constant-stage s tok
 abbrev pub kind-stage : List ℕ → ℕ → ℕ → ℕ → Stage
 kind-stage s token-rows node-rows answer-rows =
     then-stage (name-stage s token-rows node-rows answer-rows) (of-kinds (table-of s) (typing (table-of s) (bindings (table-of s))))
+
+-- the bytes that the strings among its answers take
+abbrev pub room-needed : Table → ℕ
+room-needed t = length (room-of (file-answers t))
+
+abbrev pub room-stage : List ℕ → ℕ → ℕ → ℕ → ℕ → Stage
+room-stage s token-rows node-rows answer-rows room-bytes =
+    then-stage (kind-stage s token-rows node-rows answer-rows) (of-room (room-needed (table-of s)) room-bytes)
 
 -- ---- what the last stage says of the file
 

@@ -5,18 +5,18 @@ use Prim.Native.Nat.{ℕ}
 use lib.Dec.{eqb}
 use lib.IntN.{ℤ}
 use Rattle.express.specs.kinds.Answer.{Answer}
-use Rattle.express.specs.kinds.AnswerRow.{AnswerRow, row, row-of, row-answer}
+use Rattle.express.specs.kinds.AnswerRow.{AnswerRow, row, row-of}
 use Rattle.express.specs.kinds.Declared.{Declared}
 use Rattle.express.specs.kinds.Evaluate.{held}
 use Rattle.express.specs.kinds.Shape.{Arithmetic, minus, times, divide, modulo, power, Connective, and, or, xor}
 use Rattle.express.specs.kinds.Shape.{Operator, plus, arithmetic, relation, connective, Sign, positive, negative, not}
 use Rattle.operations.specs.Meaning.{is-boolean}
-use Rattle.answer_rows.specs.Stored.{stored}
+use Rattle.answer_rows.specs.Stored.{stored, sized-answer}
 use Rattle.test_exports.specs.Places.{relation-at}
 
--- the answer of a row, `?` where the code has none for it
+-- the answer of a row, a string by its length, `?` where the code has none for it
 abbrev pub answer-at : ℕ → ℤ → ℕ → Answer
-answer-at k z l = stored (row-answer (row k z l))
+answer-at k z l = stored (sized-answer (row k z l))
 
 abbrev pub arithmetic-at : ℕ → Arithmetic
 arithmetic-at n = cond (eqb n 0) minus (cond (eqb n 1) times (cond (eqb n 2) divide (cond (eqb n 3) modulo power)))

@@ -85,12 +85,13 @@ pub extern "C" fn woffulent_evaluate_constants(
     value_kinds: &mut [u8],
     value_numbers: &mut [i64],
     value_lengths: &mut [u8],
-)
-    ensures { λ _. ⌜ EvaluatesConstants (now (src .entry)) (now (starts .entry)) (now (lengths .entry)) (now (terminals .entry)) (now (kinds .entry))
+    room: &mut [u8],
+) -> usize
+    ensures { λ r. ⌜ EvaluatesConstants (now (src .entry)) (now (starts .entry)) (now (lengths .entry)) (now (terminals .entry)) (now (kinds .entry))
         (now (tokens .entry)) (now (sizes .entry)) (now (bindings .entry)) (now (declared .entry)) (now (order .entry)) (now («row_of» .entry))
         (now («answer_kinds» .entry)) (now («answer_numbers» .entry)) (now («answer_lengths» .entry))
-        (now («value_kinds» .entry)) (now («value_numbers» .entry)) (now («value_lengths» .entry))
-        (now («row_of» .exit)) (now («answer_kinds» .exit)) (now («answer_numbers» .exit)) (now («answer_lengths» .exit)) ⌝ }
+        (now («value_kinds» .entry)) (now («value_numbers» .entry)) (now («value_lengths» .entry)) (now (room .entry))
+        (now («row_of» .exit)) (now («answer_kinds» .exit)) (now («answer_numbers» .exit)) (now («answer_lengths» .exit)) (now (room .exit)) r ⌝ }
 {
     constants::evaluate_constants(
         src,
@@ -110,5 +111,6 @@ pub extern "C" fn woffulent_evaluate_constants(
         value_kinds,
         value_numbers,
         value_lengths,
-    );
+        room,
+    )
 }

@@ -8,11 +8,12 @@ pub mod kinds;
 pub mod logicals;
 pub mod naming;
 pub mod operators;
+pub mod texts;
 
 ghost use mathlib.Core.Path.{_≡_};
-ghost use lib.ListN.{length, take, drop};
+ghost use lib.ListN.{length as size, take, drop};
 ghost use lib.Seq.{sets};
-ghost use Rattle.express.specs.tokens.Lexis.{integer-value, binary-value};
+ghost use Rattle.express.specs.tokens.Lexis.{integer-value, binary-value, string-value};
 ghost use Rattle.express.specs.tokens.Terminal.{terminals};
 ghost use Rattle.literals.specs.Literal.{capped};
 ghost use Rattle.blanks.specs.Step.{reading};
@@ -66,6 +67,27 @@ pub extern "C" fn woffulent_binary(s: &[u8], start: usize, length: usize) -> u64
     ensures { λ r. ⌜ r ≡ capped (binary-value (take length (drop start (now (s .entry))))) ⌝ }
 {
     literals::binary(s, start, length)
+}
+
+#[no_mangle]
+pub extern "C" fn woffulent_string_length(s: &[u8], start: usize, length: usize) -> usize
+    ensures { λ r. ⌜ r ≡ size (string-value (take length (drop start (now (s .entry))))) ⌝ }
+{
+    literals::string_length(s, start, length)
+}
+
+#[no_mangle]
+pub extern "C" fn woffulent_string_bytes(
+    s: &[u8],
+    start: usize,
+    length: usize,
+    out: &mut [u8],
+    at: usize,
+) -> usize
+    ensures { λ r. ⌜ (r ≡ size (string-value (take length (drop start (now (s .entry))))))
+        × (now (out .exit) ≡ sets (now (out .entry)) at (string-value (take length (drop start (now (s .entry)))))) ⌝ }
+{
+    literals::string_bytes(s, start, length, out, at)
 }
 
 #[no_mangle]

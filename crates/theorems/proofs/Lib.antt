@@ -1,3 +1,4 @@
 pub mod tokens
 pub mod syntax
 pub mod kinds
+pub mod whole

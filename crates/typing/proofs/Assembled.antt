@@ -65,12 +65,12 @@ module _ {k w n : ℕ} {sizes scratch : List ℕ} {r : Finding} where
       }
 
   pub operates-leaf :
-      (k ≡ node.unary → ⊥) → (k ≡ node.two-operand → ⊥) → (k ≡ node.interval → ⊥) → (k ≡ node.simple-type → ⊥) → finding-of r ≡ leaf-found k →
+      (k ≡ node.unary → ⊥) → (k ≡ node.two-operand → ⊥) → (k ≡ node.interval → ⊥) → (k ≡ node.simple-type → ⊥) → finding-of r ≡ leaf-found k w →
       Operates k w sizes scratch n r
   operates-leaf u o v s A =
       record {
         is = λ t b e c q i j p.
-            A ∙ ap leaf-found (sym i) ∙
+            A ∙ ap₂ leaf-found (sym i) (sym j) ∙
             at-leaf t b e c (kind-at (kinds-of scratch)) n (rw i p) (λ h. u (sym i ∙ h)) (λ h. o (sym i ∙ h)) (λ h. v (sym i ∙ h)) (λ h. s (sym i ∙ h));
       }
 

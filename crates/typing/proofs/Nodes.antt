@@ -9,7 +9,7 @@ use native.Mathlib.Omega.{arith}
 use borrow.Author.Tests.{ne-eqb}
 use lib.Dec.{eqb}
 use lib.ListN.{getD, List·getD-eq-default, List·getD-map}
-use Rattle.express.specs.tokens.Lexis.{integer-value, binary-bits}
+use Rattle.express.specs.tokens.Lexis.{integer-value, binary-bits, string-value}
 use Rattle.express.specs.syntax.NodeKind as node
 use Rattle.express.specs.syntax.Tree.{Table, count, kind, terminal, owner, last, left, middle, low, is}
 use Rattle.express.specs.kinds.Declared.{Declared, other, declaration, bound, simple, denoted-in, denoted, declared-type}
@@ -18,7 +18,7 @@ use Rattle.express.specs.kinds.Shape.{Operator, plus, arithmetic, relation, con
 use Rattle.express.specs.kinds.Shape.{operator-of, sign-of, evaluated, name-shape-in, shape-in}
 use Rattle.express.specs.kinds.Shape as shape
 use Rattle.express.specs.kinds.Answer.{Logical}
-use Rattle.express.specs.kinds.Operate.{Kind, integers, logicals, binaries, items, undetermined, untyped, comparable}
+use Rattle.express.specs.kinds.Operate.{Kind, integers, logicals, binaries, strings, items, undetermined, untyped, comparable}
 use Rattle.express.specs.kinds.Kind.{of-number, common, kind-of-type, Finding, of-kind, fault, if-fits, if-evaluated, finding-in, kind-at}
 use Rattle.express.proofs.kinds.KindNumbers.{number-back}
 use Rattle.relations.proofs.Select.{le-or}
@@ -96,20 +96,24 @@ module _ (t : Table) (b : List ℕ) (e : Table) (c : List ℕ) (k : ℕ → Kind
 
   -- what has neither operands nor a name
   leaf-by :
-      (v : ℕ) (s : List Bool) (l : Logical) (x y z w o : Bool) →
-      cond x (of-kind integers) (cond y (of-kind binaries) (cond z (of-kind logicals) (cond w (of-kind undetermined) (cond o (of-kind untyped) (fault 14)))))
+      (v : ℕ) (s : List Bool) (l : Logical) (r : List ℕ) (x y z u w o : Bool) →
+      cond x (of-kind integers)
+      (cond y (of-kind binaries) (cond z (of-kind logicals) (cond u (of-kind strings) (cond w (of-kind undetermined) (cond o (of-kind untyped) (fault 14))))))
       ≡ finding-in t b e k n
-      (cond x (shape.integer-literal v) (cond y (shape.binary-literal s) (cond z (shape.logical-literal l) (cond w shape.question (cond o shape.interval-operator unevaluated)))))
-  leaf-by v s l true y z w o = refl
-  leaf-by v s l false true z w o = refl
-  leaf-by v s l false false true w o = refl
-  leaf-by v s l false false false true o = refl
-  leaf-by v s l false false false false true = refl
-  leaf-by v s l false false false false false = refl
+      (cond x (shape.integer-literal v)
+      (cond y (shape.binary-literal s)
+      (cond z (shape.logical-literal l) (cond u (shape.string-literal r) (cond w shape.question (cond o shape.interval-operator unevaluated))))))
+  leaf-by v s l r true y z u w o = refl
+  leaf-by v s l r false true z u w o = refl
+  leaf-by v s l r false false true u w o = refl
+  leaf-by v s l r false false false true w o = refl
+  leaf-by v s l r false false false false true o = refl
+  leaf-by v s l r false false false false false true = refl
+  leaf-by v s l r false false false false false false = refl
 
   pub at-leaf :
       Plain (kind e n) → (kind e n ≡ node.unary → ⊥) → (kind e n ≡ node.two-operand → ⊥) → (kind e n ≡ node.interval → ⊥) →
-      (kind e n ≡ node.simple-type → ⊥) → Here (leaf-found (kind e n))
+      (kind e n ≡ node.simple-type → ⊥) → Here (leaf-found (kind e n) (terminal e n))
   unfolding shape-in
   at-leaf p u o i s =
       rw (
@@ -121,8 +125,9 @@ module _ (t : Table) (b : List ℕ) (e : Table) (c : List ℕ) (k : ℕ → Kind
         ne-eqb (kind e n) node.simple-type s,
         ne-eqb (kind e n) node.constant (p .no-constant),
       )
-      (leaf-by (integer-value (shape.text e n)) (binary-bits (shape.text e n)) (shape.logical-of (terminal e n)) (eqb (kind e n) node.integer-literal) (eqb (kind e n) node.binary-literal)
-      (eqb (kind e n) node.logical-literal) (eqb (kind e n) node.question) (eqb (kind e n) node.interval-operator))
+      (leaf-by (integer-value (shape.text e n)) (binary-bits (shape.text e n)) (shape.logical-of (terminal e n)) (string-value (shape.text e n))
+      (eqb (kind e n) node.integer-literal) (eqb (kind e n) node.binary-literal) (eqb (kind e n) node.logical-literal) (shape.is-string e n) (eqb (kind e n) node.question)
+      (eqb (kind e n) node.interval-operator))
 
   -- ---- names
 

@@ -75,7 +75,7 @@ fn operation(kind: u8, terminal: u8, sizes: &[u32], scratch: &[u32], n: usize) -
     if kind == codes::nodes::SIMPLE_TYPE {
         return evaluated(simple(terminal), UNTYPED);
     }
-    leaf(kind)
+    leaf(kind, terminal)
 }
 
 // What is found at a node, from the kinds of its children.

@@ -31,18 +31,20 @@ module _ (a b : answer.Logical) {m n : ℕ} (e : m ≡ rank a) (f : n ≡ rank b
   unfolding OR
   or-first h = let g : rank b < rank a = omega arith in rw (lt-leb (rank a) (rank b) g)
 
--- ---- the order of two numbers that stand for others
-module _ {m n j k : ℕ} (e : m ≡ j) (f : n ≡ k) where
-  pub less : m < n → Ordering·lt ≡ compare j k
-  less h = sym (compare-lt j k (omega arith))
+pub ruleset logicals = (and-first, and-second, or-first, or-second)
 
-  pub more : n < m → Ordering·gt ≡ compare j k
-  more h = sym (compare-gt j k (omega arith))
+-- ---- the order of two numbers
+module _ {m n : ℕ} where
+  pub less : m < n → Ordering·lt ≡ compare m n
+  less h = sym (compare-lt m n h)
 
-  pub same : n ≤ m → m ≤ n → Ordering·eq ≡ compare j k
-  same g h = sym (compare-eq j k (omega arith))
+  pub more : n < m → Ordering·gt ≡ compare m n
+  more h = sym (compare-gt m n h)
 
-pub ruleset logicals = (and-first, and-second, or-first, or-second, less, more, same)
+  pub same : n ≤ m → m ≤ n → Ordering·eq ≡ compare m n
+  same g h = sym (compare-eq m n (omega arith))
+
+pub ruleset orders = (less, more, same)
 
 -- ---- XOR by its first operand
 xor-false-is : (b : answer.Logical) → XOR FALSE b ≡ b

@@ -7,7 +7,7 @@ ghost use Rattle.values.specs.Meaning.{end-number};
 
 // Why an evaluation ends without a value.
 pub enum End {
-    // more than 64 signed bits, or than 63 bits of a join, can hold
+    // more than 64 signed bits can hold, or than 63 bits or 255 bytes joined
     OutOfRange,
     ZeroDivisor,
     NegativePower,

@@ -31,15 +31,7 @@ impl Logical {
     pub fn compare(self, other: Logical) -> Order
         ensures { λ r. ⌜ ordering-of r ≡ compare-logical (logical-of self) (logical-of other) ⌝ }
     {
-        let m = self.rank();
-        let n = other.rank();
-        if m < n {
-            return Order::Less;
-        }
-        if n < m {
-            return Order::More;
-        }
-        Order::Same
+        Order::of(self.rank() as u64, other.rank() as u64)
     }
 
     // The smaller.

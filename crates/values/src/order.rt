@@ -1,4 +1,5 @@
 ghost use mathlib.Core.Path.{_≡_};
+ghost use Prim.Native.Nat.{compare};
 ghost use Rattle.express.specs.kinds.Relation.{by, related};
 ghost use Rattle.values.specs.Meaning.{logical-of, ordering-of, relation-of};
 use crate::logical::Logical;
@@ -23,6 +24,19 @@ pub enum Relation {
 }
 
 impl Order {
+    // That of two numbers.
+    pub fn of(m: u64, n: u64) -> Order
+        ensures { λ r. ⌜ ordering-of r ≡ compare m n ⌝ }
+    {
+        if m < n {
+            return Order::Less;
+        }
+        if n < m {
+            return Order::More;
+        }
+        Order::Same
+    }
+
     // One of three logicals.
     fn choose(self, less: Logical, same: Logical, more: Logical) -> Logical
         ensures { λ r. ⌜ logical-of r ≡ by (ordering-of self) (logical-of less) (logical-of same) (logical-of more) ⌝ }

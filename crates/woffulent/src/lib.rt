@@ -38,6 +38,7 @@ pub extern "C" fn woffulent_check(
     answer_kinds: &mut [u8],
     answer_numbers: &mut [i64],
     answer_lengths: &mut [u8],
+    room: &mut [u8],
     number: &mut u32,
     tokens: &mut u32,
     nodes: &mut u32,
@@ -46,10 +47,10 @@ pub extern "C" fn woffulent_check(
     ensures { λ r. ⌜ Checks (now (src .entry))
         (tables-of (now («token_kinds» .entry)) (now («token_starts» .entry)) (now («token_lengths» .entry))
         (now («node_kinds» .entry)) (now («node_tokens» .entry)) (now («node_sizes» .entry)) (now («node_bindings» .entry))
-        (now («answer_kinds» .entry)) (now («answer_numbers» .entry)) (now («answer_lengths» .entry)))
+        (now («answer_kinds» .entry)) (now («answer_numbers» .entry)) (now («answer_lengths» .entry)) (now (room .entry)))
         (tables-of (now («token_kinds» .exit)) (now («token_starts» .exit)) (now («token_lengths» .exit))
         (now («node_kinds» .exit)) (now («node_tokens» .exit)) (now («node_sizes» .exit)) (now («node_bindings» .exit))
-        (now («answer_kinds» .exit)) (now («answer_numbers» .exit)) (now («answer_lengths» .exit)))
+        (now («answer_kinds» .exit)) (now («answer_numbers» .exit)) (now («answer_lengths» .exit)) (now (room .exit)))
         (report-by r (now (number .exit)) (now (tokens .exit)) (now (nodes .exit)) (now (constants .exit))) ⌝ }
 {
     let report = checker::check(
@@ -64,6 +65,7 @@ pub extern "C" fn woffulent_check(
         answer_kinds,
         answer_numbers,
         answer_lengths,
+        room,
     );
     put_report(report, number, tokens, nodes, constants)
 }
@@ -80,6 +82,7 @@ pub extern "C" fn woffulent_check_records(
     node_sizes: &mut [u32],
     node_bindings: &mut [u32],
     records: &mut [Answer],
+    room: &mut [u8],
     number: &mut u32,
     tokens: &mut u32,
     nodes: &mut u32,
@@ -87,9 +90,9 @@ pub extern "C" fn woffulent_check_records(
 ) -> u8
     ensures { λ r. ⌜ Checks (now (src .entry))
         (record-tables (now («token_kinds» .entry)) (now («token_starts» .entry)) (now («token_lengths» .entry))
-        (now («node_kinds» .entry)) (now («node_tokens» .entry)) (now («node_sizes» .entry)) (now («node_bindings» .entry)) (now (records .entry)))
+        (now («node_kinds» .entry)) (now («node_tokens» .entry)) (now («node_sizes» .entry)) (now («node_bindings» .entry)) (now (records .entry)) (now (room .entry)))
         (record-tables (now («token_kinds» .exit)) (now («token_starts» .exit)) (now («token_lengths» .exit))
-        (now («node_kinds» .exit)) (now («node_tokens» .exit)) (now («node_sizes» .exit)) (now («node_bindings» .exit)) (now (records .exit)))
+        (now («node_kinds» .exit)) (now («node_tokens» .exit)) (now («node_sizes» .exit)) (now («node_bindings» .exit)) (now (records .exit)) (now (room .exit)))
         (report-by r (now (number .exit)) (now (tokens .exit)) (now (nodes .exit)) (now (constants .exit))) ⌝ }
 {
     let report = record_checker::check_records(
@@ -102,6 +105,7 @@ pub extern "C" fn woffulent_check_records(
         node_sizes,
         node_bindings,
         records,
+        room,
     );
     put_report(report, number, tokens, nodes, constants)
 }

@@ -14,6 +14,7 @@ enum Kind {
     Integer,
     Logical,
     Binary,
+    String,
     /// Of the enumeration that a type declares.
     Item(Node),
 }
@@ -30,6 +31,7 @@ impl Kind {
             Kind::Integer => "an integer".to_string(),
             Kind::Logical => "a logical".to_string(),
             Kind::Binary => "a binary".to_string(),
+            Kind::String => "a string".to_string(),
             Kind::Item(node) => format!("an item of {}", tree.name(node)),
         }
     }
@@ -71,8 +73,13 @@ fn renamed(tree: &Tree, base: Node) -> ControlFlow<Underlying, Node> {
 }
 
 fn simple(word: &[u8]) -> Option<Kind> {
-    let kinds =
-        [("INTEGER", Kind::Integer), ("BOOLEAN", Kind::Logical), ("LOGICAL", Kind::Logical), ("BINARY", Kind::Binary)];
+    let kinds = [
+        ("INTEGER", Kind::Integer),
+        ("BOOLEAN", Kind::Logical),
+        ("LOGICAL", Kind::Logical),
+        ("BINARY", Kind::Binary),
+        ("STRING", Kind::String),
+    ];
     kinds.iter().find(|(name, _)| word.eq_ignore_ascii_case(name.as_bytes())).map(|&(_, kind)| kind)
 }
 
@@ -89,7 +96,7 @@ pub fn not_evaluated(tree: &Tree, token: usize) -> Option<Finding> {
     let constant = tree.owner(node)?;
     match tree.kind(node) {
         NodeKind::Other => Some(Finding::new(format!(
-            "{} is not evaluated: constants hold integers, logicals, binaries and items.",
+            "{} is not evaluated: constants hold integers, logicals, binaries, strings and items.",
             tree.name(node)
         ))),
         NodeKind::TwoOperand => Some(Finding::new("`/` is not evaluated; DIV divides integers.".to_string())),
@@ -160,6 +167,7 @@ impl Typing<'_, '_> {
             NodeKind::Binary => Kind::Binary,
             NodeKind::Logical => Kind::Logical,
             NodeKind::Indeterminate => Kind::Undetermined,
+            NodeKind::Other if tree.is_string(node) => Kind::String,
             NodeKind::Name => self.name(node).ok_or(None)?,
             NodeKind::QualifiedItem => {
                 let declared = tree.declared(node, tree.token_text(tree.rows[node].token.saturating_sub(2)));
@@ -218,14 +226,15 @@ fn of_one(tree: &Tree, node: Node, operand: Kind) -> Result<Kind, Misfit> {
     Err(Some(format!("{} takes {takes}, and its operand is {operand}.", tree.name(node))))
 }
 
+/// What `+` adds or joins (K7).
+const SUMMABLE: [Kind; 3] = [Kind::Integer, Kind::Binary, Kind::String];
+
 fn of_two(tree: &Tree, node: Node, left: Kind, right: Kind) -> Result<Kind, Misfit> {
     let both = if left == Kind::Undetermined { right } else { left };
     let operator = tree.text(node).to_ascii_uppercase();
     let (takes, fits, gives) = match operator.as_slice() {
         b"AND" | b"OR" | b"XOR" => ("two logicals", both.agrees(Kind::Logical), Kind::Logical),
-        b"+" => {
-            ("two integers or two binaries", [Kind::Integer, Kind::Binary].iter().any(|&kind| both.agrees(kind)), both)
-        }
+        b"+" => ("two integers, two binaries or two strings", SUMMABLE.iter().any(|&kind| both.agrees(kind)), both),
         b"-" | b"*" | b"DIV" | b"MOD" | b"**" => ("two integers", both.agrees(Kind::Integer), Kind::Integer),
         b"/" => return Err(None),
         _ => ("two operands of one kind", true, Kind::Logical),

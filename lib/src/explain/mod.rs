@@ -57,7 +57,7 @@ pub fn explain(refusal: &Refusal) -> Explanation {
     let (src, reply) = (refusal.source(), refusal.reply());
     let general = || Finding::new(reply.meaning().to_string());
     let Some(place) = refusal.place() else {
-        let finding = refusal.needed().map_or_else(general, |needed| short(reply, needed));
+        let finding = if refusal.is_short() { short(reply, refusal.beside() as usize) } else { general() };
         return Explanation { sentence: finding.sentence, span: 0..0, related: finding.related };
     };
     let tokens = tokens::read(src);
@@ -95,11 +95,15 @@ fn span(src: &[u8], tokens: &[Token], place: usize) -> Range<usize> {
     }
 }
 
-fn short(reply: Reply, needed: usize) -> Finding {
-    let table = match reply {
-        Reply::TokensShort => "token",
-        Reply::NodesShort => "node",
-        _ => "answer",
-    };
-    Finding::new(format!("The file needs {} rows in the {table} table, and fewer were lent.", grouped(needed)))
+/// That a table has fewer rows than the number beside the reply says, or the room no more bytes.
+fn short(reply: Reply, beside: usize) -> Finding {
+    let number = grouped(beside);
+    let rows = |table| format!("The file needs {number} rows in the {table} table, and fewer were lent.");
+    let bytes = if beside == 1 { "byte" } else { "bytes" };
+    Finding::new(match reply {
+        Reply::TokensShort => rows("token"),
+        Reply::NodesShort => rows("node"),
+        Reply::AnswersShort => rows("answer"),
+        _ => format!("The strings of the constants do not fit into the room of {number} {bytes} that was lent."),
+    })
 }

@@ -5,7 +5,8 @@ use super::tokens::{self, Token};
 use super::words::{is_operator, is_reserved, is_unread};
 use super::Finding;
 use crate::codes::TokenKind;
-use crate::text::{position, quoted};
+use crate::text::{grouped, position, quoted};
+use crate::MAX_STRING_BYTES;
 
 /// From so many of a class on, the class is named in their place.
 const MANY: usize = 4;
@@ -36,9 +37,13 @@ fn unfinished_string(src: &[u8], place: usize, length: usize) -> String {
 
 pub fn too_large(src: &[u8], place: usize) -> Option<Finding> {
     let text = src.get(place..)?;
-    let sentence = match tokens::bits(text) {
-        Some(bits) => format!("The binary has {bits} bits, and 63 are the most."),
-        None => {
+    let sentence = match text.first()? {
+        b'%' => format!("The binary has {} bits, and 63 are the most.", tokens::bits(text)?),
+        b'\'' => {
+            let bytes = tokens::string_value(&text[..tokens::string(text).ok()?]).count();
+            format!("The string has {} bytes, and {MAX_STRING_BYTES} are the most.", grouped(bytes))
+        }
+        _ => {
             let digits = &text[..tokens::run(text, |byte| byte.is_ascii_digit())];
             format!("The integer {} is above 9223372036854775807, the largest.", quoted(digits))
         }

@@ -42,10 +42,11 @@ fn alike(src: &[u8], left: &Range<usize>, right: &Range<usize>) -> bool {
     text(src, left).eq_ignore_ascii_case(text(src, right))
 }
 
-/// The number of the reply to a file in which other bytes stand in place of some, and the number beside it.
+/// The number of the reply to a file in which other bytes stand in place of some, and the number beside it. Space at the end is left
+/// out: a file that is filled up with it would be too long.
 fn replaced(src: &[u8], span: &Range<usize>, by: &[u8]) -> (u8, u32) {
     let edited = [&src[..span.start], by, &src[span.end..]].concat();
-    check(&edited).map_or_else(|refusal| (refusal.number(), refusal.beside()), |_| (0, 0))
+    check(edited.trim_ascii_end()).map_or_else(|refusal| (refusal.number(), refusal.beside()), |_| (0, 0))
 }
 
 /// A refused file and what is said of it.
@@ -64,10 +65,7 @@ impl Said<'_> {
         let (end, length) = (span.end, self.src.len());
         assert!(span.start == self.place && end <= length && (!span.is_empty() || self.place == length), "{self}");
         match self.reply {
-            Reply::TooLarge => {
-                let smaller: &[u8] = if self.src[self.place] == b'%' { b"%1" } else { b"1" };
-                self.mended(&literal(self.src, self.place), smaller);
-            }
+            Reply::TooLarge => self.too_large(),
             Reply::Repeated => self.repeated(),
             Reply::NotFound => self.not_found(),
             Reply::WrongSort => self.wrong_sort(),
@@ -100,6 +98,15 @@ impl Said<'_> {
     /// With other bytes at a place that is not before the fault, the fault is gone.
     fn mended(&self, span: &Range<usize>, by: &[u8]) {
         assert_ne!(replaced(self.src, span, by), self.as_before(), "{self}");
+    }
+
+    /// A smaller literal of the kind, and it is read.
+    fn too_large(&self) {
+        match self.src[self.place] {
+            b'\'' => self.mended(self.span(), b"''"),
+            b'%' => self.mended(&literal(self.src, self.place), b"%1"),
+            _ => self.mended(&literal(self.src, self.place), b"1"),
+        }
     }
 
     /// Either of the two under another name, and this is no repetition any more.
@@ -180,6 +187,7 @@ impl Said<'_> {
             "an integer." => "INTEGER",
             "a logical." => "LOGICAL",
             "a binary." => "BINARY",
+            "a string." => "STRING",
             item => item.trim_start_matches("an item of `").trim_end_matches("`."),
         };
         self.mended(declared, fitting.as_bytes());
@@ -209,7 +217,7 @@ fn literal(src: &[u8], place: usize) -> Range<usize> {
 
 #[test]
 fn each_sentence_says_more_than_its_reply_and_is_so() {
-    let counts = std::sync::Mutex::new([0; 16]);
+    let counts = std::sync::Mutex::new([0; 1 + Reply::RoomShort as usize]);
     on_files(|src| {
         let outcome = check(src);
         let number = outcome.as_ref().map_or_else(Refusal::number, |_| 0);
@@ -220,10 +228,51 @@ fn each_sentence_says_more_than_its_reply_and_is_so() {
     });
     let counts = counts.into_inner().expect("no panic");
     println!("{counts:?}");
-    // The tables of `check` are never too short.
-    assert_eq!(counts[6..9], [0; 3]);
-    let often = |&reply: &usize| counts[reply] >= if reply == 1 { 3 } else { FLOOR };
-    assert!((0..6).chain(9..16).all(|reply| often(&reply)), "{counts:?}");
+    for &reply in Reply::ALL {
+        let count = counts[usize::from(reply.number())];
+        assert!(
+            match reply {
+                // The tables and the room of `check` are never too short.
+                Reply::TokensShort | Reply::NodesShort | Reply::AnswersShort | Reply::RoomShort => count == 0,
+                Reply::TooLong => count >= 3,
+                _ => count >= FLOOR,
+            },
+            "{counts:?}"
+        );
+    }
+}
+
+/// What the sentences say of strings.
+#[test]
+fn strings_have_their_sentences() {
+    let long = format!("'{}'", "a".repeat(257));
+    let sentences = [
+        (long.as_str(), "The string has 257 bytes, and 255 are the most."),
+        (
+            "'a' + 1",
+            "`+` takes two integers, two binaries or two strings, and its operands are a string and an integer.",
+        ),
+        ("-'a'", "`-` takes an integer, and its operand is a string."),
+        ("{'a' < 1 < 2}", "An interval takes three of one kind, and these are a string, an integer and an integer."),
+        ("'a' = 'b'", "The constant `c` is declared as `label`, a string, and its expression is a logical."),
+        ("PI", "`PI` is not evaluated: constants hold integers, logicals, binaries, strings and items."),
+    ];
+    for (expression, sentence) in sentences {
+        let constants = format!("CONSTANT c : label := {expression}; END_CONSTANT;");
+        let src = format!("SCHEMA s; {constants} TYPE label = STRING; END_TYPE; END_SCHEMA;");
+        let refusal = check(src.as_bytes()).expect_err(expression);
+        assert_eq!(refusal.explain().sentence, sentence, "{expression}");
+    }
+}
+
+/// A quote that stands for two in a literal is one of the value's bytes.
+#[test]
+fn pairs_of_quotes_are_one_byte() {
+    let values: [(&[u8], &[u8]); 5] =
+        [(b"''", b""), (b"'ab'", b"ab"), (b"''''", b"'"), (b"'a''''b'", b"a''b"), (b"'", b"")];
+    for (text, value) in values {
+        assert_eq!(tokens::string_value(text).collect::<Vec<_>>(), value);
+    }
 }
 
 /// A token of each sort that can be looked for.
@@ -255,7 +304,8 @@ fn what_is_expected_is_what_the_proved_call_goes_on_with() {
     for (src, place) in stuck_files.take(600) {
         let stuck = reader::read(&src, &tokens::read(&src)).expect_err("refused by 4");
         let wanted: Vec<&str> = stuck.wanted.iter().copied().map(wanted_sample).collect();
-        let before = [&src[..place], b" "].concat();
+        // A line feed, for the file may end in a line remark.
+        let before = [&src[..place], b"\n"].concat();
         assert!(!wanted.iter().any(|word| is_unread(word.as_bytes())), "{stuck:?}");
         for sample in &samples {
             let next =

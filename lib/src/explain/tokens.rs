@@ -108,6 +108,16 @@ pub fn string(text: &[u8]) -> Result<usize, usize> {
     }
 }
 
+/// The bytes of the value of a string, of which the text is given: what stands between its quotes, each pair made one (T19).
+pub fn string_value(text: &[u8]) -> impl Iterator<Item = u8> + '_ {
+    let inner = text.get(1..text.len().saturating_sub(1)).unwrap_or_default();
+    let mut second = false;
+    inner.iter().copied().filter(move |&byte| {
+        second = byte == b'\'' && !second;
+        byte != b'\'' || second
+    })
+}
+
 /// How many bits stand behind the `%` that a text begins with.
 pub fn bits(text: &[u8]) -> Option<usize> {
     text.strip_prefix(b"%").map(|bits| run(bits, |byte| matches!(byte, b'0' | b'1')))

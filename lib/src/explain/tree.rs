@@ -2,7 +2,7 @@
 
 use super::reader::{self, Role, Row};
 use super::tokens::Token;
-use crate::codes::NodeKind;
+use crate::codes::{NodeKind, TokenKind};
 use crate::text::{position, quoted};
 use std::collections::HashMap;
 use std::ops::Range;
@@ -61,6 +61,11 @@ impl<'a> Tree<'a> {
 
     pub fn kind(&self, node: Node) -> NodeKind {
         self.rows[node].kind
+    }
+
+    /// Whether a node is named by a string, which tells such a literal from others of its kind (G32).
+    pub fn is_string(&self, node: Node) -> bool {
+        self.tokens.get(self.rows[node].token).is_some_and(|token| token.kind == TokenKind::String)
     }
 
     /// The bytes of a node's naming token.

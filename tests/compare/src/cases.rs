@@ -3,14 +3,14 @@
 use std::fs;
 use std::path::PathBuf;
 
-/// The rows of the token, node and answer tables that the program lends.
-pub const PROGRAM_LENGTHS: [usize; 3] = [8192, 8192, 1024];
+use reference::Lent;
+pub use reference::PROGRAM_LENGTHS;
 
 #[derive(Clone, Debug)]
 pub struct Case {
     pub name: String,
-    /// Rows of the token, node and answer tables.
-    pub lengths: [usize; 3],
+    /// Rows of the token, node and answer tables, and bytes of the room.
+    pub lengths: Lent,
     /// The sentence of the papers that the case checks.
     pub sentence: String,
     pub input: Vec<u8>,
@@ -64,7 +64,7 @@ pub fn all() -> Vec<Case> {
             }
             Case {
                 name: name.to_string(),
-                lengths: rows_lent(lent).unwrap_or_else(|| panic!("INDEX: {name}: no three lengths: {lent}")),
+                lengths: lengths(lent).unwrap_or_else(|| panic!("INDEX: {name}: no four lengths: {lent}")),
                 sentence: sentence.to_string(),
                 input,
                 expected: read(format!("{name}.out")),
@@ -73,10 +73,10 @@ pub fn all() -> Vec<Case> {
         .collect()
 }
 
-fn rows_lent(column: &str) -> Option<[usize; 3]> {
+fn lengths(column: &str) -> Option<Lent> {
     if column == "-" {
         return Some(PROGRAM_LENGTHS);
     }
-    let rows = column.split(',').map(|n| n.parse().ok()).collect::<Option<Vec<usize>>>()?;
-    rows.try_into().ok()
+    let lengths = column.split(',').map(|n| n.parse().ok()).collect::<Option<Vec<usize>>>()?;
+    lengths.try_into().ok()
 }

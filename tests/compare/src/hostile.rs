@@ -4,6 +4,7 @@ mod collisions;
 mod names;
 
 use names::name;
+use reference::MAX_STRING;
 
 /// A way to build a file of at most so many bytes, with no room left for one part more.
 #[derive(Clone, Copy)]
@@ -23,7 +24,7 @@ const DEEP: usize = 64;
 
 /// All families.
 pub fn families() -> Vec<Family> {
-    [&TOKENS[..], &EXPRESSIONS, &CHAINS, &HIERARCHIES, &SPELLINGS].concat()
+    [&TOKENS[..], &EXPRESSIONS, &STRINGS, &CHAINS, &HIERARCHIES, &SPELLINGS].concat()
 }
 
 const fn family(name: &'static str, file: fn(usize) -> Vec<u8>) -> Family {
@@ -89,6 +90,36 @@ const EXPRESSIONS: [Family; 6] = [
     family("joins at the limit", |size| {
         let around = ["SCHEMA s;CONSTANT ", "END_CONSTANT;END_SCHEMA;"];
         filled(size, around, |n| format!("{}:BINARY:=%1{};", name(n), "+%0".repeat(61 + n % 3)))
+    }),
+];
+
+/// Constants behind one that is the empty string, `e`, and one that is as long as may be, `l`.
+fn strings(size: usize, part: impl Fn(usize) -> String) -> Vec<u8> {
+    let head = format!("SCHEMA s;CONSTANT e:t:='';l:t:='{}';", "x".repeat(MAX_STRING));
+    filled(size, [&head, "END_CONSTANT;TYPE t=STRING;END_TYPE;END_SCHEMA;"], part)
+}
+
+const STRINGS: [Family; 7] = [
+    family("strings of quotes", |size| {
+        let around = ["SCHEMA s;CONSTANT c:LOGICAL:=TRUE", ";END_CONSTANT;END_SCHEMA;"];
+        filled(size, around, |_| format!(" AND('{}'=?)", "''".repeat(MAX_STRING)))
+    }),
+    family("a long string in every answer", |size| strings(size, |n| format!("{}:t:=l;", name(n)))),
+    family("string constants, each naming the one before", |size| {
+        let before = |number: usize| number.checked_sub(1).map_or("l".into(), name);
+        strings(size, |n| format!("{}:t:={};", name(n), before(n)))
+    }),
+    family("a long string joined with empty ones", |size| {
+        strings(size, |n| format!("{}:t:=l{};", name(n), "+e".repeat(100)))
+    }),
+    family("empty strings joined with a long one", |size| {
+        strings(size, |n| format!("{}:t:={};", name(n), nested("e+(", "l", ")", DEEP)))
+    }),
+    family("one byte after the other joined", |size| {
+        strings(size, |n| format!("{}:t:='a'{};", name(n), "+'b'".repeat(MAX_STRING - n % 3)))
+    }),
+    family("long strings that are equal, compared", |size| {
+        strings(size, |n| format!("{}:LOGICAL:={{l<=l+e<=l}};", name(n)))
     }),
 ];
 

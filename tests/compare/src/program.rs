@@ -1,6 +1,6 @@
 //! The proved program, run on inputs.
 
-use crate::cases::PROGRAM_LENGTHS;
+use reference::PROGRAM_LENGTHS;
 use std::io::{ErrorKind, Write};
 use std::path::{Path, PathBuf};
 use std::process::{Command, Output, Stdio};
@@ -59,6 +59,5 @@ pub fn listing(input: &[u8]) -> Vec<u8> {
 
 /// The reference's, with tables of the same lengths.
 pub fn expected(input: &[u8]) -> Vec<u8> {
-    let [tokens, nodes, answers] = PROGRAM_LENGTHS;
-    reference::listing(input, &reference::check(input, tokens, nodes, answers))
+    reference::listing(input, &reference::check(input, PROGRAM_LENGTHS))
 }

@@ -15,9 +15,11 @@ pub use crate::difference::needed;
 pub use damage::LARGEST;
 pub use demand::demand_one;
 pub use driver::{compare, compare_one};
-pub use tally::Tally;
-
 pub use rng::Rng;
+pub use source::Strings;
+pub use tally::{every_reply, Tally, ANSWER_KINDS, REPLY_NUMBERS};
+
+use reference::Lent;
 use source::Source;
 
 /// How a file is built.
@@ -57,12 +59,17 @@ pub fn well_typed(seed: u64, size: usize) -> Vec<u8> {
     undamaged(Source::new, seed, size)
 }
 
+/// The same with this share of strings, whatever the seed.
+pub fn well_typed_with(strings: Strings, seed: u64, size: usize) -> Vec<u8> {
+    undamaged(|seed, size| Source::new(seed, size).with(strings), seed, size)
+}
+
 /// A file of the grammar whose names and kinds are often wrong.
 pub fn loose(seed: u64, size: usize) -> Vec<u8> {
     undamaged(Source::loose, seed, size)
 }
 
-fn undamaged(source: fn(u64, usize) -> Source, seed: u64, size: usize) -> Vec<u8> {
+fn undamaged(source: impl Fn(u64, usize) -> Source, seed: u64, size: usize) -> Vec<u8> {
     let mut drawn = source(seed, size);
     let tokens = declarations::file(&mut drawn, size);
     let file = laid_out(&mut drawn.rng, &tokens);
@@ -98,11 +105,11 @@ fn laid_out(rng: &mut Rng, tokens: &[String]) -> Vec<u8> {
     file
 }
 
-/// Table lengths for a file that needs so many entries: mostly enough, sometimes just enough or too few.
-pub fn lengths(seed: u64, tokens: usize, nodes: usize, answers: usize) -> [usize; 3] {
+/// Lengths of the tables and the room for a file that needs so much of each: mostly enough, sometimes just enough or too little.
+pub fn lengths(seed: u64, needed: Lent) -> Lent {
     let mut rng = Rng::new(seed ^ 0x6c65_6e67);
     let tight = rng.one_in(4);
-    [tokens, nodes, answers].map(|needed| match rng.below(8) {
+    needed.map(|needed| match rng.below(8) {
         _ if !tight => needed + rng.below(20),
         0 => needed.saturating_sub(1),
         1 => rng.below(needed),

@@ -1,6 +1,6 @@
 //! Times of two ways to do one thing, and generated files to take them on.
 
-use crate::random::well_typed;
+use crate::random::{well_typed_with, Strings};
 use std::ffi::{c_int, c_long};
 use std::hint::black_box;
 use std::time::Instant;
@@ -57,8 +57,8 @@ fn processor_time_so_far() -> f64 {
     time.seconds as f64 * 1e9 + time.nanoseconds as f64
 }
 
-/// Well-typed files of about so many bytes, from a seed on.
-pub fn files_near(size: usize, first_seed: u64) -> impl Iterator<Item = Vec<u8>> {
+/// Well-typed files of about so many bytes with this share of strings, from a seed on.
+pub fn files_near(strings: Strings, size: usize, first_seed: u64) -> impl Iterator<Item = Vec<u8>> {
     let sized = move |file: &Vec<u8>| (size / 4 * 3..=size / 4 * 5).contains(&file.len());
-    (first_seed..).map(move |seed| well_typed(seed, size)).filter(sized)
+    (first_seed..).map(move |seed| well_typed_with(strings, seed, size)).filter(sized)
 }

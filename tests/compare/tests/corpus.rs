@@ -1,7 +1,9 @@
 //! The case corpus, run on the reference; and the corpus itself.
 
 use compare::cases::{self, Case, PROGRAM_LENGTHS};
-use reference::{AnswerRow, Checked, NodeRow, Report, TokenRow};
+use compare::difference::strings;
+use compare::random::every_reply;
+use reference::{check, AnswerRow, Checked, NodeRow, Report, TokenRow};
 use std::collections::BTreeSet;
 use std::panic::{catch_unwind, AssertUnwindSafe};
 
@@ -12,10 +14,6 @@ END_PROCEDURE END_REPEAT END_RULE END_SCHEMA END_TYPE ENTITY ENUMERATION ESCAPE 
 HIBOUND HIINDEX IF IN INSERT INTEGER INVERSE LENGTH LIKE LIST LOBOUND LOCAL LOG LOG10 LOG2 LOGICAL LOINDEX MOD MODEL NOT NUMBER NVL ODD OF
 ONEOF OPTIONAL OR OTHERWISE PI PROCEDURE QUERY REAL REFERENCE REMOVE REPEAT RETURN ROLESOF RULE SCHEMA SELECT SELF SET SIN SIZEOF SKIP SQRT
 STRING SUBTYPE SUPERTYPE TAN THEN TO TRUE TYPE TYPEOF UNIQUE UNKNOWN UNTIL USE USEDIN VALUE VALUE_IN VALUE_UNIQUE VAR WHERE WHILE XOR";
-
-fn check(input: &[u8], lengths: [usize; 3]) -> Checked {
-    reference::check(input, lengths[0], lengths[1], lengths[2])
-}
 
 /// Runs `test` on every case; fails with what it says of each case that is not as it should be.
 fn each(test: impl Fn(&Case, &Checked) -> Result<(), String>) {
@@ -72,20 +70,24 @@ fn reports_are_as_expected() {
 #[test]
 fn tables_are_zero_after_a_refusal_and_past_the_counts() {
     each(|case, checked| {
-        let Checked { report, tokens, nodes, answers } = checked;
-        if [tokens.len(), nodes.len(), answers.len()] != case.lengths {
+        let Checked { report, tokens, nodes, answers, room } = checked;
+        if [tokens.len(), nodes.len(), answers.len(), room.len()] != case.lengths {
             return Err("a table is not as long as it was lent".to_string());
         }
         let used = match report.reply {
-            0 => [report.tokens, report.nodes, report.constants].map(|n| n as usize),
-            _ => [0; 3],
+            0 => {
+                let [tokens, nodes, answers] = [report.tokens, report.nodes, report.constants].map(|n| n as usize);
+                [tokens, nodes, answers, strings(checked).map(<[u8]>::len).sum()]
+            }
+            _ => [0; 4],
         };
-        if (0..3).any(|i| used[i] > case.lengths[i]) {
+        if (0..4).any(|i| used[i] > case.lengths[i]) {
             return Err(format!("more entries than the tables have: {used:?}"));
         }
         let zero = tokens[used[0]..].iter().all(|row| *row == TokenRow::default())
             && nodes[used[1]..].iter().all(|row| *row == NodeRow::default())
-            && answers[used[2]..].iter().all(|row| *row == AnswerRow::default());
+            && answers[used[2]..].iter().all(|row| *row == AnswerRow::default())
+            && room[used[3]..].iter().all(|&byte| byte == 0);
         if zero {
             Ok(())
         } else {
@@ -94,25 +96,33 @@ fn tables_are_zero_after_a_refusal_and_past_the_counts() {
     });
 }
 
+/// What a line of a file of rows may begin with.
+const TABLES: [&str; 5] = ["report ", "token ", "node ", "answer ", "room "];
+
+/// The report, the rows and the used part of the room, as a file of rows gives them.
+fn written_rows(checked: &Checked) -> Vec<String> {
+    let Checked { report, tokens, nodes, answers, room } = checked;
+    let Report { reply, number, tokens: token_count, nodes: node_count, constants } = report;
+    let token = |r: &TokenRow| format!("token {} {} {}", r.kind, r.start, r.length);
+    let node = |r: &NodeRow| format!("node {} {} {} {}", r.kind, r.token, r.size, r.binding);
+    let answer = |r: &AnswerRow| format!("answer {} {} {}", r.kind, r.number, r.length);
+    let used = room.len() - room.iter().rev().take_while(|&&byte| byte == 0).count();
+    let mut lines = vec![format!("report {reply} {number} {token_count} {node_count} {constants}")];
+    lines.extend(tokens[..*token_count as usize].iter().map(token));
+    lines.extend(nodes[..*node_count as usize].iter().map(node));
+    lines.extend(answers[..*constants as usize].iter().map(answer));
+    let bytes = String::from_utf8_lossy(&room[..used]);
+    lines.push(if used == 0 { "room 0".to_string() } else { format!("room {used} {bytes}") });
+    lines
+}
+
 #[test]
 fn rows_are_as_expected() {
     each(|case, checked| {
         let Some(want) = cases::rows(case) else { return Ok(()) };
-        let Checked { report, tokens, nodes, answers } = checked;
-        let mut got: Vec<String> = Vec::new();
-        got.extend(
-            tokens[..report.tokens as usize].iter().map(|r| format!("token {} {} {}", r.kind, r.start, r.length)),
-        );
-        got.extend(
-            nodes[..report.nodes as usize]
-                .iter()
-                .map(|r| format!("node {} {} {} {}", r.kind, r.token, r.size, r.binding)),
-        );
-        got.extend(
-            answers[..report.constants as usize].iter().map(|r| format!("answer {} {} {}", r.kind, r.number, r.length)),
-        );
+        let got = written_rows(checked);
         let mut faults = Vec::new();
-        for table in ["token ", "node ", "answer "] {
+        for table in TABLES {
             let want: Vec<&str> = want.lines().filter(|row| row.starts_with(table)).collect();
             let got: Vec<&str> = got.iter().map(String::as_str).filter(|row| row.starts_with(table)).collect();
             if want.is_empty() {
@@ -165,8 +175,8 @@ fn every_byte_alone() {
 fn the_corpus_has_every_reply() {
     let all = cases::all();
     assert!(all.len() >= 150, "{} cases", all.len());
-    for reply in 0..=15 {
-        let count = all.iter().filter(|case| case.reply().0 == reply).count();
+    for reply in every_reply() {
+        let count = all.iter().filter(|case| case.reply().0 == reply as u32).count();
         assert!(count >= 4, "reply {reply} has {count} cases");
     }
 }
@@ -188,7 +198,7 @@ fn index_and_files_agree() {
     for file in rows {
         let text = std::fs::read_to_string(cases::folder().join(&file)).unwrap();
         for line in text.lines() {
-            let known = ["token ", "node ", "answer "].iter().any(|table| line.starts_with(table));
+            let known = TABLES.iter().any(|table| line.starts_with(table));
             assert!(known, "{file}: {line}");
         }
         assert!(names.contains(file.trim_end_matches(".rows")), "{file}: no such case");

@@ -3,7 +3,7 @@
 use std::collections::HashMap;
 use std::path::Path;
 
-/// A file as Files.antt writes it: its name in the corpus, the lengths of the tables, its text and its listing.
+/// A file as Files.antt writes it: its name in the corpus, the lengths of the tables and of the room, its text and its listing.
 struct Written {
     name: String,
     lengths: Vec<usize>,
@@ -11,17 +11,13 @@ struct Written {
     listing: String,
 }
 
-/// The strings of one list or of one literal, and what follows them.
+/// The strings of one list, and what follows them.
 fn literals(text: &str) -> (Vec<&str>, &str) {
     let text = text.trim_start();
     if let Some(rest) = text.strip_prefix("[]") {
         return (Vec::new(), rest);
     }
-    if let Some(rest) = text.strip_prefix('"') {
-        let (literal, rest) = rest.split_once('"').expect("a literal ends");
-        return (vec![literal], rest);
-    }
-    let mut rest = text.strip_prefix('(').expect("a list, a literal or []");
+    let mut rest = text.strip_prefix('(').expect("a list or []");
     let mut found = Vec::new();
     loop {
         rest = rest.trim_start_matches([' ', '\n', '∷']);
@@ -48,12 +44,12 @@ fn written() -> Vec<Written> {
         .map(|entry| {
             let (name, rest) = entry.split_once('\n').expect("a name");
             let rest = rest.trim_start().strip_prefix("run ").expect("run");
-            let numbers: Vec<&str> = rest.splitn(4, ' ').collect();
-            let lengths = numbers[..3].iter().map(|n| n.parse().expect("a length")).collect();
-            let (head, rest) = literals(numbers[3]);
+            let numbers: Vec<&str> = rest.splitn(5, ' ').collect();
+            let lengths = numbers[..4].iter().map(|n| n.parse().expect("a length")).collect();
+            let (head, rest) = literals(numbers[4]);
             let (tail, rest) = literals(rest);
             let (out, _) = literals(rest);
-            Written { name: name.to_string(), lengths, text: lines(&head) + tail[0], listing: lines(&out) }
+            Written { name: name.to_string(), lengths, text: lines(&head) + &tail.concat(), listing: lines(&out) }
         })
         .collect()
 }

@@ -60,7 +60,7 @@ fn file(module: &str) -> PathBuf {
     let mut parts: Vec<&str> = module.split('/').collect();
     let below = [
         "ebnf", "relations", "columns", "examples", "theorems", "bounds", "demands", "record_demands", "stages",
-        "listing_parts",
+        "listing_parts", "strings", "string_laws", "string_places", "operations", "evaluate", "schemas", "constants",
     ];
     let library = if below.contains(&parts[0]) { parts.remove(0) } else { "express" };
     let folder = if parts[0] == "proofs" { parts.remove(0) } else { "specs" };

@@ -5,7 +5,7 @@ use compare::program::{expected, run};
 use compare::random::compare_one;
 use compare::shrink;
 use product::{by_reference, check};
-use reference::Checked;
+use reference::{Checked, Lent};
 use std::fmt;
 use std::panic::catch_unwind;
 use std::process::Output;
@@ -14,15 +14,15 @@ use woffulent::Rows;
 /// A file of which the proved code gives something else than the reference, made smaller.
 #[derive(Debug)]
 pub enum Fault {
-    /// The report or a table, from the call (left) and from the reference (right).
+    /// The report, a table or the room, from the call (left) and from the reference (right).
     Tables(Box<Difference>),
     /// The listing, from the library or the program and from the reference.
     Listing { name: String, by: &'static str, file: Vec<u8>, listings: [Vec<u8>; 2] },
 }
 
-/// The call on a file, with tables of so many rows; where it is accepted, the library's listing too, which is one line otherwise.
-pub fn held(file: &[u8], rows: [usize; 3], name: impl Fn() -> String) -> Result<Checked, Fault> {
-    let checked = held_by(&check, file, rows, &name)?;
+/// The call on a file, with tables and a room of these lengths; where it is accepted, the library's listing too, which is one line otherwise.
+pub fn held(file: &[u8], lent: Lent, name: impl Fn() -> String) -> Result<Checked, Fault> {
+    let checked = held_by(&check, file, lent, &name)?;
     if checked.report.reply == 0 {
         listed_by_library(file, &checked, name)?;
     }
@@ -30,17 +30,12 @@ pub fn held(file: &[u8], rows: [usize; 3], name: impl Fn() -> String) -> Result<
 }
 
 /// One of the calls on a file.
-pub fn held_by(
-    call: &impl Checker,
-    file: &[u8],
-    rows: [usize; 3],
-    name: impl FnOnce() -> String,
-) -> Result<Checked, Fault> {
-    hold(file, rows, call, &by_reference, name)
+pub fn held_by(call: &impl Checker, file: &[u8], lent: Lent, name: impl FnOnce() -> String) -> Result<Checked, Fault> {
+    hold(file, lent, call, &by_reference, name)
         .map_err(|difference| Fault::Tables(difference.shrunk(call, &by_reference)))
 }
 
-/// As `held` on the file of a seed, with tables that are mostly long enough.
+/// As `held` on the file of a seed, with tables and a room that are mostly long enough.
 pub fn held_of_seed(seed: u64, file: &[u8]) -> Result<Checked, Fault> {
     let compared = compare_one(seed, file, &check, &by_reference);
     let checked = compared.map_err(|difference| Fault::Tables(difference.shrunk(&check, &by_reference)))?;
@@ -73,20 +68,21 @@ pub fn listed(file: &[u8], name: impl FnOnce() -> String) -> Result<(), Fault> {
     hold_listing("program", file, [&written, &expected], name)
 }
 
-/// The library's, with as many rows as a check had that is held already.
+/// The library's, with as much as a check was lent that is held already.
 fn listed_by_library(file: &[u8], checked: &Checked, name: impl FnOnce() -> String) -> Result<(), Fault> {
-    let rows = [checked.tokens.len(), checked.nodes.len(), checked.answers.len()];
-    if by_library(file, rows) == reference::listing(file, checked) {
+    let lent = [checked.tokens.len(), checked.nodes.len(), checked.answers.len(), checked.room.len()];
+    if by_library(file, lent) == reference::listing(file, checked) {
         return Ok(());
     }
-    let by_reference = |file: &[u8]| reference::listing(file, &by_reference(file, rows));
-    hold_listing("library", file, [&|file| by_library(file, rows), &by_reference], name)
+    let by_reference = |file: &[u8]| reference::listing(file, &by_reference(file, lent));
+    hold_listing("library", file, [&|file| by_library(file, lent), &by_reference], name)
 }
 
 /// What the library lists; a panic is a listing of its own.
-fn by_library(file: &[u8], [tokens, nodes, answers]: [usize; 3]) -> Vec<u8> {
+fn by_library(file: &[u8], [tokens, nodes, answers, room]: Lent) -> Vec<u8> {
     let list = || {
-        let (mut checker, mut listing) = (woffulent::Checker::with_rows(Rows { tokens, nodes, answers }), Vec::new());
+        let mut checker = woffulent::Checker::with_rows(Rows { tokens, nodes, answers, room });
+        let mut listing = Vec::new();
         match checker.check(file) {
             Ok(file) => file.list(&mut listing),
             Err(refusal) => refusal.list(&mut listing),

@@ -22,13 +22,14 @@ pub struct Timed {
     pub reference: f64,
 }
 
-/// Holds the call to the reference on a file, and then times both, with tables of one row more than needed, in runs that take `enough` time.
+/// Holds the call to the reference on a file, and then times both, with tables of one row more than needed
+/// and a room of one byte more, in runs that take `enough` time.
 pub fn timed(name: &str, file: &[u8], enough: f64) -> Result<Timed, Fault> {
-    let rows = needed(file, &by_reference).map(|rows| rows + 1);
-    let reply = held(file, rows, || name.to_string())?.report.reply;
-    let mut tables = Tables::new(Lengths::even(rows), 1);
+    let lent = needed(file, &by_reference).map(|length| length + 1);
+    let reply = held(file, lent, || name.to_string())?.report.reply;
+    let mut tables = Tables::new(Lengths::even(lent), 1);
     let proved = processor_time(enough, || tables.check(black_box(file)));
-    let reference = processor_time(enough, || by_reference(black_box(file), rows));
+    let reference = processor_time(enough, || by_reference(black_box(file), lent));
     Ok(Timed { reply, proved, reference })
 }
 

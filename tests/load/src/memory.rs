@@ -12,10 +12,10 @@ pub const LIMITS: [usize; 2] = [3 << 19, 7 << 18];
 
 /// Holds both calls to the reference in a thread of 2 MiB; more than it has would end the process.
 pub fn held_in_thread(name: &str, file: &[u8]) -> Result<(), Fault> {
-    let rows = needed(file, &by_reference);
+    let lent = needed(file, &by_reference);
     let calls = || {
-        held_by(&check, file, rows, || name.to_string())?;
-        held_by(&check_records, file, rows, || format!("{name}, with records")).map(drop)
+        held_by(&check, file, lent, || name.to_string())?;
+        held_by(&check_records, file, lent, || format!("{name}, with records")).map(drop)
     };
     thread::scope(|scope| {
         let run = thread::Builder::new().stack_size(THREAD).spawn_scoped(scope, calls);
@@ -25,8 +25,8 @@ pub fn held_in_thread(name: &str, file: &[u8]) -> Result<(), Fault> {
 
 /// The bytes of stack that each of them uses on a file.
 pub fn used(file: &[u8]) -> [usize; 2] {
-    let rows = needed(file, &by_reference);
-    let (mut tables, mut records) = (Tables::new(Lengths::even(rows), 1), RecordTables::new(rows, 1));
+    let lent = needed(file, &by_reference);
+    let (mut tables, mut records) = (Tables::new(Lengths::even(lent), 1), RecordTables::new(lent, 1));
     [stack_of(&mut || tables.check(file)).1, stack_of(&mut || records.check(file)).1]
 }
 

@@ -6,6 +6,7 @@ use compare::random::{needed, Rng};
 use compare::units::{parts, Unit};
 use compare::{cases, lanes};
 use product::by_reference;
+use reference::Lent;
 use std::fs;
 use std::path::{Path, PathBuf};
 
@@ -26,11 +27,11 @@ const UNITS: [Unit; 3] = [Unit::Line, Unit::Token, Unit::Byte];
 const MOST_PARTS: usize = 400;
 const SPARE: usize = 100;
 
-/// A file to change, with the rows that it needs itself.
+/// A file to change, with what it needs itself of the tables and the room.
 struct Source {
     name: String,
     file: Vec<u8>,
-    rows: [usize; 3],
+    needed: Lent,
 }
 
 /// The part of a file that is changed.
@@ -49,7 +50,7 @@ struct Corpus {
 impl Corpus {
     fn new() -> Self {
         let cases = cases::all().into_iter().map(|case| (case.name, case.input));
-        let source = |(name, file): (String, Vec<u8>)| Source { rows: needed(&file, &by_reference), name, file };
+        let source = |(name, file): (String, Vec<u8>)| Source { needed: needed(&file, &by_reference), name, file };
         let sources: Vec<Source> = cases.chain(examples()).map(source).collect();
         let places = (0..sources.len()).flat_map(|source| {
             UNITS.into_iter().flat_map({
@@ -71,13 +72,13 @@ impl Corpus {
     fn hold(&self, replies: &mut Replies, number: u64) -> Result<(), Fault> {
         let Place { source, unit, part } = self.places[number as usize / CHANGES.len()];
         let change = CHANGES[number as usize % CHANGES.len()];
-        let Source { name, file, rows } = &self.sources[source];
+        let Source { name, file, needed } = &self.sources[source];
         let mut rng = Rng::new(number);
         let changed = changed(parts(file, unit), part, change, &mut rng);
-        // One table in four has just as many rows as the file itself needs, so that what is added may not fit.
-        let rows = rows.map(|rows| if rng.one_in(4) { rows } else { rows + SPARE });
+        // One length in four is just what the file itself needs, so that what is added may not fit.
+        let lent = needed.map(|needed| if rng.one_in(4) { needed } else { needed + SPARE });
         let name = || format!("mutation {number}: {name}, {unit:?} {part}, {change:?}");
-        replies.add(&held(&changed, rows, name)?);
+        replies.add(&held(&changed, lent, name)?);
         Ok(())
     }
 }

@@ -1,10 +1,11 @@
 //! How often each reply came.
 
+use compare::random::{every_reply, REPLY_NUMBERS};
 use reference::Checked;
 use std::fmt;
 
 #[derive(Clone, Debug, Default)]
-pub struct Replies([u64; 16]);
+pub struct Replies([u64; REPLY_NUMBERS]);
 
 impl Replies {
     pub fn add(&mut self, checked: &Checked) {
@@ -27,6 +28,6 @@ impl Replies {
 impl fmt::Display for Replies {
     fn fmt(&self, f: &mut fmt::Formatter) -> fmt::Result {
         write!(f, "{} files; replies", self.count())?;
-        (0..16).filter(|&reply| self.0[reply] > 0).try_for_each(|reply| write!(f, " {reply}: {}", self.0[reply]))
+        every_reply().filter(|&reply| self.0[reply] > 0).try_for_each(|reply| write!(f, " {reply}: {}", self.0[reply]))
     }
 }

@@ -2,6 +2,7 @@
 
 use compare::hostile::{families, Family};
 use compare::lanes::cores;
+use compare::random::every_reply;
 use load::hostile::{timed, SIZES};
 use load::{differences, memory, mutations, short};
 use std::process::Command;
@@ -26,14 +27,14 @@ fn random_files_are_held() {
     let run = differences::Run { seed: FIRST, files: 0..FILES, jobs: cores(), listings: LISTINGS };
     let tally = differences::run(run).unwrap_or_else(|fault| panic!("{fault}"));
     println!("{tally}");
-    (0..16).for_each(|reply| assert!(tally.reply(reply) >= 20, "reply {reply} is too rare\n{tally}"));
+    every_reply().for_each(|reply| assert!(tally.reply(reply) >= 20, "reply {reply} is too rare\n{tally}"));
 }
 
 #[test]
 fn changed_cases_are_held() {
     let replies = mutations::run(MUTATIONS, cores()).unwrap_or_else(|fault| panic!("{fault}"));
     println!("{replies}");
-    (0..16).for_each(|reply| assert!(replies.of(reply) >= 20, "reply {reply} is too rare: {replies}"));
+    every_reply().for_each(|reply| assert!(replies.of(reply) >= 20, "reply {reply} is too rare: {replies}"));
 }
 
 #[test]

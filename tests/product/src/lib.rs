@@ -6,8 +6,9 @@ pub use stack::stack_of;
 
 use compare::cases;
 use compare::difference::Checker;
-use compare::random::{compare, needed};
-use reference::{AnswerRow, Checked, NodeRow, Report, TokenRow};
+use compare::random::{compare, every_reply, needed, well_typed_with, Strings};
+pub use reference::check as by_reference;
+use reference::{AnswerRow, Checked, Lent, NodeRow, Report, TokenRow};
 use std::fmt::Debug;
 use woffulent::call::{self, AnswerColumns, NodeColumns, Numbers, Record, TokenColumns};
 
@@ -79,23 +80,24 @@ impl<T: Pattern> Column<T> {
     }
 }
 
-/// The lengths of the columns of tokens, of nodes and of answers.
+/// The lengths of the columns of tokens, of nodes and of answers, and of the room.
 #[derive(Clone, Copy, Debug, PartialEq, Eq)]
 pub struct Lengths {
     pub tokens: [usize; 3],
     pub nodes: [usize; 4],
     pub answers: [usize; 3],
+    pub room: usize,
 }
 
 impl Lengths {
-    pub fn even([tokens, nodes, answers]: [usize; 3]) -> Self {
-        Lengths { tokens: [tokens; 3], nodes: [nodes; 4], answers: [answers; 3] }
+    pub fn even([tokens, nodes, answers, room]: Lent) -> Self {
+        Lengths { tokens: [tokens; 3], nodes: [nodes; 4], answers: [answers; 3], room }
     }
 
     /// A table is as long as its shortest column.
-    pub fn rows(&self) -> [usize; 3] {
+    pub fn lent(&self) -> Lent {
         let least = |lengths: &[usize]| lengths.iter().copied().min().unwrap_or(0);
-        [least(&self.tokens), least(&self.nodes), least(&self.answers)]
+        [least(&self.tokens), least(&self.nodes), least(&self.answers), self.room]
     }
 }
 
@@ -142,7 +144,7 @@ impl Tree {
     }
 }
 
-/// What the call leaves: the report, and each column.
+/// What the call leaves: the report, each column and the room.
 #[derive(Clone, Debug, PartialEq, Eq)]
 pub struct Columns {
     pub report: Report,
@@ -150,6 +152,7 @@ pub struct Columns {
     pub answer_kinds: Vec<u8>,
     pub answer_numbers: Vec<i64>,
     pub answer_lengths: Vec<u8>,
+    pub room: Vec<u8>,
 }
 
 /// What the call with records leaves.
@@ -158,6 +161,7 @@ pub struct Recorded {
     pub report: Report,
     pub tree: Tree,
     pub records: Vec<Record>,
+    pub room: Vec<u8>,
 }
 
 /// Columns of tokens and nodes to lend, with a pattern in and around them.
@@ -213,22 +217,24 @@ impl TreeTables {
     }
 }
 
-/// Ten columns to lend.
+/// Ten columns and a room to lend.
 #[derive(Clone, Debug)]
 pub struct Tables {
     tree: TreeTables,
     answer_kinds: Column<u8>,
     answer_numbers: Column<i64>,
     answer_lengths: Column<u8>,
+    room: Column<u8>,
 }
 
 impl Tables {
-    pub fn new(Lengths { tokens, nodes, answers }: Lengths, seed: u64) -> Self {
+    pub fn new(Lengths { tokens, nodes, answers, room }: Lengths, seed: u64) -> Self {
         Tables {
             tree: TreeTables::new(tokens, nodes, seed),
             answer_kinds: Column::new(answers[0], seed),
             answer_numbers: Column::new(answers[1], seed),
             answer_lengths: Column::new(answers[2], seed),
+            room: Column::new(room, seed),
         }
     }
 
@@ -240,26 +246,28 @@ impl Tables {
             numbers: self.answer_numbers.lent(),
             lengths: self.answer_lengths.lent(),
         };
-        report(call::check(src, tokens, nodes, answers))
+        report(call::check(src, tokens, nodes, answers, self.room.lent()))
     }
 }
 
-/// Seven columns and a slice of records to lend.
+/// Seven columns, a slice of records and a room to lend.
 #[derive(Clone, Debug)]
 pub struct RecordTables {
     tree: TreeTables,
     records: Column<Record>,
+    room: Column<u8>,
 }
 
 impl RecordTables {
-    pub fn new([tokens, nodes, records]: [usize; 3], seed: u64) -> Self {
-        RecordTables { tree: TreeTables::new([tokens; 3], [nodes; 4], seed), records: Column::new(records, seed) }
+    pub fn new([tokens, nodes, records, room]: Lent, seed: u64) -> Self {
+        let tree = TreeTables::new([tokens; 3], [nodes; 4], seed);
+        RecordTables { tree, records: Column::new(records, seed), room: Column::new(room, seed) }
     }
 
     /// Checks a file with these lent.
     pub fn check(&mut self, src: &[u8]) -> Report {
         let (tokens, nodes) = self.tree.lent();
-        report(call::check_records(src, tokens, nodes, self.records.lent()))
+        report(call::check_records(src, tokens, nodes, self.records.lent(), self.room.lent()))
     }
 }
 
@@ -273,14 +281,15 @@ pub fn check_columns(src: &[u8], lengths: Lengths, seed: u64) -> Columns {
         answer_kinds: tables.answer_kinds.held(),
         answer_numbers: tables.answer_numbers.held(),
         answer_lengths: tables.answer_lengths.held(),
+        room: tables.room.held(),
     }
 }
 
-/// The same with tables of so many rows and records.
-pub fn record_columns(src: &[u8], rows: [usize; 3], seed: u64) -> Recorded {
-    let mut tables = RecordTables::new(rows, seed);
+/// The same with tables of so many rows and records, and such a room.
+pub fn record_columns(src: &[u8], lent: Lent, seed: u64) -> Recorded {
+    let mut tables = RecordTables::new(lent, seed);
     let report = tables.check(src);
-    Recorded { report, tree: tables.tree.held(), records: tables.records.held() }
+    Recorded { report, tree: tables.tree.held(), records: tables.records.held(), room: tables.room.held() }
 }
 
 /// Entries of a column behind the rows of its table.
@@ -289,45 +298,59 @@ fn behind<T: Copy + Default>(rows: impl Iterator<Item = T>, length: usize) -> Ve
 }
 
 /// The columns that a result of the reference stands for, each as long as it was lent.
-pub fn columns_of(checked: &Checked, Lengths { tokens, nodes, answers }: Lengths) -> Columns {
+pub fn columns_of(checked: &Checked, Lengths { tokens, nodes, answers, room }: Lengths) -> Columns {
     Columns {
         report: checked.report,
         tree: Tree::of(checked, tokens, nodes),
         answer_kinds: behind(checked.answers.iter().map(|row| row.kind), answers[0]),
         answer_numbers: behind(checked.answers.iter().map(|row| row.number), answers[1]),
         answer_lengths: behind(checked.answers.iter().map(|row| row.length as u8), answers[2]),
+        room: behind(checked.room.iter().copied(), room),
     }
 }
 
 /// The same with records.
-pub fn recorded(checked: &Checked, [tokens, nodes, records]: [usize; 3]) -> Recorded {
+pub fn recorded(checked: &Checked, [tokens, nodes, records, room]: Lent) -> Recorded {
     let answer = |row: &AnswerRow| Record { kind: row.kind, number: row.number, length: row.length as u8 };
     Recorded {
         report: checked.report,
         tree: Tree::of(checked, [tokens; 3], [nodes; 4]),
         records: behind(checked.answers.iter().map(answer), records),
+        room: behind(checked.room.iter().copied(), room),
     }
 }
 
-/// The reference's check with tables of so many rows.
-pub fn by_reference(src: &[u8], [tokens, nodes, answers]: [usize; 3]) -> Checked {
-    reference::check(src, tokens, nodes, answers)
-}
-
-/// Checks a file with tables of so many rows, as the reference does.
-pub fn check(src: &[u8], rows: [usize; 3]) -> Checked {
-    let Columns { report, tree, answer_kinds, answer_numbers, answer_lengths } =
-        check_columns(src, Lengths::even(rows), src.len() as u64);
+/// Checks a file with tables and a room of these lengths, as the reference does.
+pub fn check(src: &[u8], lent: Lent) -> Checked {
+    let Columns { report, tree, answer_kinds, answer_numbers, answer_lengths, room } =
+        check_columns(src, Lengths::even(lent), src.len() as u64);
     let answer =
         |i: usize| AnswerRow { kind: answer_kinds[i], number: answer_numbers[i], length: answer_lengths[i].into() };
-    Checked { report, tokens: tree.tokens(), nodes: tree.nodes(), answers: (0..rows[2]).map(answer).collect() }
+    let answers = (0..answer_kinds.len()).map(answer).collect();
+    Checked { report, tokens: tree.tokens(), nodes: tree.nodes(), answers, room }
 }
 
 /// The same by the call with records.
-pub fn check_records(src: &[u8], rows: [usize; 3]) -> Checked {
-    let Recorded { report, tree, records } = record_columns(src, rows, src.len() as u64);
+pub fn check_records(src: &[u8], lent: Lent) -> Checked {
+    let Recorded { report, tree, records, room } = record_columns(src, lent, src.len() as u64);
     let answer = |Record { kind, number, length }| AnswerRow { kind, number, length: length.into() };
-    Checked { report, tokens: tree.tokens(), nodes: tree.nodes(), answers: records.into_iter().map(answer).collect() }
+    let answers = records.into_iter().map(answer).collect();
+    Checked { report, tokens: tree.tokens(), nodes: tree.nodes(), answers, room }
+}
+
+/// Files that are checked with rooms of every length, their size, and the bytes that each needs at least.
+const ROOM_FILES: usize = 50;
+const ROOM_FILE_SIZE: usize = 600;
+const FEWEST_BYTES: usize = 20;
+
+/// Files with strings, each with every room from no byte to one more than needed, and tables as long as needed.
+pub fn every_room() -> impl Iterator<Item = (Vec<u8>, Lent)> {
+    let files = (0..).map(|seed| well_typed_with(Strings::Most, seed, ROOM_FILE_SIZE));
+    let with_needs = files.map(|file| (needed(&file, &by_reference), file));
+    let chosen = with_needs.filter(|([.., room], _)| *room >= FEWEST_BYTES).take(ROOM_FILES);
+    chosen.flat_map(|([tokens, nodes, answers, bytes], file)| {
+        (0..=bytes + 1).map(move |room| (file.clone(), [tokens, nodes, answers, room]))
+    })
 }
 
 /// How often each reply must occur at least among random files.
@@ -337,13 +360,14 @@ const FLOOR: u64 = 20;
 pub fn compare_random(files: u64, first_seed: u64, check: impl Checker) {
     let tally = compare(files, first_seed, check, by_reference).unwrap_or_else(|difference| panic!("{difference}"));
     println!("{tally}");
-    (0..16).for_each(|reply| assert!(tally.reply(reply) >= FLOOR, "reply {reply} is too rare\n{tally}"));
+    every_reply().for_each(|reply| assert!(tally.reply(reply) >= FLOOR, "reply {reply} is too rare\n{tally}"));
 }
 
 /// Holds a call to the reference on every case.
 pub fn compare_cases(check: impl Checker) {
     for case in cases::all() {
-        let rows = needed(&case.input, &by_reference);
-        assert_eq!(check(&case.input, rows), by_reference(&case.input, rows), "{}", case.input.escape_ascii());
+        for lent in [needed(&case.input, &by_reference), case.lengths] {
+            assert_eq!(check(&case.input, lent), by_reference(&case.input, lent), "{}", case.input.escape_ascii());
+        }
     }
 }

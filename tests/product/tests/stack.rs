@@ -2,7 +2,7 @@
 
 use compare::random::well_typed;
 use product::{by_reference, stack_of, Lengths, RecordTables, Tables};
-use reference::Report;
+use reference::{Lent, Report, MAX_STRING};
 
 /// The most that `check` may take, and `check_records`, which has answer columns of its own.
 const CHECK_MOST: usize = 3 << 19;
@@ -26,9 +26,11 @@ fn repeated(before: &str, middle: impl Fn(usize) -> String, after: &str, size: u
     (file + &padding).into_bytes()
 }
 
-/// Accepted files of a size with many tokens, many constants, the deepest nesting, many declarations of each sort; and generated ones.
+/// Accepted files of a size with many tokens, many constants, the deepest nesting, many declarations of each sort, many
+/// strings; and generated ones.
 fn worst_files(size: usize) -> Vec<Vec<u8>> {
     let end = "END_CONSTANT;END_SCHEMA;";
+    let longest = "x".repeat(MAX_STRING);
     let nested = |i: usize| format!("c{i}:INTEGER:={}1{};", "(".repeat(64), ")".repeat(64));
     let intervals = |i: usize| format!("c{i}:LOGICAL:={}TRUE{};", "{FALSE<=".repeat(64), "<=TRUE}".repeat(64));
     let built = [
@@ -44,18 +46,21 @@ fn worst_files(size: usize) -> Vec<Vec<u8>> {
             size,
         ),
         repeated("", |i| format!("SCHEMA s{i};END_SCHEMA;"), "", size),
+        repeated("SCHEMA s;CONSTANT c:STRING:=''", |_| "+''".into(), &format!(";{end}"), size),
+        repeated(&format!("SCHEMA s;CONSTANT c:STRING:='{longest}';"), |i| format!("c{i}:STRING:=c;"), end, size),
     ];
     built.into_iter().chain((0..8).map(|seed| well_typed(seed, size))).collect()
 }
 
 /// The most that any of the files takes, size by size.
-fn most(name: &str, bound: usize, tables: impl Fn([usize; 3]) -> Box<dyn FnMut(&[u8]) -> Report>) {
+fn most(name: &str, bound: usize, tables: impl Fn(Lent) -> Box<dyn FnMut(&[u8]) -> Report>) {
     for size in SIZES {
         let measured = |file: &Vec<u8>| {
-            let rows = [file.len(); 3];
-            let mut check = tables(rows);
+            let rows = file.len();
+            let lent = [rows, rows, rows, rows * MAX_STRING];
+            let mut check = tables(lent);
             let (report, bytes) = stack_of(&mut || check(file));
-            assert_eq!(report, by_reference(file, rows).report, "{}", file.escape_ascii());
+            assert_eq!(report, by_reference(file, lent).report, "{}", file.escape_ascii());
             assert_eq!(report.reply, 0, "{}", file.escape_ascii());
             bytes
         };
@@ -67,16 +72,16 @@ fn most(name: &str, bound: usize, tables: impl Fn([usize; 3]) -> Box<dyn FnMut(&
 
 #[test]
 fn check_takes_less_than_a_mebibyte_and_a_half() {
-    most("check", CHECK_MOST, |rows| {
-        let mut tables = Tables::new(Lengths::even(rows), 1);
+    most("check", CHECK_MOST, |lent| {
+        let mut tables = Tables::new(Lengths::even(lent), 1);
         Box::new(move |file| tables.check(file))
     });
 }
 
 #[test]
 fn check_records_takes_little_more() {
-    most("check_records", RECORDS_MOST, |rows| {
-        let mut tables = RecordTables::new(rows, 1);
+    most("check_records", RECORDS_MOST, |lent| {
+        let mut tables = RecordTables::new(lent, 1);
         Box::new(move |file| tables.check(file))
     });
 }
@@ -86,7 +91,7 @@ fn check_records_takes_little_more() {
 fn an_array_on_the_stack_is_measured() {
     let (_, bytes) = stack_of(&mut || {
         std::hint::black_box([1u8; 100_000]);
-        by_reference(b"", [0; 3]).report
+        by_reference(b"", [0; 4]).report
     });
     assert!((100_000..200_000).contains(&bytes), "{bytes}");
 }

@@ -4,14 +4,15 @@
 //! The reference allocates its rows anew in each run, which is part of its time.
 
 use compare::hostile::{families, filled, Family};
-use compare::random::{well_typed, Rng, LARGEST};
+use compare::random::{well_typed_with, Rng, Strings, LARGEST};
 use compare::timing::{best_of, files_near};
 use proved::{codes, declared_types, evaluate_constants, intern, parse, resolve, scan, terminals, type_constants};
-use proved::{NameColumns, Nodes, Rows, Text};
+use proved::{AnswerColumns, NameColumns, Nodes, Rows, Text};
+use reference::names::Names;
 use reference::outline::Outline;
 use reference::terminals::classify;
 use reference::{evaluation, kinds, names, parser};
-use reference::{symbols, tokens, AnswerRow, File, TokenRow, MAX_BYTES};
+use reference::{symbols, tokens, AnswerRow, File, Level, TokenRow, MAX_BYTES};
 use std::hint::black_box;
 
 const RUNS: usize = 400;
@@ -29,7 +30,7 @@ fn uniform(head: &str, bytes: &str, foot: &str) -> Vec<u8> {
 }
 
 fn files() -> Vec<(String, Vec<u8>)> {
-    let large = |seed| (format!("well typed, seed {seed}"), well_typed(seed, LARGEST));
+    let large = |seed| (format!("well typed, seed {seed}"), well_typed_with(Strings::None, seed, LARGEST));
     let generated = (0..).map(large).filter(|(_, file)| file.len() > LARGEST / 4 * 3).take(6);
     let of_one_sort = [
         ("parentheses", uniform("", "(", "")),
@@ -88,14 +89,37 @@ fn lent((kinds, numbers, lengths): &mut (Vec<u8>, Vec<i64>, Vec<u8>)) -> Rows<'_
     Rows { kinds, numbers, lengths }
 }
 
+/// The evaluation of constants, by the proved function and by the reference.
+fn answers_of(file: &File, names: &Names, text: Text, nodes: Nodes, declared: &[u32], order: &[u32]) -> [f64; 2] {
+    let rows = || (vec![0; nodes.kinds.len()], vec![0; nodes.kinds.len()], vec![0; nodes.kinds.len()]);
+    let (mut answers, mut values, mut row_of) = (rows(), rows(), vec![0; nodes.kinds.len()]);
+    let underlying = kinds::check(file, names).expect("kinds");
+    let mut room = evaluation::answers(file, names, &underlying).room;
+    best(
+        || {
+            let [answers, values] = [&mut answers, &mut values].map(lent);
+            let lent = AnswerColumns { row_of: &mut row_of, answers, values, room: &mut room };
+            evaluate_constants(black_box(text), nodes, declared, order, lent)
+        },
+        || evaluation::answers(black_box(file), names, &underlying),
+    )
+}
+
 /// Of a file whose nodes and bindings are there.
 fn kinds_of(bytes: &[u8]) -> Kinds {
     let tokens = tokens::read(bytes).expect("tokens");
     let terminals = classify(bytes, &tokens);
     let nodes = parser::read(&terminals).expect("nodes");
     let (outline, symbols) = (Outline::new(&nodes), symbols::intern(bytes, &tokens, &terminals));
-    let file =
-        File { bytes, tokens: &tokens, terminals: &terminals, nodes: &nodes, symbols: &symbols, outline: &outline };
+    let file = File {
+        level: Level::NEWEST,
+        bytes,
+        tokens: &tokens,
+        terminals: &terminals,
+        nodes: &nodes,
+        symbols: &symbols,
+        outline: &outline,
+    };
     let names = names::bind(&file).expect("names");
     let node_kinds: Vec<u8> = nodes.iter().map(|node| node.kind).collect();
     let node_tokens: Vec<u32> = nodes.iter().map(|node| node.token).collect();
@@ -109,7 +133,7 @@ fn kinds_of(bytes: &[u8]) -> Kinds {
     let text = Text { bytes, starts: &starts, lengths: &lengths };
     let columns =
         Nodes { terminals: &codes, kinds: &node_kinds, tokens: &node_tokens, sizes: &sizes, bindings: &names.bindings };
-    let (mut column, mut scratch, mut row_of) = (vec![0; nodes.len()], vec![0; nodes.len()], vec![0; nodes.len()]);
+    let (mut column, mut scratch) = (vec![0; nodes.len()], vec![0; nodes.len()]);
     let [declared, outlined] =
         best(|| declared_types(black_box(columns), &types, &mut column), || Outline::new(black_box(&nodes)));
     assert_eq!(type_constants(columns, &column, &mut scratch), Ok(()));
@@ -117,30 +141,22 @@ fn kinds_of(bytes: &[u8]) -> Kinds {
         || type_constants(black_box(columns), &column, &mut scratch),
         || kinds::check(black_box(&file), &names).is_ok(),
     );
-    let rows = || (vec![0; nodes.len()], vec![0; nodes.len()], vec![0; nodes.len()]);
-    let (mut answers, mut values) = (rows(), rows());
-    let underlying = kinds::check(&file, &names).expect("kinds");
-    let [evaluated, answered] = best(
-        || {
-            let [answers, values] = [&mut answers, &mut values].map(lent);
-            evaluate_constants(black_box(text), columns, &column, &order, &mut row_of, answers, values)
-        },
-        || evaluation::answers(black_box(&file), &names, &underlying),
-    );
+    let [evaluated, answered] = answers_of(&file, &names, text, columns, &column, &order);
     Kinds { proved: [declared, typed, evaluated], reference: [outlined, checked, answered] }
 }
 
-/// Nanoseconds for each byte of well-typed files of three sizes and of one of many schemas, and the proved time as a part of the
-/// reference's, without its outline and with it.
+/// Nanoseconds for each byte of well-typed files of three sizes, without string constants and full of them, and of one of many schemas, and
+/// the proved time as a part of the reference's, without its outline and with it.
 fn print_kinds() {
-    println!("\nnanoseconds for each byte");
-    println!("   bytes  declared    typing   answers |   outline     check   answers |   ratio  with outline");
     let [clock, _] = best(|| (), || ());
-    for size in [1_024, 16_384, LARGEST] {
-        for file in files_near(size, 0).take(6) {
-            print_kinds_of(&file, clock);
+    for (strings, title) in [(Strings::None, ""), (Strings::Most, ", strings")] {
+        println!("\nnanoseconds for each byte{title}");
+        println!("   bytes  declared    typing   answers |   outline     check   answers |   ratio  with outline");
+        for size in [1_024, 16_384, LARGEST] {
+            files_near(strings, size, 0).take(6).for_each(|file| print_kinds_of(&file, clock));
         }
     }
+    println!("\nnanoseconds for each byte, many schemas");
     let schema = |i: usize| format!("SCHEMA s{i};CONSTANT c:INTEGER:={i};END_CONSTANT;END_SCHEMA;");
     print_kinds_of(&filled(LARGEST, ["", ""], schema), clock);
 }
@@ -200,6 +216,7 @@ fn names_of(bytes: &[u8]) -> [f64; 3] {
             let symbols = symbols::intern(bytes, &tokens, &terminals);
             let outline = Outline::new(&nodes);
             let file = File {
+                level: Level::NEWEST,
                 bytes,
                 tokens: &tokens,
                 terminals: &terminals,
@@ -220,7 +237,7 @@ fn print_names() {
     println!("\nnames, nanoseconds for each byte");
     println!("   bytes    proved | reference  with outline |   ratio  with outline");
     for size in [1_024, 16_384, LARGEST] {
-        for file in files_near(size, 0).take(6) {
+        for file in files_near(Strings::None, size, 0).take(6) {
             let [proved, bound, whole] = names_of(&file).map(|time| time / file.len() as f64);
             println!(
                 "{:8}{proved:10.3} |{bound:10.3}{whole:14.3} |{:8.2}{:14.2}",
@@ -237,7 +254,7 @@ fn print_hostile_names() {
     println!("\nnames of files built to take long, microseconds\n{:44}{:>10}{:>12}", "", "proved", "reference");
     for Family { name, file } in families() {
         let file = file(LARGEST);
-        if reference::check(&file, MAX_BYTES, MAX_BYTES, MAX_BYTES).report.reply != 4 {
+        if reference::check(&file, [MAX_BYTES; 4]).report.reply != 4 {
             let [proved, _, reference] = names_of(&file).map(|time| time / 1e3);
             println!("{name:44}{proved:10.0}{reference:12.0}");
         }
@@ -263,7 +280,7 @@ fn print_stages() {
         "", "proved", "reference", "ratio"
     );
     for size in [1_024, 16_384, LARGEST] {
-        let times: Vec<_> = files_near(size, 0).take(6).map(|file| stages(&file)).collect();
+        let times: Vec<_> = files_near(Strings::None, size, 0).take(6).map(|file| stages(&file)).collect();
         let mean = |side: usize, stage: usize| times.iter().map(|of| of[stage][side]).sum::<f64>() / times.len() as f64;
         let print = |name: &str, [a, b]: [f64; 2]| println!("{size:8}  {name:12}{a:8.3}{b:10.3}{:8.2}", a / b);
         (0..STAGES.len()).for_each(|stage| print(STAGES[stage], [mean(0, stage), mean(1, stage)]));

@@ -158,9 +158,21 @@ extern "C" {
         value_numbers_length: usize,
         value_lengths: *mut u8,
         value_lengths_length: usize,
-    );
+        room: *mut u8,
+        room_length: usize,
+    ) -> usize;
     fn woffulent_integer(s: *const u8, s_length: usize, start: usize, length: usize) -> u64;
     fn woffulent_binary(s: *const u8, s_length: usize, start: usize, length: usize) -> u64;
+    fn woffulent_string_length(s: *const u8, s_length: usize, start: usize, length: usize) -> usize;
+    fn woffulent_string_bytes(
+        s: *const u8,
+        s_length: usize,
+        start: usize,
+        length: usize,
+        out: *mut u8,
+        out_length: usize,
+        at: usize,
+    ) -> usize;
     fn woffulent_add(a: i64, b: i64, number: &mut i64, length: &mut u8) -> u8;
     fn woffulent_subtract(a: i64, b: i64, number: &mut i64, length: &mut u8) -> u8;
     fn woffulent_multiply(a: i64, b: i64, number: &mut i64, length: &mut u8) -> u8;
@@ -171,6 +183,7 @@ extern "C" {
     fn woffulent_compare(a: i64, b: i64) -> u8;
     fn woffulent_join(a: u64, m: u8, b: u64, n: u8, number: &mut i64, length: &mut u8) -> u8;
     fn woffulent_compare_binaries(a: u64, m: u8, b: u64, n: u8) -> u8;
+    fn woffulent_compare_strings(a: *const u8, a_length: usize, b: *const u8, b_length: usize) -> u8;
     fn woffulent_combined(
         class: u8,
         place: u8,
@@ -529,17 +542,23 @@ pub struct Rows<'a> {
     pub lengths: &'a mut [u8],
 }
 
-/// Stores the answers of all constants in the order of the text, and for each node the number of constants before it in
-/// `row_of`. `order` has the nodes of the declarations, each constant after those that it names; `values` is scratch by node.
-pub fn evaluate_constants(
-    text: Text,
-    nodes: Nodes,
-    declared: &[u32],
-    order: &[u32],
-    row_of: &mut [u32],
-    answers: Rows,
-    values: Rows,
-) {
+/// What the evaluation of constants is lent to write to.
+#[derive(Debug)]
+pub struct AnswerColumns<'a> {
+    /// For each node the number of constants before it.
+    pub row_of: &'a mut [u32],
+    /// The answers of constants in the order of the text.
+    pub answers: Rows<'a>,
+    /// Scratch by node.
+    pub values: Rows<'a>,
+    /// The bytes of strings.
+    pub room: &'a mut [u8],
+}
+
+/// How many bytes the strings of all constants take. Where the room has so many, the answers are stored, and in the room the strings with
+/// zeros behind. `order` has the nodes of the declarations, each constant after those that it names.
+pub fn evaluate_constants(text: Text, nodes: Nodes, declared: &[u32], order: &[u32], lent: AnswerColumns) -> usize {
+    let AnswerColumns { row_of, answers, values, room } = lent;
     // SAFETY: see the head of this file.
     unsafe {
         woffulent_evaluate_constants(
@@ -577,6 +596,8 @@ pub fn evaluate_constants(
             values.numbers.len(),
             values.lengths.as_mut_ptr(),
             values.lengths.len(),
+            room.as_mut_ptr(),
+            room.len(),
         )
     }
 }
@@ -591,6 +612,18 @@ pub fn integer(s: &[u8], start: usize, length: usize) -> u64 {
 pub fn binary(s: &[u8], start: usize, length: usize) -> u64 {
     // SAFETY: see the head of this file.
     unsafe { woffulent_binary(s.as_ptr(), s.len(), start, length) }
+}
+
+/// How many bytes the value of the string literal of `length` bytes at `start` has.
+pub fn string_length(s: &[u8], start: usize, length: usize) -> usize {
+    // SAFETY: see the head of this file.
+    unsafe { woffulent_string_length(s.as_ptr(), s.len(), start, length) }
+}
+
+/// Stores the value of the string literal of `length` bytes at `start` from `at` on, as far as `out` goes; how many bytes it has.
+pub fn string_bytes(s: &[u8], start: usize, length: usize, out: &mut [u8], at: usize) -> usize {
+    // SAFETY: see the head of this file.
+    unsafe { woffulent_string_bytes(s.as_ptr(), s.len(), start, length, out.as_mut_ptr(), out.len(), at) }
 }
 
 /// Stores for each identifier the least one that is spelled alike, and for any other token its own number; whether there
@@ -825,6 +858,12 @@ pub fn compare(a: i64, b: i64) -> Ordering {
 pub fn compare_binaries(a: Binary, b: Binary) -> Ordering {
     // SAFETY: numbers alone.
     ordering(unsafe { woffulent_compare_binaries(a.number, a.length, b.number, b.length) })
+}
+
+/// The order of two strings.
+pub fn compare_strings(a: &[u8], b: &[u8]) -> Ordering {
+    // SAFETY: see the head of this file.
+    ordering(unsafe { woffulent_compare_strings(a.as_ptr(), a.len(), b.as_ptr(), b.len()) })
 }
 
 /// `a AND b` of logicals by their numbers: 0 FALSE, 1 UNKNOWN, 2 TRUE.

@@ -2,14 +2,14 @@
 //! binds.
 
 use compare::cases;
-use compare::random::{self, Rng};
-use proved::{codes, declared_types, evaluate_constants, type_constants, Nodes, Rows, Text};
-use reference::evaluation::answers;
+use compare::random::{self, Rng, ANSWER_KINDS};
+use proved::{codes, declared_types, evaluate_constants, type_constants, AnswerColumns, Nodes, Rows, Text};
+use reference::evaluation::{answers, Answers};
 use reference::kinds::{check, underlying_types, Underlying};
 use reference::outline::Outline;
 use reference::parser::{kind, read};
 use reference::terminals::classify;
-use reference::{names, symbols, tokens, AnswerRow, Fault, File};
+use reference::{names, symbols, tokens, AnswerRow, Fault, File, Level, MAX_STRING};
 
 const FILES: u64 = 50_000;
 
@@ -25,6 +25,15 @@ fn column(length: usize) -> Vec<u32> {
 /// What a row holds before a call; no row of an answer.
 fn row_before(i: usize) -> AnswerRow {
     AnswerRow { kind: 0x80 | i as u8, number: !(i as i64) << 32, length: 0x80 | i as u32 & 0x7f }
+}
+
+/// What a byte of the room holds before a call; not 0.
+fn byte_before(i: usize) -> u8 {
+    0x80 | i as u8
+}
+
+fn room_before(length: usize) -> Vec<u8> {
+    (0..length).map(byte_before).collect()
 }
 
 /// Three columns of rows.
@@ -84,7 +93,7 @@ struct Named {
     constant_order: Vec<u32>,
     /// Of constants, types and items the number of what they are declared with; of other nodes none.
     declared: Vec<Option<u32>>,
-    answers: Result<Vec<AnswerRow>, Fault>,
+    answers: Result<Answers, Fault>,
 }
 
 impl Named {
@@ -115,10 +124,13 @@ impl Named {
     }
 }
 
+/// An enumeration's number is so many more than its node.
+const FIRST_ENUMERATION: u32 = 6;
+
 /// What is declared at each node, by the numbers that the column has: 0 for what is not evaluated.
 fn declared(file: &File, names: &names::Names) -> Vec<Option<u32>> {
     let (outline, underlying) = (file.outline, underlying_types(file, names));
-    let enumeration = |declaration: u32| outline.declarations[declaration as usize].node + 5;
+    let enumeration = |declaration: u32| outline.declarations[declaration as usize].node + FIRST_ENUMERATION;
     let number = |node: usize, row: &reference::SyntaxRow| match row.kind {
         kind::ITEM => Some(enumeration(outline.owner[node])),
         kind::TYPE | kind::CONSTANT => Some(match underlying[outline.owner[node] as usize] {
@@ -127,6 +139,7 @@ fn declared(file: &File, names: &names::Names) -> Vec<Option<u32>> {
             Underlying::Integer => 2,
             Underlying::Logical => 3,
             Underlying::Binary => 4,
+            Underlying::String => 5,
             Underlying::Enumeration(declaration) => enumeration(declaration),
         }),
         _ => None,
@@ -139,8 +152,15 @@ fn named(bytes: &[u8]) -> Option<Named> {
     let terminals = classify(bytes, &rows);
     let nodes = read(&terminals).ok()?;
     let (outline, symbols) = (Outline::new(&nodes), symbols::intern(bytes, &rows, &terminals));
-    let file =
-        File { bytes, tokens: &rows, terminals: &terminals, nodes: &nodes, symbols: &symbols, outline: &outline };
+    let file = File {
+        level: Level::NEWEST,
+        bytes,
+        tokens: &rows,
+        terminals: &terminals,
+        nodes: &nodes,
+        symbols: &symbols,
+        outline: &outline,
+    };
     let names = names::bind(&file).ok()?;
     let node = |&declaration: &u32| outline.declarations[declaration as usize].node;
     Some(Named {
@@ -159,18 +179,45 @@ fn named(bytes: &[u8]) -> Option<Named> {
     })
 }
 
-/// Holds the answers to the reference's, with columns that are just long enough or longer by so much.
+/// Rooms of no byte, of too few for strings of so many, of just enough and of more.
+fn rooms(needed: usize) -> Vec<usize> {
+    let mut rooms = vec![0, needed / 2, needed.saturating_sub(1), needed, needed + 3];
+    rooms.dedup();
+    rooms
+}
+
+/// Holds the answers to the reference's, with columns that are just long enough or longer by so much and with rooms of all lengths.
 fn hold_answers(file: &Named, declared: &[u32], order: &[u32], spare: usize) {
-    let Ok(wanted) = &file.answers else { return };
+    let Ok(answers) = &file.answers else { return };
+    rooms(answers.room.len()).into_iter().for_each(|room| hold_answers_in(file, declared, order, spare, room));
+}
+
+/// The same with one room. Where it is too short, neither the rows nor its bytes are told, but how many it takes.
+fn hold_answers_in(file: &Named, declared: &[u32], order: &[u32], spare: usize, lent: usize) {
+    let Ok(Answers { rows: wanted, room: strings }) = &file.answers else { return };
+    let told = || format!("a room of {lent}: {}", file.bytes.escape_ascii());
     let nodes = file.kinds.len() + spare;
     let rows = wanted.len() + spare;
     let (mut row_of, mut answers, mut values) = (column(nodes), Columns::new(rows), Columns::new(nodes));
-    let (lent, scratch) = (answers.lent([rows; 3]), values.lent([nodes; 3]));
-    evaluate_constants(file.text(), file.nodes(), declared, order, &mut row_of, lent, scratch);
+    let mut room = room_before(lent + 2);
+    let columns = AnswerColumns {
+        row_of: &mut row_of,
+        answers: answers.lent([rows; 3]),
+        values: values.lent([nodes; 3]),
+        room: &mut room[..lent],
+    };
+    let needed = evaluate_constants(file.text(), file.nodes(), declared, order, columns);
+    assert_eq!(needed, strings.len(), "{}", told());
+    assert_eq!(row_of, file.row_column(nodes), "{}", told());
+    assert!(values.kept_from([file.kinds.len(); 3]), "{}", told());
+    assert_eq!(room[lent..], room_before(lent + 2)[lent..], "{}", told());
+    if needed > lent {
+        return;
+    }
     let wanted: Vec<AnswerRow> = wanted.iter().copied().chain((wanted.len()..rows).map(row_before)).collect();
-    assert_eq!(answers.rows(), wanted, "{}", file.bytes.escape_ascii());
-    assert_eq!(row_of, file.row_column(nodes), "{}", file.bytes.escape_ascii());
-    assert!(values.kept_from([file.kinds.len(); 3]), "{}", file.bytes.escape_ascii());
+    assert_eq!(answers.rows(), wanted, "{}", told());
+    assert_eq!(room[..needed], strings[..], "{}", told());
+    assert!(room[needed..lent].iter().all(|&byte| byte == 0), "{}", told());
 }
 
 /// Holds all three functions to the reference, with columns that are just long enough or longer by so much.
@@ -187,17 +234,18 @@ fn hold_with(file: &Named, spare: usize) {
     hold_answers(file, &declared, &file.constant_order, spare);
 }
 
-/// How many files had each reply, and how many constants each kind of answer.
+/// How many files had each reply, how many constants each kind of answer, and how many files strings of more than one byte.
 #[derive(Debug, Default)]
 struct Seen {
     replies: [u32; 16],
     answers: [u32; 20],
+    rooms: u32,
 }
 
 impl Seen {
     /// Whether each kind of answer, `?` and the ends among them, was seen so often.
     fn answers_of_all_kinds(&self, often: u32) -> bool {
-        [0, 1, 2, 3, 4, 16, 17, 18, 19].iter().all(|&kind: &usize| self.answers[kind] > often)
+        ANSWER_KINDS.iter().all(|&kind| self.answers[kind] > often)
     }
 }
 
@@ -207,7 +255,8 @@ fn hold(text: &[u8], seen: &mut Seen) -> Option<u32> {
     [0, 3].into_iter().for_each(|spare| hold_with(&file, spare));
     let reply = file.answers.as_ref().err().map_or(0, |fault| fault.reply);
     seen.replies[reply as usize] += 1;
-    file.answers.iter().flatten().for_each(|row| seen.answers[usize::from(row.kind)] += 1);
+    file.answers.iter().flat_map(|answers| &answers.rows).for_each(|row| seen.answers[usize::from(row.kind)] += 1);
+    seen.rooms += u32::from(file.answers.as_ref().is_ok_and(|answers| answers.room.len() > 1));
     Some(reply)
 }
 
@@ -262,39 +311,40 @@ fn mostly_well_typed(seed: u64) -> Vec<u8> {
 #[test]
 fn random_files() {
     let seen = hold_all((0..FILES).map(mostly_well_typed));
-    assert!(seen.replies[0] > 30_000 && seen.replies[14] > 1_500 && seen.replies[15] > 2_000, "{seen:?}");
-    assert!(seen.answers_of_all_kinds(2_500), "{seen:?}");
+    assert!(seen.replies[0] > 30_000 && seen.replies[14] > 1_000 && seen.replies[15] > 2_000, "{seen:?}");
+    assert!(seen.answers_of_all_kinds(1_000) && seen.rooms > 5_000, "{seen:?}");
 }
 
 #[test]
 fn files_with_words_exchanged() {
     let seen = hold_all((0..FILES / 2).map(exchanged));
-    assert!(seen.replies[0] > 5_000 && seen.replies[14] > 3_000 && seen.replies[15] > 4_000, "{seen:?}");
-    assert!(seen.answers_of_all_kinds(500), "{seen:?}");
+    assert!(seen.replies[0] > 5_000 && seen.replies[14] > 1_500 && seen.replies[15] > 4_000, "{seen:?}");
+    assert!(seen.answers_of_all_kinds(200) && seen.rooms > 1_000, "{seen:?}");
 }
 
 #[test]
 fn the_corpus() {
     let seen = hold_all(cases::all().into_iter().map(|case| case.input));
     assert!(seen.replies[0] > 50 && seen.replies[14] > 10 && seen.replies[15] > 10, "{seen:?}");
-    assert!(seen.answers_of_all_kinds(0), "{seen:?}");
+    assert!(seen.answers_of_all_kinds(0) && seen.rooms > 10, "{seen:?}");
 }
 
-/// The kinds of operands: integer, logical, binary, items of two enumerations, and `?`.
-const OPERANDS: [&str; 6] = ["1", "TRUE", "%1", "low", "red", "?"];
+/// The kinds of operands: integer, logical, binary, string, items of two enumerations, and `?`.
+const OPERANDS: [&str; 7] = ["1", "TRUE", "%1", "'a'", "low", "red", "?"];
 /// Constants of the same kinds, two of them logical and two items of one enumeration; and with the ends 16 to 19.
-const CONSTANTS: [&str; 12] = ["i", "l", "t", "b", "e", "f", "g", "range", "joined", "zero", "power", "unknown_one"];
-const TYPES: [&str; 10] =
-    ["INTEGER", "BOOLEAN", "LOGICAL", "BINARY", "REAL", "level", "colour", "grade", "number_type", "any"];
+const CONSTANTS: [&str; 14] =
+    ["i", "l", "t", "b", "n", "e", "f", "g", "range", "joined", "long", "zero", "power", "unknown_one"];
+const TYPES: [&str; 11] =
+    ["INTEGER", "BOOLEAN", "LOGICAL", "BINARY", "STRING", "REAL", "level", "colour", "grade", "number_type", "any"];
 
 /// The replies of a constant with this expression, one for each type that it may be declared with.
 fn with_types(expression: &str) -> Vec<u32> {
-    let zeros = "0".repeat(62);
+    let (zeros, longest) = ("0".repeat(62), "x".repeat(MAX_STRING));
     let text = |declared: &str| {
         format!(
             "SCHEMA s; CONSTANT i : number_type := 1; l : LOGICAL := ?; t : BOOLEAN := TRUE; b : BINARY := %1; \
              e : level := low; f : grade := level.high; g : colour := red; range : INTEGER := 9223372036854775807 + i; \
-             joined : BINARY := %1{zeros} + b; zero : INTEGER := i MOD 0; power : INTEGER := 2 ** (-i); \
+             joined : BINARY := %1{zeros} + b; n : STRING := 'it''s'; long : STRING := '{longest}' + n; zero : INTEGER := i MOD 0; power : INTEGER := 2 ** (-i); \
              unknown_one : BOOLEAN := l; c : {declared} := {expression}; END_CONSTANT; \
              TYPE grade = level; END_TYPE; TYPE level = ENUMERATION OF (low, high); END_TYPE; \
              TYPE colour = ENUMERATION OF (red, green); END_TYPE; TYPE number_type = whole; END_TYPE; \
@@ -311,11 +361,11 @@ fn has_kind(expression: &str) -> bool {
 }
 
 /// Every operator with operands of every two kinds; how many of the pairs of `OPERANDS` it takes is counted by hand: two
-/// integers or `?`; two binaries too; two logicals or `?`; two of one kind or `?`.
+/// integers or `?`; two binaries or strings too; two logicals or `?`; two of one kind or `?`.
 #[test]
 fn operators_with_operands_of_all_kinds() {
     for (operators, taken) in
-        [("- * DIV MOD **", 4), ("+", 7), ("AND OR XOR", 4), ("< > <= >= <> = :<>: :=:", 16), ("/", 0)]
+        [("- * DIV MOD **", 4), ("+", 10), ("AND OR XOR", 4), ("< > <= >= <> = :<>: :=:", 19), ("/", 0)]
     {
         for operator in operators.split(' ') {
             let pairs = OPERANDS.iter().flat_map(|a| OPERANDS.iter().map(move |b| format!("{a} {operator} {b}")));
@@ -334,31 +384,33 @@ fn operators_with_operands_of_all_kinds() {
     }
 }
 
-/// The item agrees with each end: with `?` any two do, 36; with another kind it or `?` at each end, 4 for each of 5.
+/// The item agrees with each end: with `?` any two do, 49; with another kind it or `?` at each end, 4 for each of 6.
 #[test]
 fn intervals_with_operands_of_all_kinds() {
     for (first, second) in [("<", "<"), ("<", "<="), ("<=", "<"), ("<=", "<=")] {
         let all =
             OPERANDS.iter().flat_map(|a| OPERANDS.iter().flat_map(move |b| OPERANDS.iter().map(move |c| [a, b, c])));
         let taken = all.filter(|[a, b, c]| has_kind(&format!("{{{a} {first} {b} {second} {c}}}"))).count();
-        assert_eq!(taken, 56, "{first} {second}");
+        assert_eq!(taken, 73, "{first} {second}");
     }
 }
 
 /// What is not evaluated, and operands alone, which must fit the type.
 #[test]
 fn operands_alone() {
-    for operand in ["1.5", "'a'", "PI", "CONST_E", "(1.5 + 1)", "NOT 'a'", "{1 < PI < 2}"] {
+    for operand in ["1.5", "PI", "CONST_E", "(1.5 + 1)", "NOT 1.5", "{1 < PI < 2}", "'a' + PI"] {
         assert_eq!(with_types(operand), [14; TYPES.len()], "{operand}");
     }
     // Types in the order of `TYPES`.
     for (operand, replies) in [
-        ("1", [0, 15, 15, 15, 14, 15, 15, 15, 0, 14]),
-        ("t", [15, 0, 0, 15, 14, 15, 15, 15, 15, 14]),
-        ("%1", [15, 15, 15, 0, 14, 15, 15, 15, 15, 14]),
-        ("f", [15, 15, 15, 15, 14, 0, 15, 0, 15, 14]),
-        ("colour.red", [15, 15, 15, 15, 14, 15, 0, 15, 15, 14]),
-        ("?", [0, 0, 0, 0, 14, 0, 0, 0, 0, 14]),
+        ("1", [0, 15, 15, 15, 15, 14, 15, 15, 15, 0, 14]),
+        ("t", [15, 0, 0, 15, 15, 14, 15, 15, 15, 15, 14]),
+        ("%1", [15, 15, 15, 0, 15, 14, 15, 15, 15, 15, 14]),
+        ("'a'", [15, 15, 15, 15, 0, 14, 15, 15, 15, 15, 14]),
+        ("n + long", [15, 15, 15, 15, 0, 14, 15, 15, 15, 15, 14]),
+        ("f", [15, 15, 15, 15, 15, 14, 0, 15, 0, 15, 14]),
+        ("colour.red", [15, 15, 15, 15, 15, 14, 15, 0, 15, 15, 14]),
+        ("?", [0, 0, 0, 0, 0, 14, 0, 0, 0, 0, 14]),
     ] {
         assert_eq!(with_types(operand), replies, "{operand}");
     }
@@ -393,12 +445,21 @@ fn call_on_any(rng: &mut Rng, text: Text, nodes: Nodes, order: &[u32], most: usi
     let typing = type_constants(nodes, declared, &mut scratch[..typed]);
     assert!(typing.is_ok() || typing.is_err_and(|fault| (fault.number as usize) < nodes.kinds.len()));
     assert_eq!(scratch[typed..], column(typed + 2)[typed..]);
-    let (mut row_of, [rows, room]) = (column(numbered + 2), [lengths(rng, most), lengths(rng, most)]);
-    let (mut answers, mut values) = (Columns::new(most + 2), Columns::new(most + 2));
-    let (lent, scratch) = (answers.lent(rows), values.lent(room));
-    evaluate_constants(text, nodes, declared, order, &mut row_of[..numbered], lent, scratch);
-    assert_eq!(row_of[numbered..], column(numbered + 2)[numbered..]);
-    assert!(answers.kept_from(rows) && values.kept_from(room));
+    let ([rows, by_node], size) = ([lengths(rng, most), lengths(rng, most)], cut(rng, 4 * most));
+    // Where there is no node, as many rows are looked at as the first entry says.
+    let kept: Vec<u32> = (70_000..).take(numbered + 2).collect();
+    let mut row_of = kept.clone();
+    let (mut answers, mut values, mut room) = (Columns::new(most + 2), Columns::new(most + 2), room_before(size + 2));
+    let columns = AnswerColumns {
+        row_of: &mut row_of[..numbered],
+        answers: answers.lent(rows),
+        values: values.lent(by_node),
+        room: &mut room[..size],
+    };
+    evaluate_constants(text, nodes, declared, order, columns);
+    assert_eq!(row_of[numbered..], kept[numbered..]);
+    assert_eq!(room[size..], room_before(size + 2)[size..]);
+    assert!(answers.kept_from(rows) && values.kept_from(by_node));
 }
 
 #[test]
@@ -469,31 +530,55 @@ fn mixed_order(file: &Named, rng: &mut Rng) -> Vec<u32> {
     order
 }
 
-/// Schemas of the same names, each with up to seven constants, of which each names the next; the last one's value is the
-/// schema's number.
-fn many_schemas(schemas: usize) -> Vec<u8> {
+/// So many constants has a schema of many, by its number.
+fn constants_of(schema: usize) -> usize {
+    (schema % 8).max(1)
+}
+
+/// Schemas with up to seven constants of the same names and of one type, of which each is the next one and, added to it, the literal of
+/// the schema's number, and the last one the literal alone.
+fn many_schemas(schemas: usize, declared: &str, literal: fn(usize) -> String) -> Vec<u8> {
     let schema = |i: usize| {
-        let constants: Vec<String> = (1..i % 8).map(|j| format!("c{j} : INTEGER := c{} + {i};", j + 1)).collect();
-        let last = format!("c{} : INTEGER := {i};", (i % 8).max(1));
-        format!("SCHEMA s{i}; CONSTANT {} {last} END_CONSTANT; END_SCHEMA;", constants.join(" "))
+        let (number, last) = (literal(i), constants_of(i));
+        let constants: String = (1..last).map(|j| format!("c{j} : {declared} := c{} + {number};", j + 1)).collect();
+        format!("SCHEMA s{i}; CONSTANT {constants} c{last} : {declared} := {number}; END_CONSTANT; END_SCHEMA;")
     };
     (0..schemas).map(schema).collect::<String>().into_bytes()
 }
 
+/// Holds all three functions to the reference, with the constants in other orders too.
+fn hold_in_all_orders(file: &Named) {
+    [0, 3].into_iter().for_each(|spare| hold_with(file, spare));
+    let mut declared = column(file.kinds.len());
+    declared_types(file.nodes(), &file.type_order, &mut declared);
+    (0..20).for_each(|seed| hold_answers(file, &declared, &mixed_order(file, &mut Rng::new(seed)), 0));
+}
+
+/// The last constant of schema i is i, the one before it i twice, and so on.
 #[test]
 fn files_of_many_schemas() {
     for schemas in [1, 2, 9, 100, 300] {
-        let file = named(&many_schemas(schemas)).expect("names");
-        let answers = file.answers.as_ref().expect("answers");
-        // The first constant of schema i has the sum of i as often as the schema has constants.
-        let firsts = (0..schemas).map(|i| (i * (i % 8).max(1)) as i64);
-        let starts = (0..schemas).map(|i| (0..i).map(|i| (i % 8).max(1)).sum::<usize>());
-        assert!(firsts.zip(starts).all(|(first, row)| answers[row] == AnswerRow { kind: 1, number: first, length: 0 }));
-        [0, 3].into_iter().for_each(|spare| hold_with(&file, spare));
-        let mut declared = column(file.kinds.len());
-        declared_types(file.nodes(), &file.type_order, &mut declared);
-        (0..20).for_each(|seed| hold_answers(&file, &declared, &mixed_order(&file, &mut Rng::new(seed)), 0));
+        let file = named(&many_schemas(schemas, "INTEGER", |i| i.to_string())).expect("names");
+        let often = || (0..schemas).flat_map(|i| (1..=constants_of(i)).rev().map(move |often| (i, often)));
+        let rows = often().map(|(i, often)| AnswerRow { kind: 1, number: (i * often) as i64, length: 0 });
+        assert_eq!(file.answers.as_ref().expect("answers").rows, rows.collect::<Vec<_>>());
+        hold_in_all_orders(&file);
+        let file = named(&many_schemas(schemas, "STRING", |i| format!("'{i}'"))).expect("names");
+        let strings: String = often().map(|(i, often)| i.to_string().repeat(often)).collect();
+        assert_eq!(file.answers.as_ref().expect("answers").room, strings.as_bytes());
+        hold_in_all_orders(&file);
     }
+}
+
+/// A room of more bytes than a file may have: so many constants are one string of 255 bytes.
+#[test]
+fn a_large_room() {
+    let (constants, longest) = (1_500, "x".repeat(MAX_STRING));
+    let others: String = (1..constants).map(|i| format!("c{i} : STRING := c;")).collect();
+    let text = format!("SCHEMA s; CONSTANT {others} c : STRING := '{longest}'; END_CONSTANT; END_SCHEMA;");
+    let file = named(text.as_bytes()).expect("names");
+    assert_eq!(file.answers.as_ref().expect("answers").room, longest.repeat(constants).as_bytes());
+    hold_with(&file, 0);
 }
 
 #[test]

@@ -3,6 +3,7 @@
 use compare::cases::{self, PROGRAM_LENGTHS};
 use compare::program::{expected, listing, program};
 use compare::random::{damaged, file, well_typed, LARGEST};
+use reference::MAX_STRING;
 use std::fs::{self, File, OpenOptions};
 use std::path::{Path, PathBuf};
 use std::process::{Command, Output, Stdio};
@@ -52,6 +53,24 @@ fn long_names(name: usize, constants: usize) -> Vec<u8> {
     }
     text += &format!("END_CONSTANT;\nTYPE e=ENUMERATION OF (i0,i1,I{});END_TYPE;\nEND_SCHEMA;", "X".repeat(name));
     text.into_bytes()
+}
+
+/// A constant with as long a string as may be, and others that name it.
+fn long_strings(byte: &str, constants: usize) -> Vec<u8> {
+    let copies: String = (1..constants).map(|i| format!("c{i}:t:=l;")).collect();
+    let longest = byte.repeat(MAX_STRING);
+    format!("SCHEMA s;CONSTANT l:t:='{longest}';{copies}END_CONSTANT;TYPE t=STRING;END_TYPE;END_SCHEMA;").into_bytes()
+}
+
+/// As many strings as long as may be as the program lends room for; of quotes, each of which is listed as two.
+#[test]
+fn strings_that_fill_the_room_are_listed() {
+    for byte in ["x", "''"] {
+        let input = long_strings(byte, PROGRAM_LENGTHS[2]);
+        let (got, want) = (listing(&input), expected(&input));
+        assert!(want.starts_with(b"accepted 1024\n"));
+        assert!(got == want, "{byte}: {} bytes, not {}", got.len(), want.len());
+    }
 }
 
 #[test]

@@ -2,10 +2,10 @@
 
 use compare::random::Rng;
 use proved::{applied, between, combined, held, Operator};
-use reference::evaluation::{self, row, Answer, End, Logical, Value};
+use reference::evaluation::{self, Answer, End, Logical, Value};
 use reference::kinds::Underlying;
 use reference::terminals::Terminal;
-use reference::AnswerRow;
+use reference::{AnswerRow, MAX_STRING};
 
 const RANDOM: usize = 200_000;
 
@@ -72,7 +72,14 @@ const INTEGERS: [i64; 17] = [
 ];
 const LENGTHS: [u32; 9] = [1, 2, 3, 7, 31, 32, 33, 62, 63];
 
-fn groups() -> [Group; 4] {
+/// A string of so many bytes. A row tells its length alone, and so these operators compare strings as if all their bytes were 0.
+fn string(length: usize) -> Value {
+    Value::String(vec![0; length])
+}
+
+const STRING_LENGTHS: [usize; 13] = [0, 1, 2, 3, 77, 126, 127, 128, 129, 252, 253, 254, 255];
+
+fn groups() -> [Group; 5] {
     let plus = vec![(Operator::Plus, Terminal::Plus)];
     let integers = INTEGERS.into_iter().map(Value::Integer);
     let patterns = [0, u64::MAX, 0x5555_5555_5555_5555, 0x8000_0001_4000_0001];
@@ -82,22 +89,33 @@ fn groups() -> [Group; 4] {
     [
         group(integers, &[plus.clone(), placed(&ARITHMETIC, Operator::Arithmetic)]),
         group(logicals.into_iter(), &[placed(&CONNECTIVES, Operator::Connective)]),
-        group(binaries, &[plus]),
+        group(binaries, std::slice::from_ref(&plus)),
+        group(STRING_LENGTHS.into_iter().map(string), &[plus]),
         group(items.into_iter(), &[]),
     ]
 }
 
-fn hold((operator, terminal): (Operator, Terminal), a: Answer, b: Answer) -> AnswerRow {
-    let expected = row(evaluation::combined(terminal, a, b));
-    assert_eq!(combined(operator, row(a), row(b)), expected, "{a:?} {terminal:?} {b:?}");
+/// The row of an answer; a string begins at 0.
+fn row(answer: &Answer) -> AnswerRow {
+    evaluation::row(answer, 0)
+}
+
+/// The row of an operand; a string begins anywhere.
+fn operand(answer: &Answer) -> AnswerRow {
+    evaluation::row(answer, 77_777)
+}
+
+fn hold((operator, terminal): (Operator, Terminal), a: &Answer, b: &Answer) -> AnswerRow {
+    let expected = row(&evaluation::combined(terminal, a.clone(), b.clone()));
+    assert_eq!(combined(operator, operand(a), operand(b)), expected, "{a:?} {terminal:?} {b:?}");
     expected
 }
 
 #[test]
 fn operators_on_operands_of_one_kind() {
     for Group { operands, operators } in groups() {
-        for &a in &operands {
-            for &b in &operands {
+        for a in &operands {
+            for b in &operands {
                 operators.iter().for_each(|&operator| {
                     hold(operator, a, b);
                 });
@@ -106,22 +124,37 @@ fn operators_on_operands_of_one_kind() {
     }
 }
 
-/// Integers of every size and sign, and binaries of every length; many have answers and many have none.
+/// Integers of every size and sign, binaries and strings of every length; many have answers and many have none.
 #[test]
 fn operators_on_random_operands() {
     let mut rng = Rng::new(0);
-    let [integers, _, binaries, _] = groups();
-    let (mut values, mut ends) = (0, 0);
+    let [integers, _, binaries, strings, _] = groups();
+    let (mut values, mut ends) = ([0; 3], [0; 3]);
     for _ in 0..RANDOM {
         let mut integer = || Ok(Value::Integer((rng.draw() as i64) >> rng.below(64)));
         let (a, b) = (integer(), integer());
         let mut bits = || Ok(binary(rng.draw(), 1 + rng.below(63) as u32));
         let (m, n) = (bits(), bits());
-        for row in [hold(*rng.pick(&integers.operators), a, b), hold(*rng.pick(&binaries.operators), m, n)] {
-            *(if row.kind < 16 { &mut values } else { &mut ends }) += 1;
+        let mut bytes = || Ok(string(rng.below(MAX_STRING + 1)));
+        let (s, t) = (bytes(), bytes());
+        for (i, (group, a, b)) in [(&integers, a, b), (&binaries, m, n), (&strings, s, t)].into_iter().enumerate() {
+            let row = hold(*rng.pick(&group.operators), &a, &b);
+            *(if row.kind < 16 { &mut values[i] } else { &mut ends[i] }) += 1;
         }
     }
-    assert!(values > RANDOM && ends > RANDOM / 10, "{values} values, {ends} ends");
+    assert!(values.iter().all(|&often| often > RANDOM / 3), "{values:?} values");
+    assert!(ends.iter().all(|&often| often > RANDOM / 30), "{ends:?} ends");
+}
+
+/// Strings of every two lengths are joined up to 255 bytes, and above that come to end 16.
+#[test]
+fn joined_strings() {
+    let text = |length: usize| AnswerRow { kind: 5, number: 9, length: length as u32 };
+    for (m, n) in (0..=MAX_STRING).flat_map(|m| (0..=MAX_STRING).map(move |n| (m, n))) {
+        let wanted = if m + n <= 255 { (5, m + n) } else { (16, 0) };
+        let AnswerRow { kind, number, length } = combined(Operator::Plus, text(m), text(n));
+        assert_eq!((kind, length as usize, number), (wanted.0, wanted.1, 0), "{m} and {n}");
+    }
 }
 
 #[test]
@@ -132,8 +165,12 @@ fn signs() {
         (logicals.operands, &[(2, Terminal::Not)]),
     ] {
         for &(sign, terminal) in signs {
-            for &a in &operands {
-                assert_eq!(applied(sign, row(a)), row(evaluation::applied(terminal, a)), "{terminal:?} {a:?}");
+            for a in &operands {
+                assert_eq!(
+                    applied(sign, operand(a)),
+                    row(&evaluation::applied(terminal, a.clone())),
+                    "{terminal:?} {a:?}"
+                );
             }
         }
     }
@@ -143,12 +180,13 @@ fn signs() {
 fn intervals() {
     let relations: Vec<(u8, Terminal)> = (0..).zip(RELATIONS).collect();
     for Group { operands, .. } in groups() {
-        for (&low, &item) in operands.iter().flat_map(|a| operands.iter().map(move |b| (a, b))) {
-            for &high in &operands {
+        for (low, item) in operands.iter().flat_map(|a| operands.iter().map(move |b| (a, b))) {
+            for high in &operands {
                 for (first, left) in &relations {
                     for (second, right) in &relations {
-                        let expected = row(evaluation::between(*left, *right, low, item, high));
-                        let found = between(*first, *second, row(low), row(item), row(high));
+                        let [a, b, c] = [low, item, high].map(Answer::clone);
+                        let expected = row(&evaluation::between(*left, *right, a, b, c));
+                        let found = between(*first, *second, operand(low), operand(item), operand(high));
                         assert_eq!(found, expected, "{low:?} {left:?} {item:?} {right:?} {high:?}");
                     }
                 }
@@ -160,9 +198,17 @@ fn intervals() {
 #[test]
 fn what_constants_hold() {
     for Group { operands, .. } in groups() {
-        for &a in &operands {
-            assert_eq!(held(true, row(a)), row(evaluation::declared(a, Underlying::Boolean)), "BOOLEAN, {a:?}");
-            assert_eq!(held(false, row(a)), row(evaluation::declared(a, Underlying::Logical)), "LOGICAL, {a:?}");
+        for a in &operands {
+            assert_eq!(
+                held(true, operand(a)),
+                row(&evaluation::declared(a.clone(), Underlying::Boolean)),
+                "BOOLEAN, {a:?}"
+            );
+            assert_eq!(
+                held(false, operand(a)),
+                row(&evaluation::declared(a.clone(), Underlying::Logical)),
+                "LOGICAL, {a:?}"
+            );
         }
     }
 }
@@ -174,7 +220,17 @@ fn rows_of_no_answer() {
         let row = AnswerRow { kind, number, length };
         assert_eq!(applied(0, row), AnswerRow::default(), "{row:?}");
     };
-    (5..16).chain(20..=255).for_each(|kind| unknown(kind, 7, 7));
+    (6..16).chain(20..=255).for_each(|kind| unknown(kind, 7, 7));
     [1 << 32, i64::MAX].into_iter().for_each(|node| unknown(4, node, 0));
     (64..=255).for_each(|length| unknown(3, 7, length));
+}
+
+/// A row of kind 5 is a string of its length, wherever it begins.
+#[test]
+fn rows_of_strings() {
+    for (number, length) in
+        [0, 7, -1, 1 << 32, i64::MAX, i64::MIN].into_iter().flat_map(|n| (0..=255).map(move |l| (n, l)))
+    {
+        assert_eq!(held(false, AnswerRow { kind: 5, number, length }), AnswerRow { kind: 5, number: 0, length });
+    }
 }

@@ -73,7 +73,8 @@ fn hold_at_all_lengths(bytes: &[u8], seed: u64) {
     for lengths in [[less, needed, more], [more, less, needed], [needed, more, less], [0, more, needed]] {
         hold(bytes, &rows, lengths);
     }
-    hold(bytes, &rows, random::lengths(seed, needed, needed, needed));
+    let [kinds, starts, lengths, _] = random::lengths(seed, [needed; 4]);
+    hold(bytes, &rows, [kinds, starts, lengths]);
 }
 
 #[test]

@@ -5,6 +5,8 @@ use std::time::Instant;
 use reference::{check, parser, terminals, tokens, MAX_BYTES};
 
 const ROWS: usize = 4_096;
+/// None of the constants is a string.
+const ROOM: usize = 0;
 
 /// As many parts as fit between a head and a foot.
 fn filled(head: &str, part: impl Fn(usize) -> String, foot: &str) -> Vec<u8> {
@@ -151,7 +153,7 @@ fn main() {
         let Ok(found) = tokens::read(&file) else { continue };
         let words = terminals::classify(&file, &found);
         let Ok(nodes) = parser::read(&words) else { continue };
-        let reply = check(&file, found.len(), nodes.len(), ROWS).report.reply;
+        let reply = check(&file, [found.len(), nodes.len(), ROWS, ROOM]).report.reply;
         println!(
             "{name:42}{:7}{:7}{reply:6}{:9.1}{:9.1}{:9.1}{:9.1}",
             found.len(),
@@ -159,7 +161,7 @@ fn main() {
             best(|| tokens::read(&file)),
             best(|| terminals::classify(&file, &found)),
             best(|| parser::read(&words)),
-            best(|| check(&file, found.len(), nodes.len(), ROWS)),
+            best(|| check(&file, [found.len(), nodes.len(), ROWS, ROOM])),
         );
     }
 }

@@ -6,13 +6,13 @@ use crate::kinds::Underlying;
 use crate::names::Names;
 use crate::parser::kind;
 use crate::terminals::Terminal;
-use crate::{AnswerRow, File};
+use crate::{AnswerRow, File, MAX_STRING};
 
 /// The ways in which an evaluation ends without a value, by their numbers.
 #[derive(Clone, Copy, Debug, PartialEq, Eq)]
 #[repr(u8)]
 pub enum End {
-    /// No 64-bit signed integer, or a joined binary of more than 63 bits.
+    /// No 64-bit signed integer, or what is joined is too long: a binary of more than 63 bits, a string of more than 255 bytes.
     OutOfRange = 16,
     ZeroDivisor = 17,
     NegativePower = 18,
@@ -28,12 +28,13 @@ pub enum Logical {
 }
 
 /// A value, or `?`.
-#[derive(Clone, Copy, Debug, PartialEq, Eq)]
+#[derive(Clone, Debug, PartialEq, Eq)]
 pub enum Value {
     Indeterminate,
     Integer(i64),
     Logical(Logical),
     Binary { bits: u64, length: u32 },
+    String(Vec<u8>),
     Item(u32),
 }
 
@@ -70,16 +71,32 @@ impl From<bool> for Logical {
 
 impl Value {
     /// To a logical operator `?` counts as UNKNOWN; typing leaves nothing else here.
-    fn logical(self) -> Logical {
-        match self {
+    fn logical(&self) -> Logical {
+        match *self {
             Value::Logical(value) => value,
             _ => Logical::Unknown,
         }
     }
 }
 
-/// The answer rows of all constants, in text order.
-pub fn answers(file: &File, names: &Names, underlying: &[Underlying]) -> Vec<AnswerRow> {
+/// The answer rows of all constants, in text order, and the bytes of the strings among them, one behind the other.
+#[derive(Clone, Debug, Default, PartialEq, Eq)]
+pub struct Answers {
+    pub rows: Vec<AnswerRow>,
+    pub room: Vec<u8>,
+}
+
+impl Answers {
+    fn add(&mut self, answer: &Answer) {
+        self.rows.push(row(answer, self.room.len()));
+        if let Ok(Value::String(bytes)) = answer {
+            self.room.extend_from_slice(bytes);
+        }
+    }
+}
+
+/// The answers of all constants.
+pub fn answers(file: &File, names: &Names, underlying: &[Underlying]) -> Answers {
     let outline = file.outline;
     let known = vec![Ok(Value::Indeterminate); outline.declarations.len()];
     let mut evaluator = Evaluator { file, names, known, stack: Vec::new() };
@@ -90,7 +107,9 @@ pub fn answers(file: &File, names: &Names, underlying: &[Underlying]) -> Vec<Ans
             evaluator.known[number as usize] = declared(answer, underlying[number as usize]);
         }
     }
-    outline.constants.iter().map(|&constant| row(evaluator.known[constant as usize])).collect()
+    let mut answers = Answers { rows: Vec::with_capacity(outline.constants.len()), room: Vec::new() };
+    outline.constants.iter().for_each(|&constant| answers.add(&evaluator.known[constant as usize]));
+    answers
 }
 
 /// UNKNOWN is no member of BOOLEAN.
@@ -101,12 +120,14 @@ pub fn declared(answer: Answer, underlying: Underlying) -> Answer {
     answer
 }
 
-pub fn row(answer: Answer) -> AnswerRow {
-    match answer {
+/// The row of an answer; a string's bytes lie from `start` on.
+pub fn row(answer: &Answer, start: usize) -> AnswerRow {
+    match *answer {
         Ok(Value::Indeterminate) => AnswerRow::default(),
         Ok(Value::Integer(number)) => AnswerRow { kind: 1, number, length: 0 },
         Ok(Value::Logical(value)) => AnswerRow { kind: 2, number: value as i64, length: 0 },
         Ok(Value::Binary { bits, length }) => AnswerRow { kind: 3, number: bits as i64, length },
+        Ok(Value::String(ref bytes)) => AnswerRow { kind: 5, number: start as i64, length: bytes.len() as u32 },
         Ok(Value::Item(node)) => AnswerRow { kind: 4, number: i64::from(node), length: 0 },
         Err(end) => AnswerRow { kind: end as u8, number: 0, length: 0 },
     }
@@ -143,6 +164,7 @@ impl Evaluator<'_> {
             kind::INTEGER => Ok(Value::Integer(integer(self.text(number)))),
             kind::BINARY => Ok(binary(self.text(number))),
             kind::LOGICAL => Ok(Value::Logical(logical(self.file.terminal(number)))),
+            kind::REAL_OR_STRING => Ok(Value::String(string(self.text(number)))),
             kind::NAME | kind::QUALIFIED_ITEM => self.name(number),
             kind::UNARY => {
                 let operand = self.pop();
@@ -166,7 +188,7 @@ impl Evaluator<'_> {
     fn name(&self, number: u32) -> Answer {
         let meaning = self.names.bindings[number as usize] - 1;
         match self.file.kind(meaning) {
-            kind::CONSTANT => self.known[self.file.outline.owner[meaning as usize] as usize],
+            kind::CONSTANT => self.known[self.file.outline.owner[meaning as usize] as usize].clone(),
             _ => Ok(Value::Item(meaning)),
         }
     }
@@ -195,7 +217,7 @@ pub fn applied(operator: Terminal, operand: Answer) -> Answer {
 /// The AND of the two relations; the ends of low, item and high come in this order.
 pub fn between(first: Terminal, second: Terminal, low: Answer, item: Answer, high: Answer) -> Answer {
     let (low, item, high) = (low?, item?, high?);
-    Ok(Value::Logical(relation(first, low, item).min(relation(second, item, high))))
+    Ok(Value::Logical(relation(first, &low, &item).min(relation(second, &item, &high))))
 }
 
 /// The token reader has seen to it that the value fits.
@@ -209,6 +231,18 @@ fn binary(literal: &[u8]) -> Value {
     Value::Binary { bits, length: digits.len() as u32 }
 }
 
+/// The bytes between the outer quotes, each pair of quotes made one.
+fn string(literal: &[u8]) -> Vec<u8> {
+    let mut rest = literal.get(1..literal.len() - 1).unwrap_or_default();
+    let mut value = Vec::with_capacity(rest.len());
+    while let Some(quote) = rest.iter().position(|&byte| byte == b'\'') {
+        value.extend_from_slice(&rest[..=quote]);
+        rest = rest.get(quote + 2..).unwrap_or_default();
+    }
+    value.extend_from_slice(rest);
+    value
+}
+
 fn logical(word: Terminal) -> Logical {
     match word {
         Terminal::True => Logical::True,
@@ -218,7 +252,7 @@ fn logical(word: Terminal) -> Logical {
 }
 
 fn unary(operator: Terminal, operand: Value) -> Answer {
-    match (operator, operand) {
+    match (operator, &operand) {
         (Terminal::Not, _) => Ok(Value::Logical(operand.logical().not())),
         (Terminal::Minus, Value::Integer(value)) => in_range(value.checked_neg()),
         _ => Ok(operand),
@@ -234,12 +268,13 @@ fn operate(operator: Terminal, left: Value, right: Value) -> Answer {
         Terminal::And => Ok(Value::Logical(left.logical().min(right.logical()))),
         Terminal::Or => Ok(Value::Logical(left.logical().max(right.logical()))),
         Terminal::Xor => Ok(Value::Logical(left.logical().xor(right.logical()))),
-        _ if operator.is_relation() => Ok(Value::Logical(relation(operator, left, right))),
+        _ if operator.is_relation() => Ok(Value::Logical(relation(operator, &left, &right))),
         _ => match (left, right) {
             (Value::Integer(left), Value::Integer(right)) => arithmetic(operator, left, right),
             (Value::Binary { bits, length }, Value::Binary { bits: more, length: longer }) => {
                 join(bits, length, more, longer)
             }
+            (Value::String(left), Value::String(right)) => join_strings(left, &right),
             _ => Ok(Value::Indeterminate),
         },
     }
@@ -287,7 +322,15 @@ fn join(left: u64, left_length: u32, right: u64, right_length: u32) -> Answer {
     Ok(Value::Binary { bits: left << right_length | right, length })
 }
 
-fn relation(operator: Terminal, left: Value, right: Value) -> Logical {
+fn join_strings(mut left: Vec<u8>, right: &[u8]) -> Answer {
+    if left.len() + right.len() > MAX_STRING {
+        return Err(End::OutOfRange);
+    }
+    left.extend_from_slice(right);
+    Ok(Value::String(left))
+}
+
+fn relation(operator: Terminal, left: &Value, right: &Value) -> Logical {
     let Some(order) = compare(left, right) else { return Logical::Unknown };
     let holds = match operator {
         Terminal::Less => order.is_lt(),
@@ -301,13 +344,15 @@ fn relation(operator: Terminal, left: Value, right: Value) -> Logical {
 }
 
 /// The order of two values of one kind; none if one is `?`.
-fn compare(left: Value, right: Value) -> Option<Ordering> {
+fn compare(left: &Value, right: &Value) -> Option<Ordering> {
     match (left, right) {
-        (Value::Integer(left), Value::Integer(right)) => Some(left.cmp(&right)),
-        (Value::Logical(left), Value::Logical(right)) => Some(left.cmp(&right)),
+        (Value::Integer(left), Value::Integer(right)) => Some(left.cmp(right)),
+        (Value::Logical(left), Value::Logical(right)) => Some(left.cmp(right)),
+        // Byte by byte from the left, a proper prefix first.
+        (Value::String(left), Value::String(right)) => Some(left.cmp(right)),
         // Items of one enumeration have their nodes in the order of their declaration.
-        (Value::Item(left), Value::Item(right)) => Some(left.cmp(&right)),
-        (Value::Binary { bits, length }, Value::Binary { bits: other, length: longer }) => {
+        (Value::Item(left), Value::Item(right)) => Some(left.cmp(right)),
+        (&Value::Binary { bits, length }, &Value::Binary { bits: other, length: longer }) => {
             Some(from_the_left(bits, length).cmp(&from_the_left(other, longer)))
         }
         _ => None,

@@ -4,7 +4,7 @@ use crate::names::Names;
 use crate::outline::Sort;
 use crate::parser::kind;
 use crate::terminals::Terminal;
-use crate::{Fault, File};
+use crate::{Fault, File, Level};
 
 const NOT_EVALUATED: u32 = 14;
 const MISFIT: u32 = 15;
@@ -16,8 +16,9 @@ pub enum Underlying {
     Boolean,
     Logical,
     Binary,
+    String,
     Enumeration(u32),
-    /// NUMBER, REAL, STRING, a select or an entity.
+    /// NUMBER, REAL, a select, an entity, or what the level does not evaluate.
     NotEvaluated,
 }
 
@@ -28,6 +29,7 @@ pub enum Kind {
     Integer,
     Logical,
     Binary,
+    String,
     Item(u32),
 }
 
@@ -43,6 +45,7 @@ impl Underlying {
             Underlying::Integer => Some(Kind::Integer),
             Underlying::Boolean | Underlying::Logical => Some(Kind::Logical),
             Underlying::Binary => Some(Kind::Binary),
+            Underlying::String => Some(Kind::String),
             Underlying::Enumeration(declaration) => Some(Kind::Item(declaration)),
             Underlying::NotEvaluated => None,
         }
@@ -101,6 +104,7 @@ fn base(file: &File, names: &Names, underlying: &[Underlying], node: u32) -> Und
             Terminal::Boolean => Underlying::Boolean,
             Terminal::Logical => Underlying::Logical,
             Terminal::Binary => Underlying::Binary,
+            Terminal::String if file.level >= Level::Strings => Underlying::String,
             _ => Underlying::NotEvaluated,
         },
     }
@@ -141,6 +145,7 @@ impl Checker<'_> {
             kind::BINARY => Kind::Binary,
             kind::LOGICAL => Kind::Logical,
             kind::INDETERMINATE => Kind::Indeterminate,
+            kind::REAL_OR_STRING => self.real_or_string(self.file.terminal(number))?,
             kind::NAME | kind::QUALIFIED_ITEM => self.name(number)?,
             kind::UNARY => self.unary(self.file.terminal(number))?,
             kind::BINARY_OPERATOR => self.binary(self.file.terminal(number))?,
@@ -150,6 +155,12 @@ impl Checker<'_> {
         };
         self.stack.push(kind);
         Ok(())
+    }
+
+    /// Of reals, strings, PI and CONST_E only strings are evaluated.
+    fn real_or_string(&self, literal: Terminal) -> Result<Kind, u32> {
+        let string = self.file.level >= Level::Strings && literal == Terminal::StringLiteral;
+        string.then_some(Kind::String).ok_or(NOT_EVALUATED)
     }
 
     /// A constant or an item.
@@ -198,9 +209,9 @@ fn demand(fits: bool, kind: Kind) -> Result<Kind, u32> {
     }
 }
 
-/// Two integers or two binaries; two `?` have the kind of `?`.
+/// Two integers, two binaries or two strings; two `?` have the kind of `?`.
 fn plus(left: Kind, right: Kind) -> Result<Kind, u32> {
     let kind = if left == Kind::Indeterminate { right } else { left };
-    let taken = matches!(kind, Kind::Integer | Kind::Binary | Kind::Indeterminate);
+    let taken = matches!(kind, Kind::Integer | Kind::Binary | Kind::String | Kind::Indeterminate);
     demand(taken && left.fits(right), kind)
 }

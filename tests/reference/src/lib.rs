@@ -1,7 +1,8 @@
-//! A plain Rust checker of the base rules of EXPRESS constants, the independent yardstick of the proved one.
+//! A plain Rust checker of EXPRESS constants, the independent yardstick of the proved one.
 //!
 //! The stages follow the paper's order: [`tokens`] (replies 1, 2, 3), [`terminals`], [`parser`] (4, 5), [`outline`],
-//! [`symbols`], [`names`] (9 to 13), [`kinds`] (14, 15) and [`evaluation`]; [`check`] adds the table lengths (6, 7, 8).
+//! [`symbols`], [`names`] (9 to 13), [`kinds`] (14, 15) and [`evaluation`]; [`check`] adds the lengths of the tables
+//! (6, 7, 8) and of the room (20).
 #![forbid(unsafe_code)]
 
 pub mod evaluation;
@@ -20,10 +21,37 @@ mod words;
 pub use listing::listing;
 pub use parser::SyntaxRow;
 
+use evaluation::Answers;
 use outline::Outline;
 
 /// The longest file that is read, in bytes.
 pub const MAX_BYTES: usize = 65_536;
+
+/// The longest string, in bytes of its value.
+pub const MAX_STRING: usize = 255;
+
+/// The rows of the token, node and answer tables that are lent, and the bytes of the room for strings.
+pub type Lent = [usize; 4];
+
+/// What the listing program lends.
+pub const PROGRAM_LENGTHS: Lent = [8_192, 8_192, 1_024, 261_120];
+
+/// The reply where the room is shorter than all string answers together.
+pub const ROOM_SHORT: u32 = 20;
+
+/// By which rules a file is checked: each level has those of the levels before it.
+#[derive(Clone, Copy, Debug, PartialEq, Eq, PartialOrd, Ord)]
+pub enum Level {
+    /// Strings are not evaluated, and may be of any length.
+    Base,
+    /// Constants may be strings.
+    Strings,
+}
+
+impl Level {
+    /// The level of the proved checker, and of every function here that is told none.
+    pub const NEWEST: Level = Level::Strings;
+}
 
 /// Reply, number beside it, and the three counts (0 after a refusal).
 #[derive(Clone, Copy, Debug, Default, PartialEq, Eq)]
@@ -64,9 +92,10 @@ pub struct Checked {
     pub tokens: Vec<TokenRow>,
     pub nodes: Vec<NodeRow>,
     pub answers: Vec<AnswerRow>,
+    pub room: Vec<u8>,
 }
 
-/// A refusal: its reply (1 to 15) and the number beside it, a place in bytes or a count of entries needed.
+/// A refusal: its reply and the number beside it, a place in bytes, a count of entries needed or the room's length.
 #[derive(Clone, Copy, Debug, PartialEq, Eq)]
 pub struct Refusal {
     pub reply: u32,
@@ -107,13 +136,19 @@ impl<Row: Clone + Default> Stage<Row> {
 struct Accepted {
     tokens: Vec<TokenRow>,
     nodes: Vec<NodeRow>,
-    answers: Vec<AnswerRow>,
+    answers: Answers,
 }
 
-/// Checks a file with tables of the given numbers of rows.
-pub fn check(bytes: &[u8], token_rows: usize, node_rows: usize, answer_rows: usize) -> Checked {
-    match accept(bytes, token_rows, node_rows, answer_rows) {
-        Ok(Accepted { tokens, nodes, answers }) => Checked {
+/// Checks a file with tables and a room of the given lengths.
+pub fn check(bytes: &[u8], lent: Lent) -> Checked {
+    check_at(Level::NEWEST, bytes, lent)
+}
+
+/// The same by the rules of a level.
+pub fn check_at(level: Level, bytes: &[u8], lent: Lent) -> Checked {
+    let [token_rows, node_rows, answer_rows, room_bytes] = lent;
+    match accept(level, bytes, lent) {
+        Ok(Accepted { tokens, nodes, answers: Answers { rows: answers, room } }) => Checked {
             report: Report {
                 reply: 0,
                 number: 0,
@@ -124,19 +159,21 @@ pub fn check(bytes: &[u8], token_rows: usize, node_rows: usize, answer_rows: usi
             tokens: padded(tokens, token_rows),
             nodes: padded(nodes, node_rows),
             answers: padded(answers, answer_rows),
+            room: padded(room, room_bytes),
         },
         Err(Refusal { reply, number }) => Checked {
             report: Report { reply, number, ..Report::default() },
             tokens: padded(Vec::new(), token_rows),
             nodes: padded(Vec::new(), node_rows),
             answers: padded(Vec::new(), answer_rows),
+            room: padded(Vec::new(), room_bytes),
         },
     }
 }
 
 /// The token reader alone, with a table of `token_rows` rows: replies 1, 2, 3 and 6.
 pub fn scan(bytes: &[u8], token_rows: usize) -> Stage<TokenRow> {
-    Stage::new(scanned(bytes, token_rows), token_rows)
+    Stage::new(scanned(Level::NEWEST, bytes, token_rows), token_rows)
 }
 
 /// The parser alone, on the tokens of `bytes`, with a table of `node_rows` rows: replies 4, 5 and 7.
@@ -145,8 +182,8 @@ pub fn parse(bytes: &[u8], tokens: &[TokenRow], node_rows: usize) -> Stage<Synta
     Stage::new(parsed(bytes, tokens, &terminals, node_rows), node_rows)
 }
 
-fn scanned(bytes: &[u8], token_rows: usize) -> Result<Vec<TokenRow>, Refusal> {
-    let tokens = tokens::read(bytes)?;
+fn scanned(level: Level, bytes: &[u8], token_rows: usize) -> Result<Vec<TokenRow>, Refusal> {
+    let tokens = tokens::read_at(level, bytes)?;
     fits(&tokens, token_rows, 6)?;
     Ok(tokens)
 }
@@ -166,18 +203,29 @@ fn parsed(
     Ok(nodes)
 }
 
-fn accept(bytes: &[u8], token_rows: usize, node_rows: usize, answer_rows: usize) -> Result<Accepted, Refusal> {
-    let tokens = scanned(bytes, token_rows)?;
+fn accept(level: Level, bytes: &[u8], lent: Lent) -> Result<Accepted, Refusal> {
+    let [token_rows, node_rows, answer_rows, room_bytes] = lent;
+    let tokens = scanned(level, bytes, token_rows)?;
     let terminals = terminals::classify(bytes, &tokens);
     let nodes = parsed(bytes, &tokens, &terminals, node_rows)?;
     let outline = Outline::new(&nodes);
     fits(&outline.constants, answer_rows, 8)?;
     let symbols = symbols::intern(bytes, &tokens, &terminals);
-    let file =
-        File { bytes, tokens: &tokens, terminals: &terminals, nodes: &nodes, symbols: &symbols, outline: &outline };
+    let file = File {
+        level,
+        bytes,
+        tokens: &tokens,
+        terminals: &terminals,
+        nodes: &nodes,
+        symbols: &symbols,
+        outline: &outline,
+    };
     let names = names::bind(&file).map_err(|fault| fault.located(&tokens))?;
     let declared = kinds::check(&file, &names).map_err(|fault| fault.located(&tokens))?;
     let answers = evaluation::answers(&file, &names, &declared);
+    if answers.room.len() > room_bytes {
+        return Err(Refusal { reply: ROOM_SHORT, number: room_bytes as u64 });
+    }
     let nodes = nodes
         .iter()
         .zip(&names.bindings)
@@ -188,6 +236,7 @@ fn accept(bytes: &[u8], token_rows: usize, node_rows: usize, answer_rows: usize)
 
 /// What the stages after the parser read.
 pub struct File<'a> {
+    pub level: Level,
     pub bytes: &'a [u8],
     pub tokens: &'a [TokenRow],
     pub terminals: &'a [terminals::Terminal],

@@ -50,8 +50,24 @@ fn constant_line(lines: &mut Vec<u8>, bytes: &[u8], checked: &Checked, names: [&
             }
             lines.push(b'\n');
         }
+        (5, start) => string(lines, room_bytes(checked, start, answer.length)),
         (end, _) => line(lines, format_args!("end {end}")),
     }
+}
+
+/// The bytes of a string; none where a row points outside of the room.
+fn room_bytes(checked: &Checked, start: i64, length: u32) -> &[u8] {
+    let start = usize::try_from(start).unwrap_or(usize::MAX);
+    checked.room.get(start..start.saturating_add(length as usize)).unwrap_or_default()
+}
+
+/// A line of a string as a literal: in quotes, each quote in it doubled.
+fn string(lines: &mut Vec<u8>, bytes: &[u8]) {
+    lines.push(b'\'');
+    for &byte in bytes {
+        lines.extend(std::iter::repeat_n(byte, if byte == b'\'' { 2 } else { 1 }));
+    }
+    lines.extend_from_slice(b"'\n");
 }
 
 /// The word that names a node, in lower case.

@@ -4,16 +4,12 @@
 use std::io::{self, Read, Write};
 use std::process::ExitCode;
 
-const TOKENS: usize = 8_192;
-const NODES: usize = 8_192;
-const ANSWERS: usize = 1_024;
-
 fn run() -> io::Result<()> {
     let mut bytes = Vec::new();
     // One byte over the limit is enough to know that the input is too long.
     let limit = reference::MAX_BYTES as u64 + 1;
     io::stdin().lock().take(limit).read_to_end(&mut bytes)?;
-    let checked = reference::check(&bytes, TOKENS, NODES, ANSWERS);
+    let checked = reference::check(&bytes, reference::PROGRAM_LENGTHS);
     io::stdout().lock().write_all(&reference::listing(&bytes, &checked))
 }
 

@@ -11,7 +11,8 @@ pub mod kind {
     pub const BINARY: u8 = 2;
     pub const LOGICAL: u8 = 3;
     pub const INDETERMINATE: u8 = 4;
-    pub const NOT_EVALUATED: u8 = 5;
+    /// A real, a string, PI or CONST_E.
+    pub const REAL_OR_STRING: u8 = 5;
     pub const NAME: u8 = 6;
     pub const QUALIFIED_ITEM: u8 = 7;
     pub const SELF: u8 = 8;
@@ -391,7 +392,7 @@ impl Parser<'_> {
             BinaryLiteral => self.take_leaf(kind::BINARY, role::NONE),
             True | False | Unknown => self.take_leaf(kind::LOGICAL, role::NONE),
             Question => self.take_leaf(kind::INDETERMINATE, role::NONE),
-            RealLiteral | StringLiteral | Pi | ConstE => self.take_leaf(kind::NOT_EVALUATED, role::NONE),
+            RealLiteral | StringLiteral | Pi | ConstE => self.take_leaf(kind::REAL_OR_STRING, role::NONE),
             Identifier => self.take_leaf(kind::NAME, role::EXPRESSION_NAME),
             SelfWord => self.take_leaf(kind::SELF, role::NONE),
             _ => return self.stop(4),

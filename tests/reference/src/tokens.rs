@@ -1,6 +1,6 @@
 //! Bytes to tokens: replies 1, 2 and 3.
 
-use crate::{Refusal, TokenRow, MAX_BYTES};
+use crate::{Level, Refusal, TokenRow, MAX_BYTES, MAX_STRING};
 
 pub const WORD: u8 = 1;
 pub const INTEGER: u8 = 2;
@@ -75,9 +75,15 @@ pub fn text<'a>(bytes: &'a [u8], token: &TokenRow) -> &'a [u8] {
 
 /// All tokens of a file, or the first refusal in the text.
 pub fn read(bytes: &[u8]) -> Result<Vec<TokenRow>, Refusal> {
+    read_at(Level::NEWEST, bytes)
+}
+
+/// The same by the rules of a level.
+pub fn read_at(level: Level, bytes: &[u8]) -> Result<Vec<TokenRow>, Refusal> {
     if bytes.len() > MAX_BYTES {
         return Err(Refusal { reply: 1, number: MAX_BYTES as u64 });
     }
+    let longest = if level < Level::Strings { MAX_BYTES } else { MAX_STRING };
     let mut tokens = Vec::with_capacity(bytes.len() / 4 + 8);
     let mut at = 0;
     while let Some(&byte) = bytes.get(at) {
@@ -88,7 +94,7 @@ pub fn read(bytes: &[u8]) -> Result<Vec<TokenRow>, Refusal> {
             }
             Class::Letter => (WORD, word_end(bytes, at)),
             Class::Digit => number(bytes, at)?,
-            Class::Quote => (STRING, string_end(bytes, at)?),
+            Class::Quote => (STRING, string_end(bytes, at, longest)?),
             Class::Percent => (BINARY, binary_end(bytes, at)?),
             Class::Symbol => (SYMBOL, at + 1),
             Class::LongSymbol => (SYMBOL, at + symbol_length(&bytes[at..])),
@@ -153,12 +159,15 @@ fn exceeds_integer(digits: &[u8]) -> bool {
     digits.len() > MAX_INTEGER.len() || (digits.len() == MAX_INTEGER.len() && digits > MAX_INTEGER)
 }
 
-fn string_end(bytes: &[u8], start: usize) -> Result<usize, Refusal> {
+/// The end of a string whose value, each pair of quotes counted once, has at most so many bytes.
+fn string_end(bytes: &[u8], start: usize, longest: usize) -> Result<usize, Refusal> {
     let mut at = start + 1;
+    let mut pairs = 0;
     loop {
         at = run_end(bytes, at, |byte| byte != b'\'' && (32..=126).contains(&byte));
         match bytes[at..] {
-            [b'\'', b'\'', ..] => at += 2,
+            [b'\'', b'\'', ..] => (at, pairs) = (at + 2, pairs + 1),
+            [b'\'', ..] if at - start - 1 - pairs > longest => return Err(refusal(TOO_LARGE, start)),
             [b'\'', ..] => return Ok(at + 1),
             _ => return Err(refusal(UNFINISHED, start)),
         }

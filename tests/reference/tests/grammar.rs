@@ -6,7 +6,7 @@ mod common;
 use std::collections::{HashMap, HashSet};
 
 use common::Random;
-use reference::{check, listing, parse, tokens};
+use reference::{check, listing, parse, tokens, ROOM_SHORT};
 
 /// The paper's grammar; the first alternative of each rule is one that comes to an end.
 const GRAMMAR: &str = "
@@ -224,7 +224,7 @@ fn named(text: &[&str], random: &mut Random) -> String {
 fn no_input_makes_the_checker_panic() {
     let grammar = Grammar::new();
     let mut random = Random(0x9E37_79B9_7F4A_7C15);
-    let mut replies = [0; 16];
+    let mut replies = [0; ROOM_SHORT as usize + 1];
     for round in 0..20_000 {
         let budget = 10 + random.below(60);
         let text = grammar.text(&mut random, budget);
@@ -235,10 +235,10 @@ fn no_input_makes_the_checker_panic() {
                 bytes[at] = random.below(256) as u8;
             }
         }
-        let rows = [random.below(400), random.below(400), random.below(20)];
-        let rows = if round % 8 == 0 { rows } else { [5_000; 3] };
-        let checked = check(&bytes, rows[0], rows[1], rows[2]);
-        assert_eq!([checked.tokens.len(), checked.nodes.len(), checked.answers.len()], rows);
+        let rows = [random.below(400), random.below(400), random.below(20), random.below(20)];
+        let rows = if round % 8 == 0 { rows } else { [5_000; 4] };
+        let checked = check(&bytes, rows);
+        assert_eq!([checked.tokens.len(), checked.nodes.len(), checked.answers.len(), checked.room.len()], rows);
         let lines = listing(&bytes, &checked);
         assert!(lines.ends_with(b"\n"));
         replies[checked.report.reply as usize] += 1;
@@ -247,7 +247,7 @@ fn no_input_makes_the_checker_panic() {
     for length in 0..400 {
         for _ in 0..20 {
             let bytes: Vec<u8> = (0..length).map(|_| random.below(256) as u8).collect();
-            let checked = check(&bytes, 500, 500, 500);
+            let checked = check(&bytes, [500; 4]);
             assert_ne!(listing(&bytes, &checked), b"");
         }
     }

@@ -188,7 +188,7 @@ fn hierarchies_are_read_as_the_paper_says() {
     let mut replies = [0; 16];
     for _ in 0..30_000 {
         let model = Model::new(&mut random);
-        let checked = check(model.text.as_bytes(), 2_000, 2_000, 10);
+        let checked = check(model.text.as_bytes(), [2_000, 2_000, 10, 0]);
         let (reply, place) = model.reply();
         assert_eq!((checked.report.reply, checked.report.number), (reply, place as u64), "{}", model.text);
         assert!(reply != 0 || model.agrees(&checked), "{}", model.text);

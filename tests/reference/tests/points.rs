@@ -1,11 +1,13 @@
 //! The points of the paper that are easily missed, each on a small file.
 
-use reference::{check, listing, parse, scan, tokens, AnswerRow, Report, SyntaxRow, TokenRow};
+use reference::{check, listing, parse, scan, tokens};
+use reference::{AnswerRow, Lent, Report, SyntaxRow, TokenRow, PROGRAM_LENGTHS};
 
 const ROWS: usize = 8_192;
+const LENT: Lent = [ROWS; 4];
 
 fn report(text: &str) -> Report {
-    check(text.as_bytes(), ROWS, ROWS, ROWS).report
+    check(text.as_bytes(), LENT).report
 }
 
 /// Expects a refusal at the `@` in the text, which is taken out before the check.
@@ -34,7 +36,7 @@ fn constant(declared: &str, expression: &str) -> String {
 /// Expects the answer as the listing prints it.
 fn answers(declared: &str, expression: &str, answer: &str) {
     let text = constant(declared, expression);
-    let checked = check(text.as_bytes(), ROWS, ROWS, ROWS);
+    let checked = check(text.as_bytes(), LENT);
     let lines = String::from_utf8(listing(text.as_bytes(), &checked)).expect("text");
     assert_eq!(lines, format!("accepted 1\ns.c = {answer}\n"), "{expression}");
 }
@@ -53,7 +55,7 @@ fn the_listing_of_the_paper() {
     let text = b"SCHEMA Press;\nCONSTANT\n  stroke : INTEGER := step * 3;\n  step : INTEGER := -7 DIV 2;\n  safe : LOGICAL := \
         {0 < step < 10} OR ?;\n  mask : BINARY := %10 + %011;\nEND_CONSTANT;\nEND_SCHEMA;\n";
     let expected = "accepted 4\npress.stroke = -12\npress.step = -4\npress.safe = UNKNOWN\npress.mask = %10011\n";
-    assert_eq!(listing(text, &check(text, 8_192, 8_192, 1_024)), expected.as_bytes());
+    assert_eq!(listing(text, &check(text, PROGRAM_LENGTHS)), expected.as_bytes());
 }
 
 #[test]
@@ -152,13 +154,14 @@ fn kinds() {
     refused_in_constant(15, "LOGICAL", "? @- ? AND TRUE");
     refused_in_constant(14, "INTEGER", "1 @/ TRUE");
     refused_in_constant(14, "INTEGER", "@PI + TRUE");
-    refused_in_constant(14, "INTEGER", "@'text'");
+    refused_in_constant(14, "INTEGER", "@1.5");
+    refused(15, "SCHEMA s; CONSTANT @c : INTEGER := 'text'; END_CONSTANT; END_SCHEMA;");
     refused(15, "SCHEMA s; CONSTANT @c : INTEGER := TRUE; END_CONSTANT; END_SCHEMA;");
     refused(14, "SCHEMA s; CONSTANT c : @REAL := 1.; END_CONSTANT; END_SCHEMA;");
     refused(14, "SCHEMA s; CONSTANT c : INTEGER := @d; d : REAL := 1.; END_CONSTANT; END_SCHEMA;");
     refused(
         14,
-        "SCHEMA s; CONSTANT c : @t := 1; END_CONSTANT; TYPE t = u; END_TYPE; TYPE u = STRING; END_TYPE; END_SCHEMA;",
+        "SCHEMA s; CONSTANT c : @t := 1; END_CONSTANT; TYPE t = u; END_TYPE; TYPE u = NUMBER; END_TYPE; END_SCHEMA;",
     );
     refused(14, "SCHEMA s; CONSTANT c : @t := 1; END_CONSTANT; TYPE t = SELECT (e); END_TYPE; ENTITY e; END_ENTITY; END_SCHEMA;");
     refused(14, "SCHEMA s; CONSTANT c : @e := 1; END_CONSTANT; ENTITY e; END_ENTITY; END_SCHEMA;");
@@ -205,7 +208,7 @@ fn tokens_at_their_edges() {
 fn stages_come_in_order() {
     // A token that is unfinished anywhere comes before a table too short, and that before the grammar.
     let short = |text: &str, rows: [usize; 3]| {
-        let report = check(text.as_bytes(), rows[0], rows[1], rows[2]).report;
+        let report = check(text.as_bytes(), [rows[0], rows[1], rows[2], 0]).report;
         (report.reply, report.number)
     };
     assert_eq!(short("a b _", [0, 0, 0]), (2, 4));
@@ -361,7 +364,7 @@ fn hierarchies_wider_than_a_word() {
 fn rows_of_a_small_file() {
     let text = "SCHEMA s; CONSTANT c : t := b.y; END_CONSTANT; TYPE t = b; WHERE w : c > 1; SELF; END_TYPE; \
         TYPE b = ENUMERATION OF (x, y); END_TYPE; ENTITY e; m, n : OPTIONAL REAL; END_ENTITY; END_SCHEMA;";
-    let checked = check(text.as_bytes(), 100, 100, 3);
+    let checked = check(text.as_bytes(), [100, 100, 3, 0]);
     assert_eq!(checked.report.reply, 0);
     let rows: Vec<_> =
         checked.nodes[..checked.report.nodes as usize].iter().map(|row| (row.kind, row.size, row.binding)).collect();
@@ -405,12 +408,13 @@ fn rows_of_a_small_file() {
 
 #[test]
 fn tables_are_zero_after_a_refusal() {
-    let checked = check(b"SCHEMA s; CONSTANT c : INTEGER := TRUE; END_CONSTANT; END_SCHEMA;", 20, 10, 2);
+    let checked = check(b"SCHEMA s; CONSTANT c : INTEGER := TRUE; END_CONSTANT; END_SCHEMA;", [20, 10, 2, 3]);
     assert_eq!(checked.report, Report { reply: 15, number: 19, ..Report::default() });
     assert_eq!(checked.tokens, vec![TokenRow::default(); 20]);
     assert_eq!(checked.nodes.len(), 10);
     assert!(checked.nodes.iter().all(|row| *row == Default::default()));
     assert_eq!(checked.answers, vec![AnswerRow::default(); 2]);
+    assert_eq!(checked.room, [0; 3]);
     assert_eq!(parse(b"", &[], 3).rows, vec![SyntaxRow::default(); 3]);
     assert_eq!(scan(b"a b c", 2).rows, vec![TokenRow::default(); 2]);
 }

@@ -6,4 +6,4 @@ pub answer-of-row-spec : {M : Type 1} → statement M
 answer-of-row-spec =
     tie.close
     (tie.spec (λ c κs. tt) (λ c κs. tt) (λ c κs. tt) (λ c κs. tt) (λ c κs. tt) (λ c κs. tt) (λ c κs. tt) (λ c. search reading) (λ c. search reading)
-    (λ c. search reading) (λ c. search reading) (λ c. search reading) (λ c. search reading))
+    (λ c. search reading) (λ c. search reading) (λ c. search reading) (λ c. search reading) (λ c. search reading))

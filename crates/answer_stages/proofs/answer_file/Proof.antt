@@ -34,11 +34,14 @@ same-length-7 c = search needs
 same-length-8 : tie.Need-same-length-8
 same-length-8 c = search needs
 
+same-length-9 : tie.Need-same-length-9
+same-length-9 c = search needs
+
 returns : tie.Need-returns
 returns c = answered (c .before .before .before .before .before .before .before .before .before .before .before .before .before .before .before .before .before .before .before .before
-    .before .before .before .before .before .type-file .ensures) (c .before .before .before .before .before .before .before .before .before .before .before .before .before .before .before
-    .before .before .before .before .before .before .before .before .before .before .type-file .kept .1 .1 .1 .1 .1 .1 .1 .1 .1 .0) (c .before .before .before .before .before .before
-    .before .before .before .before .before .before .evaluate-file .ensures)
+    .before .before .before .before .before .before .before .before .type-file .ensures) (c .before .before .before .before .before .before .before .before .before .before .before
+    .before .before .before .before .before .before .before .before .before .before .before .before .before .before .before .before .before .type-file .kept .1 .1 .1 .1 .1 .1 .1 .1 .1
+    .0) (c .before .before .before .before .before .before .before .before .before .before .before .before .before .before .evaluate-file .ensures)
 
 pub answer-file-spec : {M : Type 1} → statement M
 answer-file-spec =
@@ -54,4 +57,5 @@ answer-file-spec =
     same-length-6
     same-length-7
     same-length-8
+    same-length-9
     returns)

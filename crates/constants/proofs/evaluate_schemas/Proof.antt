@@ -2,8 +2,11 @@
 use Rattle.constants.proofs.evaluate_schemas.Statement.{statement}
 use Rattle.constants.proofs.evaluate_schemas.Tie as tie
 use lib.ListN.{length}
-use Prim.Native.Nat.{_-_, _+_}
+use Prim.Native.Nat.{_-_, _+_, _≤_}
+use mathlib.Core.Path.{_≡_}
+use mathlib.Core.Bool.{true}
 use Rattle.tree.proofs.Next.{next-beyond}
+use Rattle.constant_rows.specs.Parts.{grouped}
 use Rattle.constant_rows.proofs.Grouping.{grouped-parts}
 use Rattle.constants.proofs.Schemas.{Here, filling-starts, filling-next, filling-schema, filling-ends, schema-among}
 use Rattle.constants.proofs.Parted.{to-from, to-upto}
@@ -12,26 +15,57 @@ use native.Mathlib.Omega.{arith}
 
 abbrev Inv-loop : tie.InvT-loop
 Inv-loop src starts lengths terminals kinds tokens sizes bindings declared order row-of answer-kinds₀ answer-numbers₀ answer-lengths₀ value-kinds₀
-    value-numbers₀ value-lengths₀ n₀ are-parted lo₀ at₀ from₀ answer-kinds answer-numbers answer-lengths value-kinds value-numbers value-lengths n lo at from =
-    Here src starts lengths terminals kinds tokens sizes bindings declared order row-of answer-kinds₀ answer-numbers₀ answer-lengths₀ value-kinds₀
-    value-numbers₀ value-lengths₀ answer-kinds answer-numbers answer-lengths value-kinds value-numbers value-lengths n lo at from
+    value-numbers₀ value-lengths₀ room₀ n₀ are-parted lo₀ at₀ from₀ answer-kinds answer-numbers answer-lengths value-kinds value-numbers value-lengths
+    room n lo at from = Here src starts lengths terminals kinds tokens sizes bindings declared order row-of answer-kinds₀ answer-numbers₀
+    answer-lengths₀ value-kinds₀ value-numbers₀ value-lengths₀ room₀ answer-kinds answer-numbers answer-lengths value-kinds value-numbers
+    value-lengths room n lo at from
 
 abbrev μ-loop : tie.MeasureT-loop
-μ-loop src starts lengths terminals kinds tokens sizes bindings declared order row-of answer-kinds₀ answer-numbers₀ answer-lengths₀ value-kinds₀ value-numbers₀
-    value-lengths₀ n₀ are-parted lo₀ at₀ from₀ answer-kinds answer-numbers answer-lengths value-kinds value-numbers value-lengths n lo at from = length kinds - n
+μ-loop src starts lengths terminals kinds tokens sizes bindings declared order row-of answer-kinds₀ answer-numbers₀ answer-lengths₀ value-kinds₀
+    value-numbers₀ value-lengths₀ room₀ n₀ are-parted lo₀ at₀ from₀ answer-kinds answer-numbers answer-lengths value-kinds value-numbers value-lengths
+    room n lo at from = length kinds - n
+
+-- the parts of the order, where they are lent
+parts : (c : tie.After-has-parts Inv-loop μ-loop) → c .has-parts .result ≡ true → grouped (c .before .before .before .before .before .before .before
+    .before .before .before .before .before .before .before .before .before .before .before .args .kinds .now) (c .before .before .before .before
+    .before .before .before .before .before .before .before .before .before .before .before .before .before .before .args .order .now) ≡ true
+parts c = grouped-parts (c .before .before .before .before .before .before .before .before .before .before .before .before .before .before .before
+    .before .before .before .args .kinds .now) (c .before .before .before .before .before .before .before .before .before .before .before .before
+    .before .before .before .before .before .before .args .order .now) (c .before .next-of-kind .result + 1) (c .has-parts .ensures)
+
+low : (c : tie.After-shorter3 Inv-loop μ-loop) → c .before .before .before .before .before .before .loop .from ≤ c .before .before .before .part-end .result
+low c = to-from (c .before .before .before .before .before .before .loop .inv .filling .begun) (c .before .before .before .before .before .before
+    .loop .n) (c .before .before .before .before .before .before .before .has-parts .result) (omega (
+      arith,
+      c .before .before .before .before .before
+          .before .loop .inv .filling .ahead,
+    )) (c .before .before .before .before .next-part .ensures) (c .before .before .before .before .before .before
+    .before .before .before .before .before .before .before .before .before .before .before .before .before .before .before .before .before .before
+    .before .args .kinds .now) (parts (c .before .before .before .before .before .before .before)) (c .before .before .before .part-end .ensures)
+
+high : (c : tie.After-shorter3 Inv-loop μ-loop) → c .before .before .before .part-end .result ≤ length (c .before .before .before .before .before
+    .before .before .before .before .before .before .before .before .before .before .before .before .before .before .before .before .before .before
+    .before .before .args .order .now)
+high c = to-upto (c .before .before .before .before .before .before .loop .inv .filling .begun) (c .before .before .before .before .before .before
+    .loop .n) (c .before .before .before .before .before .before .before .has-parts .result) (omega (
+      arith,
+      c .before .before .before .before .before
+          .before .loop .inv .filling .ahead,
+    )) (c .before .before .before .before .next-part .ensures) (c .before .before .before .before .before .before
+    .before .before .before .before .before .before .before .before .before .before .before .before .before .before .before .before .before .before
+    .before .args .kinds .now) (parts (c .before .before .before .before .before .before .before)) (c .before .before .before .part-end .ensures)
 
 next-of-kind-requires : tie.Need-next-of-kind-requires Inv-loop μ-loop
 next-of-kind-requires c κs = search needs
 
 add-has-parts : tie.Need-add-has-parts Inv-loop μ-loop
-add-has-parts c =
-    omega (
-      arith,
-      schema-among (c .before .before .before .before .before .before .before .before .before .before .before .before .before .before .before
-          .before .args .kinds .now) (c .next-of-kind .ensures),
-      c .before .before .before .before .before .before .before .before .before .before .before .before
-          .before .before .before .before .good,
-    )
+add-has-parts c = omega (
+  arith,
+  schema-among (c .before .before .before .before .before .before .before .before .before .before .before .before
+      .before .before .before .before .before .args .kinds .now) (c .next-of-kind .ensures),
+  c .before .before .before .before .before .before .before
+      .before .before .before .before .before .before .before .before .before .before .good,
+)
 
 has-parts-requires : tie.Need-has-parts-requires Inv-loop μ-loop
 has-parts-requires c κs = search needs
@@ -55,93 +89,22 @@ shorter-requires-3 : tie.Need-shorter-requires-3 Inv-loop μ-loop
 shorter-requires-3 c κs = search needs
 
 mul-evaluate-schema : tie.Need-mul-evaluate-schema Inv-loop μ-loop
-mul-evaluate-schema c =
-    omega (
-      arith,
-      to-from (c .before .before .before .before .before .before .loop .inv .filling .begun) (c .before .before .before .before .before .before
-          .loop .n) (c .before .before .before .before .before .before .before .has-parts .result) (omega (
-            arith,
-            c .before .before .before .before .before .before
-                .loop .inv .filling .ahead,
-          )) (c .before .before .before .before .next-part .ensures) (c .before .before .before .before .before .before .before .before
-          .before .before .before .before .before .before .before .before .before .before .before .before .before .before .before .before .args .kinds .now)
-          (grouped-parts (c .before .before .before .before .before .before .before .before .before .before .before .before .before .before .before .before .before
-          .before .before .before .before .before .before .before .args .kinds .now) (c .before .before .before .before .before .before .before .before .before
-          .before .before .before .before .before .before .before .before .before .before .before .before .before .before .before .args .order .now) (c .before
-          .before .before .before .before .before .before .before .next-of-kind .result + 1) (c .before .before .before .before .before .before .before .has-parts
-          .ensures)) (c .before .before .before .part-end .ensures),
-      to-upto (c .before .before .before .before .before .before .loop .inv .filling .begun) (c .before .before .before .before .before .before .loop .n) (c
-          .before .before .before .before .before .before .before .has-parts .result) (omega (
-            arith,
-            c .before .before .before .before .before .before .loop .inv
-                .filling .ahead,
-          )) (c .before .before .before .before .next-part .ensures) (c .before .before .before .before .before .before .before .before .before
-          .before .before .before .before .before .before .before .before .before .before .before .before .before .before .before .args .kinds .now)
-          (grouped-parts (c .before .before .before .before .before .before .before .before .before .before .before .before .before .before .before .before .before
-          .before .before .before .before .before .before .before .args .kinds .now) (c .before .before .before .before .before .before .before .before .before
-          .before .before .before .before .before .before .before .before .before .before .before .before .before .before .before .args .order .now) (c .before
-          .before .before .before .before .before .before .before .next-of-kind .result + 1) (c .before .before .before .before .before .before .before .has-parts
-          .ensures)) (c .before .before .before .part-end .ensures),
-      c .before .before .before .before .before .before .before .before .before .before .before
-          .before .before .before .before .before .before .before .before .before .before .before .before .before .good,
-    )
+mul-evaluate-schema c = omega (
+  arith,
+  low c,
+  high c,
+  c .before .before .before .before .before .before .before .before .before .before .before .before
+      .before .before .before .before .before .before .before .before .before .before .before .before .before .good,
+)
 
 sub-evaluate-schema : tie.Need-sub-evaluate-schema Inv-loop μ-loop
-sub-evaluate-schema c =
-    to-from (c .before .before .before .before .before .before .loop .inv .filling .begun) (c .before .before .before .before .before .before .loop .n) (c
-    .before .before .before .before .before .before .before .has-parts .result) (omega (
-      arith,
-      c .before .before .before .before .before .before .loop .inv
-          .filling .ahead,
-    )) (c .before .before .before .before .next-part .ensures) (c .before .before .before .before .before .before .before .before .before .before
-    .before .before .before .before .before .before .before .before .before .before .before .before .before .before .args .kinds .now)
-    (grouped-parts (c .before .before .before .before .before .before .before .before .before .before .before .before .before .before .before .before .before
-    .before .before .before .before .before .before .before .args .kinds .now) (c .before .before .before .before .before .before .before .before .before
-    .before .before .before .before .before .before .before .before .before .before .before .before .before .before .before .args .order .now) (c .before
-    .before .before .before .before .before .before .before .next-of-kind .result + 1) (c .before .before .before .before .before .before .before .has-parts
-    .ensures)) (c .before .before .before .part-end .ensures)
+sub-evaluate-schema c = low c
 
 part-evaluate-schema-start : tie.Need-part-evaluate-schema-start Inv-loop μ-loop
-part-evaluate-schema-start c =
-    let f = to-from (c .before .before .before .before .before .before .loop .inv .filling .begun) (c .before .before .before .before .before .before .loop .n)
-    (c .before .before .before .before .before .before .before .has-parts .result) (omega (
-      arith,
-      c .before .before .before .before .before .before .loop .inv
-          .filling .ahead,
-    )) (c .before .before .before .before .next-part .ensures) (c .before .before .before .before .before .before .before .before .before .before
-    .before .before .before .before .before .before .before .before .before .before .before .before .before .before .args .kinds .now)
-    (grouped-parts (c .before .before .before .before .before .before .before .before .before .before .before .before .before .before .before .before .before
-    .before .before .before .before .before .before .before .args .kinds .now) (c .before .before .before .before .before .before .before .before .before
-    .before .before .before .before .before .before .before .before .before .before .before .before .before .before .before .args .order .now) (c .before
-    .before .before .before .before .before .before .before .next-of-kind .result + 1) (c .before .before .before .before .before .before .before .has-parts
-    .ensures)) (c .before .before .before .part-end .ensures) in
-    let u = to-upto (c .before .before .before .before .before .before .loop .inv .filling .begun) (c .before .before .before .before .before .before .loop .n)
-    (c .before .before .before .before .before .before .before .has-parts .result) (omega (
-      arith,
-      c .before .before .before .before .before .before .loop .inv
-          .filling .ahead,
-    )) (c .before .before .before .before .next-part .ensures) (c .before .before .before .before .before .before .before .before .before .before
-    .before .before .before .before .before .before .before .before .before .before .before .before .before .before .args .kinds .now)
-    (grouped-parts (c .before .before .before .before .before .before .before .before .before .before .before .before .before .before .before .before .before
-    .before .before .before .before .before .before .before .args .kinds .now) (c .before .before .before .before .before .before .before .before .before
-    .before .before .before .before .before .before .before .before .before .before .before .before .before .before .before .args .order .now) (c .before
-    .before .before .before .before .before .before .before .next-of-kind .result + 1) (c .before .before .before .before .before .before .before .has-parts
-    .ensures)) (c .before .before .before .part-end .ensures) in omega (arith, f, u)
+part-evaluate-schema-start c = let f = low c in let u = high c in omega (arith, f, u)
 
 part-evaluate-schema-end : tie.Need-part-evaluate-schema-end Inv-loop μ-loop
-part-evaluate-schema-end c =
-    to-upto (c .before .before .before .before .before .before .loop .inv .filling .begun) (c .before .before .before .before .before .before .loop .n) (c
-    .before .before .before .before .before .before .before .has-parts .result) (omega (
-      arith,
-      c .before .before .before .before .before .before .loop .inv
-          .filling .ahead,
-    )) (c .before .before .before .before .next-part .ensures) (c .before .before .before .before .before .before .before .before .before .before
-    .before .before .before .before .before .before .before .before .before .before .before .before .before .before .args .kinds .now)
-    (grouped-parts (c .before .before .before .before .before .before .before .before .before .before .before .before .before .before .before .before .before
-    .before .before .before .before .before .before .before .args .kinds .now) (c .before .before .before .before .before .before .before .before .before
-    .before .before .before .before .before .before .before .before .before .before .before .before .before .before .before .args .order .now) (c .before
-    .before .before .before .before .before .before .before .next-of-kind .result + 1) (c .before .before .before .before .before .before .before .has-parts
-    .ensures)) (c .before .before .before .part-end .ensures)
+part-evaluate-schema-end c = high c
 
 sub-evaluate-schema-2 : tie.Need-sub-evaluate-schema-2 Inv-loop μ-loop
 sub-evaluate-schema-2 c = search needs
@@ -153,15 +116,14 @@ part-evaluate-schema-end-2 : tie.Need-part-evaluate-schema-end-2 Inv-loop μ-loo
 part-evaluate-schema-end-2 c = search needs
 
 mul-evaluate-schema-2 : tie.Need-mul-evaluate-schema-2 Inv-loop μ-loop
-mul-evaluate-schema-2 c =
-    omega (
-      arith,
-      c .before .before .before .shorter2 .ensures,
-      c .before .before .before .before .before .before .before .before .loop .inv .filling
-          .numbers-kept,
-      c .before .before .before .before .before .before .before .before .before .before .before .before .before .before .before .before .before
-          .before .before .before .before .before .before .before .before .before .good,
-    )
+mul-evaluate-schema-2 c = omega (
+  arith,
+  c .before .before .before .shorter2 .ensures,
+  c .before .before .before .before .before .before .before
+      .before .loop .inv .filling .numbers-kept,
+  c .before .before .before .before .before .before .before .before .before .before .before .before
+      .before .before .before .before .before .before .before .before .before .before .before .before .before .before .before .good,
+)
 
 sub-evaluate-schema-3 : tie.Need-sub-evaluate-schema-3 Inv-loop μ-loop
 sub-evaluate-schema-3 c = search needs
@@ -188,57 +150,51 @@ index-at-requires : tie.Need-index-at-requires Inv-loop μ-loop
 index-at-requires c κs = search needs
 
 add-lo : tie.Need-add-lo Inv-loop μ-loop
-add-lo c =
-    omega (
-      arith,
-      c .before .before .before .before .before .before .before .before .before .before .before .before .before .before .before .before .before
-          .before .before .before .before .before .before .before .loop-test .taken,
-      c .before .before .before .before .before .before .before .before .before .before
-          .before .before .before .before .before .before .before .before .before .before .before .before .before .before .before .before .before .before .before
-          .before .before .before .before .before .before .before .before .before .before .before .before .before .before .good,
-    )
+add-lo c = omega (
+  arith,
+  c .before .before .before .before .before .before .before .before .before .before .before .before .before .before .before
+      .before .before .before .before .before .before .before .before .before .before .before .before .loop-test .taken,
+  c .before .before .before
+      .before .before .before .before .before .before .before .before .before .before .before .before .before .before .before .before .before .before
+      .before .before .before .before .before .before .before .before .before .before .before .before .before .before .before .before .before .before
+      .before .before .before .before .before .before .before .before .good,
+)
 
 next-of-kind-requires-2 : tie.Need-next-of-kind-requires-2 Inv-loop μ-loop
 next-of-kind-requires-2 c κs = search needs
 
 loop-less : tie.Need-loop-less Inv-loop μ-loop
-loop-less c =
-    let h = next-beyond _ _ _ (c .next-of-kind2 .ensures) in omega (
-      arith,
-      h,
-      c .before .before .before .before .before .before .before .before .before .before
-          .before .before .before .before .before .before .before .before .before .before .before .before .before .before .before .loop-test .taken,
-    )
+loop-less c = let h = next-beyond _ _ _ (c .next-of-kind2 .ensures) in omega (
+  arith,
+  h,
+  c .before .before .before .before .before .before .before
+      .before .before .before .before .before .before .before .before .before .before .before .before .before .before .before .before .before .before
+      .before .before .before .loop-test .taken,
+)
 
 loop-again : tie.Need-loop-again Inv-loop μ-loop
-loop-again c =
-    filling-next (filling-schema (c .before .before .before .before .before .before .before .before .before .before .before .before .before .before .before
-    .before .before .before .before .before .before .before .before .before .before .before .loop .inv .filling) (c .before .before .before .before .before
-    .before .before .before .before .before .before .before .before .before .before .before .before .before .before .before .before .before .before .before
-    .before .loop-test .taken) (c .before .before .before .before .before .before .before .before .before .before .before .before .before .before .before
-    .before .before .before .before .before .before .before .before .before .before .before .loop .inv .stands (c .before .before .before .before .before
-    .before .before .before .before .before .before .before .before .before .before .before .before .before .before .before .before .before .before .before
-    .before .loop-test .taken)) (c .before .before .before .before .before .before .before .before .before .before .before .before .before .before .before
-    .before .before .before .before .before .before .before .shorter .ensures) (c .before .before .before .before .before .before .before .before .before
-    .before .before .before .before .before .before .before .before .before .before .before .before .shorter2 .ensures)
-    (c .before .before .before .before .before .before .before .before .before .before .before .before .before .before .before .before .before .before .before
-    .before .shorter3 .ensures) (c .before .index-at .ensures) (c .before .before .before .before .before .before .before .before .before .before .before
-    .before .before .before .before .before .before .before .before .before .before .before .before .before .before .before .before .has-parts .result) (c
-    .before .before .before .before .before .before .before .before .before .before .before .before .before .before .before .before .before .before .before
-    .before .before .before .before .before .next-part .ensures) (grouped-parts (c .before .before .before .before .before .before .before .before .before
-    .before .before .before .before .before .before .before .before .before .before .before .before .before .before .before .before .before .before .before
-    .before .before .before .before .before .before .before .before .before .before .before .before .before .before .before .before .args .kinds .now) (c
-    .before .before .before .before .before .before .before .before .before .before .before .before .before .before .before .before .before .before .before
-    .before .before .before .before .before .before .before .before .before .before .before .before .before .before .before .before .before .before .before
-    .before .before .before .before .before .before .args .order .now) (c .before .before .before .before .before .before .before .before .before .before
+loop-again c = filling-next (filling-schema (c .before .before .before .before .before .before .before .before .before .before .before .before .before
+    .before .before .before .before .before .before .before .before .before .before .before .before .before .before .before .before .loop .inv
+    .filling) (c .before .before .before .before .before .before .before .before .before .before .before .before .before .before .before .before
+    .before .before .before .before .before .before .before .before .before .before .before .before .loop-test .taken) (c .before .before .before
     .before .before .before .before .before .before .before .before .before .before .before .before .before .before .before .before .before .before
-    .next-of-kind .result + 1) (c .before .before .before .before .before .before .before .before .before .before .before .before .before .before .before
-    .before .before .before .before .before .before .before .before .before .before .before .before .has-parts .ensures)) (c .before .before .before .before
-    .before .before .before .before .before .before .before .before .before .before .before .before .before .before .before .before .before .before .before
-    .part-end .ensures) _ _ _
-    (c .before .before .before .before .before .before .before .before .before .before .before .before .evaluate-schema .ensures) (search needs) (search
-    needs) (search needs) (search needs) (search needs)
-    (search needs) (search needs) (search needs) (search needs)) (c .next-of-kind2 .ensures)
+    .before .before .before .before .before .before .before .before .loop .inv .stands (c .before .before .before .before .before .before .before
+    .before .before .before .before .before .before .before .before .before .before .before .before .before .before .before .before .before .before
+    .before .before .before .loop-test .taken)) (c .before .before .before .before .before .before .before .before .before .before .before .before
+    .before .before .before .before .before .before .before .before .before .before .before .before .before .shorter .ensures) (c .before .before
+    .before .before .before .before .before .before .before .before .before .before .before .before .before .before .before .before .before .before
+    .before .before .before .before .shorter2 .ensures) (c .before .before .before .before .before .before .before .before .before .before .before
+    .before .before .before .before .before .before .before .before .before .before .before .before .shorter3 .ensures) (c .before .index-at .ensures)
+    (c .before .before .before .before .before .before .before .before .before .before .before .before .before .before .before .before .before .before
+    .before .before .before .before .before .before .before .before .before .before .before .before .has-parts .result) (c .before .before .before
+    .before .before .before .before .before .before .before .before .before .before .before .before .before .before .before .before .before .before
+    .before .before .before .before .before .before .next-part .ensures) (parts (c .before .before .before .before .before .before .before .before
+    .before .before .before .before .before .before .before .before .before .before .before .before .before .before .before .before .before .before
+    .before .before .before .before)) (c .before .before .before .before .before .before .before .before .before .before .before .before .before
+    .before .before .before .before .before .before .before .before .before .before .before .before .before .part-end .ensures) _ _ _ (c .before
+    .before .before .before .before .before .before .before .before .before .before .before .before .before .evaluate-schema .ensures) (search needs)
+    (search needs) (search needs) (search needs) (search needs) (search needs) (search needs) (search needs) (search needs) (search needs)) (c
+    .next-of-kind2 .ensures)
 
 same-length : tie.Need-same-length Inv-loop μ-loop
 same-length c = c .before .loop .inv .filling .kinds-kept
@@ -257,6 +213,9 @@ same-length-5 c = c .before .loop .inv .filling .value-numbers-kept
 
 same-length-6 : tie.Need-same-length-6 Inv-loop μ-loop
 same-length-6 c = c .before .loop .inv .filling .value-lengths-kept
+
+same-length-7 : tie.Need-same-length-7 Inv-loop μ-loop
+same-length-7 c = c .before .loop .inv .filling .room-kept
 
 returns : tie.Need-returns Inv-loop μ-loop
 returns c = filling-ends (c .before .loop .inv .filling) (c .loop-test .left)
@@ -302,4 +261,5 @@ evaluate-schemas-spec =
     same-length-4
     same-length-5
     same-length-6
+    same-length-7
     returns)

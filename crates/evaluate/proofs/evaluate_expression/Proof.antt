@@ -7,13 +7,13 @@ use native.Mathlib.Omega.{arith}
 use Rattle.evaluate.proofs.Walking.{Going, going-starts, going-on, going-ends}
 
 abbrev Inv-loop : tie.InvT-loop
-Inv-loop src starts lengths terminals kinds tokens sizes bindings lo hi file-kinds declared row-of at answer-kinds answer-numbers answer-lengths
+Inv-loop src starts lengths terminals kinds tokens sizes bindings lo hi file-kinds declared row-of at answer-kinds answer-numbers answer-lengths room
     value-kinds₀ value-numbers₀ value-lengths₀ n₀ value-kinds value-numbers value-lengths n =
-    Going src starts lengths terminals kinds tokens sizes bindings lo hi file-kinds declared row-of at answer-kinds answer-numbers answer-lengths
+    Going src starts lengths terminals kinds tokens sizes bindings lo hi file-kinds declared row-of at answer-kinds answer-numbers answer-lengths room
     value-kinds₀ value-numbers₀ value-lengths₀ value-kinds value-numbers value-lengths n
 
 abbrev μ-loop : tie.MeasureT-loop
-μ-loop src starts lengths terminals kinds tokens sizes bindings lo hi file-kinds declared row-of at answer-kinds answer-numbers answer-lengths
+μ-loop src starts lengths terminals kinds tokens sizes bindings lo hi file-kinds declared row-of at answer-kinds answer-numbers answer-lengths room
     value-kinds₀ value-numbers₀ value-lengths₀ n₀ value-kinds value-numbers value-lengths n = hi - n
 
 loop-holds : tie.Need-loop-holds Inv-loop μ-loop
@@ -28,7 +28,7 @@ add-n c = omega (
   c .before .before .before .before .before .before .before .before .before .loop-test .taken,
   c .before .before .before .before
       .before .before .before .before .before .before .before .before .before .before .before .before .before .before .before .before .before .before
-      .before .before .before .before .fits .hi,
+      .before .before .before .before .before .fits .hi,
 )
 
 loop-less : tie.Need-loop-less Inv-loop μ-loop

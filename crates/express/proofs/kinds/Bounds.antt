@@ -1,4 +1,5 @@
--- Every answer that an evaluation comes to fits its row: 64 signed bits, 1 to 63 bits of a binary, a node of the table, or one of the ends.
+-- Every answer that an evaluation comes to fits its row: 64 signed bits, 1 to 63 bits of a binary, a node of the table, up to 255 bytes of a string, or
+-- one of the ends.
 use mathlib.Core.Path.{_≡_, refl}
 use mathlib.Core.Logic.{⊎-elim}
 use mathlib.Core.Bool.{Bool}
@@ -13,16 +14,18 @@ use lib.Signed.{mag}
 use Rattle.relations.proofs.Select.{le-or}
 use Rattle.express.specs.syntax.NodeKind as node
 use Rattle.express.specs.syntax.Tree.{Table, count, kind, within}
-use Rattle.express.specs.kinds.Answer.{Logical, FALSE, UNKNOWN, TRUE, Answer, indeterminate, integer, logical, binary, item, end}
+use Rattle.express.specs.kinds.Answer.{Logical, FALSE, UNKNOWN, TRUE, Answer, indeterminate, integer, logical, binary, item, string, end}
+use Rattle.express.specs.tokens.Lexis.{most-bytes}
 use Rattle.express.specs.kinds.Relation.{Relation}
-use Rattle.express.specs.kinds.Declared.{Declared, INTEGER, BOOLEAN, LOGICAL, BINARY, enumeration, other}
+use Rattle.express.specs.kinds.Declared.{Declared, INTEGER, BOOLEAN, LOGICAL, BINARY, STRING, enumeration, other}
 use Rattle.express.specs.kinds.Shape.{Arithmetic, and, Operator, plus, arithmetic, relation, connective, Sign, positive, negative, not}
-use Rattle.express.specs.kinds.Shape.{Shape, integer-literal, logical-literal, binary-literal, question, name, unary, operator, interval, interval-operator, type, constant}
+use Rattle.express.specs.kinds.Shape.{Shape, integer-literal, logical-literal, binary-literal, string-literal, question, name, unary, operator, interval, interval-operator, type, constant}
 use Rattle.express.specs.kinds.Shape.{unevaluated, shape-in, Literals}
 use Rattle.express.specs.kinds.Shape as shapes
 use Rattle.express.specs.kinds.Operate.{Kind, end-in, given, operated, combined, applied, between}
 use Rattle.express.specs.kinds.Evaluate.{held, boolean-answer, answer-in, answer-at, run-in, value-in, evaluate}
-use Rattle.express.proofs.kinds.Operations.{Ends, unknown-boolean-end, Good, good-?, good-end, good-integer, good-logical, good-binary, good-item, exact-good, computed-good, join-good}
+use Rattle.express.proofs.kinds.Operations.{Ends, unknown-boolean-end, Good, good-?, good-end, good-integer, good-logical, good-binary, good-string, good-item, exact-good}
+use Rattle.express.proofs.kinds.Operations.{computed-good, join-good, join-strings-good}
 use Rattle.express.proofs.kinds.Shapes.{Decoded, decoded-in}
 
 -- an answer that fits its row; an item is a node of the table t
@@ -32,6 +35,7 @@ pub data Fitting (t : Table) : Answer → Type 0 where
   fit-integer : {z : ℤ} → mag z < 2 ^ 63 → Fitting t (integer z)
   fit-logical : {l : Logical} → Fitting t (logical l)
   fit-binary : {s : List Bool} → 1 ≤ length s → length s ≤ 63 → Fitting t (binary s)
+  fit-string : {s : List ℕ} → length s ≤ most-bytes → Fitting t (string s)
   fit-item : {m : ℕ} → m < count t → Fitting t (item m)
 
 -- a node of a kind is one of the table
@@ -46,6 +50,7 @@ module _ {t : Table} where
   good-fits (good-integer l) = fit-integer l
   good-fits good-logical = fit-logical
   good-fits (good-binary l m) = fit-binary l m
+  good-fits (good-string l) = fit-string l
   good-fits (good-item {m} e o) = fit-item (below t m e)
 
   unless-end : {x z : Answer} → Fitting t x → Fitting t z → Fitting t (given (end-in x) end z)
@@ -54,6 +59,7 @@ module _ {t : Table} where
   unless-end (fit-integer l) g = g
   unless-end fit-logical g = g
   unless-end (fit-binary l m) g = g
+  unless-end (fit-string l) g = g
   unless-end (fit-item m) g = g
 
   sum-fits : {x y : Answer} → Fitting t x → Fitting t y → Fitting t (operated plus x y)
@@ -62,13 +68,22 @@ module _ {t : Table} where
   sum-fits (fit-integer l) (fit-end h) = fit-?
   sum-fits (fit-integer l) fit-logical = fit-?
   sum-fits (fit-integer l) (fit-binary p q) = fit-?
+  sum-fits (fit-integer l) (fit-string p) = fit-?
   sum-fits (fit-integer l) (fit-item m) = fit-?
   sum-fits (fit-binary {s = x} l m) (fit-binary {s = y} p q) = good-fits (join-good x y l)
   sum-fits (fit-binary l m) fit-? = fit-?
   sum-fits (fit-binary l m) (fit-end h) = fit-?
   sum-fits (fit-binary l m) (fit-integer p) = fit-?
   sum-fits (fit-binary l m) fit-logical = fit-?
+  sum-fits (fit-binary l m) (fit-string p) = fit-?
   sum-fits (fit-binary l m) (fit-item i) = fit-?
+  sum-fits (fit-string {s = x} l) (fit-string {s = y} m) = good-fits (join-strings-good x y)
+  sum-fits (fit-string l) fit-? = fit-?
+  sum-fits (fit-string l) (fit-end h) = fit-?
+  sum-fits (fit-string l) (fit-integer p) = fit-?
+  sum-fits (fit-string l) fit-logical = fit-?
+  sum-fits (fit-string l) (fit-binary p q) = fit-?
+  sum-fits (fit-string l) (fit-item i) = fit-?
   sum-fits fit-? g = fit-?
   sum-fits (fit-end h) g = fit-?
   sum-fits fit-logical g = fit-?
@@ -80,11 +95,13 @@ module _ {t : Table} where
   arithmetic-fits o (fit-integer l) (fit-end h) = fit-?
   arithmetic-fits o (fit-integer l) fit-logical = fit-?
   arithmetic-fits o (fit-integer l) (fit-binary p q) = fit-?
+  arithmetic-fits o (fit-integer l) (fit-string p) = fit-?
   arithmetic-fits o (fit-integer l) (fit-item m) = fit-?
   arithmetic-fits o fit-? g = fit-?
   arithmetic-fits o (fit-end h) g = fit-?
   arithmetic-fits o fit-logical g = fit-?
   arithmetic-fits o (fit-binary l m) g = fit-?
+  arithmetic-fits o (fit-string l) g = fit-?
   arithmetic-fits o (fit-item m) g = fit-?
 
   operated-fits : (o : Operator) {x y : Answer} → Fitting t x → Fitting t y → Fitting t (operated o x y)
@@ -103,6 +120,7 @@ module _ {t : Table} where
   applied-fits negative (fit-integer l) = good-fits (exact-good _)
   applied-fits negative fit-logical = fit-?
   applied-fits negative (fit-binary l m) = fit-?
+  applied-fits negative (fit-string l) = fit-?
   applied-fits negative (fit-item m) = fit-?
   applied-fits not g = unless-end g fit-logical
 
@@ -121,9 +139,11 @@ module _ {t : Table} where
   held-fits BOOLEAN (fit-integer l) = fit-integer l
   held-fits BOOLEAN (fit-logical {l}) = boolean-fits l
   held-fits BOOLEAN (fit-binary l m) = fit-binary l m
+  held-fits BOOLEAN (fit-string l) = fit-string l
   held-fits BOOLEAN (fit-item m) = fit-item m
   held-fits LOGICAL g = g
   held-fits BINARY g = g
+  held-fits STRING g = g
   held-fits (enumeration y) g = g
   held-fits other g = g
 
@@ -136,6 +156,7 @@ module _ (t e : Table) (c : List ℕ) (v : Literals e) (g : ℕ → Answer) (kno
       by (integer-literal w) d = fit-integer {z = pos w} (rw (d .1) (v .small n (d .0)))
       by (logical-literal l) d = fit-logical
       by (binary-literal s) d = fit-binary {s = s} (rw (d .1) (v .some-bits n (d .0))) (rw (d .1) (v .few-bits n (d .0)))
+      by (string-literal s) d = fit-string {s = s} (rw (d .1) (v .few-bytes n (d .0 .0) (d .0 .1)))
       by question d = fit-?
       by (shapes.item m) d = fit-item (below t m d)
       by (name k) d = known k

@@ -18,7 +18,7 @@ use Rattle.express.specs.names.Scope as scope
 use Rattle.express.specs.names.Fault.{suits, right, type-name-fault, cyclic, constants-meant, constant-edges}
 use Rattle.express.specs.names.Names.{WellNamed}
 use Rattle.express.specs.kinds.Declared.{declaration, bound, denoted}
-use Rattle.express.specs.kinds.Shape.{Shape, Operator, name, shape, shape-in, operator-of, evaluated, name-shape-in}
+use Rattle.express.specs.kinds.Shape.{Shape, Operator, name, is-string, shape, shape-in, operator-of, evaluated, name-shape-in}
 use Rattle.express.specs.kinds.Order.{Uses, Order, constant-order}
 use Rattle.relations.proofs.Select.{and-fst, and-snd, and-both, untrue, le-or, mem-upto, keep-mem, mem-keep, mem-flat, column-at}
 use Rattle.relations.proofs.Reach.{reaches-iff}
@@ -61,7 +61,8 @@ shape-named t b n c e =
     let e₁ = skip (is t node.integer-literal n) _ _ (λ q. let z : _≡_ {A = ℕ} 0 1 = cc in omega arith) e in
     let e₂ = skip (is t node.binary-literal n) _ _ (λ q. let z : _≡_ {A = ℕ} 0 1 = cc in omega arith) e₁ in
     let e₃ = skip (is t node.logical-literal n) _ _ (λ q. let z : _≡_ {A = ℕ} 0 1 = cc in omega arith) e₂ in
-    let e₄ = skip (is t node.question n) _ _ (λ q. let z : _≡_ {A = ℕ} 0 1 = cc in omega arith) e₃ in
+    let e₃′ = skip (is-string t n) _ _ (λ q. let z : _≡_ {A = ℕ} 0 1 = cc in omega arith) e₃ in
+    let e₄ = skip (is t node.question n) _ _ (λ q. let z : _≡_ {A = ℕ} 0 1 = cc in omega arith) e₃′ in
     ⊎-elim (λ q. named-is t b n c (q .0) (q .1))
     (λ e₅.
     let e₆ = skip (is t node.unary n) _ _ (λ q. let z : _≡_ {A = ℕ} 0 1 = cc in omega arith) e₅ in

@@ -10,19 +10,21 @@ use lib.Dec.{eqb, leb, ltb}
 use lib.ListN.{length, length-append}
 use lib.IntN.{ℤ, pos, negsuc, natAbs}
 use lib.Signed.{mag}
-use Rattle.express.specs.kinds.Answer.{Logical, FALSE, UNKNOWN, TRUE, Answer, indeterminate, integer, logical, binary, item, end, outside, zero-divisor, negative-power, unknown-boolean, ends}
+use Rattle.express.specs.kinds.Answer.{Logical, FALSE, UNKNOWN, TRUE, Answer, indeterminate, integer, logical, binary, item, string, end, outside, zero-divisor, negative-power, unknown-boolean, ends}
 use Rattle.express.specs.syntax.NodeKind.{enumeration-item}
 use Rattle.express.specs.syntax.Tree.{Table, owner}
 use Rattle.express.specs.syntax.Tree as tree
 use Rattle.express.specs.kinds.Integer.{exact, DIV, MOD, quotient, remainder}
 use Rattle.express.specs.kinds.Integer as int
 use Rattle.express.specs.kinds.Bits.{join}
+use Rattle.express.specs.kinds.Strings.{join-strings}
+use Rattle.express.specs.tokens.Lexis.{most-bytes}
 use Rattle.express.specs.kinds.Relation.{Relation}
-use Rattle.express.specs.kinds.Declared.{Declared, INTEGER, BOOLEAN, LOGICAL, BINARY, enumeration, other}
+use Rattle.express.specs.kinds.Declared.{Declared, INTEGER, BOOLEAN, LOGICAL, BINARY, STRING, enumeration, other}
 use Rattle.express.specs.kinds.Shape.{Arithmetic, minus, times, divide, modulo, power, and, Operator, plus, arithmetic, relation, connective, Sign, positive, negative, not}
-use Rattle.express.specs.kinds.Operate.{Kind, integers, logicals, binaries, items, undetermined, untyped, Of, of-?, of-end, of-integer, of-logical, of-binary}
+use Rattle.express.specs.kinds.Operate.{Kind, integers, logicals, binaries, strings, items, undetermined, untyped, Of, of-?, of-end, of-integer, of-logical, of-binary, of-string}
 use Rattle.express.specs.kinds.Operate.{of-item, integral, truthful, summable, comparable, takes, takes-one, end-in, given, computed, operated, combined, applied, between}
-use Rattle.express.specs.kinds.Rule.{Member, an-integer, is-false, is-true, a-logical, a-binary, an-item, Holds, no-value, an-end, a-member}
+use Rattle.express.specs.kinds.Rule.{Member, an-integer, is-false, is-true, a-logical, a-binary, a-string, an-item, Holds, no-value, an-end, a-member}
 use Rattle.express.specs.kinds.Kind.{same, common, kind-of-type, result, result-of-one}
 use Rattle.express.proofs.kinds.KindNumbers.{same-kinds}
 use Rattle.express.specs.kinds.Evaluate.{boolean-answer, held}
@@ -38,6 +40,7 @@ pub data Good (t : Table) : Kind → Answer → Type 0 where
   good-integer : {z : ℤ} → mag z < 2 ^ 63 → Good t integers (integer z)
   good-logical : {l : Logical} → Good t logicals (logical l)
   good-binary : {s : List Bool} → 1 ≤ length s → length s ≤ 63 → Good t binaries (binary s)
+  good-string : {s : List ℕ} → length s ≤ most-bytes → Good t strings (string s)
   good-item : {m y : ℕ} → tree.kind t m ≡ enumeration-item → owner t m ≡ y → Good t (items y) (item m)
 
 outside-end : Ends outside
@@ -67,6 +70,7 @@ integral-comparable : (k : Kind) → integral k ≡ true → comparable k ≡ tr
 integral-comparable integers e = refl
 integral-comparable logicals e = refl
 integral-comparable binaries e = refl
+integral-comparable strings e = refl
 integral-comparable (items y) e = refl
 integral-comparable undetermined e = refl
 integral-comparable untyped e = e
@@ -75,6 +79,7 @@ truthful-comparable : (k : Kind) → truthful k ≡ true → comparable k ≡ tr
 truthful-comparable integers e = refl
 truthful-comparable logicals e = refl
 truthful-comparable binaries e = refl
+truthful-comparable strings e = refl
 truthful-comparable (items y) e = refl
 truthful-comparable undetermined e = refl
 truthful-comparable untyped e = e
@@ -83,6 +88,7 @@ summable-comparable : (k : Kind) → summable k ≡ true → comparable k ≡ tr
 summable-comparable integers e = refl
 summable-comparable logicals e = refl
 summable-comparable binaries e = refl
+summable-comparable strings e = refl
 summable-comparable (items y) e = refl
 summable-comparable undetermined e = refl
 summable-comparable untyped e = e
@@ -120,6 +126,7 @@ no-value-held INTEGER = refl
 no-value-held BOOLEAN = refl
 no-value-held LOGICAL = refl
 no-value-held BINARY = refl
+no-value-held STRING = refl
 no-value-held (enumeration y) = refl
 no-value-held other = refl
 
@@ -128,6 +135,7 @@ end-held INTEGER e = refl
 end-held BOOLEAN e = refl
 end-held LOGICAL e = refl
 end-held BINARY e = refl
+end-held STRING e = refl
 end-held (enumeration y) e = refl
 end-held other e = refl
 
@@ -145,7 +153,8 @@ determined INTEGER = refl
 determined BOOLEAN = refl
 determined LOGICAL = refl
 determined BINARY = refl
-determined (enumeration y) = ne-eqb (y + 5) 1 (λ e. omega arith)
+determined STRING = refl
+determined (enumeration y) = ne-eqb (y + 6) 1 (λ e. omega arith)
 determined other = refl
 
 pub common-typed : (d : Declared) (k : Kind) → comparable (common (kind-of-type d) k) ≡ true → comparable (kind-of-type d) ≡ true
@@ -158,6 +167,7 @@ module _ {t : Table} where
   good-of (good-integer l) = of-integer
   good-of good-logical = of-logical
   good-of (good-binary l m) = of-binary
+  good-of (good-string l) = of-string
   good-of (good-item i o) = of-item o
 
   -- ---- two kinds together: what is of either is of the common one
@@ -221,6 +231,15 @@ module _ {t : Table} where
       by true e = good-binary {s = x ++ y} (simp length-append (omega arith)) (leb-true (length (x ++ y)) 63 e)
       by false e = good-end outside-end
 
+  -- ---- strings
+  pub join-strings-good : (x y : List ℕ) → Good t strings (join-strings x y)
+  unfolding join-strings
+  join-strings-good x y = by (leb (length (x ++ y)) most-bytes) refl
+    where
+      by : (b : Bool) → leb (length (x ++ y)) most-bytes ≡ b → Good t strings (cond b (string (x ++ y)) (end outside))
+      by true e = good-string {s = x ++ y} (leb-true (length (x ++ y)) most-bytes e)
+      by false e = good-end outside-end
+
   -- ---- operators: an end of an operand, or what the operation gives
   unless-end : {j k : Kind} {x z : Answer} → Good t j x → Good t k z → Good t k (given (end-in x) end z)
   unless-end good-? g = g
@@ -228,6 +247,7 @@ module _ {t : Table} where
   unless-end (good-integer l) g = g
   unless-end good-logical g = g
   unless-end (good-binary l m) g = g
+  unless-end (good-string l) g = g
   unless-end (good-item i o) g = g
 
   operated-good : (o : Operator) {k : Kind} {x y : Answer} → Good t k x → Good t k y → Good t (result o k) (operated o x y)
@@ -240,6 +260,9 @@ module _ {t : Table} where
   operated-good plus (good-binary l m) good-? = good-?
   operated-good plus (good-binary l m) (good-end e) = good-?
   operated-good plus (good-binary {s = x} l m) (good-binary {s = y} p q) = join-good x y l
+  operated-good plus (good-string l) good-? = good-?
+  operated-good plus (good-string l) (good-end e) = good-?
+  operated-good plus (good-string {s = x} l) (good-string {s = y} m) = join-strings-good x y
   operated-good plus (good-item i o) h = good-?
   operated-good (arithmetic o) good-? h = good-?
   operated-good (arithmetic o) (good-end e) h = good-?
@@ -248,6 +271,7 @@ module _ {t : Table} where
   operated-good (arithmetic o) (good-integer {z = x} l) (good-integer {z = y} m) = computed-good o x y
   operated-good (arithmetic o) good-logical h = good-?
   operated-good (arithmetic o) (good-binary l m) h = good-?
+  operated-good (arithmetic o) (good-string l) h = good-?
   operated-good (arithmetic o) (good-item i p) h = good-?
   operated-good (relation o) g h = good-logical
   operated-good (connective o) g h = good-logical
@@ -266,12 +290,14 @@ module _ {t : Table} where
   applied-good positive e (good-integer l) = good-integer l
   applied-good positive e good-logical = absurd (false≢true e)
   applied-good positive e (good-binary l m) = absurd (false≢true e)
+  applied-good positive e (good-string l) = absurd (false≢true e)
   applied-good positive e (good-item i o) = absurd (false≢true e)
   applied-good negative e good-? = good-?
   applied-good negative e (good-end h) = good-end h
   applied-good negative e (good-integer l) = exact-good _
   applied-good negative e good-logical = good-?
   applied-good negative e (good-binary l m) = good-?
+  applied-good negative e (good-string l) = good-?
   applied-good negative e (good-item i o) = good-?
   applied-good not e g = unless-end g good-logical
 
@@ -297,6 +323,9 @@ module _ {t : Table} where
   held-good BINARY e good-? = kept good-? no-value
   held-good BINARY e (good-end h) = kept (good-end h) (an-end h)
   held-good BINARY e (good-binary l m) = kept (good-binary l m) (a-member (a-binary l m))
+  held-good STRING e good-? = kept good-? no-value
+  held-good STRING e (good-end h) = kept (good-end h) (an-end h)
+  held-good STRING e (good-string l) = kept (good-string l) (a-member (a-string l))
   held-good (enumeration y) e good-? = kept good-? no-value
   held-good (enumeration y) e (good-end h) = kept (good-end h) (an-end h)
   held-good (enumeration y) e (good-item i o) = kept (good-item i o) (a-member (an-item i o))
@@ -321,6 +350,7 @@ module _ {t : Table} where
   member-held is-true = refl
   member-held a-logical = refl
   member-held (a-binary l m) = refl
+  member-held (a-string l) = refl
   member-held (an-item i o) = refl
 
   pub holds-held : {d : Declared} {a : Answer} → Holds t d a → a ≡ held d a

@@ -1,18 +1,19 @@
--- The orders of integers, logicals and lists of bits: what the machine's test tells of two integers; and the last two are total.
+-- The orders of integers, logicals, lists of bits and of bytes: what the machine's test tells of two integers; and the others are total.
 use mathlib.Core.Path.{_≡_, refl}
 use mathlib.Core.Bool.{Bool, true, false}
-use Prim.Native.Nat.{ℕ, Ordering·lt, Ordering·eq, Ordering·gt}
+use Prim.Native.Nat.{ℕ, compare, Ordering·lt, Ordering·eq, Ordering·gt}
 use native.Mathlib.Omega.{arith}
 use borrow.Author.Tests.{ltb-true, ltb-false}
 use lib.IntN.{ℤ, pos, negsuc}
 use lib.Signed.{ltZ}
 use Rattle.relations.specs.Order.{Total}
 pub use Rattle.relations.proofs.Order.{compare-lt, compare-gt, compare-eq}
-use Rattle.relations.proofs.Order.{total-by, total-lists}
+use Rattle.relations.proofs.Order.{total-by, total-numbers, total-lists}
 use Rattle.express.specs.kinds.Answer.{Logical, FALSE, UNKNOWN, TRUE}
 use Rattle.express.specs.kinds.Integer.{compareℤ}
 use Rattle.express.specs.kinds.Logic.{rank, compare-logical}
 use Rattle.express.specs.kinds.Bits.{bit, compare-bit, compare-bits}
+use Rattle.express.specs.kinds.Strings.{compare-bytes}
 
 -- ---- integers: `ltZ` is the test that the machine makes
 pub less-integer : (a b : ℤ) → ltZ a b ≡ true → compareℤ a b ≡ Ordering·lt
@@ -53,6 +54,9 @@ one-bit true true e = refl
 one-bit true false e = absurd (omega arith)
 one-bit false true e = absurd (omega arith)
 one-bit false false e = refl
+
+pub total-bytes : Total compare-bytes
+total-bytes = total-lists compare total-numbers
 
 pub total-bits : Total compare-bits
 total-bits = total-lists compare-bit (total-by bit one-bit)

@@ -11,7 +11,7 @@ use Rattle.relations.specs.Select.{span}
 use Rattle.express.specs.syntax.NodeKind as node
 use Rattle.express.specs.syntax.Tree.{Table, count, kind, size, first, last, left, middle, low, within}
 use Rattle.express.specs.kinds.Answer.{Answer, indeterminate}
-use Rattle.express.specs.kinds.Shape.{Shape, integer-literal, logical-literal, binary-literal, question, item, name, unary, operator, interval}
+use Rattle.express.specs.kinds.Shape.{Shape, integer-literal, logical-literal, binary-literal, string-literal, question, item, name, unary, operator, interval}
 use Rattle.express.specs.kinds.Shape.{interval-operator, type, constant, unevaluated, shape-in}
 use Rattle.express.specs.kinds.Operate.{Kind, untyped}
 use Rattle.express.specs.kinds.Kind.{Finding, of-kind, fault, finding-in, kind-at, Typing, typed, ill-typed, if-found, type-nodes-in, type-expression-in}
@@ -47,6 +47,7 @@ module _ (t e : Table) (c : List ℕ) (f : Formed e) where
       by (integer-literal v) d = refl
       by (logical-literal v) d = refl
       by (binary-literal v) d = refl
+      by (string-literal v) d = refl
       by question d = refl
       by (item m) d = refl
       by (name k) d = refl
@@ -114,6 +115,7 @@ module _ (t e : Table) (c : List ℕ) (f : Formed e) where
         by (integer-literal v) d = refl
         by (logical-literal v) d = refl
         by (binary-literal v) d = refl
+        by (string-literal v) d = refl
         by question d = refl
         by (item m) d = refl
         by (name k) d = refl

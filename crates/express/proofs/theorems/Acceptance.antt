@@ -29,6 +29,7 @@ use Rattle.express.specs.kinds.Kind as kinds
 use Rattle.express.specs.kinds.Order.{constant-order}
 use Rattle.express.specs.kinds.Evaluate.{answers, answer-at}
 use Rattle.express.specs.kinds.Rule.{Exactly}
+use Rattle.express.specs.kinds.AnswerRow.{room-of}
 use Rattle.express.specs.whole.Reply.{Accepted, accepted, refused, after-kinds, after-names, after-rows, after-syntax, after-tokens, checked}
 use Rattle.express.specs.whole.Acceptance.{Acceptable}
 use Rattle.relations.proofs.Select.{keep-mem, upto-mem}
@@ -97,39 +98,61 @@ module _ (t : Table) (scanned : Scanned t) (read : Read file t) (named : WellNam
 clash : {A : Type 0} → _≡_ {A = ℕ} 0 1 → A
 clash z = absurd (omega arith)
 
-record Passed (ls : List TokenRow) (t : Table) (nr ar : ℕ) (a : Accepted) : Type 0 where
+record Passed (ls : List TokenRow) (t : Table) (nr ar room : ℕ) (a : Accepted) : Type 0 where
   node-room : count t ≤ nr
   answer-room : length (constants t) ≤ ar
   named : WellNamed t
   types : (ks : List Kind) × (typing t (bindings t) ≡ typed ks)
   made-of : made ls t (computed t) ≡ a
+  string-room : length (room-of (computed t)) ≤ room
 
-module _ (ls : List TokenRow) (t : Table) (nr ar : ℕ) (a : Accepted) where
-  passed-kinds : (x : Typing) → typing t (bindings t) ≡ x → after-kinds ls t x ≡ accepted a → ((ks : List Kind) × (typing t (bindings t) ≡ typed ks)) × (made ls t (computed t) ≡ a)
-  passed-kinds (typed ks) e h = ((ks, e), cc)
+module _ (ls : List TokenRow) (t : Table) (nr ar room : ℕ) (a : Accepted) where
+  -- what is left when the typing has accepted: the answers, and room for their strings
+  record Typed : Type 0 where
+    types : (ks : List Kind) × (typing t (bindings t) ≡ typed ks)
+    made-of : made ls t (computed t) ≡ a
+    string-room : length (room-of (computed t)) ≤ room
+
+  passed-room :
+      (ks : List Kind) → typing t (bindings t) ≡ typed ks → (b : Bool) → leb (length (room-of (computed t))) room ≡ b →
+      cond b (accepted (made ls t (computed t))) (refused 20 room) ≡ accepted a → Typed
+  passed-room ks e true l h = record { types = (ks, e); made-of = cc; string-room = leb-true _ _ l }
+  passed-room ks e false l h = clash (cc)
+
+  passed-kinds : (x : Typing) → typing t (bindings t) ≡ x → after-kinds ls t room x ≡ accepted a → Typed
+  passed-kinds (typed ks) e h = passed-room ks e (leb (length (room-of (computed t))) room) refl h
   passed-kinds (kinds.ill-typed f n) e h = clash (cc)
 
-  passed-rows : after-rows ls t nr ar ≡ accepted a → Passed ls t nr ar a
+  passed-rows : after-rows ls t room nr ar ≡ accepted a → Passed ls t nr ar room a
   passed-rows h = nodes-fit (leb (count t) nr) refl h
     where
-      named-well : (b : Bool) → eqb (names t .number) 0 ≡ b → cond b (after-kinds ls t (typing t (bindings t))) (refused (names t .number) (names t .place)) ≡ accepted a →
-          WellNamed t × (((ks : List Kind) × (typing t (bindings t) ≡ typed ks)) × (made ls t (computed t) ≡ a))
+      named-well :
+          (b : Bool) → eqb (names t .number) 0 ≡ b →
+          cond b (after-kinds ls t room (typing t (bindings t))) (refused (names t .number) (names t .place)) ≡ accepted a → WellNamed t × Typed
       named-well true e q = (names-passes t .0 (eqb-true (names t .number) 0 e), passed-kinds (typing t (bindings t)) refl q)
       named-well false e q = clash (cc)
 
       answers-fit : count t ≤ nr → (b : Bool) → leb (length (constants t)) ar ≡ b →
-          cond b (after-names ls t (names t)) (refused 8 (length (constants t))) ≡ accepted a → Passed ls t nr ar a
+          cond b (after-names ls t room (names t)) (refused 8 (length (constants t))) ≡ accepted a → Passed ls t nr ar room a
       answers-fit l true e q =
           let r = named-well (eqb (names t .number) 0) refl q in
-          record { node-room = l; answer-room = leb-true _ _ e; named = r .0; types = r .1 .0; made-of = r .1 .1 }
+          record {
+            node-room = l;
+            answer-room = leb-true _ _ e;
+            named = r .0;
+            types = r .1 .types;
+            made-of = r .1 .made-of;
+            string-room = r .1 .string-room;
+          }
       answers-fit l false e q = clash (cc)
 
       nodes-fit : (b : Bool) → leb (count t) nr ≡ b →
-          cond b (cond (leb (length (constants t)) ar) (after-names ls t (names t)) (refused 8 (length (constants t)))) (refused 7 (count t)) ≡ accepted a → Passed ls t nr ar a
+          cond b (cond (leb (length (constants t)) ar) (after-names ls t room (names t)) (refused 8 (length (constants t)))) (refused 7 (count t)) ≡ accepted a →
+          Passed ls t nr ar room a
       nodes-fit true e q = answers-fit (leb-true _ _ e) (leb (length (constants t)) ar) refl q
       nodes-fit false e q = clash (cc)
 
-module _ (s : List ℕ) (tr nr ar : ℕ) (a : Accepted) where
+module _ (s : List ℕ) (tr nr ar room : ℕ) (a : Accepted) where
   read-of : (r : ebnf.Rows) → parsed file (token-table s .terminals) ≡ good r → Read file (with-rows (token-table s) (r .rows))
   read-of r e = read-good file (token-table s) r e
 
@@ -138,13 +161,13 @@ module _ (s : List ℕ) (tr nr ar : ℕ) (a : Accepted) where
 
   passed-syntax :
       (n : ℕ) → lexed s .stop ≡ at n → length (lexed s .rows) ≤ tr → (o : Outcome ebnf.Rows) → parsed file (token-table s .terminals) ≡ o →
-      after-syntax s (lexed s) nr ar o ≡ accepted a → Acceptable s tr nr ar a
+      after-syntax s (lexed s) nr ar room o ≡ accepted a → Acceptable s tr nr ar room a
   passed-syntax n e l (good r) p h =
       let t = with-rows (token-table s) (r .rows) in
-      let q = passed-rows (lexed s .rows) t nr ar a h in
+      let q = passed-rows (lexed s .rows) t nr ar room a h in
       let d = (parsed-iff file (token-table s .terminals) (good r)) .0 p in
       let w = typing-accepts t (bindings t) (formed-rows (read-of r p)) .0 (q .types) in
-      subst (Acceptable s tr nr ar) (q .made-of)
+      subst (Acceptable s tr nr ar room) (q .made-of)
       (record {
         end = n;
         scanned = e;
@@ -161,24 +184,25 @@ module _ (s : List ℕ) (tr nr ar : ℕ) (a : Accepted) where
         well-typed = w;
         as-many = length-map (constants t) _;
         exact = computed-exact t (scanned-of (r .rows)) (read-of r p) (q .named) w;
+        string-room = q .string-room;
       })
   passed-syntax n e l (unexpected j) p h = clash (cc)
   passed-syntax n e l (too-deep k) p h = clash (cc)
 
   passed-tokens :
-      (x : Reading) → lexed s .stop ≡ x → (b : Bool) → leb (length (lexed s .rows)) tr ≡ b → after-tokens s (lexed s) nr ar (counted x (length (lexed s .rows)) tr) ≡ accepted a →
-      Acceptable s tr nr ar a
+      (x : Reading) → lexed s .stop ≡ x → (b : Bool) → leb (length (lexed s .rows)) tr ≡ b → after-tokens s (lexed s) nr ar room (counted x (length (lexed s .rows)) tr) ≡ accepted a →
+      Acceptable s tr nr ar room a
   passed-tokens (at n) e true l h = passed-syntax n e (leb-true _ _ l) (parsed file (token-table s .terminals)) refl (rw l at h)
   passed-tokens (at n) e false l h = clash (let q = rw l at h in cc)
   passed-tokens (lexis.refused k p) e b l h = clash (cc)
 
-  passed : checked s tr nr ar ≡ accepted a → Acceptable s tr nr ar a
+  passed : checked s tr nr ar room ≡ accepted a → Acceptable s tr nr ar room a
   unfolding checked tokens
   passed h = passed-tokens (lexed s .stop) refl (leb (length (lexed s .rows)) tr) refl h
 
   -- ---- to acceptance
 
-  reached : Acceptable s tr nr ar a → checked s tr nr ar ≡ accepted a
+  reached : Acceptable s tr nr ar room a → checked s tr nr ar room ≡ accepted a
   unfolding checked tokens
   reached p =
       let t = with-rows (token-table s) (p .rows) in
@@ -194,8 +218,9 @@ module _ (s : List ℕ) (tr nr ar : ℕ) (a : Accepted) where
       let xs : computed t ≡ a .answers = computed-only t (scanned-of (p .rows)) read named types (a .answers) many exact in
       let nodes : count t ≤ nr = rw e at (p .node-room) in
       let rows : length (constants t) ≤ ar = rw e at (p .answer-room) in
-      rw (p .scanned, le-leb _ _ (p .token-room), q, le-leb _ _ nodes, le-leb _ _ rows, names-passes t .1 named, h .1)
+      let strings : length (room-of (computed t)) ≤ room = rw xs (p .string-room) in
+      rw (p .scanned, le-leb _ _ (p .token-room), q, le-leb _ _ nodes, le-leb _ _ rows, names-passes t .1 named, h .1, le-leb _ _ strings)
       (ap accepted (alike (made (lexed s .rows) t (computed t)) a (sym (p .tokens-are)) (sym e) (sym bound) xs))
 
-pub accepted-iff : (s : List ℕ) (tr nr ar : ℕ) (a : Accepted) → (checked s tr nr ar ≡ accepted a) ↔ Acceptable s tr nr ar a
-accepted-iff s tr nr ar a = (passed s tr nr ar a, reached s tr nr ar a)
+pub accepted-iff : (s : List ℕ) (tr nr ar room : ℕ) (a : Accepted) → (checked s tr nr ar room ≡ accepted a) ↔ Acceptable s tr nr ar room a
+accepted-iff s tr nr ar room a = (passed s tr nr ar room a, reached s tr nr ar room a)

@@ -15,11 +15,11 @@ use Rattle.relations.specs.Select.{span}
 use Rattle.express.specs.syntax.Tree.{Table, count, kind, size, first, last, left, middle, low}
 use Rattle.express.proofs.syntax.Formed.{Formed}
 use Rattle.express.specs.kinds.Declared.{Declared, BOOLEAN, declared-type}
-use Rattle.express.specs.kinds.Shape.{relation, Shape, integer-literal, logical-literal, binary-literal, question, name}
+use Rattle.express.specs.kinds.Shape.{relation, Shape, integer-literal, logical-literal, binary-literal, string-literal, question, name}
 use Rattle.express.specs.kinds.Shape.{unary, operator, interval, interval-operator, type, constant, unevaluated, shape, Literals}
 use Rattle.express.specs.kinds.Shape as shapes
-use Rattle.express.specs.kinds.Operate.{Kind, integers, logicals, binaries, undetermined, untyped, comparable, takes, takes-one, combined, applied}
-use Rattle.express.specs.kinds.Rule.{Holds, an-end, Gives, an-integer-literal, a-logical-literal, a-binary-literal}
+use Rattle.express.specs.kinds.Operate.{Kind, integers, logicals, binaries, strings, undetermined, untyped, comparable, takes, takes-one, combined, applied}
+use Rattle.express.specs.kinds.Rule.{Holds, an-end, Gives, an-integer-literal, a-logical-literal, a-binary-literal, a-string-literal}
 use Rattle.express.specs.kinds.Rule.{a-question, a-name, a-sign, an-operator, an-interval, a-constant, an-unknown-boolean, Exactly}
 use Rattle.express.specs.kinds.Rule as rule
 use Rattle.express.specs.kinds.Kind.{common, kind-of-type, of-kind, fault, if-fits, if-evaluated, finding, kind-at, typed, typing, Constant, Fits}
@@ -28,8 +28,8 @@ use Rattle.relations.specs.Reach.{direct}
 use Rattle.relations.specs.Sorted.{Sorted, done, next}
 use Rattle.express.specs.kinds.Order.{Needs, Order}
 use Rattle.relations.proofs.Select.{and-fst, and-snd}
-use Rattle.express.proofs.kinds.Operations.{unknown-boolean-end, Good, good-?, good-integer, good-logical, good-binary, good-item, good-of, recast, common-good, declared-good}
-use Rattle.express.proofs.kinds.Operations.{common-typed, takes-comparable, takes-one-comparable, combined-good, between-good, applied-good, Kept, itself, unknown, held-good, holds-held}
+use Rattle.express.proofs.kinds.Operations.{unknown-boolean-end, Good, good-?, good-integer, good-logical, good-binary, good-string, good-item, good-of}
+use Rattle.express.proofs.kinds.Operations.{recast, common-good, declared-good, common-typed, takes-comparable, takes-one-comparable, combined-good, between-good, applied-good, Kept, itself, unknown, held-good, holds-held}
 use Rattle.express.proofs.kinds.Shapes.{Decoded, decoded, constant-shape}
 use Rattle.express.proofs.kinds.Spans.{Below, last-below, left-below, five-below, value-below, in-constant, constant-owner, constant-of}
 use Rattle.express.proofs.kinds.Typed.{typing-fits}
@@ -41,6 +41,7 @@ abbrev needs : Table → (ℕ → Type 0) → (ℕ → Type 0) → ℕ → Shape
 needs t P Q n (integer-literal v) = Unit {0}
 needs t P Q n (logical-literal l) = Unit {0}
 needs t P Q n (binary-literal s) = Unit {0}
+needs t P Q n (string-literal s) = Unit {0}
 needs t P Q n question = Unit {0}
 needs t P Q n (shapes.item m) = Unit {0}
 needs t P Q n (name c) = Q c
@@ -57,6 +58,7 @@ needs-map :
 needs-map t P Q P′ Q′ n (integer-literal v) f g h = tt
 needs-map t P Q P′ Q′ n (logical-literal l) f g h = tt
 needs-map t P Q P′ Q′ n (binary-literal l) f g h = tt
+needs-map t P Q P′ Q′ n (string-literal l) f g h = tt
 needs-map t P Q P′ Q′ n question f g h = tt
 needs-map t P Q P′ Q′ n (shapes.item m) f g h = tt
 needs-map t P Q P′ Q′ n (name c) f g h = g c h
@@ -104,6 +106,7 @@ module _ (t : Table) (b : List ℕ) (v : Literals t) (k : ℕ → Kind) (f g : �
   only-one (an-integer-literal e) h = rw e
   only-one (a-logical-literal e) h = rw e
   only-one (a-binary-literal e) h = rw e
+  only-one (a-string-literal e) h = rw e
   only-one (a-question e) h = rw e
   only-one (rule.an-item e) h = rw e
   only-one (a-name e x) h = rw e ((rw e at h) .only _ x)
@@ -132,6 +135,9 @@ module _ (t : Table) (b : List ℕ) (v : Literals t) (k : ℕ → Kind) (f g : �
   one n (binary-literal s) e o i h c =
       let q : binaries ≡ k n = cc in
       given-by n q (a-binary-literal e) (good-binary (rw (o .1) (v .some-bits n (o .0))) (rw (o .1) (v .few-bits n (o .0))))
+  one n (string-literal s) e o i h c =
+      let q : strings ≡ k n = cc in
+      given-by n q (a-string-literal e) (good-string (rw (o .1) (v .few-bytes n (o .0 .0) (o .0 .1))))
   one n question e o i h c = let q : undetermined ≡ k n = cc in given-by n q (a-question e) good-?
   one n (shapes.item m) e o i h c = given-by n (cc) (rule.an-item e) (good-item o refl)
   one n (name d) e o i h c =
@@ -232,6 +238,7 @@ needs-passed t b f Q d m l w h = by (shape t b m) refl (decoded t b m)
     by (integer-literal z) e o = tt
     by (logical-literal z) e o = tt
     by (binary-literal z) e o = tt
+    by (string-literal z) e o = tt
     by question e o = tt
     by (shapes.item z) e o = tt
     by (name c) e o = h c o e
@@ -324,6 +331,7 @@ constant-holds : (t : Table) (b : List ℕ) {c : ℕ} {a : Answer} (d : Declared
 constant-holds t b d (an-integer-literal e) i = clash (cc)
 constant-holds t b d (a-logical-literal e) i = clash (cc)
 constant-holds t b d (a-binary-literal e) i = clash (cc)
+constant-holds t b d (a-string-literal e) i = clash (cc)
 constant-holds t b d (a-question e) i = clash (cc)
 constant-holds t b d (rule.an-item e) i = clash (cc)
 constant-holds t b d (a-name e x) i = clash (cc)

@@ -1,11 +1,13 @@
 -- Worked examples of tokens, by computation.
 use mathlib.Core.Path.{_≡_, refl, _∙_}
-use mathlib.Core.List.{List, [], _∷_, map}
-use Prim.Native.Nat.{ℕ}
+use mathlib.Core.Bool.{Bool, true, false}
+use mathlib.Core.List.{List, [], _∷_, _++_, map}
+use Prim.Native.Nat.{ℕ, _+_, _*_}
 use Prim.Native.String.{String}
+use lib.ListN.{replicate}
 use Rattle.express.specs.tokens.Bytes.{upper, word-byte, space, same}
-use Rattle.express.specs.tokens.Lexis.{TokenRow, Reading, at, refused, end-of-run, end-of-remark, skipped-in, skipped, numeral, end-of-integer, end-of-exponent, end-of-real, end-of-string}
-use Rattle.express.specs.tokens.Lexis.{end-of-binary, lone, size-of-symbol, end-of-symbol, token-kind-at, end-of-token, lexed-in, lexed}
+use Rattle.express.specs.tokens.Lexis.{TokenRow, Reading, at, refused, end-of-run, end-of-remark, skipped-in, skipped, numeral, unpaired, string-value, too-large}
+use Rattle.express.specs.tokens.Lexis.{quote, end-of-integer, end-of-exponent, end-of-real, end-of-string, end-of-short-string, end-of-binary, lone, size-of-symbol, end-of-symbol, token-kind-at, end-of-token, lexed-in, lexed}
 use Rattle.express.specs.tokens.Terminal.{bytes, the, identifier, END-SCHEMA, CONST-E, instance-unequal, terminal-of, among}
 use Rattle.express.proofs.tokens.Fast.{fast, fast-is, map-same}
 
@@ -24,6 +26,23 @@ not-reserved = refl
 symbol : terminal-of 6 (bytes ":<>:") ≡ the instance-unequal
 unfolding terminal-of among same
 symbol = refl
+
+-- the empty string, a quote, and a quote between other bytes
+values : map (λ (t : String). string-value (bytes t)) ("''" ∷ "''''" ∷ "'it''s'" ∷ []) ≡ map bytes ("" ∷ "'" ∷ "it's" ∷ [])
+unfolding unpaired string-value
+values = refl
+
+-- a string of n bytes `a`, and one of n quotes, each of them a pair in the token
+abbrev letters : ℕ → List ℕ
+letters n = quote ∷ replicate n 97 ++ quote ∷ []
+
+abbrev quotes : ℕ → List ℕ
+quotes n = replicate (2 * n + 2) quote
+
+-- 255 bytes are within the bound, and 256 are not
+bound : map (too-large 4) (letters 255 ∷ letters 256 ∷ quotes 255 ∷ quotes 256 ∷ []) ≡ false ∷ true ∷ false ∷ true ∷ []
+unfolding unpaired string-value
+bound = refl
 
 abbrev pub row : ℕ → ℕ → ℕ → TokenRow
 row k p n = record { kind = k; start = p; size = n }
@@ -59,8 +78,8 @@ examples =
     []
 
 by-fast : map (λ (e : Example). fast (bytes (e .text))) examples ≡ map (λ (e : Example). record { rows = e .rows; stop = e .stop }) examples
-unfolding word-byte space end-of-run end-of-remark skipped-in skipped numeral end-of-integer end-of-exponent end-of-real end-of-string end-of-binary
-    lone size-of-symbol end-of-symbol token-kind-at end-of-token lexed-in
+unfolding word-byte space end-of-run end-of-remark skipped-in skipped numeral end-of-integer end-of-exponent end-of-real end-of-string
+    unpaired string-value end-of-short-string end-of-binary lone size-of-symbol end-of-symbol token-kind-at end-of-token lexed-in
 by-fast = refl
 
 pub edges : map (λ (e : Example). lexed (bytes (e .text))) examples ≡ map (λ (e : Example). record { rows = e .rows; stop = e .stop }) examples

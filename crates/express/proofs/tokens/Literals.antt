@@ -1,4 +1,4 @@
--- The literals of a file are within their bounds (T10, T14).
+-- The literals of a file are within their bounds (T10, T13, T14).
 use mathlib.Core.Path.{_≡_, refl, sym, ap, _∙_}
 use mathlib.Core.Logic.{_≢_}
 use mathlib.Core.Bool.{Bool, true, false, cond, _||_, false≢true}
@@ -10,7 +10,8 @@ use borrow.Author.Tests.{eqb-false}
 use lib.Dec.{eqb}
 use lib.ListN.{length, getD, List·getD-map, List·getD-eq-default}
 use Rattle.express.specs.tokens.Bytes.{within, upper, same}
-use Rattle.express.specs.tokens.Lexis.{TokenRow, lexed, starts, integer-value, binary-bits, binary-value}
+use Rattle.express.specs.tokens.Lexis.{TokenRow, lexed, starts, integer-value, binary-bits, binary-value, string-value, most-bytes}
+use Rattle.express.specs.tokens.Terminal as word
 use Rattle.express.specs.tokens.Terminal.{Fixed, identifier, the, symbols, reserved, among, terminal-of}
 use Rattle.express.specs.syntax.NodeKind as node
 use Rattle.relations.specs.Select.{any}
@@ -20,13 +21,14 @@ use Rattle.express.specs.syntax.Syntax.{Read}
 use Rattle.express.specs.tokens.Scanned.{row-bytes, Scanned}
 use Rattle.express.specs.kinds.Bits.{number}
 use Rattle.express.specs.kinds.Shape.{text, Literals}
-use Rattle.express.proofs.tokens.TokenRows.{no-row, row-at, tokens-of, integer-small, binary-some, binary-few, binary-number}
+use Rattle.express.proofs.tokens.TokenRows.{no-row, row-at, tokens-of, integer-small, string-few, binary-some, binary-few, binary-number}
 use Rattle.express.proofs.syntax.Within.{integer-named, binary-named}
 
 -- ---- tokens
 
 pub record Sized (s : List ℕ) (r : TokenRow) : Type 0 where
   pub small : r .kind ≡ 2 → integer-value (row-bytes s r) < 2 ^ 63
+  pub few-bytes : r .kind ≡ 4 → length (string-value (row-bytes s r)) ≤ most-bytes
   pub some-bits : r .kind ≡ 5 → 1 ≤ length (binary-bits (row-bytes s r))
   pub few-bits : r .kind ≡ 5 → length (binary-bits (row-bytes s r)) ≤ 63
   pub read : r .kind ≡ 5 → binary-value (row-bytes s r) ≡ number (binary-bits (row-bytes s r))
@@ -35,6 +37,7 @@ nothing-sized : (s : List ℕ) → Sized s no-row
 nothing-sized s =
     record {
       small = λ (i : _≡_ {A = ℕ} 0 2). absurd (omega arith);
+      few-bytes = λ (i : _≡_ {A = ℕ} 0 4). absurd (omega arith);
       some-bits = λ (i : _≡_ {A = ℕ} 0 5). absurd (omega arith);
       few-bits = λ (i : _≡_ {A = ℕ} 0 5). absurd (omega arith);
       read = λ (i : _≡_ {A = ℕ} 0 5). absurd (omega arith);
@@ -47,7 +50,7 @@ lexed-sized s i = by (decLt i (length (lexed s .rows)))
     by (yes l) =
         let t = tokens-of s .token i l in
         let r = row-at (lexed s .rows) i in
-        record { small = integer-small s r t; some-bits = binary-some s r t; few-bits = binary-few s r t; read = binary-number s r t }
+        record { small = integer-small s r t; few-bytes = string-few s r t; some-bits = binary-some s r t; few-bits = binary-few s r t; read = binary-number s r t }
     by (no n) = rw (List·getD-eq-default (lexed s .rows) no-row {n = i} (omega (arith, n))) (nothing-sized s)
 
 -- ---- terminals: the code of a literal is that of no word and no symbol
@@ -118,6 +121,12 @@ module _ {x : Nonterminal} {t : Table} (R : Read x t) (S : Scanned t) where
       literal-kind 5 (row n .kind) (row-bytes (t .bytes) (row n)) refl refl (λ (i : _≡_ {A = ℕ} 1 5). omega arith) (λ (i : _≡_ {A = ℕ} 0 5). omega arith)
       (sym (terminal-is n) ∙ binary-named R n (inside n node.binary-literal e (λ (i : _≡_ {A = ℕ} 2 0). omega arith)) e)
 
+  string-row : (n : ℕ) → terminal t n ≡ the word.string → row n .kind ≡ 4
+  unfolding any
+  string-row n e =
+      literal-kind 4 (row n .kind) (row-bytes (t .bytes) (row n)) refl refl (λ (i : _≡_ {A = ℕ} 1 4). omega arith) (λ (i : _≡_ {A = ℕ} 0 4). omega arith)
+      (sym (terminal-is n) ∙ e)
+
   -- THE LITERALS of a text are within their bounds.
   pub literals : Literals t
   literals =
@@ -125,6 +134,7 @@ module _ {x : Nonterminal} {t : Table} (R : Read x t) (S : Scanned t) where
         small = λ n e. rw (text-is n) (lexed-sized (t .bytes) (token t n) .small (integer-row n e));
         some-bits = λ n e. rw (text-is n) (lexed-sized (t .bytes) (token t n) .some-bits (binary-row n e));
         few-bits = λ n e. rw (text-is n) (lexed-sized (t .bytes) (token t n) .few-bits (binary-row n e));
+        few-bytes = λ n e w. rw (text-is n) (lexed-sized (t .bytes) (token t n) .few-bytes (string-row n w));
       }
 
   -- and what is read of a binary is the number of its bits

@@ -15,7 +15,7 @@ use Rattle.express.specs.tokens.Bytes as bytes
 use Rattle.express.specs.tokens.Terminal.{Fixed, symbols, among, symbol-terminal}
 use Rattle.express.specs.tokens.Token.{all-of, some-of, is-exponent, is-fraction, is-decimal, in-string, is-symbol, spelled-kind, standing-kind, longest, longest-size, longest-kind}
 use Rattle.express.specs.tokens.Lexis.{Reading, at, refused, end-of-run, run, numeral, greatest, end-of-integer, digits-of-exponent, end-of-exponent, end-of-real, end-of-string}
-use Rattle.express.specs.tokens.Lexis.{end-of-binary, size-of-symbol, end-of-symbol, too-large, longest-end, token-kind-at, end-of-token}
+use Rattle.express.specs.tokens.Lexis.{string-value, most-bytes, end-of-short-string, end-of-binary, size-of-symbol, end-of-symbol, too-large, longest-end, token-kind-at, end-of-token}
 use Rattle.relations.specs.Select.{any}
 use Rattle.relations.proofs.Select.{and-fst, and-snd, or-cases, untrue}
 use Rattle.express.proofs.tokens.Places.{tail, one-cut, past, in-text, run-low-of, run-low, run-some, and-false, size-inside, cond-ge, exponent-low}
@@ -550,7 +550,7 @@ module _ (s : List ℕ) (p : ℕ) (h : p < length s) where
       token-there (end-from s d - (p + 1)) (rw cut (x .0)) (rw cut (x .1)) (ap (λ (k : ℕ). at (end-from s k)) point-of ∙ ap at there)
 
   string-agrees : b ≡ 39 → Agrees s p 4
-  unfolding end-of-token
+  unfolding end-of-token end-of-short-string
   string-agrees e = by (end-of-string p false (p + 1) u) refl (strings p false (p + 1) u)
     where
       quoted : drop p s ≡ 39 ∷ u
@@ -560,9 +560,11 @@ module _ (s : List ℕ) (p : ℕ) (h : p < length s) where
       by (at q) is (string-at n l ends only i) =
           let x = tested 39 u (ended false u) 4 (λ (z : _≡_ {A = ℕ} 4 0). omega arith) (λ m k. string-stands u m) n l ends (λ m a c. only m (λ (z : m ≡ n). omega arith) c) in
           let there : q ≡ p + suc n = omega arith in
-          token-there n (rw quoted (x .0)) (rw quoted (x .1)) (is ∙ ap at there)
+          let size : p + suc n - p ≡ suc n = omega arith in
+          token-there n (rw quoted (x .0)) (rw quoted (x .1))
+          (rw (is ∙ ap at there, size) (cond-not (leb (length (string-value (take (suc n) (drop p s)))) most-bytes) (at (p + suc n)) (refused 3 p)))
       by _ is (string-open never) =
-          nothing-there (rw quoted (untested 39 u (ended false u) 4 (λ (z : _≡_ {A = ℕ} 4 0). omega arith) (λ m k. string-stands u m) never)) is
+          nothing-there (rw quoted (untested 39 u (ended false u) 4 (λ (z : _≡_ {A = ℕ} 4 0). omega arith) (λ m k. string-stands u m) never)) (rw is)
 
   binary-agrees : b ≡ 37 → Agrees s p 5
   unfolding end-of-token end-of-binary

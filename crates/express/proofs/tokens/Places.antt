@@ -14,8 +14,8 @@ use borrow.Author.Needs.{needs}
 use borrow.Author.Tests.{eq-eqb, eqb-true}
 use Rattle.express.specs.tokens.Bytes.{token-bytes, within, letter, digit, word-byte, space}
 use Rattle.express.specs.tokens.Lexis.{Reading, at, refused, end-of-run, run, pair, opens, dashes, in-line, end-of-remark, reading-then, skipped-in, skipped, numeral, end-of-integer}
-use Rattle.express.specs.tokens.Lexis.{either, digits-of-exponent, end-of-exponent, end-of-real, end-of-string, end-of-binary, size-of-symbol, end-of-symbol, token-kind-at}
-use Rattle.express.specs.tokens.Lexis.{end-of-token}
+use Rattle.express.specs.tokens.Lexis.{either, digits-of-exponent, end-of-exponent, end-of-real, string-value, most-bytes, end-of-string, end-of-short-string, end-of-binary}
+use Rattle.express.specs.tokens.Lexis.{size-of-symbol, end-of-symbol, token-kind-at, end-of-token}
 
 -- a step that goes on gives a place from lo to hi
 abbrev pub From : ℕ → ℕ → Reading → Type 0
@@ -41,6 +41,10 @@ inside-weaken (refused n o) l h i = stays
 inside-cond : {lo hi : ℕ} (t : Bool) {a b : Reading} → Inside lo hi a → Inside lo hi b → Inside lo hi (cond t a b)
 inside-cond true a b = a
 inside-cond false a b = b
+
+then-inside : {lo hi : ℕ} (r : Reading) (more : ℕ → Reading) → ((q : ℕ) → r ≡ at q → Inside lo hi (more q)) → Inside lo hi (reading-then r more)
+then-inside (at q) more h = h q refl
+then-inside (refused n o) more h = stays
 
 pub cond-le : (t : Bool) {a b n : ℕ} → a ≤ n → b ≤ n → cond t a b ≤ n
 cond-le true p q = p
@@ -152,6 +156,13 @@ string-inside-of o false p (b ∷ t) =
 
 pub string-inside : (o : ℕ) (q : Bool) (p : ℕ) (s : List ℕ) → p ≤ length s → Inside p (length s) (end-of-string o q p (drop p s))
 string-inside o q p s h = inside-weaken (end-of-string o q p (drop p s)) (le-refl p) (omega (arith, length-drop p s)) (string-inside-of o q p (drop p s))
+
+pub short-string-inside : (s : List ℕ) (p : ℕ) → p < length s → Inside (p + 1) (length s) (end-of-short-string s p)
+unfolding end-of-short-string
+short-string-inside s p h =
+    then-inside (end-of-string p false (p + 1) (drop (p + 1) s)) (λ e. cond (leb (length (string-value (token-bytes s p (e - p)))) most-bytes) (at e) (refused 3 p))
+    (λ e is. let i = inside-at is (string-inside p false (p + 1) s (omega (arith, h))) in
+    inside-cond (leb (length (string-value (token-bytes s p (e - p)))) most-bytes) (goes (i .0) (i .1)) stays)
 
 -- ---- numbers
 
@@ -276,7 +287,7 @@ module _ (s : List ℕ) (p : ℕ) where
       go false true true x y l-is d-is q-is =
           let r = real-inside s p (eqb-true point 46 q-is) in goes (omega (arith, r .0)) (r .1)
       go false true false x y l-is d-is q-is = integer-inside s p h d-is
-      go false false q true y l-is d-is q-is = string-inside p false (p + 1) s (omega (arith, h))
+      go false false q true y l-is d-is q-is = short-string-inside s p h
       go false false q false true l-is d-is q-is = binary-inside s p h
       go false false q false false l-is d-is q-is = symbol-inside s p h
 
@@ -292,10 +303,6 @@ pair-second x y b c e = right (eqb b x) (eqb c y) e
 -- the second byte of a pair that has no 0 lies in the text
 pub pair-in : (x y b : ℕ) (s : List ℕ) (k : ℕ) → eqb 0 y ≡ false → pair x y b (getD s k 0) ≡ true → k < length s
 pair-in x y b s k z e = in-text (λ c. eqb c y) z s k (pair-second x y b (getD s k 0) e)
-
-then-inside : {lo hi : ℕ} (r : Reading) (more : ℕ → Reading) → ((q : ℕ) → r ≡ at q → Inside lo hi (more q)) → Inside lo hi (reading-then r more)
-then-inside (at q) more h = h q refl
-then-inside (refused n o) more h = stays
 
 module _ (f : ℕ) (s : List ℕ) (p : ℕ) (more : (q : ℕ) → q ≤ length s → Inside q (length s) (skipped-in f s q)) where
   abbrev b₀ : ℕ

@@ -12,7 +12,8 @@ use Rattle.express.specs.tokens.Bytes.{token-bytes, digit, space, printa
 use Rattle.express.specs.tokens.Blank.{Line, text-ends, line-ends, line-goes, Remark, outside, opened, closed, passed, Blank, nothing, a-space, a-line, a-remark, Gaps, last-gap, gap}
 use Rattle.express.specs.tokens.Blank.{Stop, all-read, unfinished, too-large, too-long, stop-place}
 use Rattle.express.specs.tokens.Lexis.{Reading, at, refused, end-of-run, run, opens, closes, dashes, in-line, end-of-remark, reading-then, skipped-in, skipped, numeral, greatest}
-use Rattle.express.specs.tokens.Lexis.{end-of-integer, end-of-string, bit, end-of-binary, size-of-symbol, end-of-symbol, token-kind-at, end-of-token, Lexed, stopped, row-and-rest}
+use Rattle.express.specs.tokens.Lexis.{string-value, most-bytes, end-of-integer, end-of-string, end-of-short-string, bit, end-of-binary, size-of-symbol, end-of-symbol, token-kind-at}
+use Rattle.express.specs.tokens.Lexis.{end-of-token, Lexed, stopped, row-and-rest}
 use Rattle.express.specs.tokens.Lexis.{token-after-blank, lexed-in, lexed-whole, most, lexed}
 use Rattle.express.proofs.tokens.Fast.{whole-fast}
 use Rattle.express.proofs.tokens.Places.{tail, two-off, one-cut, two-cut, in-text, pair-in, run-low, run-high, inside-at, remark-inside, skip-inside, token-inside}
@@ -137,6 +138,17 @@ string-ends o false p [] = not-ended
 string-ends o true p (b ∷ t) = ends-cond (eqb b 39) (string-ends o false (p + 1) t) ends-at
 string-ends o false p (b ∷ t) = ends-cond (eqb b 39) (string-ends o true (p + 1) t) (ends-cond (printable b) (string-ends o false (p + 1) t) not-ended)
 
+ends-then : {p : ℕ} {r : Reading} (more : ℕ → Reading) → Ends p r → ((q : ℕ) → Ends p (more q)) → Ends p (reading-then r more)
+ends-then more (ends-at {q}) h = h q
+ends-then more not-ended h = not-ended
+ends-then more ends-large h = ends-large
+
+short-string-ends : (s : List ℕ) (p : ℕ) → Ends p (end-of-short-string s p)
+unfolding end-of-short-string
+short-string-ends s p =
+    ends-then (λ e. cond (leb (length (string-value (token-bytes s p (e - p)))) most-bytes) (at e) (refused 3 p)) (string-ends p false (p + 1) (drop (p + 1) s))
+    (λ e. ends-cond (leb (length (string-value (token-bytes s p (e - p)))) most-bytes) ends-at ends-large)
+
 pub token-ends : (s : List ℕ) (p k : ℕ) → Ends p (end-of-token s p k)
 unfolding end-of-token end-of-integer end-of-binary end-of-symbol
 token-ends s p k =
@@ -145,7 +157,7 @@ token-ends s p k =
     ends-cond (eqb k 1) ends-at
     (ends-cond (eqb k 2) (ends-cond (leb (numeral 10 0 (token-bytes s p (run digit s p - p))) greatest) ends-at ends-large)
     (ends-cond (eqb k 3) ends-at
-    (ends-cond (eqb k 4) (string-ends p false (p + 1) (drop (p + 1) s))
+    (ends-cond (eqb k 4) (short-string-ends s p)
     (ends-cond (eqb k 5) (ends-cond (eqb (e - (p + 1)) 0) not-ended (ends-cond (leb (e - (p + 1)) 63) ends-at ends-large))
     (ends-cond (eqb n 0) not-ended ends-at)))))
 

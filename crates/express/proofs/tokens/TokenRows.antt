@@ -13,7 +13,8 @@ use borrow.Author.Tests.{ltb-true, leb-true, eqb-true, eqb-false}
 use Rattle.express.specs.kinds.Bits as Bits
 use Rattle.express.specs.kinds.Bits.{number}
 use Rattle.express.specs.tokens.Bytes.{token-bytes, digit, within}
-use Rattle.express.specs.tokens.Lexis.{Reading, at, refused, end-of-run, run, bit, skipped, end-of-integer, end-of-binary, numeral, integer-value, binary-bits, binary-value}
+use Rattle.express.specs.tokens.Lexis.{Reading, at, refused, end-of-run, run, bit, reading-then, skipped, end-of-integer, end-of-string, end-of-short-string, end-of-binary}
+use Rattle.express.specs.tokens.Lexis.{numeral, integer-value, binary-bits, binary-value, string-value, most-bytes}
 use Rattle.express.specs.tokens.Lexis.{token-kind-at, end-of-token, TokenRow, Lexed, stopped, token-after-blank, row-and-rest, lexed-in, lexed, kinds, starts, sizes}
 use Rattle.express.specs.tokens.Scanned.{row-bytes, row-terminals}
 use Rattle.express.specs.tokens.Terminal as columns
@@ -129,6 +130,26 @@ module _ (s : List ℕ) (r : TokenRow) (t : Token s r) where
           let there : integer-value (row-bytes s r) ≤ 9223372036854775807 = rw size at small in
           omega (arith, there)
       go false l is = absurd (refused-at is)
+
+  -- the value of a string is within its bound (T13)
+  pub string-few : r .kind ≡ 4 → length (string-value (row-bytes s r)) ≤ most-bytes
+  unfolding end-of-token end-of-short-string
+  string-few e = after (end-of-string (r .start) false (r .start + 1) (drop (r .start + 1) s)) (rw e at t .ends)
+    where
+      value-to : ℕ → List ℕ
+      value-to q = string-value (token-bytes s (r .start) (q - r .start))
+
+      go : (q : ℕ) (b : Bool) → leb (length (value-to q)) most-bytes ≡ b → cond b (at q) (refused 3 (r .start)) ≡ at (r .start + r .size) → length (string-value (row-bytes s r)) ≤ most-bytes
+      go q true l is =
+          let size : q - r .start ≡ r .size = omega (arith, ap place-of is) in
+          let few : length (value-to q) ≤ most-bytes = leb-true _ _ l in
+          rw size at few
+      go q false l is = absurd (refused-at is)
+
+      after : (x : Reading) → reading-then x (λ q. cond (leb (length (value-to q)) most-bytes) (at q) (refused 3 (r .start))) ≡ at (r .start + r .size) →
+          length (string-value (row-bytes s r)) ≤ most-bytes
+      after (at q) is = go q (leb (length (value-to q)) most-bytes) refl is
+      after (refused n o) is = absurd (refused-at is)
 
   length-bits : length (binary-bits (row-bytes s r)) ≡ r .size - 1
   unfolding binary-bits

@@ -1,6 +1,6 @@
--- The replies of a whole check: a refusal has a number from 1 to 15, so reply 0 says that the file is accepted.
+-- The replies of a whole check: a refusal has a number from 1 to 15, or 20, so reply 0 says that the file is accepted.
 use mathlib.Core.Path.{_≡_, refl, ap, subst}
-use mathlib.Core.Logic.{_↔_}
+use mathlib.Core.Logic.{_↔_, _⊎_, inl, inr}
 use mathlib.Core.Bool.{Bool, true, false, cond}
 use mathlib.Core.List.{List, [], _∷_}
 use Prim.Native.Nat.{ℕ, _≤_}
@@ -22,11 +22,13 @@ use Rattle.express.specs.names.Fault as names
 use Rattle.relations.specs.Reach.{Edge}
 use Rattle.express.specs.names.Fault.{Fault, judged, repeated, type-name-fault, cyclic, qualified, expression}
 use Rattle.express.specs.names.Names.{Stage, sooner, stages, least, first-fault, names}
+use Rattle.express.specs.kinds.Answer.{Answer}
+use Rattle.express.specs.kinds.AnswerRow.{room-of}
 use Rattle.express.specs.kinds.Operate.{Kind}
-use Rattle.express.specs.kinds.Shape.{Shape, integer-literal, logical-literal, binary-literal, question, item, name, unary, operator, interval, interval-operator, type, constant}
+use Rattle.express.specs.kinds.Shape.{Shape, integer-literal, logical-literal, binary-literal, string-literal, question, item, name, unary, operator, interval, interval-operator, type, constant}
 use Rattle.express.specs.kinds.Shape.{unevaluated, shape-in}
 use Rattle.express.specs.kinds.Kind.{Finding, of-kind, fault, finding-in, kind-at, Typing, typed, ill-typed, if-found, if-typed, type-nodes-in, type-constants, typing, constants}
-use Rattle.express.specs.whole.Reply.{Accepted, Checked, accepted, refused, after-kinds, after-names, after-rows, after-syntax, after-tokens, checked, report}
+use Rattle.express.specs.whole.Reply.{Accepted, Checked, accepted, refused, after-answers, after-kinds, after-names, after-rows, after-syntax, after-tokens, checked, report}
 use Rattle.express.proofs.tokens.Stops.{lexed-stops}
 
 lit : {m n : ℕ} → T (leb m n) → m ≤ n
@@ -133,6 +135,7 @@ module _ (t : Table) (b : List ℕ) (e : Table) where
   finding-judged k n (integer-literal v) = has-kind
   finding-judged k n (logical-literal l) = has-kind
   finding-judged k n (binary-literal s) = has-kind
+  finding-judged k n (string-literal s) = has-kind
   finding-judged k n question = has-kind
   finding-judged k n (item m) = has-kind
   finding-judged k n (name c) = search (judged-cond, has-kind, fifteen, fourteen)
@@ -176,60 +179,66 @@ typing-types t b = constants-types t b _ _
 data Answered : Checked → Type 0 where
   is-accepted : {a : Accepted} → Answered (accepted a)
   is-refused : {k p : ℕ} → 1 ≤ k → k ≤ 15 → Answered (refused k p)
+  no-room : {p : ℕ} → Answered (refused 20 p)
 
 answered-cond : (x : Bool) {a b : Checked} → Answered a → Answered b → Answered (cond x a b)
 answered-cond true a b = a
 answered-cond false a b = b
 
-module _ (ls : List TokenRow) (t : Table) where
-  kinds-answer : {y : Typing} → Types y → Answered (after-kinds ls t y)
-  kinds-answer all-typed = is-accepted
+module _ (ls : List TokenRow) (t : Table) (room : ℕ) where
+  room-answer : (xs : List Answer) → Answered (after-answers ls t room xs)
+  room-answer xs = answered-cond (leb (length (room-of xs)) room) is-accepted no-room
+
+  kinds-answer : {y : Typing} → Types y → Answered (after-kinds ls t room y)
+  kinds-answer all-typed = room-answer _
   kinds-answer (at-node {f} l h) = is-refused {k = f} (omega arith) (omega arith)
 
-  names-answer : (f : Fault) → Named f → Answered (after-names ls t f)
+  names-answer : (f : Fault) → Named f → Answered (after-names ls t room f)
   names-answer f h = by (eqb (f .number) 0) refl
     where
-      by : (x : Bool) → eqb (f .number) 0 ≡ x → Answered (cond x (after-kinds ls t (typing t (bindings t))) (refused (f .number) (f .place)))
+      by : (x : Bool) → eqb (f .number) 0 ≡ x → Answered (cond x (after-kinds ls t room (typing t (bindings t))) (refused (f .number) (f .place)))
       by true e = kinds-answer (typing-types t (bindings t))
       by false e = let l : 9 ≤ f .number = h .low (eqb-false (f .number) 0 e) in is-refused {k = f .number} (omega arith) (omega (arith, h .high))
 
-  rows-answer : (nr ar : ℕ) → Answered (after-rows ls t nr ar)
+  rows-answer : (nr ar : ℕ) → Answered (after-rows ls t room nr ar)
   rows-answer nr ar =
       answered-cond (leb (count t) nr)
       (answered-cond (leb (length (constants t)) ar) (names-answer (names t) (names-named t)) (is-refused (lit tt) (lit tt)))
       (is-refused (lit tt) (lit tt))
 
-module _ (s : List ℕ) (tr nr ar : ℕ) where
-  syntax-answer : (o : Outcome ebnf.Rows) → Answered (after-syntax s (lexed s) nr ar o)
-  syntax-answer (good r) = rows-answer (lexed s .rows) (with-rows (token-table s) (r .rows)) nr ar
+module _ (s : List ℕ) (tr nr ar room : ℕ) where
+  syntax-answer : (o : Outcome ebnf.Rows) → Answered (after-syntax s (lexed s) nr ar room o)
+  syntax-answer (good r) = rows-answer (lexed s .rows) (with-rows (token-table s) (r .rows)) room nr ar
   syntax-answer (unexpected j) = is-refused (lit tt) (lit tt)
   syntax-answer (too-deep k) = is-refused (lit tt) (lit tt)
 
-  counted-answer : {r : Reading} → Stop s r → (n : ℕ) → Answered (after-tokens s (lexed s) nr ar (counted r n tr))
+  counted-answer : {r : Reading} → Stop s r → (n : ℕ) → Answered (after-tokens s (lexed s) nr ar room (counted r n tr))
   counted-answer all-read n = by (leb n tr)
     where
-      by : (x : Bool) → Answered (after-tokens s (lexed s) nr ar (cond x (at n) (lexis.refused 6 n)))
+      by : (x : Bool) → Answered (after-tokens s (lexed s) nr ar room (cond x (at n) (lexis.refused 6 n)))
       by true = syntax-answer (parsed file (token-table s .terminals))
       by false = is-refused (lit tt) (lit tt)
   counted-answer (unfinished l) n = is-refused (lit tt) (lit tt)
   counted-answer (too-large l) n = is-refused (lit tt) (lit tt)
   counted-answer (too-long l) n = is-refused (lit tt) (lit tt)
 
-  answered : Answered (checked s tr nr ar)
+  answered : Answered (checked s tr nr ar room)
   unfolding checked tokens
   answered = counted-answer (lexed-stops s) (length (lexed s .rows))
 
-  -- A REFUSAL HAS ONE OF THE NUMBERS 1 TO 15
-  pub numbered : (k p : ℕ) → checked s tr nr ar ≡ refused k p → (1 ≤ k) × (k ≤ 15)
-  numbered k p e = by (subst Answered e answered)
+  -- A REFUSAL HAS ONE OF THE NUMBERS 1 TO 15, OR 20
+  pub numbered : (k p : ℕ) → checked s tr nr ar room ≡ refused k p → (1 ≤ k) × ((k ≤ 15) ⊎ (k ≡ 20))
+  numbered k p e = by k p (subst Answered e answered)
     where
-      by : Answered (refused k p) → (1 ≤ k) × (k ≤ 15)
-      by (is-refused l h) = (l, h)
+      by : (k p : ℕ) → Answered (refused k p) → (1 ≤ k) × ((k ≤ 15) ⊎ (k ≡ 20))
+      by k p (is-refused l h) = (l, inl h)
+      by k p no-room = (lit tt, inr refl)
 
   -- REPLY 0 says that the file is accepted
-  pub reply-zero : (report (checked s tr nr ar) .reply ≡ 0) ↔ ((a : Accepted) × (checked s tr nr ar ≡ accepted a))
-  reply-zero = (λ e. by (checked s tr nr ar) refl answered e, λ a. ap (λ (c : Checked). report c .reply) (a .1))
+  pub reply-zero : (report (checked s tr nr ar room) .reply ≡ 0) ↔ ((a : Accepted) × (checked s tr nr ar room ≡ accepted a))
+  reply-zero = (λ e. by (checked s tr nr ar room) refl answered e, λ a. ap (λ (c : Checked). report c .reply) (a .1))
     where
-      by : (c : Checked) → checked s tr nr ar ≡ c → Answered c → report c .reply ≡ 0 → (a : Accepted) × (checked s tr nr ar ≡ accepted a)
+      by : (c : Checked) → checked s tr nr ar room ≡ c → Answered c → report c .reply ≡ 0 → (a : Accepted) × (checked s tr nr ar room ≡ accepted a)
       by (accepted a) i h e = (a, i)
       by (refused k p) i (is-refused l h) e = absurd (omega arith)
+      by (refused k p) i no-room e = absurd (omega arith)

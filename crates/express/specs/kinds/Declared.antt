@@ -11,7 +11,7 @@ use Rattle.express.specs.tokens.Terminal as word
 
 -- the types that are evaluated (K2), an enumeration by the node of its type; and all others
 pub data Declared : Type 0 where
-  INTEGER BOOLEAN LOGICAL BINARY : Declared
+  INTEGER BOOLEAN LOGICAL BINARY STRING : Declared
   enumeration : ℕ → Declared
   other : Declared
 
@@ -28,7 +28,8 @@ simple w =
     cond (eqb w (the word.INTEGER)) INTEGER
     (cond (eqb w (the word.BOOLEAN)) BOOLEAN
     (cond (eqb w (the word.LOGICAL)) LOGICAL
-    (cond (eqb w (the word.BINARY)) BINARY other)))
+    (cond (eqb w (the word.BINARY)) BINARY
+    (cond (eqb w (the word.STRING)) STRING other))))
 
 -- `TYPE id '=' base`: the base of a type stands two tokens after its name; the names of a select list stand further on (`renames-is` of the crate
 -- `theorems`, proofs/syntax/Renaming)

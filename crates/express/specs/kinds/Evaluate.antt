@@ -3,10 +3,10 @@ use mathlib.Core.List.{List, [], _∷_}
 use Prim.Native.Nat.{ℕ, suc}
 use lib.ListN.{getD, set, replicate}
 use lib.IntN.{pos}
-use Rattle.express.specs.kinds.Answer.{Logical, FALSE, UNKNOWN, TRUE, Answer, indeterminate, integer, logical, binary, item, end, unknown-boolean}
+use Rattle.express.specs.kinds.Answer.{Logical, FALSE, UNKNOWN, TRUE, Answer, indeterminate, integer, logical, binary, item, string, end, unknown-boolean}
 use Rattle.express.specs.syntax.Tree.{Table, count, last, left, middle, low, within}
-use Rattle.express.specs.kinds.Declared.{Declared, INTEGER, BOOLEAN, LOGICAL, BINARY, enumeration, other}
-use Rattle.express.specs.kinds.Shape.{Shape, integer-literal, logical-literal, binary-literal, question, name, unary}
+use Rattle.express.specs.kinds.Declared.{Declared, INTEGER, BOOLEAN, LOGICAL, BINARY, STRING, enumeration, other}
+use Rattle.express.specs.kinds.Shape.{Shape, integer-literal, logical-literal, binary-literal, string-literal, question, name, unary}
 use Rattle.express.specs.kinds.Shape.{operator, interval, interval-operator, type, constant, unevaluated, shape-in}
 use Rattle.express.specs.kinds.Shape as shapes
 use Rattle.express.specs.kinds.Operate.{logical-in, given, combined, applied, between}
@@ -17,13 +17,13 @@ boolean-answer FALSE = logical FALSE
 boolean-answer UNKNOWN = end unknown-boolean
 boolean-answer TRUE = logical TRUE
 
--- K26: what a constant of a declared type holds, from the answer of its expression
 -- K26: a constant's answer, from its declared type and the answer of its expression
 abbrev pub held : Declared → Answer → Answer
 held INTEGER a = a
 held BOOLEAN a = given (logical-in a) boolean-answer a
 held LOGICAL a = a
 held BINARY a = a
+held STRING a = a
 held (enumeration y) a = a
 held other a = a
 
@@ -32,6 +32,7 @@ abbrev pub answer-in : Table → (ℕ → Answer) → (ℕ → Answer) → ℕ �
 answer-in e f g n (integer-literal v) = integer (pos v)
 answer-in e f g n (logical-literal l) = logical l
 answer-in e f g n (binary-literal s) = binary s
+answer-in e f g n (string-literal s) = string s
 answer-in e f g n (shapes.item m) = item m
 answer-in e f g n (name c) = g c
 answer-in e f g n (unary o) = applied o (f (last n))

@@ -8,10 +8,10 @@ use lib.ListN.{getD, set, replicate}
 use Rattle.express.specs.syntax.NodeKind as node
 use Rattle.relations.specs.Select.{keep}
 use Rattle.express.specs.syntax.Tree.{Table, count, last, nodes, is, owner, left, middle, low, within, in-constant}
-use Rattle.express.specs.kinds.Declared.{Declared, INTEGER, BOOLEAN, LOGICAL, BINARY, enumeration, other, declared-type}
+use Rattle.express.specs.kinds.Declared.{Declared, INTEGER, BOOLEAN, LOGICAL, BINARY, STRING, enumeration, other, declared-type}
 use Rattle.express.specs.kinds.Shape.{Operator, plus, arithmetic, relation, connective, Sign, positive, negative, not, Shape, integer-literal, logical-literal}
-use Rattle.express.specs.kinds.Shape.{binary-literal, question, item, name, unary, operator, interval, interval-operator, type, constant, unevaluated, shape-in, shape}
-use Rattle.express.specs.kinds.Operate.{Kind, integers, logicals, binaries, items, undetermined, untyped, takes, takes-one, comparable}
+use Rattle.express.specs.kinds.Shape.{binary-literal, string-literal, question, item, name, unary, operator, interval, interval-operator, type, constant, unevaluated, shape-in, shape}
+use Rattle.express.specs.kinds.Operate.{Kind, integers, logicals, binaries, strings, items, undetermined, untyped, takes, takes-one, comparable}
 
 -- kinds by number (K4), to compare them
 abbrev pub kind-number : Kind → ℕ
@@ -20,13 +20,15 @@ kind-number undetermined = 1
 kind-number integers = 2
 kind-number logicals = 3
 kind-number binaries = 4
-kind-number (items y) = y + 5
+kind-number strings = 5
+kind-number (items y) = y + 6
 
 -- and from the number to the kind
 abbrev pub of-number : ℕ → Kind
 of-number n =
     cond (eqb n 0) untyped
-    (cond (eqb n 1) undetermined (cond (eqb n 2) integers (cond (eqb n 3) logicals (cond (eqb n 4) binaries (items (n - 5))))))
+    (cond (eqb n 1) undetermined
+    (cond (eqb n 2) integers (cond (eqb n 3) logicals (cond (eqb n 4) binaries (cond (eqb n 5) strings (items (n - 6)))))))
 
 abbrev pub same : Kind → Kind → Bool
 same j k = eqb (kind-number j) (kind-number k)
@@ -41,6 +43,7 @@ kind-of-type INTEGER = integers
 kind-of-type BOOLEAN = logicals
 kind-of-type LOGICAL = logicals
 kind-of-type BINARY = binaries
+kind-of-type STRING = strings
 kind-of-type (enumeration y) = items y
 kind-of-type other = untyped
 
@@ -76,6 +79,7 @@ abbrev pub finding-in : Table → List ℕ → Table → (ℕ → Kind) → ℕ 
 finding-in t b e k n (integer-literal v) = of-kind integers
 finding-in t b e k n (logical-literal l) = of-kind logicals
 finding-in t b e k n (binary-literal s) = of-kind binaries
+finding-in t b e k n (string-literal s) = of-kind strings
 finding-in t b e k n question = of-kind undetermined
 finding-in t b e k n (item m) = of-kind (items (owner t m))
 finding-in t b e k n (name c) = if-evaluated (declared-type t b c) (kind-of-type (declared-type t b c))

@@ -5,20 +5,21 @@ use mathlib.Core.Option.{Option, none, some}
 use mathlib.Core.List.{List}
 use Prim.Native.Nat.{ℕ, compare, Ordering}
 use lib.IntN.{ℤ}
-use Rattle.express.specs.kinds.Answer.{Logical, UNKNOWN, Answer, indeterminate, integer, logical, binary, item, end}
+use Rattle.express.specs.kinds.Answer.{Logical, UNKNOWN, Answer, indeterminate, integer, logical, binary, item, string, end}
 use Rattle.express.specs.kinds.Integer.{sum, difference, product, negation, DIV, MOD, compareℤ}
 use Rattle.express.specs.kinds.Integer as int
 use Rattle.express.specs.kinds.Logic.{AND, OR, XOR, NOT, compare-logical}
 use Rattle.express.specs.kinds.Bits.{join, compare-bits}
+use Rattle.express.specs.kinds.Strings.{join-strings, compare-bytes}
 use Rattle.express.specs.kinds.Relation.{Relation, related}
 use Rattle.express.specs.syntax.Tree.{Table, owner}
 use Rattle.express.specs.kinds.Shape.{Arithmetic, minus, times, divide, modulo, power, Connective, and, or, xor, Operator, plus, arithmetic, relation, connective, Sign, positive, negative, not}
 
 -- ---- kinds
 
--- K4: integers, logicals, binaries, the items of an enumeration, by the node of its type; the kind of `?`; and `untyped` for what has none
+-- K4: integers, logicals, binaries, strings, the items of an enumeration, by the node of its type; the kind of `?`; and `untyped` for what has none
 pub data Kind : Type 0 where
-  integers logicals binaries : Kind
+  integers logicals binaries strings : Kind
   items : ℕ → Kind
   undetermined untyped : Kind
 
@@ -29,6 +30,7 @@ pub data Of (t : Table) : Kind → Answer → Type 0 where
   of-integer : {z : ℤ} → Of t integers (integer z)
   of-logical : {l : Logical} → Of t logicals (logical l)
   of-binary : {s : List Bool} → Of t binaries (binary s)
+  of-string : {s : List ℕ} → Of t strings (string s)
   of-item : {m y : ℕ} → owner t m ≡ y → Of t (items y) (item m)
 
 -- K7: what arithmetic takes
@@ -36,6 +38,7 @@ abbrev pub integral : Kind → Bool
 integral integers = true
 integral logicals = false
 integral binaries = false
+integral strings = false
 integral (items y) = false
 integral undetermined = true
 integral untyped = false
@@ -45,6 +48,7 @@ abbrev pub truthful : Kind → Bool
 truthful integers = false
 truthful logicals = true
 truthful binaries = false
+truthful strings = false
 truthful (items y) = false
 truthful undetermined = true
 truthful untyped = false
@@ -54,6 +58,7 @@ abbrev pub summable : Kind → Bool
 summable integers = true
 summable logicals = false
 summable binaries = true
+summable strings = true
 summable (items y) = false
 summable undetermined = true
 summable untyped = false
@@ -63,6 +68,7 @@ abbrev pub comparable : Kind → Bool
 comparable integers = true
 comparable logicals = true
 comparable binaries = true
+comparable strings = true
 comparable (items y) = true
 comparable undetermined = true
 comparable untyped = false
@@ -88,6 +94,7 @@ integer-in (integer z) = some z
 integer-in (logical l) = none
 integer-in (binary s) = none
 integer-in (item m) = none
+integer-in (string s) = none
 integer-in (end e) = none
 
 abbrev pub logical-in : Answer → Option Logical
@@ -96,6 +103,7 @@ logical-in (integer z) = none
 logical-in (logical l) = some l
 logical-in (binary s) = none
 logical-in (item m) = none
+logical-in (string s) = none
 logical-in (end e) = none
 
 abbrev pub binary-in : Answer → Option (List Bool)
@@ -104,6 +112,7 @@ binary-in (integer z) = none
 binary-in (logical l) = none
 binary-in (binary s) = some s
 binary-in (item m) = none
+binary-in (string s) = none
 binary-in (end e) = none
 
 abbrev pub item-in : Answer → Option ℕ
@@ -112,7 +121,17 @@ item-in (integer z) = none
 item-in (logical l) = none
 item-in (binary s) = none
 item-in (item m) = some m
+item-in (string s) = none
 item-in (end e) = none
+
+abbrev pub string-in : Answer → Option (List ℕ)
+string-in indeterminate = none
+string-in (integer z) = none
+string-in (logical l) = none
+string-in (binary s) = none
+string-in (item m) = none
+string-in (string s) = some s
+string-in (end e) = none
 
 abbrev pub end-in : Answer → Option ℕ
 end-in indeterminate = none
@@ -120,6 +139,7 @@ end-in (integer z) = none
 end-in (logical l) = none
 end-in (binary s) = none
 end-in (item m) = none
+end-in (string s) = none
 end-in (end e) = some e
 
 module _ {A B : Type 0} where
@@ -156,7 +176,8 @@ compared x y =
     both (integer-in x) (integer-in y) (λ a b. some (compareℤ a b))
     (both (logical-in x) (logical-in y) (λ a b. some (compare-logical a b))
     (both (binary-in x) (binary-in y) (λ a b. some (compare-bits a b))
-    (both (item-in x) (item-in y) (λ a b. some (compare a b)) none)))
+    (both (item-in x) (item-in y) (λ a b. some (compare a b))
+    (both (string-in x) (string-in y) (λ a b. some (compare-bytes a b)) none))))
 
 -- to a logical operator `?` is UNKNOWN (K15)
 abbrev pub counted : Answer → Logical
@@ -164,7 +185,9 @@ counted x = given (logical-in x) (λ l. l) UNKNOWN
 
 -- K15, K16: what is computed where no operand is an end
 abbrev pub operated : Operator → Answer → Answer → Answer
-operated plus x y = both (integer-in x) (integer-in y) sum (both (binary-in x) (binary-in y) join indeterminate)
+operated plus x y =
+    both (integer-in x) (integer-in y) sum
+    (both (binary-in x) (binary-in y) join (both (string-in x) (string-in y) join-strings indeterminate))
 operated (arithmetic o) x y = both (integer-in x) (integer-in y) (computed o) indeterminate
 operated (relation o) x y = logical (given (compared x y) (related o) UNKNOWN)
 operated (connective o) x y = logical (combined-logicals o (counted x) (counted y))

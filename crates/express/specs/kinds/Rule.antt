@@ -7,12 +7,13 @@ use Prim.Native.Nat.{ℕ, _^_, _≤_, _<_}
 use lib.ListN.{length}
 use lib.IntN.{ℤ, pos}
 use lib.Signed.{mag}
-use Rattle.express.specs.kinds.Answer.{Logical, FALSE, UNKNOWN, TRUE, Answer, indeterminate, integer, logical, binary, item, end, unknown-boolean, ends}
+use Rattle.express.specs.kinds.Answer.{Logical, FALSE, UNKNOWN, TRUE, Answer, indeterminate, integer, logical, binary, item, string, end, unknown-boolean, ends}
 use Rattle.express.specs.kinds.Relation.{Relation}
+use Rattle.express.specs.tokens.Lexis.{most-bytes}
 use Rattle.express.specs.syntax.NodeKind.{enumeration-item}
 use Rattle.express.specs.syntax.Tree.{Table, kind, owner, last, left, middle, low}
-use Rattle.express.specs.kinds.Declared.{Declared, INTEGER, BOOLEAN, LOGICAL, BINARY, enumeration, declared-type}
-use Rattle.express.specs.kinds.Shape.{Operator, relation, Sign, integer-literal, logical-literal, binary-literal, question, name, unary, operator, interval, constant, shape}
+use Rattle.express.specs.kinds.Declared.{Declared, INTEGER, BOOLEAN, LOGICAL, BINARY, STRING, enumeration, declared-type}
+use Rattle.express.specs.kinds.Shape.{Operator, relation, Sign, integer-literal, logical-literal, binary-literal, string-literal, question, name, unary, operator, interval, constant, shape}
 use Rattle.express.specs.kinds.Shape as shapes
 use Rattle.express.specs.kinds.Operate.{Kind, Of, takes, takes-one, combined, applied, between}
 
@@ -23,6 +24,7 @@ pub data Member (t : Table) : Declared → Answer → Type 0 where
   is-true : Member t BOOLEAN (logical TRUE)
   a-logical : {l : Logical} → Member t LOGICAL (logical l)
   a-binary : {s : List Bool} → 1 ≤ length s → length s ≤ 63 → Member t BINARY (binary s)
+  a-string : {s : List ℕ} → length s ≤ most-bytes → Member t STRING (string s)
   an-item : {m y : ℕ} → kind t m ≡ enumeration-item → owner t m ≡ y → Member t (enumeration y) (item m)
 
 -- K32: `?`, what belongs to the declared type (K27), or one of the ends (R4)
@@ -44,6 +46,7 @@ pub data Gives (t : Table) (b : List ℕ) : ℕ → Answer → Type 0 where
   an-integer-literal : {n v : ℕ} → shape t b n ≡ integer-literal v → Gives t b n (integer (pos v))
   a-logical-literal : {n : ℕ} {l : Logical} → shape t b n ≡ logical-literal l → Gives t b n (logical l)
   a-binary-literal : {n : ℕ} {s : List Bool} → shape t b n ≡ binary-literal s → Gives t b n (binary s)
+  a-string-literal : {n : ℕ} {s : List ℕ} → shape t b n ≡ string-literal s → Gives t b n (string s)
   a-question : {n : ℕ} → shape t b n ≡ question → Gives t b n indeterminate
   an-item : {n m : ℕ} → shape t b n ≡ shapes.item m → Gives t b n (item m)
   a-name : {n c : ℕ} {a : Answer} → shape t b n ≡ name c → Gives t b c a → Gives t b n a

@@ -1,6 +1,6 @@
 -- What a node of an expression or a constant is: its row (G31) decoded, once, for the rules, the typing and the evaluation.
 use mathlib.Core.Path.{_≡_}
-use mathlib.Core.Bool.{Bool, cond, _||_}
+use mathlib.Core.Bool.{Bool, cond, _&&_, _||_}
 use mathlib.Core.Option.{Option, none, some}
 use mathlib.Core.List.{List}
 use Prim.Native.Nat.{ℕ, _^_, _≤_, _<_}
@@ -8,7 +8,7 @@ use lib.Dec.{eqb}
 use lib.ListN.{getD, take, drop, length}
 use Rattle.express.specs.kinds.Answer.{Logical, FALSE, UNKNOWN, TRUE}
 use Rattle.express.specs.kinds.Relation.{Relation, less-than, greater-than, at-most, at-least, unequal, equal, instance-unequal, instance-equal}
-use Rattle.express.specs.tokens.Lexis.{integer-value, binary-bits}
+use Rattle.express.specs.tokens.Lexis.{integer-value, binary-bits, string-value, most-bytes}
 use Rattle.express.specs.tokens.Terminal.{the}
 use Rattle.express.specs.tokens.Terminal as word
 use Rattle.express.specs.syntax.NodeKind as node
@@ -23,7 +23,7 @@ pub data Arithmetic : Type 0 where
 pub data Connective : Type 0 where
   and or xor : Connective
 
--- K7: the two-operand operators, in classes; `+`, which adds integers and joins binaries, is one by itself
+-- K7: the two-operand operators, in classes; `+`, which adds integers and joins binaries and strings, is one by itself
 pub data Operator : Type 0 where
   plus : Operator
   arithmetic : Arithmetic → Operator
@@ -38,6 +38,7 @@ pub data Shape : Type 0 where
   integer-literal : ℕ → Shape
   logical-literal : Logical → Shape
   binary-literal : List Bool → Shape
+  string-literal : List ℕ → Shape
   question : Shape
   -- an item, and the name of a constant: by the node of its declaration
   item : ℕ → Shape
@@ -99,11 +100,16 @@ name-shape-in t e b n =
     cond (bound t b node.enumeration-item n) (item (declaration b n))
     (cond (bound t b node.constant n) (name (declaration b n)) (type (denoted e b n)))
 
+-- a literal that is not of the kinds before (G32) and whose token is a string
+abbrev pub is-string : Table → ℕ → Bool
+is-string e n = is e node.other-literal n && eqb (terminal e n) (the word.string)
+
 unfoldable pub shape-in : Table → Table → List ℕ → ℕ → Shape
 shape-in t e b n =
     cond (is e node.integer-literal n) (integer-literal (integer-value (text e n)))
     (cond (is e node.binary-literal n) (binary-literal (binary-bits (text e n)))
     (cond (is e node.logical-literal n) (logical-literal (logical-of (terminal e n)))
+    (cond (is-string e n) (string-literal (string-value (text e n)))
     (cond (is e node.question n) question
     (cond (is e node.name n || is e node.qualified-item n) (name-shape-in t e b n)
     (cond (is e node.unary n) (unary (sign-of (terminal e n)))
@@ -111,14 +117,15 @@ shape-in t e b n =
     (cond (is e node.interval n) (interval (bound-of (terminal e (lower e n))) (bound-of (terminal e (upper e n))))
     (cond (is e node.interval-operator n) interval-operator
     (cond (is e node.simple-type n) (type (denoted e b n))
-    (cond (is e node.constant n) (constant (declared-type e b n)) unevaluated))))))))))
+    (cond (is e node.constant n) (constant (declared-type e b n)) unevaluated)))))))))))
 
 -- a node of the file
 abbrev pub shape : Table → List ℕ → ℕ → Shape
 shape t b n = shape-in t t b n
 
--- what holds of the literals of every text that is read: integers stay below 2 ^ 63, binaries have 1 to 63 bits
+-- what holds of the literals of every text that is read: integers stay below 2 ^ 63, binaries have 1 to 63 bits, strings at most 255 bytes
 pub record Literals (t : Table) : Type 0 where
   pub small : (n : ℕ) → kind t n ≡ node.integer-literal → integer-value (text t n) < 2 ^ 63
   pub some-bits : (n : ℕ) → kind t n ≡ node.binary-literal → 1 ≤ length (binary-bits (text t n))
   pub few-bits : (n : ℕ) → kind t n ≡ node.binary-literal → length (binary-bits (text t n)) ≤ 63
+  pub few-bytes : (n : ℕ) → kind t n ≡ node.other-literal → terminal t n ≡ the word.string → length (string-value (text t n)) ≤ most-bytes

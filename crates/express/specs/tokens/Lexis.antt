@@ -79,11 +79,32 @@ numeral base v (b ∷ s) = numeral base (v * base + (b - 48)) s
 abbrev pub greatest : ℕ
 greatest = 9223372036854775807
 
+-- ---- strings
+
+abbrev pub quote : ℕ
+quote = 39
+
+-- T19: bytes with each pair of quotes made one; `passed` says that the next byte is the second of a pair
+unfoldable pub unpaired : Bool → List ℕ → List ℕ
+unpaired passed [] = []
+unpaired true (b ∷ s) = unpaired false s
+unpaired false (b ∷ s) = b ∷ unpaired (eqb b quote) s
+
+-- T19: the value of a string, by the bytes of its token: what stands between the outer quotes, unpaired
+unfoldable pub string-value : List ℕ → List ℕ
+string-value t = unpaired false (take (length t - 2) (drop 1 t))
+
+-- the bound on the bytes of a string's value (T13)
+abbrev pub most-bytes : ℕ
+most-bytes = 255
+
 -- ---- tokens
 
--- a literal of kind k beyond its bound (T10, T14): 63 bits, behind the `%`
+-- a literal of kind k beyond its bound (T10, T13, T14): 63 bits, behind the `%`
 abbrev pub too-large : ℕ → List ℕ → Bool
-too-large k w = cond (eqb k 2) (not (leb (numeral 10 0 w) greatest)) (eqb k 5 && not (leb (length w) 64))
+too-large k w =
+    cond (eqb k 2) (not (leb (numeral 10 0 w) greatest))
+    (cond (eqb k 4) (not (leb (length (string-value w)) most-bytes)) (eqb k 5 && not (leb (length w) 64)))
 
 -- THE TOKEN AT A PLACE (T2): the end of the longest that stands there. Where none does, also because it is unfinished, the refusal is 2 (T16)
 unfoldable pub longest-end : List ℕ → ℕ → Reading
@@ -217,6 +238,12 @@ end-of-string o false p (b ∷ s) =
     let on = end-of-string o false (p + 1) s in
     cond (eqb b 39) quote (cond (printable b) on (refused 2 o))
 
+-- T13: the end of the string at p, whose value is within the bound
+unfoldable pub end-of-short-string : List ℕ → ℕ → Reading
+end-of-short-string s p =
+    reading-then (end-of-string p false (p + 1) (drop (p + 1) s))
+    (λ e. cond (leb (length (string-value (token-bytes s p (e - p)))) most-bytes) (at e) (refused 3 p))
+
 abbrev pub bit : ℕ → Bool
 bit b = bytes.bit b
 
@@ -265,7 +292,7 @@ end-of-token s p k =
     cond (eqb k 1) (at (run word-byte s p))
     (cond (eqb k 2) (end-of-integer s p)
     (cond (eqb k 3) (at (end-of-real s p))
-    (cond (eqb k 4) (end-of-string p false (p + 1) (drop (p + 1) s))
+    (cond (eqb k 4) (end-of-short-string s p)
     (cond (eqb k 5) (end-of-binary s p)
     (end-of-symbol s p)))))
 

@@ -15,11 +15,12 @@ use Rattle.express.specs.names.Scope.{bindings}
 use Rattle.express.specs.names.Names.{WellNamed}
 use Rattle.express.specs.kinds.Kind.{constants, WellTyped}
 use Rattle.express.specs.kinds.Rule.{Exactly}
+use Rattle.express.specs.kinds.AnswerRow.{room-of}
 use Rattle.express.specs.whole.Reply.{Accepted}
 
 -- The tokens derive from the grammar, every name and type is right, and nothing is too large for the limits and the tables; the tree is that of
 -- the derivation, names are bound as they are looked up, and each constant has the answer that the rules give it (K34).
-pub record Acceptable (s : List ℕ) (token-rows node-rows answer-rows : ℕ) (a : Accepted) : Type 0 where
+pub record Acceptable (s : List ℕ) (token-rows node-rows answer-rows room-bytes : ℕ) (a : Accepted) : Type 0 where
   -- T1, T17, R9: the bytes are tokens to the end, and there is room for them
   pub end : ℕ
   pub scanned : lexed s .stop ≡ at end
@@ -39,3 +40,5 @@ pub record Acceptable (s : List ℕ) (token-rows node-rows answer-rows : ℕ) (a
   -- K34, K36: an answer for each constant, in the order of the text: the one that the rules give
   pub as-many : length (a .answers) ≡ length (constants (a .table))
   pub exact : (i : ℕ) → i < length (constants (a .table)) → Exactly (a .table) (a .bindings) (getD (constants (a .table)) i 0) (getD (a .answers) i indeterminate)
+  -- K36, R9: and there is room for their strings
+  pub string-room : length (room-of (a .answers)) ≤ room-bytes

@@ -3,11 +3,12 @@ use mathlib.Core.Bool.{Bool, true, false, cond}
 use mathlib.Core.List.{List, [], _∷_, _++_, map, flatMap}
 use Prim.Native.Nat.{ℕ, zero, suc, _+_, _/_, _%_}
 use Prim.Native.String.{String}
-use lib.Dec.{ltb}
+use lib.Dec.{eqb, ltb}
 use lib.IntN.{ℤ, pos, negsuc}
 use lib.ListN.{length, getD}
-use Rattle.express.specs.kinds.Answer.{Logical, FALSE, UNKNOWN, TRUE, Answer, indeterminate, integer, logical, binary, item, end}
+use Rattle.express.specs.kinds.Answer.{Logical, FALSE, UNKNOWN, TRUE, Answer, indeterminate, integer, logical, binary, item, string, end}
 use Rattle.express.specs.tokens.Terminal.{bytes}
+use Rattle.express.specs.tokens.Lexis.{quote}
 use Rattle.express.specs.tokens.Spelling.{spelling}
 use Rattle.relations.specs.Select.{span}
 use Rattle.express.specs.syntax.Tree.{Table, token, schema-of}
@@ -41,6 +42,14 @@ abbrev pub bit-digit : Bool → ℕ
 bit-digit true = 49
 bit-digit false = 48
 
+-- a byte of a string as a literal has it: a quote twice
+abbrev pub quoted-byte : ℕ → List ℕ
+quoted-byte b = cond (eqb b quote) (quote ∷ quote ∷ []) (b ∷ [])
+
+-- R15: a string as a literal; `string-value` takes it back (`literal-value` of the crate `theorems`)
+abbrev pub literal : List ℕ → List ℕ
+literal s = (quote ∷ flatMap quoted-byte s) ++ (quote ∷ [])
+
 -- a name, or an item, in lower case
 abbrev pub name-of : Table → ℕ → List ℕ
 name-of t n = spelling (t .bytes) (t .starts) (t .lengths) (token t n)
@@ -52,6 +61,7 @@ printed t (integer z) = signed z
 printed t (logical l) = bytes (logical-name l)
 printed t (binary s) = bytes "%" ++ map bit-digit s
 printed t (item m) = name-of t m
+printed t (string s) = literal s
 printed t (end e) = bytes "end " ++ decimal e
 
 abbrev pub line-feed : ℕ
@@ -81,4 +91,4 @@ listing (accepted a) = accepted-line (length (a .answers)) ++ flatMap (constant-
 
 -- the program, with the tables that it lends
 abbrev pub program : List ℕ → List ℕ
-program s = listing (checked s 8192 8192 1024)
+program s = listing (checked s 8192 8192 1024 261120)

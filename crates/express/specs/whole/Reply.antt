@@ -1,4 +1,5 @@
--- THE WHOLE (R1 to R9): what is answered for the bytes of a file and tables of three lengths, stage by stage (R3), and what every column then holds.
+-- THE WHOLE (R1 to R9): what is answered for the bytes of a file, tables of three lengths and a room for strings, stage by stage (R3), and what every
+-- column and the room then hold.
 use mathlib.Core.Bool.{cond}
 use mathlib.Core.List.{List, [], _∷_, map}
 use Prim.Native.Nat.{ℕ, min}
@@ -22,7 +23,7 @@ use Rattle.express.specs.kinds.Kind.{Typing, typed, typing, constants}
 use Rattle.express.specs.kinds.Kind as kinds
 use Rattle.express.specs.kinds.Order.{constant-order}
 use Rattle.express.specs.kinds.Evaluate.{answers, answer-at}
-use Rattle.express.specs.kinds.AnswerRow.{AnswerRow, row-of}
+use Rattle.express.specs.kinds.AnswerRow.{AnswerRow, rows-from, room-of}
 
 -- What an accepted file leaves: its tokens, its nodes, what each name is bound to, and an answer for each constant, in the order of the text.
 pub record Accepted : Type 0 where
@@ -38,15 +39,15 @@ pub data Checked : Type 0 where
 
 -- ---- the stages, the last first (R3): a later one begins where the earlier ones found nothing. A place is a start byte (R2).
 
-module _ (ls : List TokenRow) (t : Table) where
+module _ (ls : List TokenRow) (t : Table) (room : ℕ) where
+  -- 20, last, with the bytes of the room that is lent
+  abbrev pub after-answers : List Answer → Checked
+  after-answers xs =
+      let on = accepted (record { tokens = ls; table = t; bindings = bindings t; answers = xs }) in
+      cond (leb (length (room-of xs)) room) on (refused 20 room)
+
   abbrev pub after-kinds : Typing → Checked
-  after-kinds (typed ks) =
-      accepted (record {
-        tokens = ls;
-        table = t;
-        bindings = bindings t;
-        answers = map (answer-at (answers t (bindings t) (constant-order t))) (constants t);
-      })
+  after-kinds (typed ks) = after-answers (map (answer-at (answers t (bindings t) (constant-order t))) (constants t))
   after-kinds (kinds.ill-typed f n) = refused f (place t n)
 
   abbrev pub after-names : Fault → Checked
@@ -59,10 +60,10 @@ module _ (ls : List TokenRow) (t : Table) where
       cond (leb (count t) nodes) (cond (leb (length (constants t)) rows) on (refused 8 (length (constants t)))) (refused 7 (count t))
 
 -- s is the text, and l its tokens
-module _ (s : List ℕ) (l : Lexed) (nodes rows : ℕ) where
+module _ (s : List ℕ) (l : Lexed) (nodes rows room : ℕ) where
   -- 4 and 5 at the start of a token, or at the end of the bytes (G27, G28)
   abbrev pub after-syntax : Outcome Rows → Checked
-  after-syntax (good r) = after-rows (l .rows) (with-rows (with-tokens s l) (r .rows)) nodes rows
+  after-syntax (good r) = after-rows (l .rows) (with-rows (with-tokens s l) (r .rows)) room nodes rows
   after-syntax (unexpected j) = refused 4 (getD (starts l) j (length s))
   after-syntax (too-deep k) = refused 5 (getD (starts l) k (length s))
 
@@ -70,12 +71,12 @@ module _ (s : List ℕ) (l : Lexed) (nodes rows : ℕ) where
   after-tokens (at n) = after-syntax (parsed file (with-tokens s l .terminals))
   after-tokens (lexis.refused k p) = refused k p
 
-abbrev pub checked-with : List ℕ → Lexed → ℕ → ℕ → ℕ → Checked
-checked-with s l token-rows node-rows answer-rows = after-tokens s l node-rows answer-rows (tokens l token-rows)
+abbrev pub checked-with : List ℕ → Lexed → ℕ → ℕ → ℕ → ℕ → Checked
+checked-with s l token-rows node-rows answer-rows room-bytes = after-tokens s l node-rows answer-rows room-bytes (tokens l token-rows)
 
--- R3: the outcome for the bytes of a file, and a token, a node and an answer table of so many entries
-unfoldable pub checked : List ℕ → ℕ → ℕ → ℕ → Checked
-checked s token-rows node-rows answer-rows = checked-with s (lexed s) token-rows node-rows answer-rows
+-- R3: the outcome for the bytes of a file, a token, a node and an answer table of so many entries, and a room of so many bytes
+unfoldable pub checked : List ℕ → ℕ → ℕ → ℕ → ℕ → Checked
+checked s token-rows node-rows answer-rows room-bytes = checked-with s (lexed s) token-rows node-rows answer-rows room-bytes
 
 -- ---- the report and the columns
 
@@ -121,7 +122,7 @@ node-bindings a = a .bindings
 
 -- the answer table (K35, K36)
 abbrev pub answer-rows : Accepted → List AnswerRow
-answer-rows a = map row-of (a .answers)
+answer-rows a = rows-from 0 (a .answers)
 
 abbrev pub answer-kinds : Accepted → List ℕ
 answer-kinds a = map (λ (r : AnswerRow). r .kind) (answer-rows a)
@@ -132,7 +133,11 @@ answer-numbers a = map (λ (r : AnswerRow). r .number) (answer-rows a)
 abbrev pub answer-lengths : Accepted → List ℕ
 answer-lengths a = map (λ (r : AnswerRow). r .length) (answer-rows a)
 
--- ---- the ten lent columns
+-- the room (K36)
+abbrev pub answer-room : Accepted → List ℕ
+answer-room a = room-of (a .answers)
+
+-- ---- the ten lent columns and the room
 
 -- R9: how many rows columns of these lengths hold
 abbrev pub shortest : List ℕ → ℕ
@@ -149,7 +154,7 @@ node-entries kinds tokens sizes bindings = shortest (length kinds ∷ length tok
 abbrev pub answer-entries : List ℕ → List ℤ → List ℕ → ℕ
 answer-entries kinds numbers lengths = shortest (length kinds ∷ length numbers ∷ length lengths ∷ [])
 
--- three of tokens, four of nodes, three of answers
+-- three of tokens, four of nodes, three of answers; and the room for strings
 pub record Tables : Type 0 where
   pub token-kinds : List ℕ
   pub token-starts : List ℕ
@@ -161,13 +166,14 @@ pub record Tables : Type 0 where
   pub answer-kinds : List ℕ
   pub answer-numbers : List ℤ
   pub answer-lengths : List ℕ
+  pub room : List ℕ
 
 -- The outcome for the bytes of a file and the tables lent
 abbrev pub outcome : List ℕ → Tables → Checked
 outcome s l =
     checked s (token-entries (l .token-kinds) (l .token-starts) (l .token-lengths))
     (node-entries (l .node-kinds) (l .node-tokens) (l .node-sizes) (l .node-bindings))
-    (answer-entries (l .answer-kinds) (l .answer-numbers) (l .answer-lengths))
+    (answer-entries (l .answer-kinds) (l .answer-numbers) (l .answer-lengths)) (length (l .room))
 
 -- what the tables hold after an outcome, each column as long as it was
 abbrev pub tables-after : Checked → Tables → Tables
@@ -183,4 +189,5 @@ tables-after c l =
       answer-kinds = column 0 answer-kinds c (length (l .answer-kinds));
       answer-numbers = column (pos 0) answer-numbers c (length (l .answer-numbers));
       answer-lengths = column 0 answer-lengths c (length (l .answer-lengths));
+      room = column 0 answer-room c (length (l .room));
     }

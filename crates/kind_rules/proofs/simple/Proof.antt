@@ -22,9 +22,13 @@ returns-4 c = rw (c .match .keys4)
 
 returns-5 : tie.Need-returns-5
 unfolding simple
-returns-5 c =
+returns-5 c = rw (c .match .keys5)
+
+returns-6 : tie.Need-returns-6
+unfolding simple
+returns-6 c =
     rw
-    (ne-eqb _ 92 (c .match .rest .0 .0 .0 .1), ne-eqb _ 50 (c .match .rest .0 .0 .1), ne-eqb _ 102 (c .match .rest .0 .1), ne-eqb _ 48 (c .match .rest .1))
+    (ne-eqb _ 92 (c .match .rest .0 .0 .0 .0 .1), ne-eqb _ 50 (c .match .rest .0 .0 .0 .1), ne-eqb _ 102 (c .match .rest .0 .0 .1), ne-eqb _ 48 (c .match .rest .0 .1), ne-eqb _ 133 (c .match .rest .1))
 
 pub simple-spec : {M : Type 1} → statement M
-simple-spec = tie.close (tie.spec returns returns-2 returns-3 returns-4 returns-5)
+simple-spec = tie.close (tie.spec returns returns-2 returns-3 returns-4 returns-5 returns-6)

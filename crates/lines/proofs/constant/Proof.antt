@@ -19,8 +19,8 @@ same-length c = search needs
 
 returns : tie.Need-returns
 returns c =
-    let a = c .before .before .before .before .before .before .before .before .before .before .before .before .before .before .before .before .before .before .args in
-    let same = printed-kinds (a .text .now) (a .starts .now) (a .lengths .now) (a .kinds .now) (a .tokens .now) (record-answer (a .answer)) in
+    let a = c .before .before .before .before .before .before .before .before .before .before .before .before .before .before .before .before .before .before .before .args in
+    let same = printed-kinds (a .text .now) (a .starts .now) (a .lengths .now) (a .kinds .now) (a .tokens .now) (record-answer (a .room .now) (a .answer)) in
     ended (then (c .before .before .before .before .before .before .before .before .before .before .put-title .ensures .put) (renamed
     (c .before .before .before .before .before .before .put-answer .ensures) same .put)) (c .before .before .end-line .ensures .0)
     (c .before .before .end-line .ensures .1)

@@ -35,6 +35,9 @@ slice-aggregate-check-9 c = numbers-counted _
 slice-aggregate-check-10 : tie.Need-slice-aggregate-check-10
 slice-aggregate-check-10 c = counted _
 
+slice-aggregate-check-11 : tie.Need-slice-aggregate-check-11
+slice-aggregate-check-11 c = counted _
+
 check-requires : tie.Need-check-requires
 check-requires c κs = search needs
 
@@ -42,28 +45,32 @@ slice-aggregate-print : tie.Need-slice-aggregate-print
 slice-aggregate-print c = counted _
 
 slice-aggregate-print-2 : tie.Need-slice-aggregate-print-2
-slice-aggregate-print-2 c = counted _ ∙ sym (c .before .before .before .before .before .before .before .before .before .before .before .before .check .kept .1 .1 .0)
+slice-aggregate-print-2 c = counted _ ∙ sym (c .before .before .before .before .before .before .before .before .before .before .before .before .before .check .kept .1 .1 .0)
 
 slice-aggregate-print-3 : tie.Need-slice-aggregate-print-3
-slice-aggregate-print-3 c = counted _ ∙ sym (c .before .before .before .before .before .before .before .before .before .before .before .before .before .check .kept .1 .1 .1 .0)
+slice-aggregate-print-3 c = counted _ ∙ sym (c .before .before .before .before .before .before .before .before .before .before .before .before .before .before .check .kept .1 .1 .1 .0)
 
 slice-aggregate-print-4 : tie.Need-slice-aggregate-print-4
-slice-aggregate-print-4 c = counted _ ∙ sym (c .before .before .before .before .before .before .before .before .before .before .before .before .before .before .check .kept .1 .1 .1 .1 .0)
+slice-aggregate-print-4 c = counted _ ∙ sym (c .before .before .before .before .before .before .before .before .before .before .before .before .before .before .before .check .kept .1 .1 .1 .1 .0)
 
 slice-aggregate-print-5 : tie.Need-slice-aggregate-print-5
-slice-aggregate-print-5 c = counted _ ∙ sym (c .before .before .before .before .before .before .before .before .before .before .before .before .before .before .before .check .kept .1 .1 .1 .1 .1 .0)
+slice-aggregate-print-5 c = counted _ ∙ sym (c .before .before .before .before .before .before .before .before .before .before .before .before .before .before .before .before .check .kept .1 .1 .1 .1 .1 .0)
 
 slice-aggregate-print-6 : tie.Need-slice-aggregate-print-6
-slice-aggregate-print-6 c = counted _ ∙ sym (c .before .before .before .before .before .before .before .before .before .before .before .before .before .before .before .before .check .kept
+slice-aggregate-print-6 c = counted _ ∙ sym (c .before .before .before .before .before .before .before .before .before .before .before .before .before .before .before .before .before .check .kept
     .1 .1 .1 .1 .1 .1 .1 .1 .0)
 
 slice-aggregate-print-7 : tie.Need-slice-aggregate-print-7
-slice-aggregate-print-7 c = numbers-counted _ ∙ sym (c .before .before .before .before .before .before .before .before .before .before .before .before .before .before .before .before
+slice-aggregate-print-7 c = numbers-counted _ ∙ sym (c .before .before .before .before .before .before .before .before .before .before .before .before .before .before .before .before .before
     .before .check .kept .1 .1 .1 .1 .1 .1 .1 .1 .1 .0)
 
 slice-aggregate-print-8 : tie.Need-slice-aggregate-print-8
-slice-aggregate-print-8 c = counted _ ∙ sym (c .before .before .before .before .before .before .before .before .before .before .before .before .before .before .before .before .before
+slice-aggregate-print-8 c = counted _ ∙ sym (c .before .before .before .before .before .before .before .before .before .before .before .before .before .before .before .before .before .before
     .before .check .kept .1 .1 .1 .1 .1 .1 .1 .1 .1 .1 .0)
+
+slice-aggregate-print-9 : tie.Need-slice-aggregate-print-9
+slice-aggregate-print-9 c = counted _ ∙ sym (c .before .before .before .before .before .before .before .before .before .before .before .before .before .before .before .before .before .before .before .before .check .kept
+    .1 .1 .1 .1 .1 .1 .1 .1 .1 .1 .1 .0)
 
 index-requires : tie.Need-index-requires
 index-requires c κs = search needs
@@ -91,6 +98,7 @@ list-spec =
     slice-aggregate-check-8
     slice-aggregate-check-9
     slice-aggregate-check-10
+    slice-aggregate-check-11
     check-requires
     slice-aggregate-print
     slice-aggregate-print-2
@@ -100,6 +108,7 @@ list-spec =
     slice-aggregate-print-6
     slice-aggregate-print-7
     slice-aggregate-print-8
+    slice-aggregate-print-9
     index-requires
     index-requires-2
     print-requires

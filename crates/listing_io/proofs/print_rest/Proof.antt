@@ -12,11 +12,11 @@ fewer : (n i j : ℕ) → i < n → i < j → n - j < n - i
 fewer n i j h k = omega arith
 
 abbrev Inv-loop : tie.InvT-loop
-Inv-loop out₀ text starts lengths kinds tokens answer-kinds answer-numbers answer-lengths constants from from-node line₀ node₀ out line node =
+Inv-loop out₀ text starts lengths kinds tokens answer-kinds answer-numbers answer-lengths room constants from from-node line₀ node₀ out line node =
     length out ≡ length out₀
 
 abbrev μ-loop : tie.MeasureT-loop
-μ-loop out₀ text starts lengths kinds tokens answer-kinds answer-numbers answer-lengths constants from from-node line₀ node₀ out line node =
+μ-loop out₀ text starts lengths kinds tokens answer-kinds answer-numbers answer-lengths room constants from from-node line₀ node₀ out line node =
     constants - line
 
 loop-holds : tie.Need-loop-holds Inv-loop μ-loop

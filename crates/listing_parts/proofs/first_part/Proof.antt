@@ -17,7 +17,7 @@ same-length : tie.Need-same-length
 same-length c = search needs
 
 returns : tie.Need-returns
-returns c = first-stops _ _ _ _ _ (ended-by (c .before .before .before .before .head .ensures) (c .enum-told .given .1))
+returns c = first-stops _ _ _ _ _ _ (ended-by (c .before .before .before .before .head .ensures) (c .enum-told .given .1))
 
 part-requires : tie.Need-part-requires
 part-requires c κs = ends-within (ended-by (c .before .before .before .before .before .before .head .ensures) (c .before .before .written .given .1))
@@ -26,7 +26,7 @@ same-length-2 : tie.Need-same-length-2
 same-length-2 c = search needs
 
 returns-2 : tie.Need-returns-2
-returns-2 c = first-goes-on _ _ _ _ _ (ended-by (c .before .before .before .before .before .before .before .before .before .head .ensures)
+returns-2 c = first-goes-on _ _ _ _ _ _ (ended-by (c .before .before .before .before .before .before .before .before .before .head .ensures)
     (c .before .before .before .before .before .written .given .1)) (c .before .before .part .ensures)
 
 pub first-part-spec : {M : Type 1} → statement M

@@ -10,15 +10,15 @@ use borrow.Author.Needs.{needs}
 use native.Mathlib.Omega.{arith}
 
 abbrev Inv-loop : tie.InvT-loop
-Inv-loop out₀ text starts lengths kinds tokens answer-kinds answer-numbers answer-lengths constants at₀ line₀ node₀ out at line node = Going
-    (table-of text starts lengths kinds tokens) (take constants (rows answer-kinds answer-numbers answer-lengths)) constants out₀
+Inv-loop out₀ text starts lengths kinds tokens answer-kinds answer-numbers answer-lengths room constants at₀ line₀ node₀ out at line node = Going
+    (table-of text starts lengths kinds tokens) room (take constants (rows answer-kinds answer-numbers answer-lengths)) constants out₀
     (record { at = at₀; line = line₀; node = node₀ }) out (record { at = at; line = line; node = node })
 
 abbrev μ-loop : tie.MeasureT-loop
-μ-loop out₀ text starts lengths kinds tokens answer-kinds answer-numbers answer-lengths constants at₀ line₀ node₀ out at line node = constants - line
+μ-loop out₀ text starts lengths kinds tokens answer-kinds answer-numbers answer-lengths room constants at₀ line₀ node₀ out at line node = constants - line
 
 loop-holds : tie.Need-loop-holds Inv-loop μ-loop
-loop-holds c = going-starts _ _ _ _ _ (c .before .before .before .before .before .before .before .before .pre)
+loop-holds c = going-starts _ _ _ _ _ _ (c .before .before .before .before .before .before .before .before .before .pre)
 
 next-constant-requires : tie.Need-next-constant-requires Inv-loop μ-loop
 next-constant-requires c κs = search needs
@@ -45,20 +45,20 @@ same-length : tie.Need-same-length Inv-loop μ-loop
 same-length c = search needs
 
 returns : tie.Need-returns Inv-loop μ-loop
-returns c = going-stops _ _ _ (c .before .before .before .before .before .before .before .before .loop .inv)
+returns c = going-stops _ _ _ _ (c .before .before .before .before .before .before .before .before .loop .inv)
     (c .before .before .before .before .before .before .before .loop-test .taken) (printed-by
     (c .before .before .before .before .before .before .before .before .loop .node) (c .before .before .before .before .line-at .ensures)
     (c .before .before .before .before .before .before .next-constant .ensures) (c .enum-told .given .1))
 
 add-at : tie.Need-add-at Inv-loop μ-loop
 add-at c =
-    let room = going-fits _ _ _ (c .before .before .before .before .before .before .before .before .before .loop .inv)
+    let fits = going-fits _ _ _ _ (c .before .before .before .before .before .before .before .before .before .loop .inv)
     (c .before .before .before .before .before .before .before .before .loop-test .taken) (printed-by
     (c .before .before .before .before .before .before .before .before .before .loop .node)
     (c .before .before .before .before .before .line-at .ensures)
     (c .before .before .before .before .before .before .before .next-constant .ensures) (c .before .written .given .1)) in
     record {
-      fits = omega (arith, room, c .before .before .before .before .before .before .before .before .before .before .before .before .before .before .before .before .before .before .good);
+      fits = omega (arith, fits, c .before .before .before .before .before .before .before .before .before .before .before .before .before .before .before .before .before .before .before .good);
     }
 
 add-line : tie.Need-add-line Inv-loop μ-loop
@@ -71,7 +71,7 @@ loop-less : tie.Need-loop-less Inv-loop μ-loop
 loop-less c = search needs
 
 loop-again : tie.Need-loop-again Inv-loop μ-loop
-loop-again c = going-goes-on _ _ _ (c .before .before .before .before .before .before .before .before .before .before .loop .inv)
+loop-again c = going-goes-on _ _ _ _ (c .before .before .before .before .before .before .before .before .before .before .loop .inv)
     (c .before .before .before .before .before .before .before .before .before .loop-test .taken) (printed-by
     (c .before .before .before .before .before .before .before .before .before .before .loop .node)
     (c .before .before .before .before .before .before .line-at .ensures)
@@ -82,7 +82,7 @@ same-length-2 : tie.Need-same-length-2 Inv-loop μ-loop
 same-length-2 c = search needs
 
 returns-2 : tie.Need-returns-2 Inv-loop μ-loop
-returns-2 c = going-ends _ _ _ (c .before .loop .inv) (c .loop-test .left)
+returns-2 c = going-ends _ _ _ _ (c .before .loop .inv) (c .loop-test .left)
 
 pub part-spec : {M : Type 1} → statement M
 part-spec =

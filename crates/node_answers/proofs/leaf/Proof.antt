@@ -2,7 +2,7 @@
 use borrow.Author.Needs.{needs}
 use Rattle.node_answers.proofs.leaf.Statement.{statement}
 use Rattle.node_answers.proofs.leaf.Tie as tie
-use Rattle.node_answers.proofs.Literals.{leaf-integer, leaf-binary, leaf-logical, leaf-other}
+use Rattle.node_answers.proofs.Literals.{leaf-integer, leaf-binary, leaf-logical, leaf-string, leaf-other}
 
 integer-requires : tie.Need-integer-requires
 integer-requires c κs = search needs
@@ -22,8 +22,19 @@ logical-requires c κs = search needs
 returns-3 : tie.Need-returns-3
 returns-3 c = leaf-logical (c .before .if3 .taken) (c .logical .ensures)
 
+is-string-requires : tie.Need-is-string-requires
+is-string-requires c κs = search needs
+
+string-requires : tie.Need-string-requires
+string-requires c κs = search needs
+
 returns-4 : tie.Need-returns-4
-returns-4 c = leaf-other (c .before .before .if1 .left) (c .before .if2 .left) (c .if3 .left)
+returns-4 c = leaf-string (c .before .before .is-string .ensures) (c .before .if4 .taken) (c .string .ensures)
+
+returns-5 : tie.Need-returns-5
+returns-5 c =
+    leaf-other (c .before .is-string .ensures) (c .before .before .before .before .if1 .left) (c .before .before .before .if2 .left) (c .before .before
+    .if3 .left) (c .if4 .left)
 
 pub leaf-spec : {M : Type 1} → statement M
 leaf-spec =
@@ -35,4 +46,7 @@ leaf-spec =
     returns-2
     logical-requires
     returns-3
-    returns-4)
+    is-string-requires
+    string-requires
+    returns-4
+    returns-5)

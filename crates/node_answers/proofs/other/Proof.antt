@@ -1,10 +1,9 @@
 -- `node_answers::other` meets its contract: a constant, or a leaf. Assumes nothing.
 use mathlib.Core.Path.{refl}
-use native.Mathlib.Omega.{arith}
 use borrow.Author.Needs.{needs}
 use Rattle.node_answers.proofs.other.Statement.{statement}
 use Rattle.node_answers.proofs.other.Tie as tie
-use Rattle.node_answers.proofs.Literals.{leaf-other}
+use Rattle.node_answers.proofs.Literals.{leaf-none}
 use Rattle.node_answers.proofs.Assembled.{others-constant, others-leaf}
 
 held-answer-requires : tie.Need-held-answer-requires
@@ -14,10 +13,7 @@ returns : tie.Need-returns
 returns c = others-constant (c .before .if1 .taken) (c .held-answer .ensures)
 
 returns-2 : tie.Need-returns-2
-returns-2 c =
-    let h = c .if2 .taken in
-    others-leaf (c .before .if1 .left) refl refl refl
-    (leaf-other (λ q. omega (arith, h, q)) (λ q. omega (arith, h, q)) (λ q. omega (arith, h, q)))
+returns-2 c = others-leaf (c .before .if1 .left) refl refl refl (leaf-none (c .if2 .taken))
 
 at8-requires : tie.Need-at8-requires
 at8-requires c κs = search needs

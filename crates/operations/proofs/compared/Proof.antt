@@ -7,6 +7,7 @@ pub compared-spec : {M : Type 1} → statement M
 compared-spec =
     tie.close
     (tie.spec (λ c. search needs) (λ c. search needs) (λ c κs. tt) (λ c. search needs) (λ c. search needs) (λ c κs. tt) (λ c. search needs)
-    (λ c. search needs) (λ c κs. tt) (λ c. search needs) (λ c. search needs) (λ c κs. tt) (λ c. search orders) (λ c. search orders)
+    (λ c. search needs) (λ c κs. tt) (λ c. search needs) (λ c. search needs) (λ c. search needs) (λ c. search needs) (λ c κs. tt) (λ c. search needs)
+    (λ c. search needs) (λ c. search needs) (λ c. search needs) (λ c κs. tt) (λ c. search orders) (λ c. search orders) (λ c. search orders)
     (λ c. search orders) (λ c. search orders) (λ c. search orders) (λ c. search orders) (λ c. search orders) (λ c. search orders)
-    (λ c. search orders))
+    (λ c. search orders) (λ c. search orders))

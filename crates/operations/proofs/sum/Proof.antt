@@ -7,4 +7,5 @@ pub sum-spec : {M : Type 1} → statement M
 sum-spec =
     tie.close
     (tie.spec (λ c. search needs) (λ c. search needs) (λ c κs. tt) (λ c κs. tt) (λ c. search needs) (λ c. search needs) (λ c κs. tt) (λ c κs. tt)
-    (λ c. search sums) (λ c. search sums) (λ c. search sums) (λ c. search sums) (λ c. search sums))
+    (λ c. search needs) (λ c. search needs) (λ c κs. tt) (λ c κs. tt) (λ c. search sums) (λ c. search sums) (λ c. search sums) (λ c. search sums)
+    (λ c. search sums) (λ c. search sums) (λ c. search sums))

@@ -9,7 +9,7 @@ use Rattle.scan.proofs.is_letter.Reads as is-letter-reads
 use Rattle.scan.proofs.is_lone.Reads as is-lone-reads
 use Rattle.blanks.proofs.is_within.Reads as is-within-reads
 use Rattle.scan.proofs.number.Reads as number-reads
-use Rattle.scan.proofs.string_end.Reads as string-end-reads
+use Rattle.literal_ends.proofs.string_end.Reads as string-end-reads
 use Rattle.scan.proofs.symbol_end.Reads as symbol-end-reads
 use Rattle.scan.proofs.word_end.Reads as word-end-reads
 use mathlib.Core.Path.{_≡_, sym, _∙_}

@@ -11,7 +11,7 @@ use Rattle.ebnf.specs.Set.{mem}
 use Rattle.ebnf.specs.Rows.{Row}
 use Rattle.ebnf.specs.Parse.{descend, budget, parse}
 use Rattle.ebnf.specs.Depth.{first-deep, good}
-use Rattle.express.specs.kinds.Answer.{UNKNOWN, TRUE, integer, logical, binary, item, end}
+use Rattle.express.specs.kinds.Answer.{UNKNOWN, TRUE, integer, logical, binary, item, string, end}
 use Rattle.express.specs.tokens.Terminal.{bytes, among, terminal-of}
 use Rattle.express.specs.tokens.Spelling.{symbol-of, symbols-of}
 use Rattle.express.specs.syntax.Tree.{Table, kind, nodes, is, owner, schema-of}
@@ -22,12 +22,13 @@ use Rattle.express.specs.syntax.NodeKind.{constant}
 use Rattle.express.specs.tokens.Bytes.{upper, lower, word-byte, space, same}
 use Rattle.relations.specs.Reach.{added, closure}
 use Rattle.express.specs.names.Scope.{declarations, items, own, super-edges, renaming-edges, type-edges, inherited, candidates, type-meant, items-of, item-meant, means, binding, bindings}
-use Rattle.express.specs.tokens.Lexis.{end-of-run, end-of-remark, skipped-in, skipped, end-of-integer, end-of-exponent, end-of-real, end-of-string}
-use Rattle.express.specs.tokens.Lexis.{end-of-binary, lone, size-of-symbol, end-of-symbol, token-kind-at, end-of-token, lexed-in, numeral, integer-value, binary-bits}
+use Rattle.express.specs.tokens.Lexis.{end-of-run, end-of-remark, skipped-in, skipped, end-of-integer, end-of-exponent, end-of-real, end-of-string, end-of-short-string}
+use Rattle.express.specs.tokens.Lexis.{end-of-binary, lone, size-of-symbol, end-of-symbol, token-kind-at, end-of-token, lexed-in, numeral, integer-value, binary-bits, unpaired, string-value}
 use Rattle.express.specs.kinds.Integer.{exact, quotient, remainder, DIV, MOD, power}
 use Rattle.express.specs.kinds.Logic.{AND, OR, XOR}
 use Rattle.relations.specs.Order.{compare-lists}
 use Rattle.express.specs.kinds.Bits.{join}
+use Rattle.express.specs.kinds.Strings.{join-strings}
 use Rattle.express.specs.kinds.Declared.{simple, denoted-in}
 use Rattle.express.specs.kinds.Shape.{operator-of, shape-in}
 use Rattle.express.specs.names.Fault.{sort, scope, repeated, type-name-fault, cyclic, qualified, expression, constant-edges}
@@ -51,16 +52,17 @@ kinds-in (ill-typed k n) = []
 abbrev row : ℕ → ℕ → ℕ → ℕ → Row
 row k t n o = record { kind = k; token = t; size = n; role = o }
 
--- constants of three kinds, one of them before the one that it names
+-- constants of four kinds, one of them before the one that it names
 abbrev lathe-text : String
-lathe-text = "SCHEMA Lathe; CONSTANT travel : INTEGER := feed * 5; feed : INTEGER := -9 DIV 2; near : LOGICAL := {1 < feed < 40} OR ?; tool : BINARY := %01 + %110; END_CONSTANT; END_SCHEMA;"
+lathe-text = "SCHEMA Lathe; CONSTANT travel : INTEGER := feed * 5; feed : INTEGER := -9 DIV 2; near : LOGICAL := {1 < feed < 40} OR ?; tool : BINARY := %01 + %110; maker : STRING := 'O''Neil' + '!'; END_CONSTANT; END_SCHEMA;"
 
 abbrev lathe-rows : List Row
 lathe-rows =
     row 13 6 1 0 ∷ row 6 8 1 1 ∷ row 1 10 1 0 ∷ row 10 9 3 0 ∷ row 17 4 5 0 ∷ row 13 14 1 0 ∷ row 1 17 1 0 ∷ row 9 16 2 0 ∷
     row 1 19 1 0 ∷ row 10 18 4 0 ∷ row 17 12 6 0 ∷ row 13 23 1 0 ∷ row 1 26 1 0 ∷ row 12 27 1 0 ∷ row 6 28 1 1 ∷ row 12 29 1 0 ∷
     row 1 30 1 0 ∷ row 11 25 6 0 ∷ row 4 33 1 0 ∷ row 10 32 8 0 ∷ row 17 21 10 0 ∷ row 13 37 1 0 ∷ row 2 39 1 0 ∷ row 2 41 1 0 ∷
-    row 10 40 3 0 ∷ row 17 35 5 0 ∷ row 25 1 27 0 ∷ row 26 0 28 0 ∷ []
+    row 10 40 3 0 ∷ row 17 35 5 0 ∷ row 13 45 1 0 ∷ row 5 47 1 0 ∷ row 5 49 1 0 ∷ row 10 48 3 0 ∷ row 17 43 5 0 ∷ row 25 1 32 0 ∷
+    row 26 0 33 0 ∷ []
 
 abbrev pub lathe : Table
 lathe =
@@ -68,17 +70,18 @@ lathe =
     (record {
       bytes = bytes lathe-text;
       starts =
-          0 ∷ 7 ∷ 12 ∷ 14 ∷ 23 ∷ 30 ∷ 32 ∷ 40 ∷ 43 ∷ 48 ∷ 50 ∷ 51 ∷ 53 ∷ 58 ∷ 60 ∷ 68 ∷ 71 ∷ 72 ∷ 74 ∷ 78 ∷ 79 ∷ 81 ∷ 86 ∷ 88 ∷ 96 ∷ 99 ∷
-          100 ∷ 102 ∷ 104 ∷ 109 ∷ 111 ∷ 113 ∷ 115 ∷ 118 ∷ 119 ∷ 121 ∷ 126 ∷ 128 ∷ 135 ∷ 138 ∷ 142 ∷ 144 ∷ 148 ∷ 150 ∷ 162 ∷ 164 ∷ 174 ∷ [];
+          0 ∷ 7 ∷ 12 ∷ 14 ∷ 23 ∷ 30 ∷ 32 ∷ 40 ∷ 43 ∷ 48 ∷ 50 ∷ 51 ∷ 53 ∷ 58 ∷ 60 ∷ 68 ∷ 71 ∷ 72 ∷ 74 ∷ 78 ∷ 79 ∷ 81 ∷ 86 ∷ 88 ∷ 96 ∷ 99 ∷ 100 ∷ 102 ∷
+          104 ∷ 109 ∷ 111 ∷ 113 ∷ 115 ∷ 118 ∷ 119 ∷ 121 ∷ 126 ∷ 128 ∷ 135 ∷ 138 ∷ 142 ∷ 144 ∷ 148 ∷ 150 ∷ 156 ∷ 158 ∷ 165 ∷ 168 ∷ 178 ∷ 180 ∷ 183 ∷
+          185 ∷ 197 ∷ 199 ∷ 209 ∷ [];
       lengths =
-          6 ∷ 5 ∷ 1 ∷ 8 ∷ 6 ∷ 1 ∷ 7 ∷ 2 ∷ 4 ∷ 1 ∷ 1 ∷ 1 ∷ 4 ∷ 1 ∷ 7 ∷ 2 ∷ 1 ∷ 1 ∷ 3 ∷ 1 ∷ 1 ∷ 4 ∷ 1 ∷ 7 ∷ 2 ∷ 1 ∷ 1 ∷ 1 ∷ 4 ∷ 1 ∷ 2 ∷ 1 ∷
-          2 ∷ 1 ∷ 1 ∷ 4 ∷ 1 ∷ 6 ∷ 2 ∷ 3 ∷ 1 ∷ 4 ∷ 1 ∷ 12 ∷ 1 ∷ 10 ∷ 1 ∷ [];
+          6 ∷ 5 ∷ 1 ∷ 8 ∷ 6 ∷ 1 ∷ 7 ∷ 2 ∷ 4 ∷ 1 ∷ 1 ∷ 1 ∷ 4 ∷ 1 ∷ 7 ∷ 2 ∷ 1 ∷ 1 ∷ 3 ∷ 1 ∷ 1 ∷ 4 ∷ 1 ∷ 7 ∷ 2 ∷ 1 ∷ 1 ∷ 1 ∷ 4 ∷ 1 ∷ 2 ∷ 1 ∷ 2 ∷ 1 ∷ 1 ∷
+          4 ∷ 1 ∷ 6 ∷ 2 ∷ 3 ∷ 1 ∷ 4 ∷ 1 ∷ 5 ∷ 1 ∷ 6 ∷ 2 ∷ 9 ∷ 1 ∷ 3 ∷ 1 ∷ 12 ∷ 1 ∷ 10 ∷ 1 ∷ [];
       terminals =
-          125 ∷ 1 ∷ 9 ∷ 53 ∷ 1 ∷ 10 ∷ 92 ∷ 30 ∷ 1 ∷ 11 ∷ 2 ∷ 9 ∷ 1 ∷ 10 ∷ 92 ∷ 30 ∷ 13 ∷ 2 ∷ 58 ∷ 2 ∷ 9 ∷ 1 ∷ 10 ∷ 102 ∷ 30 ∷ 21 ∷ 2 ∷ 17 ∷
-          1 ∷ 17 ∷ 2 ∷ 22 ∷ 113 ∷ 6 ∷ 9 ∷ 1 ∷ 10 ∷ 48 ∷ 30 ∷ 5 ∷ 12 ∷ 5 ∷ 9 ∷ 63 ∷ 9 ∷ 73 ∷ 9 ∷ [];
+          125 ∷ 1 ∷ 9 ∷ 53 ∷ 1 ∷ 10 ∷ 92 ∷ 30 ∷ 1 ∷ 11 ∷ 2 ∷ 9 ∷ 1 ∷ 10 ∷ 92 ∷ 30 ∷ 13 ∷ 2 ∷ 58 ∷ 2 ∷ 9 ∷ 1 ∷ 10 ∷ 102 ∷ 30 ∷ 21 ∷ 2 ∷ 17 ∷ 1 ∷ 17 ∷
+          2 ∷ 22 ∷ 113 ∷ 6 ∷ 9 ∷ 1 ∷ 10 ∷ 48 ∷ 30 ∷ 5 ∷ 12 ∷ 5 ∷ 9 ∷ 1 ∷ 10 ∷ 133 ∷ 30 ∷ 4 ∷ 12 ∷ 4 ∷ 9 ∷ 63 ∷ 9 ∷ 73 ∷ 9 ∷ [];
       symbols =
           0 ∷ 1 ∷ 2 ∷ 3 ∷ 4 ∷ 5 ∷ 6 ∷ 7 ∷ 8 ∷ 9 ∷ 10 ∷ 11 ∷ 8 ∷ 13 ∷ 14 ∷ 15 ∷ 16 ∷ 17 ∷ 18 ∷ 19 ∷ 20 ∷ 21 ∷ 22 ∷ 23 ∷ 24 ∷ 25 ∷ 26 ∷ 27 ∷ 8 ∷ 29 ∷
-          30 ∷ 31 ∷ 32 ∷ 33 ∷ 34 ∷ 35 ∷ 36 ∷ 37 ∷ 38 ∷ 39 ∷ 40 ∷ 41 ∷ 42 ∷ 43 ∷ 44 ∷ 45 ∷ 46 ∷ [];
+          30 ∷ 31 ∷ 32 ∷ 33 ∷ 34 ∷ 35 ∷ 36 ∷ 37 ∷ 38 ∷ 39 ∷ 40 ∷ 41 ∷ 42 ∷ 43 ∷ 44 ∷ 45 ∷ 46 ∷ 47 ∷ 48 ∷ 49 ∷ 50 ∷ 51 ∷ 52 ∷ 53 ∷ 54 ∷ [];
       kinds = [];
       tokens = [];
       sizes = [];
@@ -87,7 +90,7 @@ lathe =
     lathe-rows
 
 abbrev lathe-bindings : List ℕ
-lathe-bindings = 0 ∷ 11 ∷ 0 ∷ 0 ∷ 0 ∷ 0 ∷ 0 ∷ 0 ∷ 0 ∷ 0 ∷ 0 ∷ 0 ∷ 0 ∷ 0 ∷ 11 ∷ 0 ∷ 0 ∷ 0 ∷ 0 ∷ 0 ∷ 0 ∷ 0 ∷ 0 ∷ 0 ∷ 0 ∷ 0 ∷ 0 ∷ 0 ∷ []
+lathe-bindings = 0 ∷ 11 ∷ 0 ∷ 0 ∷ 0 ∷ 0 ∷ 0 ∷ 0 ∷ 0 ∷ 0 ∷ 0 ∷ 0 ∷ 0 ∷ 0 ∷ 11 ∷ 0 ∷ 0 ∷ 0 ∷ 0 ∷ 0 ∷ 0 ∷ 0 ∷ 0 ∷ 0 ∷ 0 ∷ 0 ∷ 0 ∷ 0 ∷ 0 ∷ 0 ∷ 0 ∷ 0 ∷ 0 ∷ []
 
 lathe-bound : bindings lathe ≡ lathe-bindings
 unfolding span first-from keep any owner schema-of added closure declarations items own super-edges renaming-edges type-edges inherited candidates
@@ -96,11 +99,11 @@ lathe-bound = refl
 
 -- an order of its constants
 abbrev lathe-plan : List ℕ
-lathe-plan = 10 ∷ 4 ∷ 20 ∷ 25 ∷ []
+lathe-plan = 10 ∷ 4 ∷ 20 ∷ 25 ∷ 30 ∷ []
 
 lathe-scanned : Scanned lathe
 unfolding word-byte space upper end-of-run end-of-remark skipped-in skipped numeral end-of-integer end-of-exponent end-of-real end-of-string
-    end-of-binary lone size-of-symbol end-of-symbol token-kind-at end-of-token lexed-in terminal-of among same lower symbol-of symbols-of span first-from
+    unpaired string-value end-of-short-string end-of-binary lone size-of-symbol end-of-symbol token-kind-at end-of-token lexed-in terminal-of among same lower symbol-of symbols-of span first-from
 lathe-scanned = scanned-by lathe refl refl refl refl
 
 lathe-parsed : parsed file (lathe .terminals) ≡ good (whole lathe-rows)
@@ -114,16 +117,16 @@ unfolding span first-from keep any owner schema-of added closure declarations it
 lathe-named = refl
 
 lathe-typed : typing lathe lathe-bindings ≡ typed (kinds-in (typing lathe lathe-bindings))
-unfolding typing type-constants type-nodes-in span keep flatMap numeral integer-value binary-bits exact quotient remainder DIV MOD power AND OR XOR
-    join compare-lists simple denoted-in operator-of shape-in run-in evaluate answers owner first-from
+unfolding typing type-constants type-nodes-in span keep flatMap numeral integer-value binary-bits unpaired string-value exact quotient remainder DIV MOD power AND OR XOR
+    join join-strings compare-lists simple denoted-in operator-of shape-in run-in evaluate answers owner first-from
 lathe-typed = refl
 
 lathe-order : (in-order lathe lathe-bindings [] lathe-plan ≡ true) × (every (λ c. not (is lathe constant c) || order.among lathe-plan c) (nodes lathe) ≡ true)
-unfolding in-order every any span keep flatMap numeral integer-value binary-bits exact quotient remainder DIV MOD power AND OR XOR join compare-lists
+unfolding in-order every any span keep flatMap numeral integer-value binary-bits unpaired string-value exact quotient remainder DIV MOD power AND OR XOR join join-strings compare-lists
     simple denoted-in operator-of shape-in run-in evaluate answers owner first-from
 lathe-order = (refl, refl)
 
-lathe-file : (c : ℕ) → c < 28 → kind lathe c ≡ constant → Exactly lathe (bindings lathe) c (answer-at (answers lathe lathe-bindings lathe-plan) c)
+lathe-file : (c : ℕ) → c < 33 → kind lathe c ≡ constant → Exactly lathe (bindings lathe) c (answer-at (answers lathe lathe-bindings lathe-plan) c)
 lathe-file c l e =
     subst (λ (b : List ℕ). Exactly lathe (bindings lathe) c (answer-at (answers lathe b lathe-plan) c)) lathe-bound
     (file-exact lathe lathe-scanned (read-good file lathe (whole lathe-rows) lathe-parsed) (names-passes lathe .0 lathe-named) (kinds-in (typing lathe lathe-bindings))
@@ -133,10 +136,12 @@ pub lathe-exact :
     Exactly lathe (bindings lathe) 4 (integer (negsuc 24)) ×
     Exactly lathe (bindings lathe) 10 (integer (negsuc 4)) ×
     Exactly lathe (bindings lathe) 20 (logical UNKNOWN) ×
-    Exactly lathe (bindings lathe) 25 (binary (false ∷ true ∷ true ∷ true ∷ false ∷ []))
-unfolding span keep flatMap numeral integer-value binary-bits exact quotient remainder DIV MOD power AND OR XOR join compare-lists simple denoted-in
+    Exactly lathe (bindings lathe) 25 (binary (false ∷ true ∷ true ∷ true ∷ false ∷ [])) ×
+    Exactly lathe (bindings lathe) 30 (string (bytes "O'Neil!"))
+unfolding span keep flatMap numeral integer-value binary-bits unpaired string-value exact quotient remainder DIV MOD power AND OR XOR join join-strings compare-lists simple denoted-in
     operator-of shape-in run-in evaluate answers owner first-from
-lathe-exact = (lathe-file 4 (omega arith) refl, lathe-file 10 (omega arith) refl, lathe-file 20 (omega arith) refl, lathe-file 25 (omega arith) refl)
+lathe-exact =
+    (lathe-file 4 (omega arith) refl, lathe-file 10 (omega arith) refl, lathe-file 20 (omega arith) refl, lathe-file 25 (omega arith) refl, lathe-file 30 (omega arith) refl)
 
 -- an enumeration, a renaming of it, UNKNOWN for a BOOLEAN, and the first of two ends
 abbrev shade-text : List ℕ

@@ -11,7 +11,7 @@ use lib.Dec.{eqb, ltb}
 use Rattle.express.specs.syntax.NodeKind as node
 use Rattle.relations.specs.Select.{span, any}
 use Rattle.express.specs.syntax.Tree.{Table, count, kind, first, nodes, is, is-declaration, owner}
-use Rattle.express.specs.kinds.Shape.{Shape, integer-literal, logical-literal, binary-literal, question, item, name}
+use Rattle.express.specs.kinds.Shape.{Shape, integer-literal, logical-literal, binary-literal, string-literal, question, item, name}
 use Rattle.express.specs.kinds.Shape.{unary, operator, interval, interval-operator, type, constant, unevaluated, shape}
 use Rattle.express.specs.kinds.Order.{Uses, Order}
 use Rattle.relations.specs.Sorted.{Sorted, done, next}
@@ -40,6 +40,7 @@ abbrev names-pass : (ℕ → Bool) → Shape → Bool
 names-pass p (integer-literal v) = true
 names-pass p (logical-literal l) = true
 names-pass p (binary-literal s) = true
+names-pass p (string-literal s) = true
 names-pass p question = true
 names-pass p (item m) = true
 names-pass p (name c) = p c

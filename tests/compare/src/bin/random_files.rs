@@ -4,11 +4,9 @@
 //! `SEED.txt` for each seed and prints the tally.
 
 use compare::random::{file, plan, Tally};
+use reference::PROGRAM_LENGTHS;
 use std::io::Write;
 use std::path::Path;
-
-/// The tables that the program lends.
-const LENT: [usize; 3] = [8_192, 8_192, 1_024];
 
 fn main() -> std::io::Result<()> {
     let args: Vec<String> = std::env::args().skip(1).collect();
@@ -33,7 +31,7 @@ fn write_all(first: u64, count: u64, dir: &Path) -> std::io::Result<()> {
     let mut tally = Tally::default();
     for seed in first..first + count {
         let bytes = file(seed);
-        let checked = reference::check(&bytes, LENT[0], LENT[1], LENT[2]);
+        let checked = reference::check(&bytes, PROGRAM_LENGTHS);
         std::fs::write(dir.join(format!("{seed}.exp")), &bytes)?;
         std::fs::write(dir.join(format!("{seed}.txt")), reference::listing(&bytes, &checked))?;
         tally.add(plan(seed).0, &checked);

@@ -2,6 +2,7 @@
 
 use super::layout;
 use super::rng::Rng;
+use reference::MAX_STRING;
 
 /// The most bytes that a file may have.
 pub const LARGEST: usize = 65_536;
@@ -44,18 +45,18 @@ pub fn tokens(rng: &mut Rng, tokens: &mut Vec<String>) {
 
 /// Makes a literal too large, or just not.
 fn enlarge(rng: &mut Rng, tokens: &mut [String]) {
-    let literal =
-        |token: &&mut String| token.starts_with(|c: char| c.is_ascii_digit() || c == '%') && !token.contains('.');
+    let whole = |c: char| c.is_ascii_digit() || c == '%' || c == '\'';
+    let literal = |token: &&mut String| token.starts_with(whole) && (token.starts_with('\'') || !token.contains('.'));
     let mut literals: Vec<&mut String> = tokens.iter_mut().filter(literal).collect();
     if literals.is_empty() {
         return;
     }
     let at = rng.below(literals.len());
-    let bits = rng.between(63, 66);
-    *literals[at] = if literals[at].starts_with('%') {
-        format!("%{}", "01".repeat(40).split_at(bits).0)
-    } else {
-        rng.pick(&LARGE).to_string()
+    let (bits, bytes) = (rng.between(63, 66), rng.between(MAX_STRING, MAX_STRING + 2));
+    *literals[at] = match literals[at].as_bytes()[0] {
+        b'%' => format!("%{}", "01".repeat(40).split_at(bits).0),
+        b'\'' => format!("'{}'", rng.pick(&["x", "''"]).repeat(bytes)),
+        _ => rng.pick(&LARGE).to_string(),
     };
 }
 

@@ -16,7 +16,7 @@ pub fn compare(count: u64, first_seed: u64, left: impl Checker, right: impl Chec
     tallies.map(Tally::sum).map_err(|difference: Box<Difference>| difference.shrunk(&left, &right))
 }
 
-/// Both checkers on the file of a seed, with tables of the seed's lengths.
+/// Both checkers on the file of a seed, with tables and a room of the seed's lengths.
 pub fn compare_one(
     seed: u64,
     file: &[u8],
@@ -24,7 +24,7 @@ pub fn compare_one(
     right: &impl Checker,
 ) -> Result<Checked, Box<Difference>> {
     // A checker that panics while the needs are found does so again below, where it is reported.
-    let [tokens, nodes, answers] = catch_unwind(AssertUnwindSafe(|| needed(file, right))).unwrap_or_default();
-    let lengths = lengths(seed, tokens, nodes, answers);
+    let needed = catch_unwind(AssertUnwindSafe(|| needed(file, right))).unwrap_or_default();
+    let lengths = lengths(seed, needed);
     hold(file, lengths, left, right, || format!("seed {seed} ({:?})", plan(seed).0))
 }

@@ -10,6 +10,10 @@ const EDGES: [&str; 16] = [
     "9223372036854775806", "9223372036854775807", "0009223372036854775807",
 ];
 const OTHERS: [&str; 9] = ["PI", "CONST_E", "1.5", "0.", "12.E-3", "1.e+10", "'it''s'", "''", "'(* -- %\"'"];
+/// Strings of which some begin with others, or differ in the case of a letter.
+const ALIKE: [&str; 12] = ["", "", "a", "A", "ab", "aB", "abc", "b", "it's", "'", "''", " "];
+/// Bytes of long strings.
+const LONG: [usize; 9] = [1, 55, 56, 127, 128, 200, 254, 255, 255];
 const RELATIONS: [&str; 8] = ["<", ">", "<=", ">=", "<>", "=", ":<>:", ":=:"];
 const SUMS: [&str; 4] = ["+", "-", "OR", "XOR"];
 const TERMS: [&str; 5] = ["*", "DIV", "MOD", "AND", "/"];
@@ -96,7 +100,7 @@ impl<'a> Writer<'a> {
     fn sum(&mut self, scope: &Scope, kind: Kind, fuel: usize) {
         let fitting = match kind {
             Kind::Integer => &SUMS[..2],
-            Kind::Binary => &SUMS[..1],
+            Kind::Binary | Kind::String => &SUMS[..1],
             Kind::Logical => &SUMS[2..],
             Kind::Item(_) => &[],
         };
@@ -286,6 +290,7 @@ impl<'a> Writer<'a> {
                 self.put(word);
             }
             Kind::Binary => self.binary(),
+            Kind::String => self.string(),
             Kind::Item(_) if signed => self.put("?"),
             Kind::Item(of) => {
                 let item = self.source.rng.pick(scope.schema.items(of));
@@ -314,6 +319,20 @@ impl<'a> Writer<'a> {
         self.put(&token);
     }
 
+    /// A string that others are equal to or begin with, one of any bytes, or one that joins come near the longest with.
+    fn string(&mut self) {
+        let rng = &mut self.source.rng;
+        let value: String = match rng.below(4) {
+            0 => rng.pick(&ALIKE).to_string(),
+            1 | 2 if self.edgy => {
+                let (byte, count) = (*rng.pick(&['a', 'A', '\'']), *rng.pick(&LONG));
+                std::iter::repeat_n(byte, count).collect()
+            }
+            _ => (0..rng.below(12)).map(|_| char::from(rng.between(32, 126) as u8)).collect(),
+        };
+        self.put(&format!("'{}'", value.replace('\'', "''")));
+    }
+
     /// The kind asked for, or another where kinds do not count or by a slip.
     fn bend(&mut self, scope: &Scope, kind: Kind) -> Kind {
         let bent = !scope.typed && self.source.rng.one_in(3) || self.source.slip(Slip::Misfit);
@@ -325,6 +344,9 @@ impl<'a> Writer<'a> {
     }
 
     fn any_kind(&mut self, scope: &Scope) -> Kind {
+        if self.source.string_is_due() {
+            return Kind::String;
+        }
         match self.source.rng.below(8) {
             0..=2 => Kind::Integer,
             3 | 4 => Kind::Logical,

@@ -11,6 +11,7 @@ pub enum Kind {
     Integer,
     Logical,
     Binary,
+    String,
     Item(usize),
 }
 
@@ -149,6 +150,7 @@ fn simple_kind(word: &str) -> Option<Kind> {
         "INTEGER" => Some(Kind::Integer),
         "BOOLEAN" | "LOGICAL" => Some(Kind::Logical),
         "BINARY" => Some(Kind::Binary),
+        "STRING" => Some(Kind::String),
         _ => None,
     }
 }
@@ -233,17 +235,19 @@ fn constant(source: &mut Source, names: &Names, types: &[Type], name: &str) -> C
     Constant { name: name.into(), base, kind: kind.unwrap_or(Kind::Integer) }
 }
 
+/// An evaluated type, declared or simple, which is a string or not as is due.
 fn evaluated(source: &mut Source, types: &[Type]) -> (String, Option<Kind>) {
+    let string = source.string_is_due();
     for _ in 0..4 {
         if types.is_empty() || source.rng.one_in(4) {
             break;
         }
         let Type { name, kind, .. } = source.rng.pick(types);
-        if kind.is_some() {
+        if kind.is_some_and(|kind| string == (kind == Kind::String)) {
             return (name.clone(), *kind);
         }
     }
-    let word = *source.rng.pick(&SIMPLE[..4]);
+    let word = if string { "STRING" } else { *source.rng.pick(&SIMPLE[..4]) };
     (word.into(), simple_kind(word))
 }
 

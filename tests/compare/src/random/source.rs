@@ -25,8 +25,17 @@ const STEMS: [&str; 20] = [
 ];
 const ENDINGS: [&str; 6] = ["", "", "1", "_2", "00", "_"];
 
+/// How many of the constants and operands are strings.
+#[derive(Clone, Copy, Debug, PartialEq, Eq)]
+pub enum Strings {
+    None,
+    Some,
+    Most,
+}
+
 pub struct Source {
     pub rng: Rng,
+    strings: Strings,
     /// A slip of each sort happens once in so many places; 0 is never.
     slips: [usize; SLIPS],
     pool: Vec<String>,
@@ -42,7 +51,23 @@ impl Source {
         let names = rng.between(6, 12 + size / 60);
         let pool = (0..names).map(|_| format!("{}{}", rng.pick(&STEMS), rng.pick(&ENDINGS))).collect();
         let near = rng.one_in(4);
-        Source { rng, slips: [0; SLIPS], pool, fresh: 0, near }
+        // Drawn apart, so that a file without strings is the same whatever share the others have.
+        let strings = *Rng::new(seed ^ 0x7374_7269).pick(&[Strings::None, Strings::None, Strings::Some, Strings::Most]);
+        Source { rng, strings, slips: [0; SLIPS], pool, fresh: 0, near }
+    }
+
+    /// The same with another share of strings.
+    pub fn with(self, strings: Strings) -> Self {
+        Source { strings, ..self }
+    }
+
+    /// Whether the next constant or operand of any kind is a string.
+    pub fn string_is_due(&mut self) -> bool {
+        match self.strings {
+            Strings::None => false,
+            Strings::Some => self.rng.one_in(4),
+            Strings::Most => !self.rng.one_in(4),
+        }
     }
 
     /// The same with slips: mostly of one or two sorts, so that the later stages are reached too.

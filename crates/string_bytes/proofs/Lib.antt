@@ -1,0 +1,5 @@
+pub mod Signs
+pub mod Writing
+pub mod Leaves
+pub mod Walking
+pub mod Reading
