@@ -1,5 +1,5 @@
 -- A row whose kind is not that of strings tells none.
-use mathlib.Core.Path.{_≡_, refl, sym, ap, _∙_}
+use mathlib.Core.Path.{_≡_, refl}
 use mathlib.Core.Bool.{Bool, true, false, cond}
 use mathlib.Core.Option.{none}
 use mathlib.Core.List.{List, [], _∷_}
@@ -10,7 +10,7 @@ use lib.Dec.{eqb}
 use lib.IntN.{ℤ}
 use lib.ListN.{getD}
 use Rattle.express.specs.kinds.Answer.{Answer, indeterminate, integer, logical, binary, item, string, end}
-use Rattle.express.specs.kinds.AnswerRow.{row, row-answer}
+use Rattle.express.specs.kinds.AnswerRow.{row}
 use Rattle.express.specs.kinds.Operate.{string-in}
 use Rattle.express.specs.kinds.Evaluate.{answer-at}
 use Rattle.operations.specs.Meaning.{sized}

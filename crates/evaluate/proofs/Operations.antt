@@ -1,24 +1,23 @@
 -- The value of a node from what is told of its operands: of strings their lengths, or, where strings are compared, their bytes.
-use mathlib.Core.Path.{_≡_, refl, sym, ap, ap₂, subst, _∙_}
-use mathlib.Core.Logic.{_⊎_, inl, inr, ⊎-elim}
-use mathlib.Core.Bool.{Bool, true, false, cond, _&&_, _||_, false≢true}
+use mathlib.Core.Path.{_≡_, refl, sym, ap, subst, _∙_}
+use mathlib.Core.Logic.{⊎-elim}
+use mathlib.Core.Bool.{Bool, true, false, _&&_, _||_}
 use mathlib.Core.Option.{Option, none, some}
 use mathlib.Core.List.{List}
 use Prim.Native.Nat.{ℕ, _+_, _-_, _≤_, _<_}
 use native.Mathlib.Omega.{arith}
-use native.Mathlib.Decide.{ℕ-discrete}
-use borrow.Author.Tests.{eqb-true, eq-eqb, ne-eqb}
+use borrow.Author.Tests.{eqb-true, eq-eqb}
 use lib.Dec.{eqb}
 use lib.IntN.{ℤ}
-use lib.ListN.{length, getD}
+use lib.ListN.{getD}
 use Rattle.relations.proofs.Select.{and-fst, and-snd, or-cases}
 use Rattle.express.specs.syntax.NodeKind as node
-use Rattle.express.specs.syntax.Tree.{Table, count, kind, terminal, size, first, last, left, low, lower, upper, middle}
-use Rattle.express.specs.kinds.Answer.{Answer, string}
+use Rattle.express.specs.syntax.Tree.{Table, kind, terminal, last, left, low, middle}
+use Rattle.express.specs.kinds.Answer.{Answer}
 use Rattle.express.specs.kinds.Relation.{Relation}
 use Rattle.express.specs.kinds.Shape.{Operator, plus, arithmetic, relation, connective, Shape, integer-literal, logical-literal, binary-literal, string-literal, question}
-use Rattle.express.specs.kinds.Shape.{item, name, unary, operator, interval, interval-operator, type, constant, unevaluated, evaluated, operator-of, bound-of, shape-in}
-use Rattle.express.specs.kinds.Operate.{string-in, combined, between}
+use Rattle.express.specs.kinds.Shape.{item, name, unary, operator, interval, interval-operator, type, constant, unevaluated, evaluated, operator-of, shape-in}
+use Rattle.express.specs.kinds.Operate.{string-in}
 use Rattle.express.specs.kinds.Evaluate.{answer-in, answer-at}
 use Rattle.express.proofs.kinds.Shapes.{Decoded, decoded-in}
 use Rattle.operations.specs.Meaning.{sized}
@@ -29,15 +28,14 @@ use Rattle.node_answers.specs.NodeAnswer.{Against}
 use Rattle.node_answers.proofs.Rows.{same}
 use Rattle.node_answers.proofs.Nodes.{at-operator, at-interval}
 use Rattle.string_laws.specs.Leaves.{leaves}
+use Rattle.string_laws.proofs.Operations.{interval-shape}
 use Rattle.string_bytes.specs.Reading.{Columns, Readable}
 use Rattle.string_bytes.proofs.Reading.{nodes-leaves}
-use Rattle.string_relations.specs.Comparing.{Comparison, a-relation, an-interval, Operand, is-relation, relates, Compares, bytes-of-node}
+use Rattle.string_relations.specs.Comparing.{Comparison, a-relation, an-interval, Operand, is-relation, relates, Compares}
 use Rattle.string_relations.specs.Compared.{Compared}
+use Rattle.string_relations.proofs.Relating.{clash}
 use Rattle.evaluate.specs.Evaluation.{OperandOf, of-sign, left-of, right-of, low-of, item-of, high-of, value-of, Valued, Comparable, Told}
 use Rattle.evaluate.proofs.NoString.{no-string, sized-none}
-
-clash : {A : Type 0} → _≡_ {A = Bool} false true → A
-clash e = absurd (false≢true e)
 
 -- the operator of a node of that shape
 operator-at : (t e : Table) (c : List ℕ) (n : ℕ) (o : Operator) → kind e n ≡ node.two-operand → shape-in t e c n ≡ operator o → operator-of (terminal e n) ≡ some o
@@ -49,10 +47,6 @@ operator-at t e c n o k h = by (operator-of (terminal e n)) (rw k at h)
     by (some p) q = let z : p ≡ o = cc in ap some z
 
 -- shapes that compare
-interval-shape : (t e : Table) (c : List ℕ) (n : ℕ) → kind e n ≡ node.interval → shape-in t e c n ≡ interval (bound-of (terminal e (lower e n))) (bound-of (terminal e (upper e n)))
-unfolding shape-in
-interval-shape t e c n h = rw h
-
 relation-shape : (t e : Table) (c : List ℕ) (n : ℕ) → kind e n ≡ node.two-operand → is-relation (terminal e n) ≡ true → Comparison (shape-in t e c n)
 unfolding shape-in
 relation-shape t e c n h j = rw h (by (operator-of (terminal e n)) j)

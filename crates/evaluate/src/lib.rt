@@ -1,15 +1,12 @@
 // The evaluation of one expression against a file: its own columns and the file's are apart, and the answers of the file's constants are known.
 // The answer of each node is kept in a row of three lent columns, for its parent; of a string the length.
-ghost use mathlib.Core.Path.{_≡_};
-ghost use mathlib.Core.Bool.{_||_};
-ghost use lib.Dec.{eqb};
-ghost use Rattle.express.specs.syntax.NodeKind as node;
 ghost use Rattle.express.specs.kinds.Evaluate.{answer-at};
 ghost use Rattle.node_answers.specs.Answers.{Keeps, answers-in};
 ghost use Rattle.evaluate.specs.Evaluation.{Named, Item, EvaluatesNode, EvaluatesNodes};
 use node_answers::answered;
 use node_answers::put_answer;
 use operations::Answer;
+use string_bytes::is_name;
 use string_relations::compared;
 use string_relations::compares;
 use tree::at8;
@@ -103,15 +100,6 @@ fn store_named(
         return;
     }
     put_answer(value_kinds, value_numbers, value_lengths, n, item(kind, d));
-}
-
-fn is_name(kind: u8) -> bool
-    ensures { λ r. ⌜ r ≡ (eqb kind node.name || eqb kind node.qualified-item) ⌝ }
-{
-    if kind == codes::nodes::NAME {
-        return true;
-    }
-    kind == codes::nodes::QUALIFIED_ITEM
 }
 
 // Keeps the answer of a node for its parent.

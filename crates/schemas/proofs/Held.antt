@@ -1,9 +1,9 @@
 -- Rows of constants that have passed, and what is read from them.
-use mathlib.Core.Path.{_≡_, refl, sym, ap, subst, _∙_}
+use mathlib.Core.Path.{_≡_, refl, sym, ap, _∙_}
 use mathlib.Core.Logic.{_⊎_, inl, inr, ⊎-elim}
 use mathlib.Core.Bool.{Bool, true, false, false≢true}
 use mathlib.Core.List.{List, [], _∷_, List·Memᴰ, List·Memᴰ·head, List·Memᴰ·tail, List·Memᴰ·not-nil}
-use Prim.Native.Nat.{ℕ, zero, suc, _+_, _-_, _≤_, _<_}
+use Prim.Native.Nat.{ℕ, zero, suc, _-_, _≤_, _<_}
 use native.Mathlib.Decide.{ℕ-discrete}
 use native.Mathlib.Omega.{arith}
 use borrow.Author.Tests.{eqb-true, eq-eqb, leb-true, le-leb, ltb-true, ltb-false, lt-ltb}
@@ -16,7 +16,6 @@ use Rattle.relations.specs.Sorted.{Sorted, done, next}
 use Rattle.relations.proofs.Select.{and-fst, and-snd, mem-span, mem-keep, mem-upto}
 use Rattle.express.specs.syntax.NodeKind as node
 use Rattle.express.specs.syntax.Tree.{Table, count, kind, size, first, last, is-declaration, nodes}
-use Rattle.express.specs.names.Scope as scope
 use Rattle.express.specs.names.Fault.{constant-edges}
 use Rattle.express.specs.kinds.Answer.{Answer}
 use Rattle.express.specs.kinds.AnswerRow.{AnswerRow, row-at}
@@ -28,7 +27,7 @@ use Rattle.operations.specs.Meaning.{sized}
 use Rattle.answer_rows.proofs.Stored.{Storable, row-back}
 use Rattle.node_answers.specs.Answers.{answers-in}
 use Rattle.node_answers.proofs.Rows.{row-there}
-use Rattle.schemas.specs.Rows.{row, due, answer-of-constant, OfFile, Part}
+use Rattle.schemas.specs.Rows.{row, due, OfFile, Part}
 use Rattle.schemas.proofs.Settled.{uses-edge}
 use Rattle.schemas.proofs.Nodes.{root-first}
 use Rattle.constant_rows.proofs.Numbering.{row-rises, row-before}

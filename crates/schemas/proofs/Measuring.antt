@@ -6,7 +6,7 @@ use mathlib.Core.List.{List, List·Memᴰ, List·Memᴰ·not-nil}
 use Prim.Native.Nat.{ℕ, suc, _+_, _-_, _≤_, _<_}
 use native.Mathlib.Omega.{arith}
 use borrow.Author.Tests.{eqb-true}
-use lib.IntN.{ℤ, pos}
+use lib.IntN.{ℤ}
 use lib.ListN.{length, getD, take, List·getD-eq-default}
 use lib.Seq.{take-all}
 use Rattle.relations.specs.Reach.{Joins}
@@ -17,19 +17,17 @@ use Rattle.operations.specs.Meaning.{sized}
 use Rattle.node_answers.specs.Answers.{answers-in}
 use Rattle.express.specs.syntax.NodeKind as node
 use Rattle.express.specs.syntax.Tree.{Table, count, kind, first, last}
-use Rattle.express.specs.names.Scope as scope
 use Rattle.express.specs.kinds.Answer.{Answer}
 use Rattle.express.specs.kinds.AnswerRow.{AnswerRow}
 use Rattle.express.specs.kinds.AnswerRow as answer-row
 use Rattle.express.specs.kinds.Declared.{STRING, declared-type}
-use Rattle.express.specs.kinds.DeclaredColumn.{declared-number}
 use Rattle.express.specs.kinds.Kind.{constants}
 use Rattle.express.specs.kinds.Shape.{name, shape}
 use Rattle.express.proofs.names.Edges.{constant-edge-iff}
 use Rattle.string_laws.proofs.Expressions.{Joining}
 use Rattle.string_laws.proofs.Expressions as joining
 use Rattle.evaluate.specs.Evaluation.{known-in, Knows}
-use Rattle.schemas.specs.Rows.{row, due, answer-of-constant, is-string, measured, measured-row, OfFile, Rows, Room, Holds, Filled, MeasuresConstant, MeasuresConstants}
+use Rattle.schemas.specs.Rows.{row, due, answer-of-constant, is-string, measured-row, OfFile, Rows, Room, Holds, Filled, MeasuresConstant, MeasuresConstants}
 use Rattle.schemas.proofs.Settled.{answer-storable}
 use Rattle.schemas.proofs.Answers.{row-within}
 use Rattle.schemas.proofs.OneConstant.{string-node, measured-string}

@@ -1,27 +1,26 @@
 -- The values of the nodes of a constant's expression, by the answers of the constants.
-use mathlib.Core.Path.{_≡_, refl, sym, ap, subst, _∙_}
-use mathlib.Core.Logic.{_⊎_, inl, inr}
-use mathlib.Core.Bool.{true, false, false≢true}
+use mathlib.Core.Path.{_≡_, refl}
+use mathlib.Core.Logic.{inr}
+use mathlib.Core.Bool.{false≢true}
 use mathlib.Core.List.{List}
-use Prim.Native.Nat.{ℕ, _+_, _-_, _≤_, _<_}
+use Prim.Native.Nat.{ℕ, _+_, _≤_, _<_}
 use native.Mathlib.Omega.{arith}
 use lib.ListN.{length, replicate}
 use Rattle.ebnf.specs.Set.{mem, subset}
 use Rattle.ebnf.proofs.Sets.{in-more}
 use Rattle.express.specs.syntax.NodeKind as node
-use Rattle.express.specs.syntax.Tree.{Table, count, kind, size, first, last, left, low, middle, is}
+use Rattle.express.specs.syntax.Tree.{Table, count, kind, size, first, last}
 use Rattle.express.specs.tokens.Lexis.{most-bytes}
 use Rattle.express.specs.names.Scope as scope
-use Rattle.express.specs.kinds.Answer.{Answer, string, indeterminate}
+use Rattle.express.specs.kinds.Answer.{Answer, indeterminate}
 use Rattle.express.specs.kinds.AnswerRow.{bytes-of}
 use Rattle.express.specs.kinds.Order.{constant-order}
-use Rattle.express.specs.kinds.Evaluate.{value, answer-at}
+use Rattle.express.specs.kinds.Evaluate.{value}
 use Rattle.express.proofs.syntax.Formed.{Formed, Pair}
 use Rattle.express.proofs.syntax.FormedRows.{formed-rows}
 use Rattle.express.proofs.syntax.KindSets.{expression-kinds, below-constant}
 use Rattle.express.proofs.tokens.Literals.{literals}
 use Rattle.express.proofs.kinds.Bounds.{Fitting, fit-?, fit-end, fit-integer, fit-logical, fit-binary, fit-string, fit-item, evaluate-fits, value-fits}
-use Rattle.express.proofs.kinds.Scratch.{Root}
 use Rattle.express.proofs.kinds.Spans.{Part, Below, Inside, last-below, left-below, five-below, in-expression}
 use Rattle.string_laws.proofs.Values.{value-step}
 use Rattle.string_laws.proofs.Strings.{string-leaves}

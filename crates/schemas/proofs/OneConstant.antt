@@ -1,14 +1,13 @@
 -- One constant: what is held from the value of its expression is its answer; and its string is the bytes of its leaves.
 use mathlib.Core.Path.{_≡_, refl, sym, ap, ap₂, subst, _∙_}
-use mathlib.Core.Logic.{_⊎_, inl, inr}
-use mathlib.Core.Bool.{Bool, true, false, cond, false≢true}
-use mathlib.Core.List.{List, []}
-use Prim.Native.Nat.{ℕ, min, _+_, _-_, _≤_, _<_}
+use mathlib.Core.Bool.{Bool, true, false, false≢true}
+use mathlib.Core.List.{List}
+use Prim.Native.Nat.{ℕ, _+_, _-_, _≤_, _<_}
 use native.Mathlib.Omega.{arith}
 use borrow.Author.Tests.{eqb-true, eq-eqb, ne-eqb}
 use lib.Dec.{eqb}
 use lib.IntN.{ℤ, pos}
-use lib.ListN.{length, getD, set, take, drop, replicate}
+use lib.ListN.{length, getD, set, take, drop}
 use lib.Seq.{sets}
 use Rattle.columns.proofs.Laws.{take-rows}
 use Rattle.express.specs.syntax.NodeKind as node
@@ -30,8 +29,8 @@ use Rattle.operations.specs.declared.Answer as code
 use Rattle.operations.specs.declared.Answer.the-variants.{Indeterminate}
 use Rattle.operations.proofs.Sized.{answer-sized, sized-held}
 use Rattle.answer_rows.specs.Stored.{stored}
-use Rattle.answer_rows.proofs.Stored.{Storable, sized-storable, sized-row}
-use Rattle.node_answers.specs.Answers.{answers-in, Gives, Stores}
+use Rattle.answer_rows.proofs.Stored.{sized-row}
+use Rattle.node_answers.specs.Answers.{answers-in, Stores}
 use Rattle.node_answers.specs.NodeAnswer.{Against, HeldIn}
 use Rattle.node_answers.proofs.Literals.{spelled}
 use Rattle.node_answers.proofs.Rows.{same, made}
@@ -49,7 +48,7 @@ use Rattle.string_relations.specs.Comparing.{Comparison}
 use Rattle.string_relations.specs.Comparing as comparing
 use Rattle.evaluate.specs.Evaluation.{Knows, Comparable, EvaluatesNodes}
 use Rattle.schemas.specs.Rows.{answer-of-constant, is-string, measured, OfFile, Room, EvaluatesConstant, MeasuresConstant, WritesString, FillsConstant}
-use Rattle.schemas.proofs.Settled.{settled, answer-storable}
+use Rattle.schemas.proofs.Settled.{settled}
 use Rattle.schemas.proofs.Nodes.{valued, root-first, root-part}
 
 pub against :

@@ -7,7 +7,6 @@ use Prim.Native.Nat.{ℕ, suc, _+_, _-_, _≤_, _<_}
 use native.Mathlib.Decide.{ℕ-discrete, decLt}
 use native.Mathlib.Omega.{arith}
 use borrow.Author.Tests.{eqb-true, ne-eqb}
-use lib.Dec.{eqb}
 use lib.IntN.{ℤ, pos}
 use lib.ListN.{length, getD, take, drop}
 use lib.Seq.{sets, length-sets, take-all}
@@ -16,13 +15,12 @@ use Rattle.express.specs.syntax.NodeKind as node
 use Rattle.express.specs.syntax.Tree.{Table, count, kind, first, last}
 use Rattle.express.specs.names.Scope as scope
 use Rattle.express.specs.names.Fault.{constant-edges}
-use Rattle.express.specs.kinds.Answer.{Answer, indeterminate, integer, logical, binary, item, string, end}
-use Rattle.express.specs.kinds.AnswerRow.{AnswerRow, row-at, bytes-of, natural}
+use Rattle.express.specs.kinds.Answer.{Answer, string}
+use Rattle.express.specs.kinds.AnswerRow.{row-at, bytes-of}
 use Rattle.express.specs.kinds.AnswerRow as answer-row
 use Rattle.express.specs.kinds.Declared.{Declared, STRING, declared-type}
-use Rattle.express.specs.kinds.DeclaredColumn.{declared-number}
 use Rattle.express.specs.kinds.Kind.{WellTyped}
-use Rattle.express.specs.kinds.Rule.{Member, an-integer, is-false, is-true, a-logical, a-binary, a-string, an-item}
+use Rattle.express.specs.kinds.Rule.{an-integer, is-false, is-true, a-logical, a-binary, a-string, an-item}
 use Rattle.express.specs.kinds.Rule as rule
 use Rattle.express.specs.kinds.Shape.{name, shape}
 use Rattle.express.specs.kinds.Evaluate.{answer-at}
@@ -34,7 +32,7 @@ use Rattle.string_laws.proofs.Answers.{answer-holds, holds-no-bytes}
 use Rattle.string_bytes.specs.Spelling.{row-bytes}
 use Rattle.string_bytes.specs.Reading.{Readable}
 use Rattle.evaluate.specs.Evaluation.{known-in, Knows, Comparable}
-use Rattle.schemas.specs.Rows.{row, due, answer-of-constant, start-of, row-of-constant, is-string, OfFile, Rows, Room, Holds, Schema, Part, Filled, Placed, FilledRoom, FillsConstant, FillsSchema}
+use Rattle.schemas.specs.Rows.{row, due, answer-of-constant, start-of, row-of-constant, is-string, OfFile, Rows, Room, Holds, Schema, Part, Filled, Placed, FillsConstant, FillsSchema}
 use Rattle.schemas.proofs.Settled.{answer-storable}
 use Rattle.schemas.proofs.Room.{part-same}
 use Rattle.schemas.proofs.Answers.{start-rises, start-behind}

@@ -1,10 +1,10 @@
 -- What the columns give for nodes are the leaves of the tables that they stand for.
 use mathlib.Core.Path.{_≡_, refl, sym, ap, ap₂, _∙_}
 use mathlib.Core.Logic.{⊎-elim}
-use mathlib.Core.Bool.{Bool, true, false, cond, not, _&&_, _||_, false≢true}
+use mathlib.Core.Bool.{Bool, true, false, cond, not, _||_, false≢true}
 use mathlib.Core.Option.{Option, none, some}
-use mathlib.Core.List.{List, [], _∷_, _++_, flatMap}
-use Prim.Native.Nat.{ℕ, zero, suc, _+_, _-_, _≤_, _<_}
+use mathlib.Core.List.{List, [], _++_, flatMap}
+use Prim.Native.Nat.{ℕ, zero, suc, _-_, _≤_}
 use native.Mathlib.Omega.{arith}
 use borrow.Author.Tests.{eqb-true}
 use lib.Dec.{eqb}
@@ -19,11 +19,11 @@ use Rattle.express.specs.tokens.Terminal.{the}
 use Rattle.express.specs.tokens.Terminal as word
 use Rattle.express.specs.kinds.Answer.{Answer}
 use Rattle.express.specs.kinds.AnswerRow.{bytes-of}
-use Rattle.express.specs.kinds.Declared.{declaration, bound, denoted}
+use Rattle.express.specs.kinds.Declared.{declaration, bound}
 use Rattle.express.specs.kinds.Shape.{Operator, Shape, name, evaluated, operator-of, name-shape-in, is-string, shape-in}
 use Rattle.express.specs.kinds.Shape as shapes
 use Rattle.string_laws.specs.Leaves.{leaf-bytes, leaves}
-use Rattle.string_bytes.specs.Spelling.{row-bytes, named-bytes, node-bytes, nodes-bytes}
+use Rattle.string_bytes.specs.Spelling.{row-bytes, node-bytes, nodes-bytes}
 use Rattle.string_bytes.specs.Reading.{Columns, Readable}
 
 choose : (P : Shape → Type 0) (b : Bool) {x y : Shape} → (b ≡ true → P x) → (b ≡ false → P y) → P (cond b x y)

@@ -1,7 +1,7 @@
 -- Bytes that are stored one after the other, as far as there are places.
 use mathlib.Core.Path.{_≡_, refl, sym, ap, ap₂, _∙_}
-use mathlib.Core.List.{List, [], _∷_, _++_, append-nil, append-assoc, flatMap}
-use Prim.Native.Nat.{ℕ, min, zero, suc, _+_, _-_, _≤_, _<_}
+use mathlib.Core.List.{List, [], _∷_, _++_, append-nil, flatMap}
+use Prim.Native.Nat.{ℕ, min, _+_, _-_, _≤_, _<_}
 use native.Mathlib.Decide.{decLt}
 use native.Mathlib.Omega.{arith}
 use native.Mathlib.Numerals.{add-one}
@@ -10,6 +10,7 @@ use lib.Seq.{sets, length-sets, length-take-le, take-suc, take-all, getD-take, g
 use Rattle.columns.proofs.Laws.{sets-out, sets-append, sets-snoc}
 use Rattle.relations.specs.Select.{span}
 use Rattle.relations.proofs.Select.{span-append}
+use Rattle.string_laws.proofs.Leaves.{flat-append}
 use Rattle.string_bytes.specs.Spelling.{Writes, Spells}
 
 pub writes-none : {at : ℕ} {out : List ℕ} → Writes [] at out out 0
@@ -100,8 +101,7 @@ spells-more {bytes} {piece} {out₀} {out} {out′} {at} {size} {k} S W e =
 module _ (f : ℕ → List ℕ) where
   append-map : (ns : List ℕ) (n : ℕ) → flatMap f (ns ++ (n ∷ [])) ≡ flatMap f ns ++ f n
   unfolding flatMap
-  append-map [] n = append-nil (f n)
-  append-map (m ∷ ns) n = ap (λ (s : List ℕ). f m ++ s) (append-map ns n) ∙ sym (append-assoc (f m) (flatMap f ns) (f n))
+  append-map ns n = flat-append f ns (n ∷ []) ∙ ap (λ (s : List ℕ). flatMap f ns ++ s) (append-nil (f n))
 
   pub nodes-none : (lo : ℕ) → flatMap f (span lo (lo - lo)) ≡ []
   unfolding flatMap span

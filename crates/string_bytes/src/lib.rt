@@ -128,7 +128,8 @@ fn literal_bytes(
     0
 }
 
-fn is_name(kind: u8) -> bool
+// May a node of this kind be bound to a constant?
+pub fn is_name(kind: u8) -> bool
     ensures { λ r. ⌜ r ≡ (eqb kind node.name || eqb kind node.qualified-item) ⌝ }
 {
     if kind == codes::nodes::NAME {

@@ -9,7 +9,8 @@ use Rattle.express.specs.kinds.Answer.{Answer}
 use Rattle.express.specs.kinds.Shape.{shape-in}
 use Rattle.string_laws.specs.Leaves.{leaf-bytes, leaves}
 
-flat-append : {A B : Type 0} (f : A → List B) (xs ys : List A) → flatMap f (xs ++ ys) ≡ flatMap f xs ++ flatMap f ys
+-- what two lists give, one behind the other
+pub flat-append : {A B : Type 0} (f : A → List B) (xs ys : List A) → flatMap f (xs ++ ys) ≡ flatMap f xs ++ flatMap f ys
 unfolding flatMap
 flat-append f [] ys = refl
 flat-append f (x ∷ xs) ys = ap (λ (l : List _). f x ++ l) (flat-append f xs ys) ∙ sym (append-assoc (f x) _ _)

@@ -58,7 +58,7 @@ module _ (t e : Table) (c : List ℕ) (n : ℕ) where
   unfolding shape-in
   operator-shape q = rw q
 
-  interval-shape : kind e n ≡ node.interval → shape-in t e c n ≡ interval (bound-of (terminal e (lower e n))) (bound-of (terminal e (upper e n)))
+  pub interval-shape : kind e n ≡ node.interval → shape-in t e c n ≡ interval (bound-of (terminal e (lower e n))) (bound-of (terminal e (upper e n)))
   unfolding shape-in
   interval-shape q = rw q
 

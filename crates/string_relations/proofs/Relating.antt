@@ -1,20 +1,20 @@
 -- Relations of nodes: of strings by the bytes of their leaves, of others by the answers that are kept.
 use mathlib.Core.Path.{_≡_, refl, sym, ap, ap₂, subst, _∙_}
 use mathlib.Core.Logic.{_⊎_, inl, inr, ⊎-elim}
-use mathlib.Core.Bool.{Bool, true, false, cond, _&&_, _||_, false≢true}
+use mathlib.Core.Bool.{Bool, true, false, _&&_, _||_, false≢true}
 use mathlib.Core.Option.{none, some}
 use mathlib.Core.List.{List, [], _∷_}
-use Prim.Native.Nat.{ℕ, min, _+_, _-_, _≤_, _<_}
+use Prim.Native.Nat.{ℕ, _+_, _-_, _≤_}
 use native.Mathlib.Omega.{arith}
-use borrow.Author.Tests.{leb-true, le-leb, eq-eqb, ne-eqb}
+use borrow.Author.Tests.{eq-eqb, ne-eqb}
 use lib.Dec.{eqb, leb}
 use lib.IntN.{ℤ}
-use lib.ListN.{length, getD, take, replicate, length-replicate}
-use lib.Seq.{sets, length-take-le}
+use lib.ListN.{length, getD, take, length-replicate}
+use lib.Seq.{length-take-le}
 use Rattle.columns.proofs.Laws.{take-rows}
 use Rattle.relations.proofs.Select.{and-fst, and-snd}
 use Rattle.express.specs.syntax.NodeKind as node
-use Rattle.express.specs.syntax.Tree.{Table, terminal, last, left, low, lower, middle}
+use Rattle.express.specs.syntax.Tree.{Table, terminal, left, low, lower, middle}
 use Rattle.express.specs.tokens.Lexis.{most-bytes}
 use Rattle.express.specs.kinds.Answer.{Answer, indeterminate, integer, logical, binary, item, string, end}
 use Rattle.express.specs.kinds.AnswerRow.{bytes-of}
@@ -45,7 +45,7 @@ use Rattle.tree.specs.Children.{Child}
 use Rattle.string_bytes.specs.Spelling.{Spells, SpellsNodes, nodes-bytes}
 use Rattle.operations.proofs.Cases.{Other, a-string, not-string}
 use Rattle.string_relations.specs.Compared.{RelatesOperands, ComparesItem, Compared}
-use Rattle.string_relations.specs.Comparing.{SpellsNode, OrdersNodes, Operand, Relates, is-text, relates, is-relation, Compares, bytes-of-node}
+use Rattle.string_relations.specs.Comparing.{SpellsNode, OrdersNodes, Operand, Relates, is-text, relates, is-relation, Compares}
 
 -- ---- strings among answers
 abbrev is-str : Answer → Bool
@@ -75,7 +75,7 @@ sized-str (item m) = refl
 sized-str (string s) = refl
 sized-str (end e) = refl
 
-clash : {A : Type 0} → _≡_ {A = Bool} false true → A
+pub clash : {A : Type 0} → _≡_ {A = Bool} false true → A
 clash e = absurd (false≢true e)
 
 str-is : (a : Answer) → is-str a ≡ true → a ≡ string (bytes-of a)

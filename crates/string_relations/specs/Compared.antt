@@ -4,11 +4,9 @@ use mathlib.Core.Bool.{true}
 use mathlib.Core.List.{List}
 use Prim.Native.Nat.{ℕ}
 use lib.IntN.{ℤ}
-use lib.ListN.{getD}
 use Rattle.express.specs.syntax.NodeKind as node
 use Rattle.express.specs.syntax.Tree.{Table, terminal, last, left, low, middle, lower, upper}
 use Rattle.express.specs.kinds.Answer.{Answer}
-use Rattle.express.specs.kinds.Relation.{Relation}
 use Rattle.express.specs.kinds.Shape.{relation, operator-of, bound-of}
 use Rattle.express.specs.kinds.Operate.{between}
 use Rattle.operations.specs.declared.Answer as operations

@@ -9,15 +9,15 @@ use lib.Dec.{eqb}
 use lib.IntN.{ℤ}
 use lib.ListN.{length, getD}
 use Rattle.express.specs.syntax.NodeKind as node
-use Rattle.express.specs.syntax.Tree.{Table, count, kind, first, last, middle}
+use Rattle.express.specs.syntax.Tree.{Table, last, middle}
 use Rattle.express.specs.tokens.Lexis.{most-bytes}
 use Rattle.express.specs.kinds.Answer.{Answer, string}
 use Rattle.express.specs.kinds.AnswerRow.{bytes-of}
 use Rattle.express.specs.kinds.Strings.{compare-bytes}
 use Rattle.express.specs.kinds.Relation.{Relation}
-use Rattle.express.specs.kinds.Shape.{Operator, plus, arithmetic, relation, connective, Shape, operator, interval, operator-of, shape-in}
+use Rattle.express.specs.kinds.Shape.{Operator, plus, arithmetic, relation, connective, Shape, operator, interval, operator-of}
 use Rattle.express.specs.kinds.Operate.{combined}
-use Rattle.express.specs.kinds.Evaluate.{answer-in, answer-at, value-in}
+use Rattle.express.specs.kinds.Evaluate.{answer-at}
 use Rattle.values.specs.Meaning.{ordering-of, relation-of}
 use Rattle.values.specs.declared.order.Order.{Order}
 use Rattle.values.specs.declared.order.Relation as code
@@ -26,7 +26,6 @@ use Rattle.operations.specs.declared.Answer as operations
 use Rattle.operations.specs.declared.Answer.the-variants as variants
 use Rattle.node_answers.specs.Answers.{answers-in, Gives}
 use Rattle.string_bytes.specs.Spelling.{Spells, nodes-bytes}
-use Rattle.string_bytes.specs.Reading.{Columns, Readable}
 
 -- a relation, or an interval
 pub data Comparison : Shape → Type 0 where

@@ -1,62 +1,47 @@
+-- `constants::place_constants` meets its contract: as many rows as the columns have are placed. Assumes nothing.
 use borrow.Author.Needs.{needs}
 use Rattle.constants.proofs.place_constants.Statement.{statement}
 use Rattle.constants.proofs.place_constants.Tie as tie
-use Rattle.constants.proofs.place_constants.Reads as reads
-use Rattle.constants.proofs.place_constants.Lts as lts
-use Rattle.columns.proofs.shorter.Reads as shorter-reads
-use Rattle.schemas.proofs.measure_constants.Reads as measure-constants-reads
-use Rattle.string_places.proofs.place_strings.Reads as place-strings-reads
-use Rattle.tree.proofs.index_at.Reads as index-at-reads
-use Rattle.tree.proofs.last.Reads as last-reads
 use Rattle.constants.proofs.Starting.{constants-placed}
 
--- src/lib.rt:108:5
 measure-constants-requires : tie.Need-measure-constants-requires
 measure-constants-requires c κs = search needs
 
--- src/lib.rt:128:26
 last-requires : tie.Need-last-requires
 last-requires c κs = search needs
 
--- src/lib.rt:128:9
 index-at-requires : tie.Need-index-at-requires
 index-at-requires c κs = search needs
 
--- src/lib.rt:127:9
 shorter-requires : tie.Need-shorter-requires
 shorter-requires c κs = search needs
 
--- src/lib.rt:131:5
 place-strings-requires : tie.Need-place-strings-requires
 place-strings-requires c κs = search needs
 
--- src/lib.rt:83:1
 same-length : tie.Need-same-length
 same-length c = search needs
 
--- src/lib.rt:83:1
 same-length-2 : tie.Need-same-length-2
 same-length-2 c = search needs
 
--- src/lib.rt:83:1
 same-length-3 : tie.Need-same-length-3
 same-length-3 c = search needs
 
--- src/lib.rt:83:1
 same-length-4 : tie.Need-same-length-4
 same-length-4 c = search needs
 
--- src/lib.rt:83:1
 same-length-5 : tie.Need-same-length-5
 same-length-5 c = search needs
 
--- src/lib.rt:83:1
 same-length-6 : tie.Need-same-length-6
 same-length-6 c = search needs
 
--- src/lib.rt:83:1
 returns : tie.Need-returns
-returns c = constants-placed (c .before .before .before .before .before .before .before .before .before .before .before .before .before .before .before .before .before .before .measure-constants .ensures) (search needs) (search needs) (c .before .before .before .before .before .before .before .last .ensures) (c .before .before .before .before .before .before .index-at .ensures) (c .before .before .before .before .before .shorter .ensures) (c .before .place-strings .ensures)
+returns c = constants-placed
+    (c .before .before .before .before .before .before .before .before .before .before .before .before .before .before .before .before .before .before .measure-constants .ensures)
+    (search needs) (search needs) (c .before .before .before .before .before .before .before .last .ensures) (c .before .before .before .before .before .before .index-at .ensures)
+    (c .before .before .before .before .before .shorter .ensures) (c .before .place-strings .ensures)
 
 pub place-constants-spec : {M : Type 1} → statement M
 place-constants-spec =

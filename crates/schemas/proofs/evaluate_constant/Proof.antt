@@ -1,77 +1,54 @@
+-- `schemas::evaluate_constant` meets its contract: what is held of its expression's answer is stored in its row. Assumes nothing.
 use borrow.Author.Needs.{needs}
 use Rattle.schemas.proofs.evaluate_constant.Statement.{statement}
 use Rattle.schemas.proofs.evaluate_constant.Tie as tie
-use Rattle.schemas.proofs.evaluate_constant.Reads as reads
-use Rattle.schemas.proofs.evaluate_constant.Lts as lts
-use Rattle.columns.proofs.saturating_sub.Reads as saturating-sub-reads
-use Rattle.evaluate.proofs.evaluate_expression.Reads as evaluate-expression-reads
-use Rattle.node_answers.proofs.held_answer.Reads as held-answer-reads
-use Rattle.node_answers.proofs.put_answer.Reads as put-answer-reads
-use Rattle.tree.proofs.at32.Reads as at32-reads
-use Rattle.tree.proofs.index_at.Reads as index-at-reads
 use Rattle.schemas.proofs.OneConstant.{one-constant}
 
--- src/lib.rt:59:41
 index-at-requires : tie.Need-index-at-requires
 index-at-requires c κs = search needs
 
--- src/lib.rt:59:9
 saturating-sub-requires : tie.Need-saturating-sub-requires
 saturating-sub-requires c κs = search needs
 
--- src/lib.rt:60:9
 saturating-sub-requires-2 : tie.Need-saturating-sub-requires-2
 saturating-sub-requires-2 c κs = search needs
 
--- src/lib.rt:61:5
 evaluate-expression-requires : tie.Need-evaluate-expression-requires
 evaluate-expression-requires c κs = search needs
 
--- src/lib.rt:84:39
 index-at-requires-2 : tie.Need-index-at-requires-2
 index-at-requires-2 c κs = search needs
 
--- src/lib.rt:84:9
 saturating-sub-requires-3 : tie.Need-saturating-sub-requires-3
 saturating-sub-requires-3 c κs = search needs
 
--- src/lib.rt:86:9
 at32-requires : tie.Need-at32-requires
 at32-requires c κs = search needs
 
--- src/lib.rt:85:9
 held-answer-requires : tie.Need-held-answer-requires
 held-answer-requires c κs = search needs
 
--- src/lib.rt:92:5
 put-answer-requires : tie.Need-put-answer-requires
 put-answer-requires c κs = search needs
 
--- src/lib.rt:33:1
 same-length : tie.Need-same-length
 same-length c = search needs
 
--- src/lib.rt:33:1
 same-length-2 : tie.Need-same-length-2
 same-length-2 c = search needs
 
--- src/lib.rt:33:1
 same-length-3 : tie.Need-same-length-3
 same-length-3 c = search needs
 
--- src/lib.rt:33:1
 same-length-4 : tie.Need-same-length-4
 same-length-4 c = search needs
 
--- src/lib.rt:33:1
 same-length-5 : tie.Need-same-length-5
 same-length-5 c = search needs
 
--- src/lib.rt:33:1
 same-length-6 : tie.Need-same-length-6
 same-length-6 c = search needs
 
--- src/lib.rt:33:1
 returns : tie.Need-returns
 returns c = one-constant (c .before .before .before .before .before .before .before .before .before .before .before .before .before .before .before .before .before .before .before .before
     .before .before .before .before .before .before .before .before .before .before .index-at .ensures) (c .before .before .before .before .before .before .before .before .before .before

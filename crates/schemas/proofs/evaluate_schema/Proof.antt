@@ -1,10 +1,6 @@
+-- `schemas::evaluate_schema` meets its contract: what each constant names has passed before it. Assumes nothing.
 use Rattle.schemas.proofs.evaluate_schema.Statement.{statement}
 use Rattle.schemas.proofs.evaluate_schema.Tie as tie
-use Rattle.schemas.proofs.evaluate_schema.Reads as reads
-use Rattle.schemas.proofs.evaluate_schema.Lts as lts
-use Rattle.columns.proofs.index.Reads as index-reads
-use Rattle.schemas.proofs.fill_constant.Reads as fill-constant-reads
-use Rattle.schemas.proofs.is_due.Reads as is-due-reads
 use borrow.Author.Needs.{needs}
 use Rattle.schemas.proofs.Passing.{Passing, passing-starts, passing-other, passing-due, passing-ends}
 use Prim.Native.Nat.{_-_}
@@ -20,31 +16,24 @@ Inv-loop src starts lengths terminals kinds tokens sizes bindings declared part 
 abbrev μ-loop : tie.MeasureT-loop
 μ-loop src starts lengths terminals kinds tokens sizes bindings declared part row-of lo hi at answer-kinds₀ answer-numbers₀ answer-lengths₀ value-kinds₀ value-numbers₀ value-lengths₀ room₀ i₀ answer-kinds answer-numbers answer-lengths value-kinds value-numbers value-lengths room i = length part - i
 
--- src/lib.rt:365:5
 loop-holds : tie.Need-loop-holds Inv-loop μ-loop
 loop-holds c = passing-starts
 
--- src/lib.rt:366:32
 mul-index : tie.Need-mul-index Inv-loop μ-loop
 mul-index c = search needs
 
--- src/lib.rt:366:32
 shared-slice-read-index : tie.Need-shared-slice-read-index Inv-loop μ-loop
 shared-slice-read-index c = search needs
 
--- src/lib.rt:366:13
 index-requires : tie.Need-index-requires Inv-loop μ-loop
 index-requires c κs = search needs
 
--- src/lib.rt:367:12
 is-due-requires : tie.Need-is-due-requires Inv-loop μ-loop
 is-due-requires c κs = search needs
 
--- src/lib.rt:368:13
 fill-constant-requires : tie.Need-fill-constant-requires Inv-loop μ-loop
 fill-constant-requires c κs = search needs
 
--- src/lib.rt:389:13
 add-i : tie.Need-add-i Inv-loop μ-loop
 add-i c = omega (
   arith,
@@ -55,11 +44,9 @@ add-i c = omega (
       .before .before .before .good,
 )
 
--- src/lib.rt:365:5
 loop-less : tie.Need-loop-less Inv-loop μ-loop
 loop-less c = omega (arith, c .before .before .before .before .before .before .before .before .before .before .before .before .before .before .before .before .before .before .before .before .before .before .before .before .loop-test .taken)
 
--- src/lib.rt:365:5
 loop-again : tie.Need-loop-again Inv-loop μ-loop
 loop-again c = passing-due (c .before .before .before .before .before .before .before .before .before .before .before .before .before .before .before .before .before .before .before .before
     .before .before .before .before .before .loop .inv) (c .before .before .before .before .before .before .before .before .before .before .before .before .before .before .before .before
@@ -70,47 +57,36 @@ loop-again c = passing-due (c .before .before .before .before .before .before .b
     (c .before .before .before .before .before .before .before .before .before .before .before .before .fill-constant .ensures) (search needs) (search needs) (search needs) (search needs)
     (search needs) (search needs) (search needs)
 
--- src/lib.rt:391:13
 add-i-2 : tie.Need-add-i-2 Inv-loop μ-loop
 add-i-2 c = omega (arith, c .before .before .before .before .loop-test .taken, c .before .before .before .before .before .before .before .before .before .before .before .before .before .before .before .before .before .before .before .before .before .before .good)
 
--- src/lib.rt:365:5
 loop-less-2 : tie.Need-loop-less-2 Inv-loop μ-loop
 loop-less-2 c = omega (arith, c .before .before .before .before .loop-test .taken)
 
--- src/lib.rt:365:5
 loop-again-2 : tie.Need-loop-again-2 Inv-loop μ-loop
 loop-again-2 c = passing-other (c .before .before .before .before .before .loop .inv) (c .before .before .before .before .loop-test .taken) (c .before .before .index .ensures) (c .before .is-due .ensures) (c .if1 .left)
 
--- src/lib.rt:335:1
 same-length : tie.Need-same-length Inv-loop μ-loop
 same-length c = c .before .loop .inv .kinds-kept
 
--- src/lib.rt:335:1
 same-length-2 : tie.Need-same-length-2 Inv-loop μ-loop
 same-length-2 c = c .before .loop .inv .numbers-kept
 
--- src/lib.rt:335:1
 same-length-3 : tie.Need-same-length-3 Inv-loop μ-loop
 same-length-3 c = c .before .loop .inv .lengths-kept
 
--- src/lib.rt:335:1
 same-length-4 : tie.Need-same-length-4 Inv-loop μ-loop
 same-length-4 c = c .before .loop .inv .value-kinds-kept
 
--- src/lib.rt:335:1
 same-length-5 : tie.Need-same-length-5 Inv-loop μ-loop
 same-length-5 c = c .before .loop .inv .value-numbers-kept
 
--- src/lib.rt:335:1
 same-length-6 : tie.Need-same-length-6 Inv-loop μ-loop
 same-length-6 c = c .before .loop .inv .value-lengths-kept
 
--- src/lib.rt:335:1
 same-length-7 : tie.Need-same-length-7 Inv-loop μ-loop
 same-length-7 c = c .before .loop .inv .room-kept
 
--- src/lib.rt:335:1
 returns : tie.Need-returns Inv-loop μ-loop
 returns c = passing-ends (c .before .loop .inv) (c .loop-test .left)
 

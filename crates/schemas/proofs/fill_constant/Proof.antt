@@ -1,74 +1,54 @@
+-- `schemas::fill_constant` meets its contract: the test is that of the definition. Assumes nothing.
 use borrow.Author.Needs.{needs}
 use Rattle.schemas.proofs.fill_constant.Statement.{statement}
 use Rattle.schemas.proofs.fill_constant.Tie as tie
-use Rattle.schemas.proofs.fill_constant.Reads as reads
-use Rattle.schemas.proofs.fill_constant.Lts as lts
-use Rattle.schemas.proofs.evaluate_constant.Reads as evaluate-constant-reads
-use Rattle.schemas.proofs.write_string.Reads as write-string-reads
-use Rattle.tree.proofs.at32.Reads as at32-reads
 use Rattle.schemas.proofs.OneConstant.{fills-string, fills-other}
 
--- src/lib.rt:290:8
 at32-requires : tie.Need-at32-requires
 at32-requires c κs = search needs
 
--- src/lib.rt:291:9
 write-string-requires : tie.Need-write-string-requires
 write-string-requires c κs = search needs
 
--- src/lib.rt:308:9
 same-length : tie.Need-same-length
 same-length c = search needs
 
--- src/lib.rt:308:9
 same-length-2 : tie.Need-same-length-2
 same-length-2 c = search needs
 
--- src/lib.rt:308:9
 same-length-3 : tie.Need-same-length-3
 same-length-3 c = search needs
 
--- src/lib.rt:308:9
 same-length-4 : tie.Need-same-length-4
 same-length-4 c = search needs
 
--- src/lib.rt:308:9
 returns : tie.Need-returns
 returns c = fills-string (c .before .before .before .before .before .before .before .before .at32 .ensures) (c .before .before .before .before .before .before .before .if1 .taken) (c .before .before .write-string .ensures)
 
--- src/lib.rt:310:5
 evaluate-constant-requires : tie.Need-evaluate-constant-requires
 evaluate-constant-requires c κs = search needs
 
--- src/lib.rt:263:1
 same-length-5 : tie.Need-same-length-5
 same-length-5 c = search needs
 
--- src/lib.rt:263:1
 same-length-6 : tie.Need-same-length-6
 same-length-6 c = search needs
 
--- src/lib.rt:263:1
 same-length-7 : tie.Need-same-length-7
 same-length-7 c = search needs
 
--- src/lib.rt:263:1
 same-length-8 : tie.Need-same-length-8
 same-length-8 c = search needs
 
--- src/lib.rt:263:1
 same-length-9 : tie.Need-same-length-9
 same-length-9 c = search needs
 
--- src/lib.rt:263:1
 same-length-10 : tie.Need-same-length-10
 same-length-10 c = search needs
 
--- src/lib.rt:263:1
 same-length-11 : tie.Need-same-length-11
 same-length-11 c = search needs
 
--- src/lib.rt:263:1
 returns-2 : tie.Need-returns-2
 returns-2 c = fills-other
     (c .before .before .before .before .before .before .before .before .before .before .before .before .before .before .before .before .before .before .before .at32 .ensures)

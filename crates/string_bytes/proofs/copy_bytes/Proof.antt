@@ -2,9 +2,8 @@
 use Rattle.string_bytes.proofs.copy_bytes.Statement.{statement}
 use Rattle.string_bytes.proofs.copy_bytes.Tie as tie
 use borrow.Author.Needs.{needs}
-use native.Mathlib.Omega.{arith}
 use Prim.Native.Nat.{_-_}
-use Rattle.string_bytes.proofs.Writing.{Copied, copied-none, copied-more, copied-all, inside}
+use Rattle.string_bytes.proofs.Writing.{Copied, copied-none, copied-more, copied-all}
 
 abbrev Inv-loop : tie.InvT-loop
 Inv-loop from start size out₀ at first end i₀ out i = Copied from start size out₀ at out i

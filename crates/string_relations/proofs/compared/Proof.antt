@@ -1,25 +1,18 @@
+-- `string_relations::compared` meets its contract: the test is that of the definition. Assumes nothing.
 use borrow.Author.Needs.{needs}
 use Rattle.string_relations.proofs.compared.Statement.{statement}
 use Rattle.string_relations.proofs.compared.Tie as tie
-use Rattle.string_relations.proofs.compared.Reads as reads
-use Rattle.string_relations.proofs.compared.Lts as lts
-use Rattle.string_relations.proofs.compare_item.Reads as compare-item-reads
-use Rattle.string_relations.proofs.relate_operands.Reads as relate-operands-reads
 use Rattle.string_relations.proofs.Relating.{compared-item, compared-relation}
 
--- src/lib.rt:408:9
 compare-item-requires : tie.Need-compare-item-requires
 compare-item-requires c κs = search needs
 
--- src/lib.rt:408:9
 returns : tie.Need-returns
 returns c = compared-item (c .before .if1 .taken) (c .compare-item .ensures)
 
--- src/lib.rt:430:5
 relate-operands-requires : tie.Need-relate-operands-requires
 relate-operands-requires c κs = search needs
 
--- src/lib.rt:380:1
 returns-2 : tie.Need-returns-2
 returns-2 c = compared-relation (c .before .if1 .left) (c .relate-operands .ensures)
 

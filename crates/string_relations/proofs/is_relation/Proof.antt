@@ -1,60 +1,42 @@
+-- `string_relations::is_relation` meets its contract: case by case. Assumes nothing.
 use borrow.Author.Needs.{needs}
 use Rattle.string_relations.proofs.is_relation.Statement.{statement}
 use Rattle.string_relations.proofs.is_relation.Tie as tie
-use Rattle.string_relations.proofs.is_relation.Reads as reads
-use Rattle.string_relations.proofs.is_relation.Lts as lts
-use Rattle.node_answers.proofs.operators.operator.Reads as operator-reads
-use mathlib.Core.Path.{ap, _∙_, sym, refl}
 use Rattle.string_relations.proofs.Relating.{relation-told, relation-none}
-use mathlib.Core.Option.{some}
-use Rattle.string_relations.specs.Comparing.{relates}
-use Rattle.operations.specs.Meaning.{operator-of}
 
--- src/lib.rt:220:11
 operator-requires : tie.Need-operator-requires
 operator-requires c κs = search needs
 
--- src/lib.rt:221:28
 enum-known-o : tie.Need-enum-known-o
 enum-known-o c = search needs
 
--- src/lib.rt:222:31
 enum-told : tie.Need-enum-told
 enum-told c = search needs
 
--- src/lib.rt:223:40
 enum-told-2 : tie.Need-enum-told-2
 enum-told-2 c = search needs
 
--- src/lib.rt:224:38
 enum-told-3 : tie.Need-enum-told-3
 enum-told-3 c = search needs
 
--- src/lib.rt:225:40
 enum-told-4 : tie.Need-enum-told-4
 enum-told-4 c = search needs
 
--- src/lib.rt:227:33
 enum-told-5 : tie.Need-enum-told-5
 enum-told-5 c = search needs
 
--- src/lib.rt:217:1
 returns : tie.Need-returns
 returns c = relation-told _ (c .before .before .before .before .before .operator .ensures) (c .before .before .before .o .given .1) (rw (c .enum-told .given .1))
 
--- src/lib.rt:217:1
 returns-2 : tie.Need-returns-2
 returns-2 c = relation-told _ (c .before .before .before .before .before .operator .ensures) (c .before .before .before .o .given .1) (rw (c .enum-told2 .given .1))
 
--- src/lib.rt:217:1
 returns-3 : tie.Need-returns-3
 returns-3 c = relation-told _ (c .before .before .before .before .before .operator .ensures) (c .before .before .before .o .given .1) (rw (c .enum-told3 .given .1))
 
--- src/lib.rt:217:1
 returns-4 : tie.Need-returns-4
 returns-4 c = relation-told _ (c .before .before .before .before .before .operator .ensures) (c .before .before .before .o .given .1) (rw (c .enum-told4 .given .1))
 
--- src/lib.rt:217:1
 returns-5 : tie.Need-returns-5
 returns-5 c = relation-none _ (c .before .before .operator .ensures) (c .enum-told5 .given .1)
 

@@ -1,87 +1,63 @@
+-- `string_relations::relate_operands` meets its contract: case by case. Assumes nothing.
 use borrow.Author.Needs.{needs}
 use Rattle.string_relations.proofs.relate_operands.Statement.{statement}
 use Rattle.string_relations.proofs.relate_operands.Tie as tie
-use Rattle.string_relations.proofs.relate_operands.Reads as reads
-use Rattle.string_relations.proofs.relate_operands.Lts as lts
-use Rattle.node_answers.proofs.operators.operator.Reads as operator-reads
-use Rattle.string_relations.proofs.relation.Reads as relation-reads
-use Rattle.tree.proofs.at8.Reads as at8-reads
-use Rattle.tree.proofs.index_at.Reads as index-at-reads
-use Rattle.tree.proofs.last.Reads as last-reads
-use Rattle.tree.proofs.left.Reads as left-reads
 use Rattle.string_relations.proofs.Relating.{relates-operands, relates-nothing, relation-told, relation-none}
 
--- src/lib.rt:358:35
 index-at-requires : tie.Need-index-at-requires
 index-at-requires c κs = search needs
 
--- src/lib.rt:358:20
 at8-requires : tie.Need-at8-requires
 at8-requires c κs = search needs
 
--- src/lib.rt:358:11
 operator-requires : tie.Need-operator-requires
 operator-requires c κs = search needs
 
--- src/lib.rt:359:28
 enum-known-o : tie.Need-enum-known-o
 enum-known-o c = search needs
 
--- src/lib.rt:360:31
 enum-told : tie.Need-enum-told
 enum-told c = search needs
 
--- src/lib.rt:361:40
 enum-told-2 : tie.Need-enum-told-2
 enum-told-2 c = search needs
 
--- src/lib.rt:362:32
 enum-known-o-2 : tie.Need-enum-known-o-2
 enum-known-o-2 c = search needs
 
--- src/lib.rt:382:17
 left-requires : tie.Need-left-requires
 left-requires c κs = search needs
 
--- src/lib.rt:383:17
 last-requires : tie.Need-last-requires
 last-requires c κs = search needs
 
--- src/lib.rt:362:38
 relation-requires : tie.Need-relation-requires
 relation-requires c κs = search needs
 
--- src/lib.rt:385:40
 enum-told-3 : tie.Need-enum-told-3
 enum-told-3 c = search needs
 
--- src/lib.rt:387:33
 enum-told-4 : tie.Need-enum-told-4
 enum-told-4 c = search needs
 
--- src/lib.rt:332:1
 returns : tie.Need-returns
 returns c = relates-nothing (c .before .before .before .before .before .before .before .index-at .ensures) (c .before .before .before .before .before .before .at8 .ensures)
     (relation-told _ (c .before .before .before .before .before .operator .ensures) (c .before .before .before .o .given .1) (rw (c .enum-told .given .1)))
 
--- src/lib.rt:332:1
 returns-2 : tie.Need-returns-2
 returns-2 c = relates-nothing (c .before .before .before .before .before .before .before .index-at .ensures) (c .before .before .before .before .before .before .at8 .ensures)
     (relation-told _ (c .before .before .before .before .before .operator .ensures) (c .before .before .before .o .given .1) (rw (c .enum-told2 .given .1)))
 
--- src/lib.rt:332:1
 returns-3 : tie.Need-returns-3
 returns-3 c = relates-operands (c .before .before .before .before .before .before .before .before .before .before .before .index-at .ensures)
     (c .before .before .before .before .before .before .before .before .before .before .at8 .ensures)
     (c .before .before .before .before .before .before .before .before .before .operator .ensures) (c .before .before .before .before .before .before .before .o .given .1)
     (c .before .before .before .before .o2 .given .1) (c .before .before .left .ensures) (c .before .last .ensures) (c .relation .ensures)
 
--- src/lib.rt:332:1
 returns-4 : tie.Need-returns-4
 returns-4 c = relates-nothing (c .before .before .before .before .before .before .before .index-at .ensures) (c .before .before .before .before .before .before .at8 .ensures)
     (relation-told _ (c .before .before .before .before .before .operator .ensures) (c .before .before .before .o .given .1) (rw (c .enum-told3 .given .1)))
 
--- src/lib.rt:332:1
 returns-5 : tie.Need-returns-5
 returns-5 c = relates-nothing (c .before .before .before .before .index-at .ensures) (c .before .before .before .at8 .ensures) (relation-none _ (c .before .before .operator .ensures) (c .enum-told4 .given .1))
 
