@@ -1,6 +1,6 @@
 -- Buckets: where a number's chain begins. Which function it is decides the time and no answer; so that keys that differ in a few
--- bits, wherever these stand, fall far apart, 32 bits are multiplied twice by large odd numbers (the first is 2 ^ 32 over the golden
--- ratio).
+-- bits, wherever these stand, fall far apart, their halves are added and multiplied by a large odd number, 2 ^ 32 over the golden ratio,
+-- and the high bits of that are taken.
 use mathlib.Core.Path.{_≡_}
 use mathlib.Core.Bool.{cond}
 use Prim.Native.Nat.{ℕ, _+_, _*_, _/_, _%_, _<_, min}
@@ -9,20 +9,14 @@ use lib.Dec.{ltb}
 abbrev pub word : ℕ
 word = 4294967296
 
-abbrev pub first-factor : ℕ
-first-factor = 2654435761
+abbrev pub factor : ℕ
+factor = 2654435761
 
-abbrev pub second-factor : ℕ
-second-factor = 2246822519
-
-abbrev pub fold : ℕ
-fold = 32768
-
-abbrev pub spread : ℕ → ℕ → ℕ
-spread x by = x % word * by % word
+abbrev pub spread : ℕ → ℕ
+spread x = x % word * factor % word
 
 unfoldable pub mixed : ℕ → ℕ
-mixed x = let once = spread (x % word + x / word) first-factor in spread (once + once / fold) second-factor
+mixed x = spread (x % word + x / word)
 
 -- the bucket of a number of 32 bits, by its high bits
 unfoldable pub range-of : ℕ → ℕ → ℕ

@@ -8,17 +8,12 @@ ghost use Prim.Native.Nat.{_<_};
 ghost use Rattle.index.specs.Bucket.{mixed, InBucket};
 ghost use Rattle.index.specs.Room.{fits};
 
-// Numbers of 32 bits are below this one, which stands here twice, the second as a count; two large odd numbers to multiply by (the first is 2 ^ 32 over the golden ratio), and
-// the bits that are folded between them.
+// Numbers of 32 bits are below this one, which stands here twice, the second as a count; and a large odd number to multiply by, 2 ^ 32 over the golden ratio.
 pub const WORD: u64 = 4294967296;
 
 pub const RANGE: usize = 4294967296;
 
-pub const FIRST_FACTOR: u64 = 2654435761;
-
-const SECOND_FACTOR: u64 = 2246822519;
-
-const FOLD: u64 = 32768;
+pub const FACTOR: u64 = 2654435761;
 
 // A link is an entry plus one, of 32 bits: there are fewer entries than this.
 const ENTRIES: usize = 4294967295;
@@ -42,12 +37,11 @@ pub fn scratch(count: usize, heads: usize, next: usize) -> bool
     count < ENTRIES
 }
 
-// A number of 32 bits, in each of which all of x has a say.
+// A number of 32 bits, in the high ones of which all of x has a say.
 fn mix(x: u64) -> u64
     ensures { λ r. ⌜ r ≡ mixed x ⌝ }
 {
-    let once = (x % WORD + x / WORD) % WORD * FIRST_FACTOR % WORD;
-    (once + once / FOLD) % WORD * SECOND_FACTOR % WORD
+    (x % WORD + x / WORD) % WORD * FACTOR % WORD
 }
 
 // The bucket that a number falls into: small numbers, as symbols are, have buckets of their own.

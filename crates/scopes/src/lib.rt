@@ -64,13 +64,10 @@ pub fn either(a: bool, b: bool) -> bool
 pub fn is_declaration(kind: u8) -> bool
     ensures { λ r. ⌜ r ≡ declares kind ⌝ }
 {
-    if kind == codes::nodes::CONSTANT {
-        return true;
-    }
-    if kind == codes::nodes::TYPE {
-        return true;
-    }
-    kind == codes::nodes::ENTITY
+    either(
+        either(kind == codes::nodes::CONSTANT, kind == codes::nodes::TYPE),
+        kind == codes::nodes::ENTITY,
+    )
 }
 
 // Is it an attribute or a rule with a label?

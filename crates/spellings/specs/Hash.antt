@@ -4,7 +4,7 @@ use mathlib.Core.List.{List, [], _∷_, map}
 use Prim.Native.Nat.{ℕ, zero, suc, _+_, _-_, _*_, _/_, _%_, _<_}
 use lib.ListN.{length, getD}
 use Rattle.express.specs.tokens.Bytes.{lower}
-use Rattle.index.specs.Bucket.{word, first-factor, spread}
+use Rattle.index.specs.Bucket.{word, factor, spread}
 
 -- four bytes of a word from a place on, as one number; of each byte the low five bits, which the two cases of a letter share
 abbrev pub block : List ℕ → ℕ → ℕ
@@ -12,7 +12,7 @@ block xs k = getD xs k 0 % 32 + getD xs (k + 1) 0 % 32 * 256 + getD xs (k + 2) 0
 
 -- a number in which another one has its say
 abbrev pub joined : ℕ → ℕ → ℕ
-joined h x = spread (h + x) first-factor
+joined h x = spread (h + x)
 
 -- so many blocks from a place on, one after the other
 unfoldable pub hash-blocks : ℕ → ℕ → ℕ → List ℕ → ℕ
@@ -25,7 +25,7 @@ hash-of xs = hash-blocks (suc (suc ((length xs - 5) / 4))) 0 0 xs
 
 -- a number of 64 bits in which a byte has its say: a step of multiply with carry
 unfoldable pub stirred : ℕ → ℕ → ℕ
-stirred h b = (h % word + b) * first-factor + h / word
+stirred h b = (h % word + b) * factor + h / word
 
 unfoldable pub stirred-all : ℕ → List ℕ → ℕ
 stirred-all h [] = h

@@ -110,7 +110,7 @@ fn join(h: u64, x: u64) -> u64
     requires { ⌜ (h < 4294967296) × (x < 4294967296) ⌝ }
     ensures { λ r. ⌜ Joins h x r ⌝ }
 {
-    (h + x) % index::WORD * index::FIRST_FACTOR % index::WORD
+    (h + x) % index::WORD * index::FACTOR % index::WORD
 }
 
 // The block of a word at a place, as far as the word goes.
@@ -143,7 +143,7 @@ pub fn hash(word: &[u8]) -> u64
 pub fn stir(h: u64, b: u8) -> u64
     ensures { λ r. ⌜ r ≡ stirred h b ⌝ }
 {
-    (h % index::WORD + wide(b)) * index::FIRST_FACTOR + h / index::WORD
+    (h % index::WORD + wide(b)) * index::FACTOR + h / index::WORD
 }
 
 // A longer number for a spelling, in which all bits of its bytes have a say: for words whose hashes are alike.

@@ -5,12 +5,6 @@ use borrow.Author.Needs.{needs}
 use Rattle.index.proofs.mix.Statement.{statement}
 use Rattle.index.proofs.mix.Tie as tie
 
-add-once : tie.Need-add-once
-add-once c = search needs
-
-mul-once : tie.Need-mul-once
-mul-once c = search needs
-
 add-result : tie.Need-add-result
 add-result c = search needs
 
@@ -22,4 +16,4 @@ unfolding mixed
 returns c = refl
 
 pub mix-spec : {M : Type 1} → statement M
-mix-spec = tie.close (tie.spec add-once mul-once add-result mul-result returns)
+mix-spec = tie.close (tie.spec add-result mul-result returns)
