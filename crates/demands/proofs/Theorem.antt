@@ -2,14 +2,14 @@
 use mathlib.Core.Path.{_≡_, refl, sym, ap, _∙_}
 use mathlib.Core.Logic.{_≢_, _⊎_, inl}
 use mathlib.Core.List.{List, [], _∷_, map}
-use Prim.Native.Nat.{ℕ, zero, suc, _+_, _-_, _≤_, _<_}
+use Prim.Native.Nat.{ℕ, zero, suc, _-_, _≤_, _<_}
 use native.Mathlib.Omega.{arith}
 use lib.IntN.{ℤ, pos}
 use lib.ListN.{length, getD, replicate}
 use Rattle.columns.specs.Column.{padded}
 use Rattle.columns.proofs.Laws.{getD-padded}
-use Rattle.express.specs.kinds.Answer.{Answer, indeterminate}
-use Rattle.express.specs.kinds.AnswerRow.{AnswerRow, row-of, row-answer, bytes-of, rows-from}
+use Rattle.express.specs.kinds.Answer.{indeterminate}
+use Rattle.express.specs.kinds.AnswerRow.{AnswerRow, row-of, row-answer}
 use Rattle.express.specs.kinds.Kind.{constants}
 use Rattle.express.specs.kinds.Rule.{Exactly}
 use Rattle.express.specs.whole.Reply.{Accepted, Checked, accepted, refused, Report, report, Tables, answer-rows, answer-room, outcome, tables-after}
@@ -19,12 +19,6 @@ use Rattle.express.proofs.theorems.Acceptance.{accepted-iff}
 use Rattle.demands.specs.Checks.{tables-of, zeros, AcceptableIn, row-answer-at, Checks}
 
 -- ---- the row of an answer, from the columns
-
--- a row for each answer
-pub rows-counted : (start : ℕ) (xs : List Answer) → length (rows-from start xs) ≡ length xs
-unfolding rows-from
-rows-counted start [] = refl
-rows-counted start (x ∷ xs) = ap suc (rows-counted (start + length (bytes-of x)) xs)
 
 map-at : {A B : Type 0} (f : A → B) (xs : List A) (i : ℕ) (d : A) → getD (map f xs) i (f d) ≡ f (getD xs i d)
 map-at f [] i d = refl

@@ -1,11 +1,10 @@
 -- What the functions at a node answer, from what their calls gave and their tests said.
 use mathlib.Core.Path.{_≡_, refl, sym, ap, subst, _∙_}
-use mathlib.Core.Logic.{_⊎_, inl, inr, ⊎-elim}
 use mathlib.Core.Bool.{Bool, true, false, cond, _||_}
 use mathlib.Core.List.{List}
 use Prim.Native.Nat.{ℕ, _-_, _<_}
 use native.Mathlib.Decide.{ℕ-discrete}
-use borrow.Author.Tests.{eqb-true, lt-ltb}
+use borrow.Author.Tests.{lt-ltb}
 use lib.Dec.{eqb}
 use lib.IntN.{ℤ}
 use lib.ListN.{getD}
@@ -13,10 +12,9 @@ use Rattle.express.specs.syntax.NodeKind as node
 use Rattle.express.specs.syntax.Tree.{Table, kind}
 use Rattle.express.specs.kinds.Answer.{Answer}
 use Rattle.express.specs.kinds.Declared.{declaration, bound, denoted}
-use Rattle.express.specs.kinds.Shape.{Shape, name, name-shape-in, shape-in}
+use Rattle.express.specs.kinds.Shape.{Shape, name, name-shape-in}
 use Rattle.express.specs.kinds.Shape as shapes
 use Rattle.express.specs.kinds.Evaluate.{answer-in, answer-at}
-use Rattle.relations.proofs.Select.{or-cases}
 use Rattle.operations.specs.Meaning.{answer-of, sized}
 use Rattle.operations.specs.declared.Answer as code
 use Rattle.operations.specs.declared.Answer.the-variants.{Indeterminate}
@@ -30,6 +28,7 @@ use Rattle.string_relations.specs.Comparing.{Compares}
 use Rattle.string_relations.specs.Compared.{Compared}
 use Rattle.evaluate.proofs.Operations.{answered-value, compared-value}
 use Rattle.node_answers.proofs.Nodes.{unbound, bound-item, bound-constant, bound-other}
+use Rattle.string_bytes.proofs.Reading.{name-shape}
 
 -- ---- names
 bound-kind : (x : ℕ) {m k : ℕ} {file-kinds : List ℕ} → m ≡ x - 1 → k ≡ getD file-kinds m 0 → (t : Table) → t .kinds ≡ file-kinds → kind t (x - 1) ≡ k
@@ -70,15 +69,6 @@ module _ {x : ℕ} {file-kinds row-of : List ℕ} {at : ℕ} {aks : List ℕ} {a
 
 -- ---- a node
 
--- the shape of a name, or of an item by its type
-name-shape : (t e : Table) (c : List ℕ) (n : ℕ) → (kind e n ≡ node.name) ⊎ (kind e n ≡ node.qualified-item) → shape-in t e c n ≡ name-shape-in t e c n
-unfolding shape-in
-name-shape t e c n (inl h) = rw h
-name-shape t e c n (inr h) = rw h
-
-named-kind : (k : ℕ) → eqb k node.name || eqb k node.qualified-item ≡ true → (k ≡ node.name) ⊎ (k ≡ node.qualified-item)
-named-kind k h = ⊎-elim (λ a. inl (eqb-true k node.name a)) (λ a. inr (eqb-true k node.qualified-item a)) (or-cases (eqb k node.name) (eqb k node.qualified-item) h)
-
 kind-of : (n : ℕ) {k : ℕ} {kinds : List ℕ} → k ≡ getD kinds n 0 → (e : Table) → e .kinds ≡ kinds → kind e n ≡ k
 kind-of n K e h = rw h (sym K)
 
@@ -104,7 +94,7 @@ module _ {bytes starts lengths terminals kinds tokens sizes bindings file-kinds 
       record {
         is = λ t e g values lo hi A L Q R i j T.
             let f = answer-at (answers-in ks zs ls) in
-            let s = name-shape t e bindings n (⊎-elim (λ m. inl (kind-of n K e (A .kinds-are) ∙ m)) (λ m. inr (kind-of n K e (A .kinds-are) ∙ m)) (named-kind k (sym B ∙ h))) in
+            let s = name-shape t e bindings n (rw (kind-of n K e (A .kinds-are)) (sym B ∙ h)) in
             keeps-same
             (name-value t e bindings f values g (known-in row-of at aks azs als) n (λ d q. Q .is n i j d (s ∙ q)) ∙
             ap (λ (v : Shape). sized (answer-in e values g n v)) (sym s) ∙ ap sized (sym (L .step n i j)))

@@ -1,7 +1,7 @@
 -- The lines that this crate prints from the lent columns of an accepted file, zeros behind their values and all, are the listing of the outcome
 -- (`accepted-listing`, `refused-listing`); a loop that goes from one constant to the next meets them all, in the order of the text (`walking-goes-on`).
 use mathlib.Core.Path.{_≡_, refl, sym, ap, _∙_}
-use mathlib.Core.List.{List, [], _∷_, _++_, map, flatMap}
+use mathlib.Core.List.{List, [], _++_, map, flatMap}
 use mathlib.Core.Logic.{⊎-elim}
 use Prim.Native.Nat.{ℕ, zero, suc, _+_, _-_, _≤_, _<_}
 use native.Mathlib.Omega.{arith}
@@ -21,11 +21,11 @@ use Rattle.express.specs.kinds.Answer.{indeterminate, integer, logical, binary,
 use Rattle.express.specs.kinds.Declared.{Declared}
 use Rattle.express.specs.kinds.Kind.{constants}
 use Rattle.express.specs.kinds.Rule.{Holds}
-use Rattle.express.specs.kinds.AnswerRow.{AnswerRow, row-of, bytes-of, rows-from}
+use Rattle.express.specs.kinds.AnswerRow.{AnswerRow, row-of}
 use Rattle.express.specs.whole.Reply.{Accepted, accepted, refused, checked, answer-rows, answer-kinds, answer-numbers, answer-lengths, answer-room}
 use Rattle.express.specs.whole.Acceptance.{Acceptable}
 use Rattle.express.specs.whole.Listing.{name-of, printed, answer-line, constant-line, accepted-line, refused-line, listing}
-use Rattle.express.proofs.whole.AnswerRow.{row-back}
+use Rattle.express.proofs.whole.AnswerRow.{rows-counted, row-back}
 use Rattle.express.proofs.theorems.Acceptance.{accepted-iff}
 use Rattle.records.specs.declared.Answer.{Answer}
 use Rattle.records.specs.Rows.{zeros, rows}
@@ -93,11 +93,6 @@ module _ (t : Table) (n₁ n₂ n₃ n₄ : ℕ) where
   walking-goes-on i from here h = walk-goes-on (is lent constant) (count lent) (constants t) i from here h
 
 -- ---- an answer, read back from its row of the lent columns and the room
-
-rows-counted : (start : ℕ) (xs : List express.Answer) → length (rows-from start xs) ≡ length xs
-unfolding rows-from
-rows-counted start [] = refl
-rows-counted start (x ∷ xs) = ap suc (rows-counted (start + length (bytes-of x)) xs)
 
 module _ (a : Accepted) (m₁ m₂ m₃ m₄ : ℕ) where
   -- what `records::record_at` gives of them

@@ -16,7 +16,8 @@ use Rattle.express.proofs.tokens.TokenRows.{tokens-of}
 use Rattle.express.proofs.theorems.Acceptance.{accepted-iff}
 use Rattle.stages.proofs.Bounds.{tokens-few}
 use Rattle.demands.specs.Checks.{tables-of, Checks}
-use Rattle.demands.proofs.Theorem.{rows-counted, checks, tables-alike}
+use Rattle.demands.proofs.Theorem.{checks, tables-alike}
+use Rattle.express.proofs.whole.AnswerRow.{rows-counted}
 use Rattle.records.specs.declared.Answer.{Answer}
 use Rattle.records.specs.Rows.{zeros, filled}
 use Rattle.record_demands.specs.Records.{record-tables, ChecksRows, RecordsWithin}

@@ -31,7 +31,7 @@ use Rattle.reading.specs.declared.Reading.{Reading}
 use Rattle.reading.specs.FileReading as reading
 use Rattle.reading.specs.FileReading.{ReadsFile}
 use Rattle.name_frames.specs.NameFrame.{NamesWithin}
-use Rattle.demands.proofs.Theorem.{rows-counted}
+use Rattle.express.proofs.whole.AnswerRow.{rows-counted}
 use Rattle.answer_stages.specs.AnswerStage.{Answered}
 use Rattle.answer_frames.specs.AnswerFrame.{NamedFile, AnswersWithin}
 use Rattle.running.specs.Run.{Begins, AsLong, token-rows, node-rows, answer-rows, Ran, RunsWithin}

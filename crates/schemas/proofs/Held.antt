@@ -3,7 +3,7 @@ use mathlib.Core.Path.{_≡_, refl, sym, ap, _∙_}
 use mathlib.Core.Logic.{_⊎_, inl, inr, ⊎-elim}
 use mathlib.Core.Bool.{Bool, true, false, false≢true}
 use mathlib.Core.List.{List, [], _∷_, List·Memᴰ, List·Memᴰ·head, List·Memᴰ·tail, List·Memᴰ·not-nil}
-use Prim.Native.Nat.{ℕ, zero, suc, _-_, _≤_, _<_}
+use Prim.Native.Nat.{ℕ, zero, suc, _+_, _-_, _≤_, _<_}
 use native.Mathlib.Decide.{ℕ-discrete}
 use native.Mathlib.Omega.{arith}
 use borrow.Author.Tests.{eqb-true, eq-eqb, leb-true, le-leb, ltb-true, ltb-false, lt-ltb}
@@ -33,12 +33,18 @@ use Rattle.schemas.proofs.Nodes.{root-first}
 use Rattle.constant_rows.proofs.Numbering.{row-rises, row-before}
 
 -- ---- the order
-pub mem-next : (xs : List ℕ) (i k : ℕ) → List·Memᴰ k (take (suc i) xs) → List·Memᴰ k (take i xs) ⊎ (k ≡ getD xs i 0)
+mem-next : (xs : List ℕ) (i k : ℕ) → List·Memᴰ k (take (suc i) xs) → List·Memᴰ k (take i xs) ⊎ (k ≡ getD xs i 0)
 mem-next [] i k m = absurd (List·Memᴰ·not-nil m)
 mem-next (x ∷ xs) zero k (List·Memᴰ·head q) = inr q
 mem-next (x ∷ xs) zero k (List·Memᴰ·tail m) = absurd (List·Memᴰ·not-nil m)
 mem-next (x ∷ xs) (suc i) k (List·Memᴰ·head q) = inl (List·Memᴰ·head q)
 mem-next (x ∷ xs) (suc i) k (List·Memᴰ·tail m) = ⊎-elim (λ n. inl (List·Memᴰ·tail n)) (λ q. inr q) (mem-next xs i k m)
+
+-- one more of a list is passed
+pub one-more : (xs : List ℕ) (i : ℕ) {d : ℕ} → d ≡ getD xs i 0 → (k : ℕ) → List·Memᴰ k (take (i + 1) xs) → List·Memᴰ k (take i xs) ⊎ (k ≡ d)
+one-more xs i q k m =
+    let e : i + 1 ≡ suc i = omega arith in
+    ⊎-elim (λ n. inl n) (λ p. inr (p ∙ sym q)) (mem-next xs i k (rw e at m))
 
 pub sorted-at : {E : ℕ → ℕ → Type 0} {passed ds : List ℕ} → Sorted E passed ds → (i c : ℕ) → i < length ds → E (getD ds i 0) c → List·Memᴰ c passed ⊎ List·Memᴰ c (take i ds)
 sorted-at done i c l e = absurd (omega arith)

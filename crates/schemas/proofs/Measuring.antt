@@ -1,9 +1,9 @@
 -- The lengths of strings, in an order of the constants: each string finds the lengths of those that it names.
 use mathlib.Core.Path.{_≡_, refl, sym, ap, subst, _∙_}
-use mathlib.Core.Logic.{_⊎_, inl, inr, ⊎-elim}
+use mathlib.Core.Logic.{_⊎_, ⊎-elim}
 use mathlib.Core.Bool.{Bool, true, false}
 use mathlib.Core.List.{List, List·Memᴰ, List·Memᴰ·not-nil}
-use Prim.Native.Nat.{ℕ, suc, _+_, _-_, _≤_, _<_}
+use Prim.Native.Nat.{ℕ, _+_, _-_, _≤_, _<_}
 use native.Mathlib.Omega.{arith}
 use borrow.Author.Tests.{eqb-true}
 use lib.IntN.{ℤ}
@@ -31,7 +31,7 @@ use Rattle.schemas.specs.Rows.{row, due, answer-of-constant, is-string, 
 use Rattle.schemas.proofs.Settled.{answer-storable}
 use Rattle.schemas.proofs.Answers.{row-within}
 use Rattle.schemas.proofs.OneConstant.{string-node, measured-string}
-use Rattle.schemas.proofs.Held.{mem-next, Due, Held, HeldRows, held-same, held-more, row-read, names-edge, whole-part, due-is, due-not}
+use Rattle.schemas.proofs.Held.{one-more, Due, Held, HeldRows, held-same, held-more, row-read, names-edge, whole-part, due-is, due-not}
 use Rattle.constant_rows.proofs.Numbering.{row-none}
 
 -- a constant in the expression of a string is declared STRING
@@ -104,11 +104,6 @@ module _ {bytes starts lengths terminals kinds tokens sizes bindings declared or
   module _ {aks : List ℕ} {azs : List ℤ} {als vks : List ℕ} {vzs : List ℤ} {vls : List ℕ} {i : ℕ}
       (P : Measuring bytes starts lengths terminals kinds tokens sizes bindings declared order row-of aks₀ azs₀ als₀ vks₀ vzs₀ vls₀ aks azs als vks vzs vls i) where
     module _ (l : i < length order) {d : ℕ} (d-is : d ≡ getD order i 0) {n : ℕ} (n-is : n ≡ length kinds) {b : Bool} (b-is : b ≡ due kinds 0 n d) where
-      one-more : (k : ℕ) → List·Memᴰ k (take (i + 1) order) → List·Memᴰ k (take i order) ⊎ (k ≡ d)
-      one-more k m =
-          let e : i + 1 ≡ suc i = omega arith in
-          ⊎-elim (λ n. inl n) (λ q. inr (q ∙ sym d-is)) (mem-next order i k (rw e at m))
-
       pub measuring-other :
           b ≡ false → Measuring bytes starts lengths terminals kinds tokens sizes bindings declared order row-of aks₀ azs₀ als₀ vks₀ vzs₀ vls₀ aks azs als vks vzs vls (i + 1)
       measuring-other h =
@@ -123,7 +118,7 @@ module _ {bytes starts lengths terminals kinds tokens sizes bindings declared or
                 let H = P .is t O W M R in
                 let z : n ≡ count t = n-is ∙ ap length (sym (O .kinds-are)) in
                 let skip : (k : ℕ) → List·Memᴰ k (take (i + 1) order) → Due t 0 (count t) k → List·Memᴰ k (take i order) = λ k m D.
-                ⊎-elim (λ j. j) (λ q. absurd (due-not (O .kinds-are) (ap (λ (x : ℕ). due kinds 0 x d) (sym z) ∙ sym b-is ∙ h) (subst (Due t 0 (count t)) q D))) (one-more k m) in
+                ⊎-elim (λ j. j) (λ q. absurd (due-not (O .kinds-are) (ap (λ (x : ℕ). due kinds 0 x d) (sym z) ∙ sym b-is ∙ h) (subst (Due t 0 (count t)) q D))) (one-more order i d-is k m) in
                 record { kinds-are = held-same (H .kinds-are) skip; numbers-are = held-same (H .numbers-are) skip; lengths-are = held-same (H .lengths-are) skip };
           }
 
@@ -166,7 +161,7 @@ module _ {bytes starts lengths terminals kinds tokens sizes bindings declared or
               let j = ap (λ (y : ℕ). y - 0) (W .is d (D .upto)) in
               let w = row-within t d (D .upto) (D .is-constant) in
               let s : 0 ≡ row t 0 = sym (row-none (t .kinds)) in
-              let M : (k : ℕ) → List·Memᴰ k (take (i + 1) order) → Due t 0 (count t) k → List·Memᴰ k (take i order) ⊎ (k ≡ d) = λ k m _. one-more k m in
+              let M : (k : ℕ) → List·Memᴰ k (take (i + 1) order) → Due t 0 (count t) k → List·Memᴰ k (take i order) ⊎ (k ≡ d) = λ k m _. one-more order i d-is k m in
               record {
                 kinds-are = held-more (H .kinds-are) d M s D (omega (arith, w, Q .kinds-long)) (rw (← j) (G .kinds-are));
                 numbers-are = held-more (H .numbers-are) d M s D (omega (arith, w, Q .numbers-long)) (rw (← j) (G .numbers-are));

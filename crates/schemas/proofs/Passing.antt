@@ -3,7 +3,7 @@ use mathlib.Core.Path.{_≡_, refl, sym, ap, subst, _∙_}
 use mathlib.Core.Logic.{_⊎_, inl, inr, ⊎-elim}
 use mathlib.Core.Bool.{Bool, true, false, false≢true}
 use mathlib.Core.List.{List, [], List·Memᴰ, List·Memᴰ·not-nil}
-use Prim.Native.Nat.{ℕ, suc, _+_, _-_, _≤_, _<_}
+use Prim.Native.Nat.{ℕ, _+_, _-_, _≤_, _<_}
 use native.Mathlib.Decide.{ℕ-discrete, decLt}
 use native.Mathlib.Omega.{arith}
 use borrow.Author.Tests.{eqb-true, ne-eqb}
@@ -37,7 +37,7 @@ use Rattle.schemas.proofs.Settled.{answer-storable}
 use Rattle.schemas.proofs.Room.{part-same}
 use Rattle.schemas.proofs.Answers.{start-rises, start-behind}
 use Rattle.schemas.proofs.Writing.{stored-there, before-kept, behind-kept, drop-kept}
-use Rattle.schemas.proofs.Held.{mem-next, Due, Held, HeldRows, held-same, held-more, row-read, names-edge, due-is, due-not}
+use Rattle.schemas.proofs.Held.{one-more, Due, Held, HeldRows, held-same, held-more, row-read, names-edge, due-is, due-not}
 use Rattle.constant_rows.proofs.Numbering.{row-rises, row-before}
 
 -- ---- the row of an answer and its string
@@ -229,11 +229,6 @@ module _ {bytes starts lengths terminals kinds tokens sizes bindings declared pa
   module _ {aks : List ℕ} {azs : List ℤ} {als vks : List ℕ} {vzs : List ℤ} {vls room : List ℕ} {i : ℕ}
       (P : Passing bytes starts lengths terminals kinds tokens sizes bindings declared part row-of lo hi at aks₀ azs₀ als₀ vks₀ vzs₀ vls₀ room₀ aks azs als vks vzs vls room i) where
     module _ (l : i < length part) {d : ℕ} (d-is : d ≡ getD part i 0) {b : Bool} (b-is : b ≡ due kinds lo hi d) where
-      one-more : (k : ℕ) → List·Memᴰ k (take (i + 1) part) → List·Memᴰ k (take i part) ⊎ (k ≡ d)
-      one-more k m =
-          let e : i + 1 ≡ suc i = omega arith in
-          ⊎-elim (λ n. inl n) (λ q. inr (q ∙ sym d-is)) (mem-next part i k (rw e at m))
-
       pub passing-other :
           b ≡ false →
           Passing bytes starts lengths terminals kinds tokens sizes bindings declared part row-of lo hi at aks₀ azs₀ als₀ vks₀ vzs₀ vls₀ room₀ aks azs als vks vzs vls room (i + 1)
@@ -251,7 +246,7 @@ module _ {bytes starts lengths terminals kinds tokens sizes bindings declared pa
                 let H = Q .0 in
                 let none = due-not (O .kinds-are) (sym b-is ∙ h) in
                 let skip : (k : ℕ) → List·Memᴰ k (take (i + 1) part) → Due t lo hi k → List·Memᴰ k (take i part) = λ k m D.
-                ⊎-elim (λ j. j) (λ q. absurd (none (subst (Due t lo hi) q D))) (one-more k m) in
+                ⊎-elim (λ j. j) (λ q. absurd (none (subst (Due t lo hi) q D))) (one-more part i d-is k m) in
                 let both : (k : ℕ) → List·Memᴰ k (take (i + 1) part) ⊎ (is-string t k ≡ true) → Due t lo hi k → List·Memᴰ k (take i part) ⊎ (is-string t k ≡ true) = λ k m D.
                 ⊎-elim (λ j. inl (skip k j D)) (λ s. inr s) m in (
                   record { kinds-are = held-same (H .kinds-are) both; numbers-are = held-same (H .numbers-are) both; lengths-are = held-same (H .lengths-are) both },
@@ -327,7 +322,7 @@ module _ {bytes starts lengths terminals kinds tokens sizes bindings declared pa
               by true s =
                   let X = E .string t order O there (D .is-constant) s in
                   let N : (k : ℕ) → List·Memᴰ k (take (i + 1) part) ⊎ (is-string t k ≡ true) → Due t lo hi k → List·Memᴰ k (take i part) ⊎ (is-string t k ≡ true) = λ k m _.
-                  ⊎-elim (λ y. ⊎-elim (λ z. inl z) (λ q. inr (subst (λ (x : ℕ). is-string t x ≡ true) (sym q) s)) (one-more k y)) (λ y. inr y) m in
+                  ⊎-elim (λ y. ⊎-elim (λ z. inl z) (λ q. inr (subst (λ (x : ℕ). is-string t x ≡ true) (sym q) s)) (one-more part i d-is k y)) (λ y. inr y) m in
                   let w = X .3 .is t declared order O there (D .is-constant) s read (start-of t d) (ap (λ (x : ℕ). getD aks x 0) j ∙ H .kinds-are .there d (inr s) D)
                   (ap (λ (x : ℕ). getD azs x (pos 0)) j ∙ H .numbers-are .there d (inr s) D) in (
                     record {
@@ -335,7 +330,7 @@ module _ {bytes starts lengths terminals kinds tokens sizes bindings declared pa
                       numbers-are = rw (X .1) (held-same (H .numbers-are) N);
                       lengths-are = rw (X .2) (held-same (H .lengths-are) N);
                     },
-                    room-more (S .known) G d (λ k m _. one-more k m) D F w,
+                    room-more (S .known) G d (λ k m _. one-more part i d-is k m) D F w,
                   )
               by false s =
                   let X = E .other t order O there (D .is-constant) s in
@@ -345,14 +340,14 @@ module _ {bytes starts lengths terminals kinds tokens sizes bindings declared pa
                   let e = holds-row (holds O W S d D) (not-string O W S d s) (start-of t d) in
                   let w = row-within O W S d D in
                   let N : (k : ℕ) → List·Memᴰ k (take (i + 1) part) ⊎ (is-string t k ≡ true) → Due t lo hi k → (List·Memᴰ k (take i part) ⊎ (is-string t k ≡ true)) ⊎ (k ≡ d) = λ k m _.
-                  ⊎-elim (λ y. ⊎-elim (λ z. inl (inl z)) (λ q. inr q) (one-more k y)) (λ y. inl (inr y)) m in
+                  ⊎-elim (λ y. ⊎-elim (λ z. inl (inl z)) (λ q. inr q) (one-more part i d-is k y)) (λ y. inl (inr y)) m in
                   let none = holds-no-bytes (holds O W S d D) (not-string O W S d s) in (
                     record {
                       kinds-are = held-more (H .kinds-are) d N (S .start) D (omega (arith, w, Q .kinds-long)) (rw (← e, ← j) (Z .kinds-are));
                       numbers-are = held-more (H .numbers-are) d N (S .start) D (omega (arith, w, Q .numbers-long)) (rw (← e, ← j) (Z .numbers-are));
                       lengths-are = held-more (H .lengths-are) d N (S .start) D (omega (arith, w, Q .lengths-long)) (rw (← e, ← j) (Z .lengths-are));
                     },
-                    rw (X .0) (room-none (S .known) G d (λ k m _. one-more k m) none),
+                    rw (X .0) (room-none (S .known) G d (λ k m _. one-more part i d-is k m) none),
                   )
 
     -- all constants of the schema are in the order

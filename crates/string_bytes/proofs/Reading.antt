@@ -30,6 +30,12 @@ choose : (P : Shape → Type 0) (b : Bool) {x y : Shape} → (b ≡ true → P x
 choose P true f g = f refl
 choose P false f g = g refl
 
+-- the shape of a name, or of an item by its type
+pub name-shape : (t e : Table) (b : List ℕ) (m : ℕ) → (is e node.name m || is e node.qualified-item m) ≡ true → shape-in t e b m ≡ name-shape-in t e b m
+unfolding shape-in
+name-shape t e b m i =
+    ⊎-elim (λ q. rw (eqb-true (kind e m) node.name q)) (λ q. rw (eqb-true (kind e m) node.qualified-item q)) (or-cases (is e node.name m) (is e node.qualified-item m) i)
+
 module _ (t e : Table) (b : List ℕ) (g : ℕ → Answer) (m : ℕ) where
   abbrev Bare : Shape → Type 0
   Bare s = leaf-bytes g s ≡ []
@@ -66,10 +72,6 @@ module _ (t e : Table) (b : List ℕ) (g : ℕ → Answer) (m : ℕ) where
       by true = refl
       by false = refl
 
-  name-shape : (is e node.name m || is e node.qualified-item m) ≡ true → shape-in t e b m ≡ name-shape-in t e b m
-  unfolding shape-in
-  name-shape i = ⊎-elim (λ q. rw (eqb-true (kind e m) node.name q)) (λ q. rw (eqb-true (kind e m) node.qualified-item q)) (or-cases (is e node.name m) (is e node.qualified-item m) i)
-
   -- what is bound to a constant is not bound to an item
   constant-shape : bound t b node.constant m ≡ true → name-shape-in t e b m ≡ name (declaration b m)
   constant-shape h =
@@ -93,9 +95,9 @@ module _ {t e : Table} {bytes starts lengths terminals kinds tokens file-kinds :
         named : (x : Bool) → bound t bindings node.constant m ≡ x → (is e node.name m || is e node.qualified-item m) ≡ true →
             cond x (row-bytes room aks azs als (getD row-of (declaration bindings m) 0 - first)) [] ≡ leaf-bytes g (shape-in t e bindings m)
         named true h i =
-            let s = name-shape t e bindings g m i ∙ constant-shape t e bindings g m h in
+            let s = name-shape t e bindings m i ∙ constant-shape t e bindings g m h in
             R (declaration bindings m) s ∙ sym (ap (leaf-bytes g) s)
-        named false h i = sym (ap (leaf-bytes g) (name-shape t e bindings g m i) ∙ other-shape t e bindings g m h)
+        named false h i = sym (ap (leaf-bytes g) (name-shape t e bindings m i) ∙ other-shape t e bindings g m h)
 
         by : (x y : Bool) → is e node.other-literal m ≡ x → (is e node.name m || is e node.qualified-item m) ≡ y →
             cond x (cond (eqb (terminal e m) (the word.string)) (string-value (shapes.text e m)) [])

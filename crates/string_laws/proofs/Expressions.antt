@@ -14,11 +14,12 @@ use Rattle.express.specs.kinds.Declared.{Declared, INTEGER, BOOLEAN, LOGICAL, B
 use Rattle.express.specs.kinds.Shape.{Sign, positive, negative, not, plus, arithmetic, relation, connective, Shape, integer-literal, logical-literal, binary-literal}
 use Rattle.express.specs.kinds.Shape.{string-literal, question, item, name, unary, operator, interval, interval-operator, type, constant, unevaluated, shape}
 use Rattle.express.specs.kinds.Operate.{Kind, integers, logicals, binaries, strings, items, undetermined, untyped, comparable, takes, takes-one}
-use Rattle.express.specs.kinds.Kind.{same, common, kind-of-type, result-of-one, of-kind, fault, if-fits, if-evaluated, finding, Fits, WellTyped}
+use Rattle.express.specs.kinds.Kind.{same, common, kind-of-type, result-of-one, of-kind, finding, Fits, WellTyped}
 use Rattle.express.proofs.syntax.Formed.{Formed}
 use Rattle.express.proofs.kinds.KindNumbers.{same-kinds}
 use Rattle.express.proofs.kinds.Shapes.{Decoded, decoded, constant-shape}
 use Rattle.express.proofs.kinds.Spans.{Part, Below, left-below, value-below, in-constant, in-expression, constant-of}
+use Rattle.express.proofs.theorems.Exactness.{fits-kind, evaluated-kind}
 use Rattle.string_laws.proofs.Operations.{clash, Operation, alone-or-operation}
 
 -- the nodes of such an expression
@@ -72,18 +73,6 @@ sign-textual : (o : Sign) → textual (result-of-one o) ≡ false
 sign-textual positive = refl
 sign-textual negative = refl
 sign-textual not = refl
-
--- what a finding of a kind says
-fits-kind : (p : Bool) {j k : Kind} → if-fits p j ≡ of-kind k → (p ≡ true) × (j ≡ k)
-fits-kind true e = (refl, cc)
-fits-kind false e = clash (cc)
-
-evaluated-kind : (d : Declared) {j k : Kind} → if-evaluated d j ≡ of-kind k → j ≡ k
-evaluated-kind d {j} {k} e = by (comparable (kind-of-type d)) e
-  where
-    by : (p : Bool) → cond p (of-kind j) (fault 14) ≡ of-kind k → j ≡ k
-    by true i = cc
-    by false i = clash (cc)
 
 module _ (t : Table) (b : List ℕ) (f : Formed t) (k : ℕ → Kind) where
   -- ---- one node of such a kind

@@ -9,16 +9,15 @@ use lib.Seq.{getD-set-same}
 use Rattle.relations.specs.Select.{span}
 use Rattle.relations.proofs.Select.{span-append, span-mem}
 use Rattle.express.specs.syntax.NodeKind as node
-use Rattle.express.specs.syntax.Tree.{Table, count, kind, size, first, last, left, middle, low, within}
+use Rattle.express.specs.syntax.Tree.{Table, count, kind, size, first, last, within}
 use Rattle.express.specs.kinds.Answer.{Answer, indeterminate}
 use Rattle.express.specs.kinds.Declared.{declared-type}
-use Rattle.express.specs.kinds.Shape.{Shape, integer-literal, logical-literal, binary-literal, string-literal, question, item, name, unary, operator, interval}
-use Rattle.express.specs.kinds.Shape.{interval-operator, type, constant, unevaluated, shape-in}
+use Rattle.express.specs.kinds.Shape.{constant, shape-in}
 use Rattle.express.specs.kinds.Evaluate.{answer-in, answer-at, run-in, held, value-in, value}
 use Rattle.express.proofs.syntax.Formed.{Formed}
-use Rattle.express.proofs.kinds.Shapes.{Decoded, decoded-in, constant-shape}
-use Rattle.express.proofs.kinds.Spans.{Part, Below, Inside, last-below, left-below, five-below, value-below, in-constant, in-expression}
-use Rattle.express.proofs.kinds.Scratch.{Root, value-run}
+use Rattle.express.proofs.kinds.Shapes.{constant-shape}
+use Rattle.express.proofs.kinds.Spans.{Part, Below, Inside, in-constant, in-expression}
+use Rattle.express.proofs.kinds.Scratch.{Root, same-answer, value-run}
 use Rattle.express.proofs.kinds.Walk.{length-run, run-other}
 
 -- ---- evaluation in parts
@@ -37,30 +36,6 @@ module _ (t e : Table) (c : List ℕ) (g : ℕ → Answer) where
   run-spans lo j k xs = rw (span-append lo j k) (run-append (span lo j) (span (lo + j) k) xs)
 
 module _ (t e : Table) (c : List ℕ) (f : Formed e) where
-  -- the answer of a node goes by those of its children
-  same-answer :
-      (p q g : ℕ → Answer) (n : ℕ) → n < count e → ((m : ℕ) → Below e n m → p m ≡ q m) →
-      answer-in e p g n (shape-in t e c n) ≡ answer-in e q g n (shape-in t e c n)
-  same-answer p q g n l h = by (shape-in t e c n) (decoded-in t e c n)
-    where
-      by : (s : Shape) → Decoded t e c n s → answer-in e p g n s ≡ answer-in e q g n s
-      by (integer-literal v) d = refl
-      by (logical-literal v) d = refl
-      by (binary-literal v) d = refl
-      by (string-literal v) d = refl
-      by question d = refl
-      by (item m) d = refl
-      by (name k) d = refl
-      by (unary o) d = rw (h (last n) (last-below e f n l d))
-      by (operator o) d = let b = left-below e f n l d in rw (h (left e n) (b .0), h (last n) (b .1))
-      by (interval o i) d =
-          let b = five-below e f n l d in
-          rw (h (low e n) (b .low-below), h (middle e n) (b .middle-below), h (last n) (b .high-below))
-      by interval-operator d = refl
-      by (type k) d = refl
-      by (constant k) d = rw (h (last n) (value-below e f n l (d .0)))
-      by unevaluated d = refl
-
   -- a child is the node of an expression, and its nodes are among those of its parent
   child-inside : (n m : ℕ) → Root e n → Below e n m → Inside e f n m
   child-inside n m R b = by (R .sort)
@@ -109,7 +84,7 @@ module _ (t e : Table) (c : List ℕ) (f : Formed e) where
         ap (λ (d : ℕ). run-in t e c g (span (first e n) d) xs) p ∙ run-spans t e c g (first e n) k 1 xs ∙
         ap (λ (d : ℕ). run-in t e c g (span d 1) ys) q ∙ run-one t e c g n ys in
         ap (λ (vs : List Answer). answer-at vs n) u ∙ getD-set-same ys n a indeterminate (omega arith) ∙
-        same-answer (answer-at ys) (value-in t e c g) g n (R .known)
+        same-answer t e c f (answer-at ys) (value-in t e c g) g n (R .known)
         (λ m b.
         let s = child-inside n m R b in
         let d = b .under in

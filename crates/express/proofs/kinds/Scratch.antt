@@ -38,7 +38,7 @@ module _ (t e : Table) (c : List ℕ) (f : Formed e) where
   -- ---- evaluation
 
   -- the answer of a node goes by those of its children
-  same-answer :
+  pub same-answer :
       (p q g : ℕ → Answer) (n : ℕ) → n < count e → ((m : ℕ) → Below e n m → p m ≡ q m) →
       answer-in e p g n (shape-in t e c n) ≡ answer-in e q g n (shape-in t e c n)
   same-answer p q g n l h = by (shape-in t e c n) (decoded-in t e c n)

@@ -71,11 +71,11 @@ needs-map t P Q P′ Q′ n (constant d) f g h = f _ h
 needs-map t P Q P′ Q′ n unevaluated f g h = tt
 
 -- what a finding of a kind says
-fits-kind : (p : Bool) {j k : Kind} → if-fits p j ≡ of-kind k → (p ≡ true) × (j ≡ k)
+pub fits-kind : (p : Bool) {j k : Kind} → if-fits p j ≡ of-kind k → (p ≡ true) × (j ≡ k)
 fits-kind true e = (refl, cc)
 fits-kind false e = (cc, cc)
 
-evaluated-kind : (d : Declared) {j k : Kind} → if-evaluated d j ≡ of-kind k → j ≡ k
+pub evaluated-kind : (d : Declared) {j k : Kind} → if-evaluated d j ≡ of-kind k → j ≡ k
 evaluated-kind d {j} {k} e = by (comparable (kind-of-type d)) e
   where
     by : (p : Bool) → cond p (of-kind j) (fault 14) ≡ of-kind k → j ≡ k

@@ -53,6 +53,12 @@ module _ (pre rest : List ℕ) where
   answer-back (an-end {e} m) = end-back e (ends-range m .0)
   answer-back (a-member m) = member-back m
 
+-- a row for each answer
+pub rows-counted : (start : ℕ) (xs : List Answer) → length (rows-from start xs) ≡ length xs
+unfolding rows-from
+rows-counted start [] = refl
+rows-counted start (x ∷ xs) = ap suc (rows-counted (start + length (bytes-of x)) xs)
+
 -- THE WAY BACK, for every answer that a constant can have, in its row and the room
 pub row-back :
     (xs : List Answer) (pre rest : List ℕ) (i : ℕ) {t : Table} {d : Declared} → Holds t d (getD xs i indeterminate) →

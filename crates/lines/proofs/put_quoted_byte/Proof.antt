@@ -1,3 +1,4 @@
+-- `lines::put_quoted_byte` meets its contract: a quote is put twice. Assumes nothing.
 use borrow.Author.Needs.{needs}
 use Rattle.lines.proofs.Strings.{quote-put, other-put}
 use Rattle.lines.proofs.put_quoted_byte.Statement.{statement}

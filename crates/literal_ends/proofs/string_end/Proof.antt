@@ -1,3 +1,4 @@
+-- `literal_ends::string_end` meets its contract: of a token of few bytes the value is short, any other is counted. Assumes nothing.
 use borrow.Author.Needs.{needs}
 use Rattle.literal_ends.proofs.string_end.Statement.{statement}
 use Rattle.literal_ends.proofs.string_end.Tie as tie

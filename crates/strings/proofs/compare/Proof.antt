@@ -1,3 +1,4 @@
+-- `strings::compare` meets its contract: the bytes before a place are the same, until two differ or one string ends. Assumes nothing.
 use Prim.Native.Nat.{_-_}
 use borrow.Author.Needs.{needs}
 use Rattle.strings.proofs.Laws.{Compares, comparisons}

@@ -1,3 +1,4 @@
+-- `strings::join` meets its contract: the sum of the lengths tells whether there is a string. Assumes nothing.
 use borrow.Author.Needs.{needs}
 use Rattle.strings.proofs.Laws.{too-long, joined}
 use Rattle.strings.proofs.join.Statement.{statement}
