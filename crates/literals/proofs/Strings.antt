@@ -1,13 +1,16 @@
--- Strings: what the next byte of a value does to the count and to the bytes that are written.
+-- Strings: what the next byte of a value does to the count and to the bytes that are written, and bytes that are no quotes.
 use mathlib.Core.Path.{_≡_, refl, sym, ap, _∙_}
 use mathlib.Core.Bool.{Bool, true, false, cond}
 use mathlib.Core.List.{List, [], _∷_}
-use Prim.Native.Nat.{ℕ, suc, _+_, _-_, _≤_, _<_}
+use Prim.Native.Nat.{ℕ, zero, suc, _+_, _-_, _≤_, _<_}
 use native.Mathlib.Omega.{arith}
+use native.Mathlib.Decide.{decLt}
+use borrow.Author.Tests.{ne-eqb}
 use lib.Dec.{eqb}
 use lib.ListN.{length, take, drop, getD, set, length-set, length-take, length-drop}
 use lib.Seq.{sets}
 use Rattle.express.specs.tokens.Lexis.{quote, unpaired, string-value}
+use Rattle.literals.specs.Literal.{Plain}
 use Rattle.express.proofs.tokens.Strings.{apart, inner, length-inner, value-inner, inner-byte, unpaired-none, unpaired-more}
 
 apart-range : (b : ℕ) → (1 ≤ apart b) × (apart b ≤ 2)
@@ -35,7 +38,7 @@ module _ (s : List ℕ) (start size : ℕ) where
     pub len : length have ≡ length was
     pub is : sets have (at + n) (left i) ≡ sets was at (string-value token)
 
-  pub counted-none : Counted 0 0
+  counted-none : Counted 0 0
   counted-none = record { few = omega arith; is = rw (value-inner token) (omega arith) }
 
   pub written-none : (was : List ℕ) (at : ℕ) → Written was at was 0 0
@@ -87,3 +90,23 @@ module _ {s : List ℕ} {start size i n : ℕ} where
 
     pub written-all : e ≤ i → have ≡ sets was at (string-value (take size (drop start s)))
     written-all h = ap (sets have (at + n)) (sym (nothing-left s start size e ends i h)) ∙ w .is
+
+module _ {s : List ℕ} {start : ℕ} where
+  pub plain-none : Plain s start 0
+  plain-none = record { is = λ j h. absurd (omega arith) }
+
+  pub plain-more : {i : ℕ} → Plain s start i → (getD s (start + 1 + i) 0 ≡ quote → ⊥) → Plain s start (i + 1)
+  plain-more {i} p n = record { is = λ j h. by j h (decLt j i) }
+    where
+      by : (j : ℕ) → j < i + 1 → Dec (j < i) → eqb (getD s (start + 1 + j) 0) quote ≡ false
+      by j h (yes l) = p .is j l
+      by j h (no l) = let last : j ≡ i = omega arith in rw last (ne-eqb _ _ n)
+
+  -- bytes that are no quotes stand for as many of the value
+  pub counted-plain : {size e : ℕ} → e ≡ length (take size (drop start s)) - 2 → (n : ℕ) → n ≤ e → Plain s start n → Counted s start size n n
+  counted-plain {size} ends zero h p = counted-none s start size
+  counted-plain {size} ends (suc n) h p =
+      let fewer : Plain s start n = record { is = λ i l. p .is i (omega arith) } in
+      let one : 1 ≡ apart (getD s (start + 1 + n) 0) = sym (ap (λ (x : Bool). cond x 2 1) (p .is n (omega arith))) in
+      let next : n + 1 ≡ suc n = omega arith in
+      rw (← next) (counted-more (counted-plain ends n (omega arith) fewer) ends (omega arith) one)

@@ -1,9 +1,11 @@
--- The bound on what is read of a literal's value.
+-- What is read of a literal's value: the bound on it, and the first steps to it.
 use mathlib.Core.Path.{_≡_}
+use mathlib.Core.Bool.{false}
 use mathlib.Core.List.{List}
-use Prim.Native.Nat.{ℕ, min, _+_, _-_, _≤_}
-use lib.ListN.{length, take, drop}
-use Rattle.express.specs.tokens.Lexis.{numeral, greatest}
+use Prim.Native.Nat.{ℕ, min, _+_, _-_, _≤_, _<_}
+use lib.Dec.{eqb}
+use lib.ListN.{length, take, drop, getD}
+use Rattle.express.specs.tokens.Lexis.{numeral, greatest, quote}
 
 -- what a byte counts as a digit; `0` is byte 48
 abbrev pub digit-value : ℕ → ℕ
@@ -32,3 +34,13 @@ pub record Zeros (s : List ℕ) (start size n : ℕ) : Type 0 where
   pub few : n ≤ size
   pub inside : n ≤ length s - start
   pub is : numeral 10 0 (take (size - n) (drop (start + n) s)) ≡ numeral 10 0 (take size (drop start s))
+
+-- none of the first n bytes behind a place is a quote
+pub record Plain (s : List ℕ) (start n : ℕ) : Type 0 where
+  pub is : (i : ℕ) → i < n → eqb (getD s (start + 1 + i) 0) quote ≡ false
+
+-- of so many bytes behind a place, r come before the first quote
+pub record Unquoted (s : List ℕ) (start count r : ℕ) : Type 0 where
+  pub few : r ≤ count
+  pub plain : Plain s start r
+  pub then : r < count → getD s (start + 1 + r) 0 ≡ quote

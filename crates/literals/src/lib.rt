@@ -6,7 +6,7 @@ ghost use lib.Dec.{eqb};
 ghost use lib.ListN.{length as size, take, drop, set};
 ghost use lib.Seq.{sets};
 ghost use Rattle.express.specs.tokens.Lexis.{numeral, greatest, integer-value, binary-value, quote, string-value};
-ghost use Rattle.literals.specs.Literal.{digit-value, greatest-base, few, capped, FewBits, Zeros};
+ghost use Rattle.literals.specs.Literal.{digit-value, greatest-base, few, capped, FewBits, Zeros, Unquoted};
 use columns::shorter;
 
 const DECIMAL: u64 = 10;
@@ -124,13 +124,28 @@ fn width(b: u8) -> usize
     1
 }
 
-// How many bytes the value of the string literal has that lies from a start on.
+// How many of so many bytes behind a place come before the first quote. Where the next one stands depends on none of them.
+fn unquoted(s: &[u8], start: usize, count: usize) -> usize
+    requires { ⌜ count ≤ size (now s) - start - 1 ⌝ }
+    ensures { λ r. ⌜ Unquoted (now (s .entry)) start count r ⌝ }
+{
+    let mut i: usize = 0;
+    while i < count {
+        if s[start + 1 + i] == b'\'' {
+            return i;
+        }
+        i += 1;
+    }
+    i
+}
+
+// How many bytes the value of the string literal has that lies from a start on. Most have no quote inside.
 pub fn string_length(s: &[u8], start: usize, length: usize) -> usize
     ensures { λ r. ⌜ r ≡ size (string-value (take length (drop start (now (s .entry))))) ⌝ }
 {
     let end = between(s, start, length);
-    let mut i: usize = 0;
-    let mut n: usize = 0;
+    let mut i = unquoted(s, start, end);
+    let mut n = i;
     while i < end {
         i += width(s[start + 1 + i]);
         n += 1;
