@@ -2,7 +2,7 @@
 use mathlib.Core.Path.{_≡_, refl, sym, ap, _∙_, subst}
 use mathlib.Core.Bool.{Bool, true, false, cond, _&&_, _||_}
 use mathlib.Core.List.{List, [], _∷_, map}
-use Prim.Native.Nat.{ℕ, zero, suc, _+_, _-_, _≤_, _<_}
+use Prim.Native.Nat.{ℕ, zero, suc, _+_, _-_, _/_, _%_, _^_, _≤_, _<_}
 use native.Mathlib.Omega.{arith}
 use native.Mathlib.Numerals.{add-one}
 use native.Mathlib.Nat.{le-of-suc-le-suc, not-suc-le-zero, add-zero, zero-add, suc-add, add-suc}
@@ -14,7 +14,7 @@ use Rattle.express.specs.tokens.Terminal.{Fixed, symbols, reserved, among, word
 use Rattle.express.proofs.tokens.Spelling.{same-true, same-refl}
 use borrow.Author.Tests.{lt-ltb, le-ltb, ne-eqb}
 use Rattle.terminals.specs.Lookup.{spellings, spelling, folded, hash, CodeOf, none, one}
-use Rattle.terminals.specs.Spellings.{spelling-count, first-code, first-word, longest, slot-count, slots, text-size, text, offsets}
+use Rattle.terminals.specs.Spellings.{spelling-count, first-code, first-word, longest, slot-count, slots, text-size, text, offsets, ending-count, endings}
 
 left : (a b : Bool) → T (a && b) → T a
 left true b t = tt
@@ -45,6 +45,9 @@ module _ {A : Type 0} (d : A) where
   each : (f : ℕ → A → Bool) (xs : List A) → T (every f 0 xs) → (k : ℕ) → k < length xs → T (f k (getD xs k d))
   each f xs t k h = subst (λ (m : ℕ). T (f m (getD xs k d))) (zero-add k) (from f xs 0 t k h)
 
+abbrev of : List Fixed → List (List ℕ)
+of fs = map (λ f. f .spelling) fs
+
 abbrev code-of-word : ℕ → ℕ
 code-of-word r = cond (ltb r first-word) 1 r
 
@@ -65,6 +68,17 @@ bounded k w = eqb (getD offsets (suc (first-code + k)) 0) (getD offsets (first-c
 abbrev coded : ℕ → List ℕ → Bool
 coded k w = eqb (among reserved w 1) (code-of-word (first-code + k)) && eqb (among symbols w 0) (code-of-symbol (first-code + k))
 
+-- the bit of a last byte in the entry of a first one
+abbrev pub ending : ℕ → ℕ → ℕ
+ending first last = getD endings (first % ending-count) 0 / 2 ^ (last % ending-count) % 2
+
+abbrev pub ending-of : List ℕ → ℕ
+ending-of w = ending (getD w 0 0) (getD w (length w - 1) 0)
+
+-- a reserved word has bytes, and the table has the last one for the first one
+abbrev ended : ℕ → List ℕ → Bool
+ended k w = ltb 0 (length w) && eqb (ending-of w) 1
+
 -- a slot is empty, or has the code of a spelling
 abbrev filled : ℕ → ℕ → Bool
 filled h c = eqb c 0 || (leb first-code c && ltb c (first-code + spelling-count))
@@ -82,6 +96,9 @@ bounded-all = tt
 coded-all : T (every [] coded 0 spellings)
 unfolding same among
 coded-all = tt
+
+ended-all : T (every [] ended 0 (of reserved))
+ended-all = tt
 
 filled-all : T (every 0 filled 0 slots)
 filled-all = tt
@@ -125,6 +142,19 @@ module _ (k : ℕ) (h : k < spelling-count) where
   entry-symbol : among symbols (spelling k) 0 ≡ code-of-symbol (first-code + k)
   entry-symbol = eqb→eq _ _ (right (eqb (among reserved (spelling k) 1) (code-of-word (first-code + k))) _ by-code)
 
+module _ (k : ℕ) (h : k < length (of reserved)) where
+  abbrev word-at : List ℕ
+  word-at = getD (of reserved) k []
+
+  ends-there : T (ltb 0 (length word-at) && eqb (ending-of word-at) 1)
+  ends-there = each [] ended (of reserved) ended-all k h
+
+  entry-some : 0 < length word-at
+  entry-some = ltb→lt _ _ (left (ltb 0 (length word-at)) _ ends-there)
+
+  entry-ending : ending-of word-at ≡ 1
+  entry-ending = eqb→eq _ _ (right (ltb 0 (length word-at)) _ ends-there)
+
 module _ (h : ℕ) (l : h < slot-count) (some : getD slots h 0 ≡ 0 → ⊥) where
   abbrev code-at : ℕ
   code-at = getD slots h 0
@@ -137,13 +167,16 @@ module _ (h : ℕ) (l : h < slot-count) (some : getD slots h 0 ≡ 0 → ⊥) wh
 
 -- ---- looking up a word
 
+differs : (v w : List ℕ) → (w ≡ v → ⊥) → same v w ≡ false
+differs v w never = go (same v w) refl
+  where
+    go : (t : Bool) → same v w ≡ t → t ≡ false
+    go true e = absurd (never (sym (same-true v w e)))
+    go false e = refl
+
 module _ (w : List ℕ) where
   miss : ((j : ℕ) → j < spelling-count → w ≡ spelling j → ⊥) → CodeOf w 0
-  miss never = none (λ j h. go j h (same (spelling j) w) refl)
-    where
-      go : (j : ℕ) → j < spelling-count → (t : Bool) → same (spelling j) w ≡ t → t ≡ false
-      go j h true e = absurd (never j h (sym (same-true (spelling j) w e)))
-      go j h false e = refl
+  miss never = none (λ j h. differs (spelling j) w (never j h))
 
   pub miss-long : longest < length w → CodeOf w 0
   miss-long l = miss (λ j h e. absurd (omega (arith, l, ap length e, entry-short j h)))
@@ -206,9 +239,6 @@ among-none : (fs : List Fixed) (w : List ℕ) (d : ℕ) → ((j : ℕ) → j < l
 unfolding among
 among-none [] w d never = refl
 among-none (f ∷ fs) w d never = rw (never 0 (omega arith)) (among-none fs w d (λ j h. never (suc j) (omega (arith, h))))
-
-abbrev of : List Fixed → List (List ℕ)
-of fs = map (λ f. f .spelling) fs
 
 pub word-code : (w : List ℕ) (r : ℕ) → CodeOf w r → among reserved w 1 ≡ code-of-word r
 word-code w _ (none never) =
@@ -301,3 +331,10 @@ module _ (t : List ℕ) {r : ℕ} where
 
     pub symbol-high : first-word ≤ r → 0 ≡ symbol-terminal t
     symbol-high h = sym (symbol-code t r is ∙ rw (le-ltb r first-word h))
+
+-- a word without bytes, or with ends that no reserved word has
+pub word-other : (t : List ℕ) → (0 < length (folded true t) → ending-of (folded true t) ≡ 1 → ⊥) → 1 ≡ word-terminal t
+word-other t never = sym (among-none reserved (folded true t) 1 (λ j h. differs (word-at j h) (folded true t) (none-at j h)))
+  where
+    none-at : (j : ℕ) (h : j < length (of reserved)) → folded true t ≡ word-at j h → ⊥
+    none-at j h e = never (subst (λ (w : List ℕ). 0 < length w) (sym e) (entry-some j h)) (ap ending-of e ∙ entry-ending j h)

@@ -2,15 +2,31 @@
 use mathlib.Core.Path.{_≡_, sym, ap, _∙_}
 use mathlib.Core.Bool.{Bool, true, false}
 use mathlib.Core.List.{List, [], _∷_}
-use Prim.Native.Nat.{ℕ, _+_, _-_, _≤_, _<_, min}
+use Prim.Native.Nat.{ℕ, _+_, _-_, _%_, _≤_, _<_, min}
 use native.Mathlib.Omega.{arith}
+use native.Mathlib.Decide.{decLt}
+use native.Mathlib.Nat.{add-zero}
 use native.Mathlib.Numerals.{add-one}
 use lib.ListN.{length, take, drop, getD, length-take, length-drop, length-map, drop-of-length-le, List·getD-eq-default, List·getD-map}
 use lib.Seq.{drop-cons, getD-take, getD-drop, take-all}
-use borrow.Author.Tests.{eq-eqb, ne-eqb}
+use borrow.Author.Tests.{eq-eqb, ne-eqb, le-leb, lt-leb}
 use Rattle.express.specs.tokens.Bytes.{upper, same}
 use Rattle.terminals.specs.Lookup.{folded, hash}
-use Rattle.terminals.specs.Spellings.{mixed, text-size, text}
+use Rattle.terminals.specs.Spellings.{mixed, text-size, text, ending-count}
+use Rattle.terminals.proofs.Entries.{ending, ending-of}
+
+-- a letter and its capital are the same to the table of endings
+upper-mod : (b : ℕ) → upper b % ending-count ≡ b % ending-count
+unfolding upper
+upper-mod b = go (decLt b 97) (decLt 122 b)
+  where
+    go : Dec (b < 97) → Dec (122 < b) → upper b % ending-count ≡ b % ending-count
+    go (yes l) _ = rw (lt-leb _ _ l)
+    go (no g) (yes l) = let low : 97 ≤ b = omega (arith, g) in rw (le-leb _ _ low, lt-leb _ _ l)
+    go (no g) (no f) =
+        let low : 97 ≤ b = omega (arith, g) in
+        let high : b ≤ 122 = omega (arith, f) in
+        rw (le-leb _ _ low, le-leb _ _ high) (omega (arith, low))
 
 -- n bytes of s from a start on, all of them there
 module _ (s : List ℕ) (start n : ℕ) (h : n ≤ length s - start) where
@@ -37,12 +53,18 @@ module _ (s : List ℕ) (start n : ℕ) (h : n ≤ length s - start) where
   unfolding upper
   letter-upper i l = List·getD-map upper part i 0 ∙ ap upper (part-at i l)
 
+  -- the bit of a word in upper case, by its bytes as they are
+  pub ending-is : 0 < n → ending-of (folded true part) ≡ ending (getD s start 0) (getD s (start + n - 1) 0)
+  ending-is l =
+      let last : start + (n - 1) ≡ start + n - 1 = omega (arith, l) in
+      rw (length-folded true, letter-upper 0 l, add-zero, upper-mod (getD s start 0), letter-upper (n - 1) (omega (arith, l)), last, upper-mod (getD s (start + n - 1) 0))
+
 pub part-one : (s : List ℕ) (start n : ℕ) → n ≤ length s - start → n ≡ 1 → take n (drop start s) ≡ getD s start 0 ∷ []
 part-one s start n h e = let l : start < length s = omega (arith, h, e) in rw (e, drop-cons s start 0)
 
 -- the bytes past the end change nothing
 pub part-short : (s : List ℕ) (start size n : ℕ) → n ≡ min size (length s - start) → take n (drop start s) ≡ take size (drop start s)
-part-short s start size n e = go (native.Mathlib.Decide.decLt size (length s - start))
+part-short s start size n e = go (decLt size (length s - start))
   where
     go : Dec (size < length s - start) → take n (drop start s) ≡ take size (drop start s)
     go (yes l) = let all : n ≡ size = omega (arith, e, l) in ap (λ (k : ℕ). take k (drop start s)) all

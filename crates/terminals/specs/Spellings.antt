@@ -121,3 +121,13 @@ offsets =
     493 ∷ 501 ∷ 503 ∷ 512 ∷ 514 ∷ 523 ∷ 528 ∷ 532 ∷ 541 ∷ 547 ∷ 553 ∷ 559 ∷ 566 ∷ 570 ∷ 576 ∷ 582 ∷
     586 ∷ 589 ∷ 592 ∷ 598 ∷ 602 ∷ 606 ∷ 612 ∷ 619 ∷ 628 ∷ 631 ∷ 635 ∷ 637 ∷ 641 ∷ 645 ∷ 651 ∷ 657 ∷
     664 ∷ 669 ∷ 672 ∷ 678 ∷ 683 ∷ 691 ∷ 703 ∷ 706 ∷ 711 ∷ 716 ∷ 719 ∷ []
+
+-- a letter modulo this number is the same in both cases
+abbrev pub ending-count : ℕ
+ending-count = 32
+
+-- by the first byte of reserved words, modulo the number of entries: their last bytes, modulo the same, as bits
+abbrev pub endings : List ℕ
+endings =
+    0 ∷ 35405872 ∷ 33571200 ∷ 1572896 ∷ 4194336 ∷ 35213426 ∷ 1335344 ∷ 8 ∷ 16777232 ∷ 1327200 ∷ 0 ∷ 0 ∷ 18158000 ∷ 4112 ∷ 1314816 ∷ 266352 ∷
+    544 ∷ 33554432 ∷ 1069152 ∷ 1130722 ∷ 49248 ∷ 20512 ∷ 278560 ∷ 32 ∷ 262144 ∷ 0 ∷ 0 ∷ 0 ∷ 0 ∷ 0 ∷ 0 ∷ 0 ∷ []

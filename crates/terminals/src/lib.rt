@@ -8,11 +8,11 @@ ghost use Prim.Native.Nat.{_+_, _-_, _≤_, _<_, min};
 ghost use lib.ListN.{length, take, drop, getD};
 ghost use lib.Seq.{sets};
 ghost use Rattle.express.specs.tokens.Bytes.{upper as uppercase, same as same-bytes};
-ghost use Rattle.express.specs.tokens.Terminal.{word-terminal, symbol-terminal, terminal-of, terminals as terminal-list};
-ghost use Rattle.terminals.specs.Spellings.{longest, text-size, slots as slot-list, offsets as offset-list, text as text-list};
+ghost use Rattle.express.specs.tokens.Terminal.{the, identifier, word-terminal, symbol-terminal, terminal-of, terminals as terminal-list};
+ghost use Rattle.terminals.specs.Spellings.{longest, text-size, slots as slot-list, offsets as offset-list, text as text-list, endings as ending-list};
 ghost use Rattle.terminals.specs.Lookup.{folded, hash, CodeOf};
 
-// A small letter and its capital are as far apart as `a` and `A`.
+// A small letter and its capital are as far apart as `a` and `A`; modulo this number they are the same.
 const CASE: u8 = b'a' - b'A';
 
 fn upper(b: u8) -> u8
@@ -110,6 +110,22 @@ fn code_of(
     code
 }
 
+// Whether some reserved word begins and ends as the n bytes from a start on. Most words are identifiers, and most of these are
+// told by this at a lower cost than by the hash.
+fn may_be_reserved(s: &[u8], start: usize, n: usize, endings: &[u32; table::ENDING_COUNT]) -> bool
+    requires { ⌜ (n ≤ length (now s) - start) × (now endings ≡ ending-list) ⌝ }
+    ensures { λ r. ⌜ (r ≡ false → the identifier ≡ word-terminal (take n (drop start (now (s .entry))))) ⌝ }
+{
+    if n == 0 {
+        return false;
+    }
+    if n > table::LONGEST {
+        return false;
+    }
+    let lasts = endings[columns::byte_index(s[start] % CASE)];
+    (lasts >> ((s[start + n - 1] % CASE) as u32)) % 2 == 1
+}
+
 // A word that is not reserved is an identifier.
 fn word(
     s: &[u8],
@@ -118,10 +134,14 @@ fn word(
     slots: &[u8; table::SLOT_COUNT],
     offsets: &[usize; table::OFFSET_COUNT],
     text: &[u8; table::TEXT_SIZE],
+    endings: &[u32; table::ENDING_COUNT],
 ) -> u8
-    requires { ⌜ (n ≤ length (now s) - start) × (now slots ≡ slot-list) × (now offsets ≡ offset-list) × (now text ≡ text-list) ⌝ }
+    requires { ⌜ (n ≤ length (now s) - start) × (now slots ≡ slot-list) × (now offsets ≡ offset-list) × (now text ≡ text-list) × (now endings ≡ ending-list) ⌝ }
     ensures { λ r. ⌜ r ≡ word-terminal (take n (drop start (now (s .entry)))) ⌝ }
 {
+    if !may_be_reserved(s, start, n, endings) {
+        return codes::IDENTIFIER;
+    }
     let code = code_of(s, start, n, true, slots, offsets, text);
     if code < codes::FIRST_WORD {
         return codes::IDENTIFIER;
@@ -200,13 +220,14 @@ fn terminal(
     slots: &[u8; table::SLOT_COUNT],
     offsets: &[usize; table::OFFSET_COUNT],
     text: &[u8; table::TEXT_SIZE],
+    endings: &[u32; table::ENDING_COUNT],
 ) -> u8
-    requires { ⌜ (now slots ≡ slot-list) × (now offsets ≡ offset-list) × (now text ≡ text-list) ⌝ }
+    requires { ⌜ (now slots ≡ slot-list) × (now offsets ≡ offset-list) × (now text ≡ text-list) × (now endings ≡ ending-list) ⌝ }
     ensures { λ r. ⌜ r ≡ terminal-of kind (take size (drop start (now (s .entry)))) ⌝ }
 {
     let n = columns::shorter(size, columns::saturating_sub(s.len(), start));
     if kind == codes::tokens::WORD {
-        return word(s, start, n, slots, offsets, text);
+        return word(s, start, n, slots, offsets, text, endings);
     }
     if kind == codes::tokens::SYMBOL {
         return symbol(s, start, n, slots, offsets, text);
@@ -229,6 +250,7 @@ pub fn terminals(src: &[u8], kinds: &[u8], starts: &[u32], lengths: &[u32], out:
     let slots = table::SLOTS;
     let offsets = table::OFFSETS;
     let text = table::TEXT;
+    let endings = table::ENDINGS;
     let mut i: usize = 0;
     while i < kinds.len() {
         if i >= starts.len() {
@@ -239,11 +261,17 @@ pub fn terminals(src: &[u8], kinds: &[u8], starts: &[u32], lengths: &[u32], out:
         }
         let start = columns::index(starts[i]);
         let size = columns::index(lengths[i]);
-        columns::put8(
-            out,
-            i,
-            terminal(src, kinds[i], start, size, &slots, &offsets, &text),
+        let code = terminal(
+            src,
+            kinds[i],
+            start,
+            size,
+            &slots,
+            &offsets,
+            &text,
+            &endings,
         );
+        columns::put8(out, i, code);
         i += 1;
     }
 }

@@ -254,3 +254,42 @@ pub const OFFSETS: [usize; OFFSET_COUNT] = [
     716,
     719,
 ];
+
+// A letter modulo this number is the same in both cases.
+pub const ENDING_COUNT: usize = 32;
+
+// By the first byte of reserved words, modulo the number of entries: their last bytes, modulo the same, as bits.
+pub const ENDINGS: [u32; ENDING_COUNT] = [
+    0,
+    35405872,
+    33571200,
+    1572896,
+    4194336,
+    35213426,
+    1335344,
+    8,
+    16777232,
+    1327200,
+    0,
+    0,
+    18158000,
+    4112,
+    1314816,
+    266352,
+    544,
+    33554432,
+    1069152,
+    1130722,
+    49248,
+    20512,
+    278560,
+    32,
+    262144,
+    0,
+    0,
+    0,
+    0,
+    0,
+    0,
+    0,
+];

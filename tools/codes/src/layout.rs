@@ -33,6 +33,11 @@ fn joined(lines: impl Iterator<Item = String>) -> String {
     lines.map(|line| format!("    {line}")).collect::<Vec<_>>().join("\\\n")
 }
 
+/// As the entries of an array.
+pub fn one_in_line(numbers: &[usize]) -> String {
+    numbers.iter().map(|number| format!("    {number},\n")).collect()
+}
+
 /// As a list of the definitions.
 pub fn numbers_in_lines(numbers: &[usize]) -> String {
     let line = |part: &[usize]| part.iter().map(|number| format!("{number} ∷ ")).collect::<String>();

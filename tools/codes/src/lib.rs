@@ -8,7 +8,7 @@ mod list;
 pub use hash::Hash;
 pub use list::Terminals;
 
-use layout::{bytes_in_lines, numbers_in_lines, strings_in_lines, text_in_lines};
+use layout::{bytes_in_lines, numbers_in_lines, one_in_line, strings_in_lines, text_in_lines};
 
 /// The codes of an identifier and of the literals; the literals have the kinds of their tokens.
 const OPEN: [&str; 5] = ["IDENTIFIER", "INTEGER_LITERAL", "REAL_LITERAL", "STRING_LITERAL", "BINARY_LITERAL"];
@@ -60,6 +60,7 @@ fn codes(terminals: &Terminals) -> String {
 fn table(terminals: &Terminals, hash: &Hash) -> String {
     let spellings = terminals.spellings();
     let offsets = terminals.offsets();
+    let endings = terminals.endings();
     let text: String = spellings.concat();
     let [first, length, last, before] = hash.factors;
     format!(
@@ -96,6 +97,13 @@ pub const OFFSET_COUNT: usize = {offset_count};
 
 pub const OFFSETS: [usize; OFFSET_COUNT] = [
 {offsets}];
+
+// A letter modulo this number is the same in both cases.
+pub const ENDING_COUNT: usize = {ending_count};
+
+// By the first byte of reserved words, modulo the number of entries: their last bytes, modulo the same, as bits.
+pub const ENDINGS: [u32; ENDING_COUNT] = [
+{endings}];
 ",
         slot_count = hash.slots.len(),
         longest = terminals.longest(),
@@ -103,7 +111,9 @@ pub const OFFSETS: [usize; OFFSET_COUNT] = [
         text_size = text.len(),
         text = text_in_lines(&text),
         offset_count = offsets.len(),
-        offsets = offsets.iter().map(|offset| format!("    {offset},\n")).collect::<String>(),
+        offsets = one_in_line(&offsets),
+        ending_count = endings.len(),
+        endings = one_in_line(&endings),
     )
 }
 
@@ -148,6 +158,12 @@ mixed first n last before = (first * {first} + n * {length} + last * {last} + be
         "where the spelling of a code starts in the text; the next entry is where it ends",
         "offsets",
         terminals.offsets(),
+    );
+    out += &number("a letter modulo this number is the same in both cases", "ending-count", terminals.endings().len());
+    out += &list(
+        "by the first byte of reserved words, modulo the number of entries: their last bytes, modulo the same, as bits",
+        "endings",
+        terminals.endings(),
     );
     out
 }

@@ -2,6 +2,9 @@
 
 use crate::FIRST_CODE;
 
+/// A small letter and its capital are so far apart, and the same modulo this number.
+const CASE: usize = (b'a' - b'A') as usize;
+
 /// The terminals that have one spelling, in the order of their codes.
 pub struct Terminals {
     /// The spelling of each symbol and its name.
@@ -49,5 +52,15 @@ impl Terminals {
             offsets.push(offsets[offsets.len() - 1] + spelling.len());
         }
         offsets
+    }
+
+    /// By the first byte of reserved words, modulo `CASE`: their last bytes, modulo the same, as bits.
+    pub fn endings(&self) -> Vec<usize> {
+        let mut endings = vec![0; CASE];
+        for word in &self.words {
+            let byte = |i: usize| usize::from(word.as_bytes()[i]) % CASE;
+            endings[byte(0)] |= 1 << byte(word.len() - 1);
+        }
+        endings
     }
 }

@@ -32,7 +32,9 @@ shorter-requires : tie.Need-shorter-requires
 shorter-requires c κs = search needs
 
 word-requires : tie.Need-word-requires
-word-requires c κs = (omega (arith, clipped (c .before)), c .before .before .before .before .pre .0, c .before .before .before .before .pre .1, c .before .before .before .before .pre .2)
+word-requires c κs =
+    let c4 = c .before .before .before .before in
+    (omega (arith, clipped (c .before)), c4 .pre .0, c4 .pre .1, c4 .pre .2, c4 .pre .3)
 
 returns : tie.Need-returns
 returns c = c .word .ensures ∙ ap word-terminal (bytes-are (c .before .before)) ∙ sym (of-word _ (bytes-of (c .before .before .before .before .before)) (c .before .if1 .taken))

@@ -13,10 +13,10 @@ use Rattle.terminals.proofs.Columns.{Progress, progress-first, no-kind,
 use native.Mathlib.Omega.{arith}
 
 abbrev Inv-loop : tie.InvT-loop
-Inv-loop src kinds starts lengths out₀ slots offsets text i₀ out i = Progress src kinds starts lengths out₀ out i
+Inv-loop src kinds starts lengths out₀ slots offsets text endings i₀ out i = Progress src kinds starts lengths out₀ out i
 
 abbrev μ-loop : tie.MeasureT-loop
-μ-loop src kinds starts lengths out₀ slots offsets text i₀ out i = length kinds - i
+μ-loop src kinds starts lengths out₀ slots offsets text endings i₀ out i = length kinds - i
 
 loop-holds : tie.Need-loop-holds Inv-loop μ-loop
 loop-holds c = progress-first _ _ _ _ _
@@ -55,7 +55,7 @@ shared-slice-read-terminal : tie.Need-shared-slice-read-terminal Inv-loop μ-loo
 shared-slice-read-terminal c = omega arith
 
 terminal-requires : tie.Need-terminal-requires Inv-loop μ-loop
-terminal-requires c κs = (refl, refl, refl)
+terminal-requires c κs = (refl, refl, refl, refl)
 
 put8-requires : tie.Need-put8-requires Inv-loop μ-loop
 put8-requires c κs = tt
@@ -68,16 +68,14 @@ loop-less c = omega arith
 
 loop-again : tie.Need-loop-again Inv-loop μ-loop
 loop-again c =
-    let c2 = c .before .before in
-    let c3 = c2 .before in
-    let c9 = c3 .before .before .before .before .before .before in
-    let c11 = c9 .before .before in
-    let c13 = c11 .before .before in
-    let c14 = c13 .before in
+    let c4 = c .before .before .before .before in
+    let c10 = c4 .before .before .before .before .before .before in
+    let c12 = c10 .before .before in
+    let c14 = c12 .before .before in
     let c15 = c14 .before in
     let c16 = c15 .before in
-    one-more (c16 .loop .inv) (c15 .loop-test .taken) (c14 .if1 .left) (c13 .if2 .left) (c11 .index .ensures) (c9 .index2 .ensures)
-    (c3 .terminal .ensures) (c2 .put8 .ensures)
+    one-more (c16 .before .loop .inv) (c16 .loop-test .taken) (c15 .if1 .left) (c14 .if2 .left) (c12 .index .ensures) (c10 .index2 .ensures)
+    (c4 .terminal .ensures) (c .before .before .put8 .ensures)
 
 same-length-3 : tie.Need-same-length-3 Inv-loop μ-loop
 same-length-3 c = c .before .loop .inv .kept
