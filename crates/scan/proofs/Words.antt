@@ -1,16 +1,16 @@
--- Words: the table of the bytes that one goes on with, and two bytes a turn.
+-- Words: the table of the bytes that one goes on with, a byte a turn, and four.
 use mathlib.Core.Path.{_≡_, refl, sym, ap, _∙_}
-use mathlib.Core.Bool.{Bool, true, false, _&&_}
+use mathlib.Core.Bool.{Bool, true, false, cond, _&&_}
 use mathlib.Core.List.{List}
-use Prim.Native.Nat.{ℕ, zero, suc, _+_, _<_, _≤_}
+use Prim.Native.Nat.{ℕ, _+_, _%_, _<_, _≤_}
 use native.Mathlib.Omega.{arith}
 use lib.ListN.{length, getD}
-use lib.Bits.{bitAnd}
+use lib.Bits.{bitAnd, and-le-l}
 use Rattle.express.specs.tokens.Bytes.{word-byte}
 use Rattle.express.specs.tokens.Lexis.{run}
 use Rattle.columns.proofs.Laws.{tabulated-at}
-use Rattle.scan.specs.Scan.{zero-mark, one-mark, mark, word-table}
-use Rattle.blanks.proofs.Turns.{run-more, run-stop, run-over}
+use Rattle.scan.specs.Scan.{zero-mark, mark, word-table, WordBytes}
+use Rattle.blanks.proofs.Turns.{run-more, run-stop}
 
 pub table-at : (t : List ℕ) (b i : ℕ) → t ≡ word-table → i ≡ b → b < 256 → getD t i 0 ≡ mark (word-byte b)
 unfolding word-table
@@ -24,40 +24,99 @@ some : (x : Bool) → (mark x ≡ zero-mark → ⊥) → x ≡ true
 some true n = refl
 some false n = absurd (n refl)
 
-second : (x y : Bool) → x ≡ true → bitAnd (mark x) (mark y) ≡ zero-mark → y ≡ false
-second true y e z = go y z
-  where
-    go : (y : Bool) → bitAnd one-mark (mark y) ≡ zero-mark → y ≡ false
-    go true z = absurd (omega (arith, z))
-    go false z = refl
-second false y e z = absurd (mathlib.Core.Bool.false≢true e)
+-- what is known of the byte at i: its mark
+module _ (s : List ℕ) (i a : ℕ) (a-is : a ≡ mark (word-byte (getD s i 0))) (h : i < length s) where
+  pub word-stops : a ≡ zero-mark → i ≡ run word-byte s i
+  word-stops e = sym (run-stop word-byte s i h (none _ (sym a-is ∙ e)))
 
-both : (x y : Bool) → (bitAnd (mark x) (mark y) ≡ zero-mark → ⊥) → (x ≡ true) × (y ≡ true)
-both true true n = (refl, refl)
-both true false n = absurd (n refl)
-both false true n = absurd (n refl)
-both false false n = absurd (n refl)
+  pub word-more : (a ≡ zero-mark → ⊥) → run word-byte s (i + 1) ≡ run word-byte s i
+  word-more n = sym (run-more word-byte s i h (some _ (λ e. n (a-is ∙ e))))
 
--- what is known of the bytes at i and after it: a of the first and b of the second
-module _ (s : List ℕ) (i a : ℕ) (a-is : a ≡ mark (word-byte (getD s i 0))) where
-  pub word-stops : i < length s → a ≡ zero-mark → i ≡ run word-byte s i
-  word-stops h e = sym (run-stop word-byte s i h (none _ (sym a-is ∙ e)))
+-- ---- four bytes
 
-  first : (a ≡ zero-mark → ⊥) → word-byte (getD s i 0) ≡ true
-  first n = some _ (λ e. n (a-is ∙ e))
+abbrev bit : Bool → ℕ
+bit x = cond x 1 0
 
-  pub word-last : i < length s → length s ≤ i + 1 → (a ≡ zero-mark → ⊥) → i + 1 ≡ run word-byte s i
-  word-last h l n = sym (run-more word-byte s i h (first n) ∙ run-over word-byte s (i + 1) l)
+last-bit : (x : Bool) → mark x % 2 ≡ bit x
+last-bit true = refl
+last-bit false = refl
 
-  module _ (b : ℕ) (b-is : b ≡ mark (word-byte (getD s (i + 1) 0))) (h : i + 1 < length s) where
-    pub word-stops-next : (a ≡ zero-mark → ⊥) → bitAnd a b ≡ zero-mark → i + 1 ≡ run word-byte s i
-    word-stops-next n e =
-        let f : word-byte (getD s i 0) ≡ true = first n in
-        let z : bitAnd (mark (word-byte (getD s i 0))) (mark (word-byte (getD s (i + 1) 0))) ≡ zero-mark = rw (← a-is, ← b-is) e in
-        sym (run-more word-byte s i (omega arith) f ∙ run-stop word-byte s (i + 1) h (second _ _ f z))
+joined : (x y : Bool) → bitAnd (bit x) (mark y) ≡ bit (x && y)
+joined true true = refl
+joined true false = refl
+joined false true = refl
+joined false false = refl
 
-    pub word-more : (bitAnd a b ≡ zero-mark → ⊥) → run word-byte s (i + 2) ≡ run word-byte s i
-    word-more n =
-        let t = both (word-byte (getD s i 0)) (word-byte (getD s (i + 1) 0)) (λ e. n (rw (a-is, b-is) e)) in
-        let two : i + 2 ≡ i + 1 + 1 = omega arith in
-        rw two (sym (run-more word-byte s i (omega arith) (t .0) ∙ run-more word-byte s (i + 1) h (t .1)))
+-- by the marks of four bytes: 1 for each that goes on a word and follows only such
+module _ (m n o p : ℕ) where
+  abbrev first : ℕ
+  first = m % 2
+
+  abbrev second : ℕ
+  second = bitAnd first n
+
+  abbrev third : ℕ
+  third = bitAnd second o
+
+  abbrev fourth : ℕ
+  fourth = bitAnd third p
+
+  abbrev count : ℕ
+  count = first + second + third + fourth
+
+  pub count-fits : count ≤ 4
+  count-fits = omega (arith, and-le-l first n, and-le-l second o, and-le-l third p)
+
+abbrev leading : Bool → Bool → Bool → Bool → ℕ
+leading w x y z = bit w + bit (w && x) + bit ((w && x) && y) + bit (((w && x) && y) && z)
+
+count-is : (w x y z : Bool) → count (mark w) (mark x) (mark y) (mark z) ≡ leading w x y z
+count-is w x y z = rw (last-bit w, joined w x, joined (w && x) y, joined ((w && x) && y) z)
+
+module _ (s : List ℕ) (i : ℕ) (h : i + 3 < length s) where
+  abbrev goes-on : ℕ → Bool
+  goes-on k = word-byte (getD s (i + k) 0)
+
+  abbrev Passed : ℕ → Type 0
+  Passed k = run word-byte s (i + k) ≡ run word-byte s i
+
+  pass : (k : ℕ) → k < 4 → Passed k → goes-on k ≡ true → Passed (k + 1)
+  pass k l e g =
+      let next : i + (k + 1) ≡ i + k + 1 = omega arith in
+      rw next (sym (run-more word-byte s (i + k) (omega arith) g) ∙ e)
+
+  stop : (k : ℕ) → k < 4 → Passed k → goes-on k ≡ false → WordBytes s i k
+  stop k l e g = record { few = omega arith; goes-on = e; ends = λ _. run-stop word-byte s (i + k) (omega arith) g }
+
+  none-passed : Passed 0
+  none-passed = ap (run word-byte s) (omega arith)
+
+  one-passed : goes-on 0 ≡ true → Passed 1
+  one-passed = pass 0 (omega arith) none-passed
+
+  two-passed : goes-on 0 ≡ true → goes-on 1 ≡ true → Passed 2
+  two-passed d = pass 1 (omega arith) (one-passed d)
+
+  three-passed : goes-on 0 ≡ true → goes-on 1 ≡ true → goes-on 2 ≡ true → Passed 3
+  three-passed d e = pass 2 (omega arith) (two-passed d e)
+
+  by-bytes : (w x y z : Bool) → goes-on 0 ≡ w → goes-on 1 ≡ x → goes-on 2 ≡ y → goes-on 3 ≡ z → WordBytes s i (leading w x y z)
+  by-bytes false x y z d e f g = stop 0 (omega arith) none-passed d
+  by-bytes true false y z d e f g = stop 1 (omega arith) (one-passed d) e
+  by-bytes true true false z d e f g = stop 2 (omega arith) (two-passed d e) f
+  by-bytes true true true false d e f g = stop 3 (omega arith) (three-passed d e f) g
+  by-bytes true true true true d e f g =
+      record { few = omega arith; goes-on = pass 3 (omega arith) (three-passed d e f) g; ends = λ l. absurd (omega arith) }
+
+  pub word-bytes : {m n o p : ℕ} → m ≡ mark (word-byte (getD s i 0)) → n ≡ mark (goes-on 1) → o ≡ mark (goes-on 2) → p ≡ mark (goes-on 3) →
+      WordBytes s i (count m n o p)
+  word-bytes {m} d e f g =
+      let d′ : m ≡ mark (goes-on 0) = d ∙ ap (λ (k : ℕ). mark (word-byte (getD s k 0))) (omega arith) in
+      rw (d′, e, f, g, count-is) (by-bytes _ _ _ _ refl refl refl refl)
+
+module _ {s : List ℕ} {i n : ℕ} (b : WordBytes s i n) where
+  pub word-ends : n < 4 → {k : ℕ} → k ≡ n → i + k ≡ run word-byte s i
+  word-ends l e = rw e (sym (b .ends l) ∙ b .goes-on)
+
+  pub word-passes : 4 ≤ n → run word-byte s (i + 4) ≡ run word-byte s i
+  word-passes l = let all : 4 ≡ n = omega (arith, b .few) in rw all (b .goes-on)

@@ -1,5 +1,5 @@
 -- What the steps of the token reader mean, and what its calls promise (T1 to T18).
-use Prim.Native.Nat.{ℕ}
+use Prim.Native.Nat.{ℕ, _+_, _≤_, _<_}
 use mathlib.Core.Bool.{Bool, cond}
 use mathlib.Core.Path.{_≡_}
 use mathlib.Core.List.{List}
@@ -8,7 +8,7 @@ use lib.Seq.{sets}
 use Rattle.columns.specs.Column.{tabulated}
 use Rattle.express.specs.tokens.Bytes.{word-byte}
 use Rattle.express.specs.tokens.Lexis as Lexis
-use Rattle.express.specs.tokens.Lexis.{Reading, at, refused, Lexed, lone, token-kind-at, end-of-token, lexed-to, tokens}
+use Rattle.express.specs.tokens.Lexis.{Reading, at, refused, run, Lexed, lone, token-kind-at, end-of-token, lexed-to, tokens}
 use Rattle.express.specs.whole.Reply.{token-entries}
 use Rattle.blanks.specs.declared.Step.{Step}
 use Rattle.blanks.specs.Step.{reading}
@@ -39,6 +39,12 @@ lone-mark b = cond (lone b) b underscore
 
 unfoldable pub lone-table : List ℕ
 lone-table = tabulated lone-mark 0 256
+
+-- r of the four bytes at a place go on a word, and where that is not all of them, the next one does not
+pub record WordBytes (s : List ℕ) (i r : ℕ) : Type 0 where
+  pub few : r ≤ 4
+  pub goes-on : run word-byte s (i + r) ≡ run word-byte s i
+  pub ends : r < 4 → run word-byte s (i + r) ≡ i + r
 
 -- what `token` answers and leaves: the end of the token at p, or its refusal, and its kind
 pub record TokenRead (s : List ℕ) (p : ℕ) (r : Step) (kind : ℕ) : Type 0 where

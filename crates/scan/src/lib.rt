@@ -7,7 +7,7 @@ ghost use Rattle.express.specs.tokens.Bytes.{digit, letter, word-byte};
 ghost use Rattle.express.specs.tokens.Lexis.{run, end-of-exponent};
 ghost use Rattle.express.specs.tokens.Lexis.{lone, size-of-symbol, end-of-symbol, lexed-to};
 ghost use Rattle.blanks.specs.Step.{reading};
-ghost use Rattle.scan.specs.Scan.{mark, word-table, lone-table, colon, TokenRead, Filled, ScanResult};
+ghost use Rattle.scan.specs.Scan.{mark, word-table, lone-table, colon, WordBytes, TokenRead, Filled, ScanResult};
 use blanks::Class;
 use blanks::Step;
 use blanks::byte;
@@ -61,30 +61,47 @@ fn word_mark(table: &[u8; 256], b: u8) -> u8
     table[columns::byte_index(b)]
 }
 
-// The end of the word that goes on at a place. Two bytes a turn: half the jumps, and lengths 1 apart are alike to them.
+// How many of the four bytes at a place go on a word, up to the first that does not: no jump depends on them.
+fn word_bytes(s: &[u8], i: usize, table: &[u8; 256]) -> u8
+    requires { ⌜ (i + 3 < length (now s)) × (now table ≡ word-table) ⌝ }
+    ensures { λ r. ⌜ WordBytes (now (s .entry)) i r ⌝ }
+{
+    let a = word_mark(table, s[i]) % 2;
+    let b = a & word_mark(table, s[i + 1]);
+    let c = b & word_mark(table, s[i + 2]);
+    let d = c & word_mark(table, s[i + 3]);
+    a + b + c + d
+}
+
+// The end of the word that goes on at a place, a byte a turn.
+fn word_rest(s: &[u8], at: usize, table: &[u8; 256]) -> usize
+    requires { ⌜ now table ≡ word-table ⌝ }
+    ensures { λ r. ⌜ r ≡ run word-byte (now (s .entry)) at ⌝ }
+{
+    let mut i = at;
+    while i < s.len() {
+        if word_mark(table, s[i]) == b'0' {
+            return i;
+        }
+        i += 1;
+    }
+    i
+}
+
+// The same, four bytes a turn: a quarter of the jumps, and words of like lengths are alike to them.
 fn word_end(s: &[u8], at: usize, table: &[u8; 256]) -> usize
     requires { ⌜ (at ≤ length (now s)) × (now table ≡ word-table) ⌝ }
     ensures { λ r. ⌜ r ≡ run word-byte (now (s .entry)) at ⌝ }
 {
     let mut i = at;
-    while i + 1 < s.len() {
-        let a = word_mark(table, s[i]);
-        let b = word_mark(table, s[i + 1]);
-        if a & b == b'0' {
-            if a == b'0' {
-                return i;
-            }
-            return i + 1;
+    while i + 3 < s.len() {
+        let n = word_bytes(s, i, table);
+        if n < 4 {
+            return i + columns::byte_index(n);
         }
-        i += 2;
+        i += 4;
     }
-    if i < s.len() {
-        if word_mark(table, s[i]) == b'0' {
-            return i;
-        }
-        return i + 1;
-    }
-    i
+    word_rest(s, i, table)
 }
 
 // The end of the real whose point is at a place.

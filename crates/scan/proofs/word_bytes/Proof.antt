@@ -1,0 +1,71 @@
+-- Four marks, joined by `&` (`Words`).
+use borrow.Author.Needs.{needs}
+use Rattle.scan.proofs.word_bytes.Statement.{statement}
+use Rattle.scan.proofs.word_bytes.Tie as tie
+use Rattle.scan.proofs.Words.{count-fits, word-bytes}
+use native.Mathlib.Omega.{arith}
+
+shared-slice-read-word-mark : tie.Need-shared-slice-read-word-mark
+shared-slice-read-word-mark c = search needs
+
+word-mark-requires : tie.Need-word-mark-requires
+word-mark-requires c κs = search needs
+
+add-word-mark : tie.Need-add-word-mark
+add-word-mark c = search needs
+
+shared-slice-read-word-mark-2 : tie.Need-shared-slice-read-word-mark-2
+shared-slice-read-word-mark-2 c = search needs
+
+word-mark-requires-2 : tie.Need-word-mark-requires-2
+word-mark-requires-2 c κs = search needs
+
+add-word-mark-2 : tie.Need-add-word-mark-2
+add-word-mark-2 c = search needs
+
+shared-slice-read-word-mark-3 : tie.Need-shared-slice-read-word-mark-3
+shared-slice-read-word-mark-3 c = search needs
+
+word-mark-requires-3 : tie.Need-word-mark-requires-3
+word-mark-requires-3 c κs = search needs
+
+add-word-mark-3 : tie.Need-add-word-mark-3
+add-word-mark-3 c = search needs
+
+shared-slice-read-word-mark-4 : tie.Need-shared-slice-read-word-mark-4
+shared-slice-read-word-mark-4 c = search needs
+
+word-mark-requires-4 : tie.Need-word-mark-requires-4
+word-mark-requires-4 c κs = search needs
+
+add-result : tie.Need-add-result
+add-result c = omega (arith, count-fits (c .before .before .before .before .before .before .word-mark .result) (c .before .before .before .before .word-mark2 .result) (c .before .before .word-mark3 .result) (c .word-mark4 .result))
+
+add-result-2 : tie.Need-add-result-2
+add-result-2 c = omega (arith, count-fits (c .before .before .before .before .before .before .word-mark .result) (c .before .before .before .before .word-mark2 .result) (c .before .before .word-mark3 .result) (c .word-mark4 .result))
+
+add-result-3 : tie.Need-add-result-3
+add-result-3 c = omega (arith, count-fits (c .before .before .before .before .before .before .word-mark .result) (c .before .before .before .before .word-mark2 .result) (c .before .before .word-mark3 .result) (c .word-mark4 .result))
+
+returns : tie.Need-returns
+returns c = word-bytes _ _ (c .before .before .before .before .before .before .before .before .before .pre .0) (c .before .before .before .before .before .before .word-mark .ensures) (c .before .before .before .before .word-mark2 .ensures) (c .before .before .word-mark3 .ensures) (c .word-mark4 .ensures)
+
+pub word-bytes-spec : {M : Type 1} → statement M
+word-bytes-spec =
+    tie.close
+    (tie.spec
+    shared-slice-read-word-mark
+    word-mark-requires
+    add-word-mark
+    shared-slice-read-word-mark-2
+    word-mark-requires-2
+    add-word-mark-2
+    shared-slice-read-word-mark-3
+    word-mark-requires-3
+    add-word-mark-3
+    shared-slice-read-word-mark-4
+    word-mark-requires-4
+    add-result
+    add-result-2
+    add-result-3
+    returns)
