@@ -43,8 +43,19 @@ node-room {a} {b} {c} {d} p q r h i j k = rw (r, p, q, h, i, j, k) (shortest-of-
 -- ---- tokens and nodes
 
 module _ {s k₀ s₀ z₀ : List ℕ} {scanned : Stage} {k′ s′ z′ : List ℕ} (S : ScansTokens s k₀ s₀ z₀ scanned k′ s′ z′) where
-  pub tokens-fit : {c room : ℕ} (tokens : ℕ) → c ≡ count-of scanned → tokens ≡ min c room → (tokens ≤ length k₀) × (tokens ≤ length s₀) × (tokens ≤ length z₀) × (tokens ≤ room)
-  tokens-fit tokens e m = let b = tokens-bound s (token-entries k₀ s₀ z₀) scanned (S .is) .0 in (omega arith, omega arith, omega arith, omega arith)
+  -- what is counted is in each column that is as long as it was
+  module _ {c tokens : ℕ} (room : ℕ) (c-is : c ≡ count-of scanned) (tokens-is : tokens ≡ min c room) where
+    tokens-in : tokens ≤ token-entries k₀ s₀ z₀
+    tokens-in = omega (arith, tokens-bound s (token-entries k₀ s₀ z₀) scanned (S .is) .0, c-is, tokens-is)
+
+    pub kinds-fit : {n : ℕ} → n ≡ length k₀ → tokens ≤ n
+    kinds-fit e = omega (arith, tokens-in, e)
+
+    pub starts-fit : {n : ℕ} → n ≡ length s₀ → tokens ≤ n
+    starts-fit e = omega (arith, tokens-in, e)
+
+    pub lengths-fit : {n : ℕ} → n ≡ length z₀ → tokens ≤ n
+    lengths-fit e = omega (arith, tokens-in, e)
 
   -- the columns of the tokens, for what comes after them
   token-columns : (terms words : List ℕ) (tokens : ℕ) → tokens ≡ count-of scanned → tokens ≤ length terms →

@@ -57,7 +57,7 @@ pub record FileRead (s : List ℕ) (token-rows node-rows answer-rows : ℕ) (r :
   pub stage-is : r .stage ≡ constant-stage s token-rows node-rows answer-rows
   pub begins : (n : ℕ) → r .stage ≡ Done n → FileBegins s (table-of s) (r .tokens) (r .nodes) token-kinds token-starts token-lengths terminals node-kinds node-tokens node-sizes roles
 
--- `read_file`: what is counted is in the columns, whatever they are; and the file is read where there is a terminal for each token
+-- `read_file`, `read_short_file`: what is counted is in the columns, whatever they are; and the file is read where there is a terminal for each token
 pub record ReadsFile (s token-kinds token-starts token-lengths terminals node-kinds node-tokens node-sizes roles : List ℕ) (answer-rows : ℕ) (r : Reading)
     (token-kinds′ token-starts′ token-lengths′ terminals′ node-kinds′ node-tokens′ node-sizes′ roles′ : List ℕ) : Type 0 where
   pub tokens-in : (r .tokens ≤ token-entries token-kinds token-starts token-lengths) × (r .tokens ≤ length terminals)

@@ -1,5 +1,6 @@
-// All stages of a file, one after the other: what they leave, and how the last of them ended. Three functions that differ in the sizes of their
-// arrays call each stage: with one call a stage would become a part of its caller, and its arrays a part of one frame with those of the others.
+// All stages of a file, one after the other: what they leave, and how the last of them ended. Of three functions that differ in the sizes of their
+// arrays one calls the stages for short files, and two call the others: with one call a stage that has large arrays would become a part of its caller,
+// and its arrays a part of one frame with those of the others.
 ghost use Rattle.express.specs.tokens.Lexis.{most};
 ghost use Rattle.demands.specs.Checks.{tables-of};
 ghost use Rattle.reading.specs.FileReading.{small-bytes, middle-bytes};
@@ -14,6 +15,7 @@ use reading::MIDDLE;
 use reading::Reading;
 use reading::SMALL;
 use reading::read_file;
+use reading::read_short_file;
 
 // All stages of a file of at most so many tokens, one after the other; the arrays here outlive a stage. A file has a declaration for each five tokens at most.
 fn run_small(
@@ -45,7 +47,7 @@ fn run_small(
         answer_kinds.len(),
         shorter(answer_numbers.len(), answer_lengths.len()),
     );
-    let read = read_file(
+    let read = read_short_file(
         src,
         token_kinds,
         token_starts,

@@ -3,9 +3,8 @@ use borrow.Author.Needs.{needs}
 use Rattle.reading.proofs.read_file.Statement.{statement}
 use Rattle.reading.proofs.read_file.Tie as tie
 use mathlib.Core.Path.{refl, sym}
-use native.Mathlib.Omega.{arith}
 use lib.Seq.{length-take-le}
-use Rattle.reading.proofs.Together.{tokens-fit, read-together, node-room}
+use Rattle.reading.proofs.Together.{kinds-fit, starts-fit, lengths-fit, read-together, node-room}
 
 scan-tokens-requires : tie.Need-scan-tokens-requires
 scan-tokens-requires c κs = search needs
@@ -17,56 +16,25 @@ shorter-requires : tie.Need-shorter-requires
 shorter-requires c κs = search needs
 
 slice-reshare-prefix-read-framed : tie.Need-slice-reshare-prefix-read-framed
-slice-reshare-prefix-read-framed c = omega (
-  arith,
-  tokens-fit (c .before .before .before .before .before .before .before .before .scan-tokens .ensures) (c .shorter .result) (c .before
-      .count .ensures) (c .shorter .ensures) .0,
-  c .before .before .before .before .before .before .before .before .scan-tokens .kept .1 .0,
-)
+slice-reshare-prefix-read-framed c = kinds-fit (c .before .before .before .before .before .before .before .before .scan-tokens .ensures) _ (c .before .count .ensures) (c .shorter
+    .ensures) (c .before .before .before .before .before .before .before .before .scan-tokens .kept .1 .0)
 
 slice-aggregate-read-framed : tie.Need-slice-aggregate-read-framed
-slice-aggregate-read-framed c = sym (length-take-le (c .before .shorter .result) _ (omega (
-  arith,
-  tokens-fit (c .before .before .before .before .before .before .before .before .before
-      .scan-tokens .ensures) (c .before .shorter .result) (c .before .before .count .ensures) (c .before .shorter .ensures) .0,
-  c .before .before .before .before .before .before .before
-      .before .before .scan-tokens .kept .1 .0,
-)))
+slice-aggregate-read-framed c = sym (length-take-le _ _ (slice-reshare-prefix-read-framed (c .before)))
 
 slice-reshare-prefix-read-framed-2 : tie.Need-slice-reshare-prefix-read-framed-2
-slice-reshare-prefix-read-framed-2 c = omega (
-  arith,
-  tokens-fit (c .before .before .before .before .before .before .before .before .before .scan-tokens .ensures) (c .before .shorter
-      .result) (c .before .before .count .ensures) (c .before .shorter .ensures) .1,
-  c .before .before .before .before .before .before .before .before .before .scan-tokens .kept .1 .1 .0,
-)
+slice-reshare-prefix-read-framed-2 c = starts-fit (c .before .before .before .before .before .before .before .before .before .scan-tokens .ensures) _ (c .before .before .count .ensures)
+    (c .before .shorter .ensures) (c .before .before .before .before .before .before .before .before .before .scan-tokens .kept .1 .1 .0)
 
 slice-aggregate-read-framed-2 : tie.Need-slice-aggregate-read-framed-2
-slice-aggregate-read-framed-2 c = sym (length-take-le (c .before .before .shorter .result) _ (omega (
-  arith,
-  tokens-fit (c .before .before .before .before .before .before .before .before
-      .before .before .scan-tokens .ensures) (c .before .before .shorter .result) (c .before .before .before .count .ensures) (c .before .before .shorter .ensures) .1,
-  c .before .before
-      .before .before .before .before .before .before .before .before .scan-tokens .kept .1 .1 .0,
-)))
+slice-aggregate-read-framed-2 c = sym (length-take-le _ _ (slice-reshare-prefix-read-framed-2 (c .before)))
 
 slice-reshare-prefix-read-framed-3 : tie.Need-slice-reshare-prefix-read-framed-3
-slice-reshare-prefix-read-framed-3 c = omega (
-  arith,
-  tokens-fit (c .before .before .before .before .before .before .before .before .before .before .scan-tokens .ensures) (c .before .before
-      .shorter .result) (c .before .before .before .count .ensures) (c .before .before .shorter .ensures) .2,
-  c .before .before .before .before .before .before .before .before .before .before
-      .scan-tokens .kept .1 .1 .1 .0,
-)
+slice-reshare-prefix-read-framed-3 c = lengths-fit (c .before .before .before .before .before .before .before .before .before .before .scan-tokens .ensures) _ (c .before .before .before
+    .count .ensures) (c .before .before .shorter .ensures) (c .before .before .before .before .before .before .before .before .before .before .scan-tokens .kept .1 .1 .1 .0)
 
 slice-aggregate-read-framed-3 : tie.Need-slice-aggregate-read-framed-3
-slice-aggregate-read-framed-3 c = sym (length-take-le (c .before .before .before .shorter .result) _ (omega (
-  arith,
-  tokens-fit (c .before .before .before .before .before .before .before
-      .before .before .before .before .scan-tokens .ensures) (c .before .before .before .shorter .result) (c .before .before .before .before .count .ensures) (c .before .before .before
-      .shorter .ensures) .2,
-  c .before .before .before .before .before .before .before .before .before .before .before .scan-tokens .kept .1 .1 .1 .0,
-)))
+slice-aggregate-read-framed-3 c = sym (length-take-le _ _ (slice-reshare-prefix-read-framed-3 (c .before)))
 
 read-framed-requires : tie.Need-read-framed-requires
 read-framed-requires c κs = search needs
@@ -90,13 +58,7 @@ slice-reshare-prefix-fit-constants : tie.Need-slice-reshare-prefix-fit-constants
 slice-reshare-prefix-fit-constants c = search needs
 
 slice-aggregate-fit-constants : tie.Need-slice-aggregate-fit-constants
-slice-aggregate-fit-constants c = sym (length-take-le (c .before .shorter5 .result) _ (omega (
-  arith,
-  c .before .shorter5 .ensures,
-  c .before .before .before .shorter4 .ensures,
-  c .before
-      .before .before .before .before .shorter2 .ensures,
-)))
+slice-aggregate-fit-constants c = sym (length-take-le _ _ (slice-reshare-prefix-fit-constants (c .before)))
 
 fit-constants-requires : tie.Need-fit-constants-requires
 fit-constants-requires c κs = search needs
@@ -114,13 +76,16 @@ same-length-3 c = c .before .before .before .before .before .before .before .bef
     .before .before .before .before .before .before .before .before .before .before .before .before .before .scan-tokens .kept .1 .1 .1 .0
 
 same-length-4 : tie.Need-same-length-4
-same-length-4 c = c .before .before .before .before .before .before .before .before .before .before .before .before .before .before .before .before .before .read-framed .kept .1 .1 .1 .1 .1 .0
+same-length-4 c = c .before .before .before .before .before .before .before .before .before .before .before .before .before .before .before .before .before .read-framed .kept .1 .1 .1
+    .1 .1 .0
 
 same-length-5 : tie.Need-same-length-5
-same-length-5 c = c .before .before .before .before .before .before .before .before .before .before .before .before .before .before .before .before .before .read-framed .kept .1 .1 .1 .1 .1 .1 .0
+same-length-5 c = c .before .before .before .before .before .before .before .before .before .before .before .before .before .before .before .before .before .read-framed .kept .1 .1 .1
+    .1 .1 .1 .0
 
 same-length-6 : tie.Need-same-length-6
-same-length-6 c = c .before .before .before .before .before .before .before .before .before .before .before .before .before .before .before .before .before .read-framed .kept .1 .1 .1 .1 .1 .1 .1 .0
+same-length-6 c = c .before .before .before .before .before .before .before .before .before .before .before .before .before .before .before .before .before .read-framed .kept .1 .1 .1
+    .1 .1 .1 .1 .0
 
 same-length-7 : tie.Need-same-length-7
 same-length-7 c = c .before .before .before .before .before .before .before .before .before .before .before .before .before .before .before .before .before .read-framed .kept .1 .1 .1 .1 .1
@@ -132,19 +97,18 @@ same-length-8 c = c .before .before .before .before .before .before .before .bef
 
 returns : tie.Need-returns
 returns c =
-    read-together (c .before .before .before .before .before .before .before .before .before .before .before .before .before .before .before .before .before .before .before .before .before
-    .before .before .before .before .before .before .before .before .before .before .before .before .before .scan-tokens .ensures) (c .before .before .before .before .before .before
-    .before .before .before .before .before .before .before .before .before .before .before .before .before .before .before .before .before .before .before .before .before .count
-    .ensures) (c .before .before .before .before .before .before .before .before .before .before .before .before .before .before .before .before .before .before .before .before .before
-    .before .before .before .before .before .shorter .ensures) refl (c .before .before .before .before .before .before .before .before .before .before .before .before .before .before
-    .before .before .before .read-framed .ensures) (c .before .before .before .count2 .ensures)
-    (node-room (c .before .before .before .before .before .before .shorter2 .ensures) (c .before .before .before .before .before .shorter3 .ensures) (c .before .before .before .before
-    .shorter4 .ensures) (c .before .before .before .before .before .before .before .before .before .before .before .before .before .before .before .before .before .read-framed .kept .1
-    .1 .1 .1 .1 .1 .0) (c .before .before .before .before .before .before .before .before .before .before .before .before .before .before .before .before .before .read-framed .kept .1
-    .1 .1 .1 .1 .1 .1 .0)
-    (c .before .before .before .before .before .before .before .before .before .before .before .before .before .before .before .before .before .read-framed .kept .1 .1 .1 .1 .1 .1 .1 .1 .0)
-    (c .before .before .before .before .before .before .before .before .before .before .before .before .before .before .before .before .before .read-framed .kept .1 .1 .1 .1 .1 .1 .1 .1
-    .1 .0)) (c .before .before .shorter5 .ensures) (c .fit-constants .ensures)
+    read-together (c .before .before .before .before .before .before .before .before .before .before .before .before .before .before .before .before .before .before .before .before
+    .before .before .before .before .before .before .before .before .before .before .before .before .before .before .scan-tokens .ensures) (c .before .before .before .before .before
+    .before .before .before .before .before .before .before .before .before .before .before .before .before .before .before .before .before .before .before .before .before .before
+    .count .ensures) (c .before .before .before .before .before .before .before .before .before .before .before .before .before .before .before .before .before .before .before .before
+    .before .before .before .before .before .before .shorter .ensures) refl (c .before .before .before .before .before .before .before .before .before .before .before .before .before
+    .before .before .before .before .read-framed .ensures) (c .before .before .before .count2 .ensures) (node-room (c .before .before .before .before .before .before .shorter2 .ensures)
+    (c .before .before .before .before .before .shorter3 .ensures) (c .before .before .before .before .shorter4 .ensures) (c .before .before .before .before .before .before .before
+    .before .before .before .before .before .before .before .before .before .before .read-framed .kept .1 .1 .1 .1 .1 .1 .0) (c .before .before .before .before .before .before .before
+    .before .before .before .before .before .before .before .before .before .before .read-framed .kept .1 .1 .1 .1 .1 .1 .1 .0) (c .before .before .before .before .before .before
+    .before .before .before .before .before .before .before .before .before .before .before .read-framed .kept .1 .1 .1 .1 .1 .1 .1 .1 .0) (c .before .before .before .before .before
+    .before .before .before .before .before .before .before .before .before .before .before .before .read-framed .kept .1 .1 .1 .1 .1 .1 .1 .1 .1 .0)) (c .before .before .shorter5
+    .ensures) (c .fit-constants .ensures)
 
 pub read-file-spec : {M : Type 1} → statement M
 read-file-spec =

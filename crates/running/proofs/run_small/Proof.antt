@@ -15,62 +15,63 @@ shorter-requires c κs = search needs
 shorter-requires-2 : tie.Need-shorter-requires-2
 shorter-requires-2 c κs = search needs
 
-slice-aggregate-read-file : tie.Need-slice-aggregate-read-file
-slice-aggregate-read-file c = counted _
+slice-aggregate-read-short-file : tie.Need-slice-aggregate-read-short-file
+slice-aggregate-read-short-file c = counted _
 
-read-file-requires : tie.Need-read-file-requires
-read-file-requires c κs = search needs
+read-short-file-requires : tie.Need-read-short-file-requires
+read-short-file-requires c κs = search needs
 
 slice-reshare-prefix-name-short : tie.Need-slice-reshare-prefix-name-short
-slice-reshare-prefix-name-short c = starts-fit (c .before .before .before .before .before .before .before .before .before .before .before .before .before .before .before .read-file
-    .ensures) (c .before .before .before .before .before .before .before .before .before .before .before .before .before .before .before .read-file .kept .1 .1 .0)
+slice-reshare-prefix-name-short c = starts-fit (c .before .before .before .before .before .before .before .before .before .before .before .before .before .before .before .read-short-file
+    .ensures) (c .before .before .before .before .before .before .before .before .before .before .before .before .before .before .before .read-short-file .kept .1 .1 .0)
 
 slice-aggregate-name-short : tie.Need-slice-aggregate-name-short
 slice-aggregate-name-short c = sym (length-take-le _ _ (slice-reshare-prefix-name-short (c .before)))
 
 slice-reshare-prefix-name-short-2 : tie.Need-slice-reshare-prefix-name-short-2
 slice-reshare-prefix-name-short-2 c = lengths-fit (c .before .before .before .before .before .before .before .before .before .before .before .before .before .before .before .before
-    .read-file .ensures) (c .before .before .before .before .before .before .before .before .before .before .before .before .before .before .before .before .read-file .kept .1 .1 .1 .0)
+    .read-short-file .ensures) (c .before .before .before .before .before .before .before .before .before .before .before .before .before .before .before .before .read-short-file .kept .1 .1
+    .1 .0)
 
 slice-aggregate-name-short-2 : tie.Need-slice-aggregate-name-short-2
 slice-aggregate-name-short-2 c = sym (length-take-le _ _ (slice-reshare-prefix-name-short-2 (c .before)))
 
 array-share-prefix-terminals : tie.Need-array-share-prefix-terminals
 array-share-prefix-terminals c = terminals-fit (c .before .before .before .before .before .before .before .before .before .before .before .before .before .before .before .before .before
-    .read-file .ensures) (c .before .before .before .before .before .before .before .before .before .before .before .before .before .before .before .before .before .read-file .kept .1 .1 .1
-    .1 .0)
+    .read-short-file .ensures) (c .before .before .before .before .before .before .before .before .before .before .before .before .before .before .before .before .before .read-short-file
+    .kept .1 .1 .1 .1 .0)
 
 slice-aggregate-name-short-3 : tie.Need-slice-aggregate-name-short-3
 slice-aggregate-name-short-3 c = sym (length-take-le _ _ (array-share-prefix-terminals (c .before)))
 
 slice-reshare-prefix-name-short-3 : tie.Need-slice-reshare-prefix-name-short-3
 slice-reshare-prefix-name-short-3 c = kinds-fit (c .before .before .before .before .before .before .before .before .before .before .before .before .before .before .before .before .before
-    .before .read-file .ensures) (c .before .before .before .before .before .before .before .before .before .before .before .before .before .before .before .before .before .before
-    .read-file .kept .1 .1 .1 .1 .1 .0)
+    .before .read-short-file .ensures) (c .before .before .before .before .before .before .before .before .before .before .before .before .before .before .before .before .before .before
+    .read-short-file .kept .1 .1 .1 .1 .1 .0)
 
 slice-aggregate-name-short-4 : tie.Need-slice-aggregate-name-short-4
 slice-aggregate-name-short-4 c = sym (length-take-le _ _ (slice-reshare-prefix-name-short-3 (c .before)))
 
 slice-reshare-prefix-name-short-4 : tie.Need-slice-reshare-prefix-name-short-4
 slice-reshare-prefix-name-short-4 c = tokens-fit (c .before .before .before .before .before .before .before .before .before .before .before .before .before .before .before .before .before
-    .before .before .read-file .ensures) (c .before .before .before .before .before .before .before .before .before .before .before .before .before .before .before .before .before .before
-    .before .read-file .kept .1 .1 .1 .1 .1 .1 .0)
+    .before .before .read-short-file .ensures) (c .before .before .before .before .before .before .before .before .before .before .before .before .before .before .before .before .before
+    .before .before .read-short-file .kept .1 .1 .1 .1 .1 .1 .0)
 
 slice-aggregate-name-short-5 : tie.Need-slice-aggregate-name-short-5
 slice-aggregate-name-short-5 c = sym (length-take-le _ _ (slice-reshare-prefix-name-short-4 (c .before)))
 
 slice-reshare-prefix-name-short-5 : tie.Need-slice-reshare-prefix-name-short-5
 slice-reshare-prefix-name-short-5 c = sizes-fit (c .before .before .before .before .before .before .before .before .before .before .before .before .before .before .before .before .before
-    .before .before .before .read-file .ensures) (c .before .before .before .before .before .before .before .before .before .before .before .before .before .before .before .before .before
-    .before .before .before .read-file .kept .1 .1 .1 .1 .1 .1 .1 .0)
+    .before .before .before .read-short-file .ensures) (c .before .before .before .before .before .before .before .before .before .before .before .before .before .before .before .before
+    .before .before .before .before .read-short-file .kept .1 .1 .1 .1 .1 .1 .1 .0)
 
 slice-aggregate-name-short-6 : tie.Need-slice-aggregate-name-short-6
 slice-aggregate-name-short-6 c = sym (length-take-le _ _ (slice-reshare-prefix-name-short-5 (c .before)))
 
 slice-relend-prefix-name-short : tie.Need-slice-relend-prefix-name-short
 slice-relend-prefix-name-short c = bindings-fit (c .before .before .before .before .before .before .before .before .before .before .before .before .before .before .before .before .before
-    .before .before .before .before .read-file .ensures) (c .before .before .before .before .before .before .before .before .before .before .before .before .before .before .before .before
-    .before .before .before .before .before .read-file .kept .1 .1 .1 .1 .1 .1 .1 .1 .0)
+    .before .before .before .before .read-short-file .ensures) (c .before .before .before .before .before .before .before .before .before .before .before .before .before .before .before
+    .before .before .before .before .before .before .read-short-file .kept .1 .1 .1 .1 .1 .1 .1 .1 .0)
 
 slice-aggregate-name-short-7 : tie.Need-slice-aggregate-name-short-7
 slice-aggregate-name-short-7 c = sym (length-take-le _ _ (slice-relend-prefix-name-short (c .before)))
@@ -86,69 +87,69 @@ name-short-requires c κs = search needs
 
 slice-reshare-prefix-answer-short : tie.Need-slice-reshare-prefix-answer-short
 slice-reshare-prefix-answer-short c = starts-fit (c .before .before .before .before .before .before .before .before .before .before .before .before .before .before .before .before .before
-    .before .before .before .before .before .before .before .before .before .before .before .before .read-file .ensures) (c .before .before .before .before .before .before .before .before
-    .before .before .before .before .before .before .before .before .before .before .before .before .before .before .before .before .before .before .before .before .before .read-file .kept
-    .1 .1 .0)
+    .before .before .before .before .before .before .before .before .before .before .before .before .read-short-file .ensures) (c .before .before .before .before .before .before .before
+    .before .before .before .before .before .before .before .before .before .before .before .before .before .before .before .before .before .before .before .before .before .before
+    .read-short-file .kept .1 .1 .0)
 
 slice-aggregate-answer-short : tie.Need-slice-aggregate-answer-short
 slice-aggregate-answer-short c = sym (length-take-le _ _ (slice-reshare-prefix-answer-short (c .before)))
 
 slice-reshare-prefix-answer-short-2 : tie.Need-slice-reshare-prefix-answer-short-2
 slice-reshare-prefix-answer-short-2 c = lengths-fit (c .before .before .before .before .before .before .before .before .before .before .before .before .before .before .before .before
-    .before .before .before .before .before .before .before .before .before .before .before .before .before .before .read-file .ensures) (c .before .before .before .before .before .before
+    .before .before .before .before .before .before .before .before .before .before .before .before .before .before .read-short-file .ensures) (c .before .before .before .before .before
     .before .before .before .before .before .before .before .before .before .before .before .before .before .before .before .before .before .before .before .before .before .before .before
-    .before .read-file .kept .1 .1 .1 .0)
+    .before .before .read-short-file .kept .1 .1 .1 .0)
 
 slice-aggregate-answer-short-2 : tie.Need-slice-aggregate-answer-short-2
 slice-aggregate-answer-short-2 c = sym (length-take-le _ _ (slice-reshare-prefix-answer-short-2 (c .before)))
 
 array-share-prefix-terminals-2 : tie.Need-array-share-prefix-terminals-2
 array-share-prefix-terminals-2 c = terminals-fit (c .before .before .before .before .before .before .before .before .before .before .before .before .before .before .before .before .before
-    .before .before .before .before .before .before .before .before .before .before .before .before .before .before .read-file .ensures) (c .before .before .before .before .before .before
+    .before .before .before .before .before .before .before .before .before .before .before .before .before .before .read-short-file .ensures) (c .before .before .before .before .before
     .before .before .before .before .before .before .before .before .before .before .before .before .before .before .before .before .before .before .before .before .before .before .before
-    .before .before .read-file .kept .1 .1 .1 .1 .0)
+    .before .before .before .read-short-file .kept .1 .1 .1 .1 .0)
 
 slice-aggregate-answer-short-3 : tie.Need-slice-aggregate-answer-short-3
 slice-aggregate-answer-short-3 c = sym (length-take-le _ _ (array-share-prefix-terminals-2 (c .before)))
 
 slice-reshare-prefix-answer-short-3 : tie.Need-slice-reshare-prefix-answer-short-3
 slice-reshare-prefix-answer-short-3 c = kinds-fit (c .before .before .before .before .before .before .before .before .before .before .before .before .before .before .before .before .before
-    .before .before .before .before .before .before .before .before .before .before .before .before .before .before .before .read-file .ensures) (c .before .before .before .before .before
+    .before .before .before .before .before .before .before .before .before .before .before .before .before .before .before .read-short-file .ensures) (c .before .before .before .before
     .before .before .before .before .before .before .before .before .before .before .before .before .before .before .before .before .before .before .before .before .before .before .before
-    .before .before .before .before .read-file .kept .1 .1 .1 .1 .1 .0)
+    .before .before .before .before .before .read-short-file .kept .1 .1 .1 .1 .1 .0)
 
 slice-aggregate-answer-short-4 : tie.Need-slice-aggregate-answer-short-4
 slice-aggregate-answer-short-4 c = sym (length-take-le _ _ (slice-reshare-prefix-answer-short-3 (c .before)))
 
 slice-reshare-prefix-answer-short-4 : tie.Need-slice-reshare-prefix-answer-short-4
 slice-reshare-prefix-answer-short-4 c = tokens-fit (c .before .before .before .before .before .before .before .before .before .before .before .before .before .before .before .before
-    .before .before .before .before .before .before .before .before .before .before .before .before .before .before .before .before .before .read-file .ensures) (c .before .before .before
+    .before .before .before .before .before .before .before .before .before .before .before .before .before .before .before .before .before .read-short-file .ensures) (c .before .before
     .before .before .before .before .before .before .before .before .before .before .before .before .before .before .before .before .before .before .before .before .before .before .before
-    .before .before .before .before .before .before .before .read-file .kept .1 .1 .1 .1 .1 .1 .0)
+    .before .before .before .before .before .before .before .before .read-short-file .kept .1 .1 .1 .1 .1 .1 .0)
 
 slice-aggregate-answer-short-5 : tie.Need-slice-aggregate-answer-short-5
 slice-aggregate-answer-short-5 c = sym (length-take-le _ _ (slice-reshare-prefix-answer-short-4 (c .before)))
 
 slice-reshare-prefix-answer-short-5 : tie.Need-slice-reshare-prefix-answer-short-5
 slice-reshare-prefix-answer-short-5 c = sizes-fit (c .before .before .before .before .before .before .before .before .before .before .before .before .before .before .before .before .before
-    .before .before .before .before .before .before .before .before .before .before .before .before .before .before .before .before .before .read-file .ensures) (c .before .before .before
+    .before .before .before .before .before .before .before .before .before .before .before .before .before .before .before .before .before .read-short-file .ensures) (c .before .before
     .before .before .before .before .before .before .before .before .before .before .before .before .before .before .before .before .before .before .before .before .before .before .before
-    .before .before .before .before .before .before .before .before .read-file .kept .1 .1 .1 .1 .1 .1 .1 .0)
+    .before .before .before .before .before .before .before .before .before .read-short-file .kept .1 .1 .1 .1 .1 .1 .1 .0)
 
 slice-aggregate-answer-short-6 : tie.Need-slice-aggregate-answer-short-6
 slice-aggregate-answer-short-6 c = sym (length-take-le _ _ (slice-reshare-prefix-answer-short-5 (c .before)))
 
 slice-reshare-prefix-answer-short-6 : tie.Need-slice-reshare-prefix-answer-short-6
 slice-reshare-prefix-answer-short-6 c = bindings-fit (c .before .before .before .before .before .before .before .before .before .before .before .before .before .before .before .before
-    .before .before .before .before .before .before .before .before .before .before .before .before .before .before .before .before .before .before .before .read-file .ensures)
+    .before .before .before .before .before .before .before .before .before .before .before .before .before .before .before .before .before .before .before .read-short-file .ensures)
     (joined-length (c .before .before .before .before .before .before .before .before .before .before .before .before .before .before .before .before .before .before .before .before .before
-    .before .before .before .before .before .before .before .before .before .before .before .before .before .before .read-file .result .nodes) (c .before .before .before .before .before
-    .before .before .before .before .before .name-short .last .1 .1 .1 .1 .1 .1 .1 .1 .0) (c .before .before .before .before .before .before .before .before .before .before .before .before
+    .before .before .before .before .before .before .before .before .before .before .before .before .before .before .read-short-file .result .nodes) (c .before .before .before .before
+    .before .before .before .before .before .before .name-short .last .1 .1 .1 .1 .1 .1 .1 .1 .0) (c .before .before .before .before .before .before .before .before .before .before .before
     .before .before .before .before .before .before .before .before .before .before .before .before .before .before .before .before .before .before .before .before .before .before .before
-    .read-file .last .1 .1 .1 .1 .1 .1 .1 .1 .0) (c .before .before .before .before .before .before .before .before .before .before .name-short .kept .1 .1 .1 .1 .1 .1 .1 .1 .0)
-    (slice-relend-prefix-name-short (c .before .before .before .before .before .before .before .before .before .before .before .before .before .before)) ∙ c .before .before .before .before
+    .before .read-short-file .last .1 .1 .1 .1 .1 .1 .1 .1 .0) (c .before .before .before .before .before .before .before .before .before .before .name-short .kept .1 .1 .1 .1 .1 .1 .1 .1
+    .0) (slice-relend-prefix-name-short (c .before .before .before .before .before .before .before .before .before .before .before .before .before .before)) ∙ c .before .before .before
     .before .before .before .before .before .before .before .before .before .before .before .before .before .before .before .before .before .before .before .before .before .before .before
-    .before .before .before .before .before .before .before .before .read-file .kept .1 .1 .1 .1 .1 .1 .1 .1 .0)
+    .before .before .before .before .before .before .before .before .before .read-short-file .kept .1 .1 .1 .1 .1 .1 .1 .1 .0)
 
 slice-aggregate-answer-short-7 : tie.Need-slice-aggregate-answer-short-7
 slice-aggregate-answer-short-7 c = sym (length-take-le _ _ (slice-reshare-prefix-answer-short-6 (c .before)))
@@ -167,46 +168,46 @@ answer-short-requires c κs = search needs
 same-length : tie.Need-same-length
 same-length c = c .before .before .before .before .before .before .before .before .before .before .before .before .before .before .before .before .before .before .before .before .before
     .before .before .before .before .before .before .before .before .before .before .before .before .before .before .before .before .before .before .before .before .before .before
-    .before .before .before .before .before .before .before .read-file .kept .1 .0
+    .before .before .before .before .before .before .before .read-short-file .kept .1 .0
 
 same-length-2 : tie.Need-same-length-2
 same-length-2 c = c .before .before .before .before .before .before .before .before .before .before .before .before .before .before .before .before .before .before .before .before
     .before .before .before .before .before .before .before .before .before .before .before .before .before .before .before .before .before .before .before .before .before .before
-    .before .before .before .before .before .before .before .before .read-file .kept .1 .1 .0
+    .before .before .before .before .before .before .before .before .read-short-file .kept .1 .1 .0
 
 same-length-3 : tie.Need-same-length-3
 same-length-3 c = c .before .before .before .before .before .before .before .before .before .before .before .before .before .before .before .before .before .before .before .before
     .before .before .before .before .before .before .before .before .before .before .before .before .before .before .before .before .before .before .before .before .before .before
-    .before .before .before .before .before .before .before .before .read-file .kept .1 .1 .1 .0
+    .before .before .before .before .before .before .before .before .read-short-file .kept .1 .1 .1 .0
 
 same-length-4 : tie.Need-same-length-4
 same-length-4 c = c .before .before .before .before .before .before .before .before .before .before .before .before .before .before .before .before .before .before .before .before
     .before .before .before .before .before .before .before .before .before .before .before .before .before .before .before .before .before .before .before .before .before .before
-    .before .before .before .before .before .before .before .before .read-file .kept .1 .1 .1 .1 .1 .0
+    .before .before .before .before .before .before .before .before .read-short-file .kept .1 .1 .1 .1 .1 .0
 
 same-length-5 : tie.Need-same-length-5
 same-length-5 c = c .before .before .before .before .before .before .before .before .before .before .before .before .before .before .before .before .before .before .before .before
     .before .before .before .before .before .before .before .before .before .before .before .before .before .before .before .before .before .before .before .before .before .before
-    .before .before .before .before .before .before .before .before .read-file .kept .1 .1 .1 .1 .1 .1 .0
+    .before .before .before .before .before .before .before .before .read-short-file .kept .1 .1 .1 .1 .1 .1 .0
 
 same-length-6 : tie.Need-same-length-6
 same-length-6 c = c .before .before .before .before .before .before .before .before .before .before .before .before .before .before .before .before .before .before .before .before
     .before .before .before .before .before .before .before .before .before .before .before .before .before .before .before .before .before .before .before .before .before .before
-    .before .before .before .before .before .before .before .before .read-file .kept .1 .1 .1 .1 .1 .1 .1 .0
+    .before .before .before .before .before .before .before .before .read-short-file .kept .1 .1 .1 .1 .1 .1 .1 .0
 
 same-length-7 : tie.Need-same-length-7
 same-length-7 c = joined-length (c .before .before .before .before .before .before .before .before .before .before .before .before .before .before .before .before .before .before .before
     .before .before .before .before .before .before .before .before .before .before .before .before .before .before .before .before .before .before .before .before .before .before
-    .before .before .before .before .before .before .before .before .before .read-file .result .nodes) (c .before .before .before .before .before .before .before .before .before .before
-    .before .before .before .before .before .before .before .before .before .before .before .before .before .before .before .name-short .last .1 .1 .1 .1 .1 .1 .1 .1 .0) (c .before
-    .before .before .before .before .before .before .before .before .before .before .before .before .before .before .before .before .before .before .before .before .before .before
-    .before .before .before .before .before .before .before .before .before .before .before .before .before .before .before .before .before .before .before .before .before .before
-    .before .before .before .before .before .read-file .last .1 .1 .1 .1 .1 .1 .1 .1 .0) (c .before .before .before .before .before .before .before .before .before .before .before
-    .before .before .before .before .before .before .before .before .before .before .before .before .before .before .name-short .kept .1 .1 .1 .1 .1 .1 .1 .1 .0)
-    (slice-relend-prefix-name-short (c .before .before .before .before .before .before .before .before .before .before .before .before .before .before .before .before .before .before
-    .before .before .before .before .before .before .before .before .before .before .before)) ∙ c .before .before .before .before .before .before .before .before .before .before .before
-    .before .before .before .before .before .before .before .before .before .before .before .before .before .before .before .before .before .before .before .before .before .before
-    .before .before .before .before .before .before .before .before .before .before .before .before .before .before .before .before .before .read-file .kept .1 .1 .1 .1 .1 .1 .1 .1 .0
+    .before .before .before .before .before .before .before .before .before .read-short-file .result .nodes) (c .before .before .before .before .before .before .before .before .before
+    .before .before .before .before .before .before .before .before .before .before .before .before .before .before .before .before .name-short .last .1 .1 .1 .1 .1 .1 .1 .1 .0) (c .before
+    .before .before .before .before .before .before .before .before .before .before .before .before .before .before .before .before .before .before .before .before .before .before .before
+    .before .before .before .before .before .before .before .before .before .before .before .before .before .before .before .before .before .before .before .before .before .before .before
+    .before .before .before .read-short-file .last .1 .1 .1 .1 .1 .1 .1 .1 .0) (c .before .before .before .before .before .before .before .before .before .before .before .before .before
+    .before .before .before .before .before .before .before .before .before .before .before .before .name-short .kept .1 .1 .1 .1 .1 .1 .1 .1 .0) (slice-relend-prefix-name-short (c .before
+    .before .before .before .before .before .before .before .before .before .before .before .before .before .before .before .before .before .before .before .before .before .before .before
+    .before .before .before .before .before)) ∙ c .before .before .before .before .before .before .before .before .before .before .before .before .before .before .before .before .before
+    .before .before .before .before .before .before .before .before .before .before .before .before .before .before .before .before .before .before .before .before .before .before .before
+    .before .before .before .before .before .before .before .before .before .before .read-short-file .kept .1 .1 .1 .1 .1 .1 .1 .1 .0
 
 same-length-8 : tie.Need-same-length-8
 same-length-8 c = c .before .before .before .before .before .before .before .answer-short .kept .1 .1 .1 .1 .1 .1 .1 .1 .1 .1 .1 .0
@@ -224,7 +225,7 @@ returns : tie.Need-returns
 returns c =
     runs-within (c .before .before .before .before .before .before .before .before .before .before .before .before .before .before .before .before .before .before .before .before .before
     .before .before .before .before .before .before .before .before .before .before .before .before .before .before .before .before .before .before .before .before .before .before
-    .before .before .before .before .before .before .before .read-file .ensures) (c .before .before .before .before .before .before .before .before .before .before .before .before
+    .before .before .before .before .before .before .before .read-short-file .ensures) (c .before .before .before .before .before .before .before .before .before .before .before .before
     .before .before .before .before .before .before .before .before .before .before .before .before .before .before .before .before .before .before .before .before .before .before
     .before .before .before .before .before .before .before .before .before .before .before .before .before .before .before .before .before .before .before .before .before .before
     .before .before .before .before .shorter .ensures) (c .before .before .before .before .before .before .before .before .before .before .before .before .before .before .before .before
@@ -233,15 +234,14 @@ returns c =
     .ensures) (c .before .before .before .before .before .before .before .before .before .before .before .before .before .before .before .before .before .before .before .before .before
     .before .before .before .before .name-short .ensures) (joined-front (c .before .before .before .before .before .before .before .before .before .before .before .before .before .before
     .before .before .before .before .before .before .before .before .before .before .before .before .before .before .before .before .before .before .before .before .before .before
-    .before .before .before .before .before .before .before .before .before .before .before .before .before .before .read-file .result .nodes) (c .before .before .before .before .before
-    .before .before .before .before .before .before .before .before .before .before .before .before .before .before .before .before .before .before .before .before .name-short .last .1
-    .1 .1 .1 .1 .1 .1 .1 .0) (c .before .before .before .before .before .before .before .before .before .before .before .before .before .before .before .before .before .before .before
-    .before .before .before .before .before .before .before .before .before .before .before .before .before .before .before .before .before .before .before .before .before .before
-    .before .before .before .before .before .before .before .before .before .read-file .last .1 .1 .1 .1 .1 .1 .1 .1 .0) (c .before .before .before .before .before .before .before
-    .before .before .before .before .before .before .before .before .before .before .before .before .before .before .before .before .before .before .name-short .kept .1 .1 .1 .1 .1 .1 .1
-    .1 .0) (slice-relend-prefix-name-short (c .before .before .before .before .before .before .before .before .before .before .before .before .before .before .before .before .before
-    .before .before .before .before .before .before .before .before .before .before .before .before))) (c .before .before .before .before .before .before .before .answer-short .ensures)
-    (record {
+    .before .before .before .before .before .before .before .before .before .before .before .before .before .before .read-short-file .result .nodes) (c .before .before .before .before
+    .before .before .before .before .before .before .before .before .before .before .before .before .before .before .before .before .before .before .before .before .before .name-short .last
+    .1 .1 .1 .1 .1 .1 .1 .1 .0) (c .before .before .before .before .before .before .before .before .before .before .before .before .before .before .before .before .before .before .before
+    .before .before .before .before .before .before .before .before .before .before .before .before .before .before .before .before .before .before .before .before .before .before .before
+    .before .before .before .before .before .before .before .before .read-short-file .last .1 .1 .1 .1 .1 .1 .1 .1 .0) (c .before .before .before .before .before .before .before .before
+    .before .before .before .before .before .before .before .before .before .before .before .before .before .before .before .before .before .name-short .kept .1 .1 .1 .1 .1 .1 .1 .1 .0)
+    (slice-relend-prefix-name-short (c .before .before .before .before .before .before .before .before .before .before .before .before .before .before .before .before .before .before .before
+    .before .before .before .before .before .before .before .before .before .before))) (c .before .before .before .before .before .before .before .answer-short .ensures) (record {
       token-kinds = same-length c;
       token-starts = same-length-2 c;
       token-lengths = same-length-3 c;
@@ -256,9 +256,8 @@ returns c =
     })
     (c .before .before .before .before .before .before .before .before .before .before .before .before .before .before .before .before .before .before .before .before .before .before
     .before .before .before .name-short .kept .1 .1 .1 .1 .1 .1 .1 .1 .1 .0) (c .before .before .before .before .before .before .before .before .before .before .before .before .before
-    .before .before .before .before .before .before .before .before .before .before .before .before .name-short .kept .1 .1 .1 .1 .1 .1 .1 .1 .1 .1 .0) small-bytes (filled small-bytes
-    2048 (lit≤ tt)) (filled-fifth small-bytes 409
-    (lit≤ tt)) (filled-fifth small-bytes 409 (lit≤ tt))
+    .before .before .before .before .before .before .before .before .before .before .before .before .name-short .kept .1 .1 .1 .1 .1 .1 .1 .1 .1 .1 .0) small-bytes (filled small-bytes 2048
+    (lit≤ tt)) (filled-fifth small-bytes 409 (lit≤ tt)) (filled-fifth small-bytes 409 (lit≤ tt))
 
 pub run-small-spec : {M : Type 1} → statement M
 run-small-spec =
@@ -266,8 +265,8 @@ run-small-spec =
     (tie.spec
     shorter-requires
     shorter-requires-2
-    slice-aggregate-read-file
-    read-file-requires
+    slice-aggregate-read-short-file
+    read-short-file-requires
     slice-reshare-prefix-name-short
     slice-aggregate-name-short
     slice-reshare-prefix-name-short-2
