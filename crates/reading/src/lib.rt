@@ -326,7 +326,7 @@ pub fn read_short_file(
 {
     let scanned = scan_tokens(src, token_kinds, token_starts, token_lengths);
     let tokens = shorter(count(scanned), terminals.len());
-    let read = read_short(
+    let parsed = read_short(
         scanned,
         src,
         &token_kinds[..tokens],
@@ -342,8 +342,8 @@ pub fn read_short_file(
         shorter(node_kinds.len(), node_tokens.len()),
         shorter(node_sizes.len(), roles.len()),
     );
-    let nodes = shorter(count(read), entries);
-    let fit = fit_constants(read, &node_kinds[..nodes], answers);
+    let nodes = shorter(count(parsed), entries);
+    let fit = fit_constants(parsed, &node_kinds[..nodes], answers);
     Reading {
         tokens: tokens,
         nodes: nodes,
