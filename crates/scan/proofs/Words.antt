@@ -64,8 +64,14 @@ module _ (m n o p : ℕ) where
   abbrev count : ℕ
   count = first + second + third + fourth
 
-  pub count-fits : count ≤ 4
-  count-fits = omega (arith, and-le-l first n, and-le-l second o, and-le-l third p)
+  pub sum-fits : first + second + third ≤ 3
+  sum-fits = omega (arith, and-le-l first n, and-le-l second o)
+
+  count-short : fourth ≡ 0 → count ≡ first + second + third
+  count-short e = omega (arith, e)
+
+  count-all : (fourth ≡ 0 → ⊥) → count ≡ 4
+  count-all k = omega (arith, k, and-le-l first n, and-le-l second o, and-le-l third p)
 
 abbrev leading : Bool → Bool → Bool → Bool → ℕ
 leading w x y z = bit w + bit (w && x) + bit ((w && x) && y) + bit (((w && x) && y) && z)
@@ -108,11 +114,19 @@ module _ (s : List ℕ) (i : ℕ) (h : i + 3 < length s) where
   by-bytes true true true true d e f g =
       record { few = omega arith; goes-on = pass 3 (omega arith) (three-passed d e f) g; ends = λ l. absurd (omega arith) }
 
-  pub word-bytes : {m n o p : ℕ} → m ≡ mark (word-byte (getD s i 0)) → n ≡ mark (goes-on 1) → o ≡ mark (goes-on 2) → p ≡ mark (goes-on 3) →
+  word-bytes : {m n o p : ℕ} → m ≡ mark (word-byte (getD s i 0)) → n ≡ mark (goes-on 1) → o ≡ mark (goes-on 2) → p ≡ mark (goes-on 3) →
       WordBytes s i (count m n o p)
   word-bytes {m} d e f g =
       let d′ : m ≡ mark (goes-on 0) = d ∙ ap (λ (k : ℕ). mark (word-byte (getD s k 0))) (omega arith) in
       rw (d′, e, f, g, count-is) (by-bytes _ _ _ _ refl refl refl refl)
+
+  -- the last of four tells whether all go on
+  module _ {m n o p : ℕ} (d : m ≡ mark (word-byte (getD s i 0))) (e : n ≡ mark (goes-on 1)) (f : o ≡ mark (goes-on 2)) (g : p ≡ mark (goes-on 3)) where
+    pub some-go-on : fourth m n o p ≡ 0 → WordBytes s i (first m n o p + second m n o p + third m n o p)
+    some-go-on z = rw (← count-short m n o p z) (word-bytes d e f g)
+
+    pub all-go-on : (fourth m n o p ≡ 0 → ⊥) → WordBytes s i 4
+    all-go-on z = rw (← count-all m n o p z) (word-bytes d e f g)
 
 module _ {s : List ℕ} {i n : ℕ} (b : WordBytes s i n) where
   pub word-ends : n < 4 → {k : ℕ} → k ≡ n → i + k ≡ run word-byte s i

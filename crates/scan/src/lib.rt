@@ -61,7 +61,7 @@ fn word_mark(table: &[u8; 256], b: u8) -> u8
     table[columns::byte_index(b)]
 }
 
-// How many of the four bytes at a place go on a word, up to the first that does not: no jump depends on them.
+// How many of the four bytes at a place go on a word, up to the first that does not: one jump for the four.
 fn word_bytes(s: &[u8], i: usize, table: &[u8; 256]) -> u8
     requires { ⌜ (i + 3 < length (now s)) × (now table ≡ word-table) ⌝ }
     ensures { λ r. ⌜ WordBytes (now (s .entry)) i r ⌝ }
@@ -70,7 +70,10 @@ fn word_bytes(s: &[u8], i: usize, table: &[u8; 256]) -> u8
     let b = a & word_mark(table, s[i + 1]);
     let c = b & word_mark(table, s[i + 2]);
     let d = c & word_mark(table, s[i + 3]);
-    a + b + c + d
+    if d == 0 {
+        return a + b + c;
+    }
+    4
 }
 
 // The end of the word that goes on at a place, a byte a turn.

@@ -1,8 +1,8 @@
--- Four marks, joined by `&` (`Words`).
+-- Four marks, joined by `&`: the last of them tells whether all go on (`Words`).
 use borrow.Author.Needs.{needs}
 use Rattle.scan.proofs.word_bytes.Statement.{statement}
 use Rattle.scan.proofs.word_bytes.Tie as tie
-use Rattle.scan.proofs.Words.{count-fits, word-bytes}
+use Rattle.scan.proofs.Words.{sum-fits, some-go-on, all-go-on}
 use native.Mathlib.Omega.{arith}
 
 shared-slice-read-word-mark : tie.Need-shared-slice-read-word-mark
@@ -39,16 +39,20 @@ word-mark-requires-4 : tie.Need-word-mark-requires-4
 word-mark-requires-4 c κs = search needs
 
 add-result : tie.Need-add-result
-add-result c = omega (arith, count-fits (c .before .before .before .before .before .before .word-mark .result) (c .before .before .before .before .word-mark2 .result) (c .before .before .word-mark3 .result) (c .word-mark4 .result))
+add-result c = let m = c .before in
+    omega (arith, sum-fits (m .before .before .before .before .before .before .word-mark .result) (m .before .before .before .before .word-mark2 .result) (m .before .before .word-mark3 .result) (m .word-mark4 .result))
 
 add-result-2 : tie.Need-add-result-2
-add-result-2 c = omega (arith, count-fits (c .before .before .before .before .before .before .word-mark .result) (c .before .before .before .before .word-mark2 .result) (c .before .before .word-mark3 .result) (c .word-mark4 .result))
-
-add-result-3 : tie.Need-add-result-3
-add-result-3 c = omega (arith, count-fits (c .before .before .before .before .before .before .word-mark .result) (c .before .before .before .before .word-mark2 .result) (c .before .before .word-mark3 .result) (c .word-mark4 .result))
+add-result-2 c = let m = c .before in
+    omega (arith, sum-fits (m .before .before .before .before .before .before .word-mark .result) (m .before .before .before .before .word-mark2 .result) (m .before .before .word-mark3 .result) (m .word-mark4 .result))
 
 returns : tie.Need-returns
-returns c = word-bytes _ _ (c .before .before .before .before .before .before .before .before .before .pre .0) (c .before .before .before .before .before .before .word-mark .ensures) (c .before .before .before .before .word-mark2 .ensures) (c .before .before .word-mark3 .ensures) (c .word-mark4 .ensures)
+returns c = let m = c .before in
+    some-go-on _ _ (m .before .before .before .before .before .before .before .before .before .pre .0) (m .before .before .before .before .before .before .word-mark .ensures) (m .before .before .before .before .word-mark2 .ensures) (m .before .before .word-mark3 .ensures) (m .word-mark4 .ensures) (c .if1 .taken)
+
+returns-2 : tie.Need-returns-2
+returns-2 c = let m = c .before in
+    all-go-on _ _ (m .before .before .before .before .before .before .before .before .before .pre .0) (m .before .before .before .before .before .before .word-mark .ensures) (m .before .before .before .before .word-mark2 .ensures) (m .before .before .word-mark3 .ensures) (m .word-mark4 .ensures) (c .if1 .left)
 
 pub word-bytes-spec : {M : Type 1} → statement M
 word-bytes-spec =
@@ -67,5 +71,5 @@ word-bytes-spec =
     word-mark-requires-4
     add-result
     add-result-2
-    add-result-3
-    returns)
+    returns
+    returns-2)
