@@ -12,7 +12,7 @@ use reference::names::Names;
 use reference::outline::Outline;
 use reference::terminals::classify;
 use reference::{evaluation, kinds, names, parser};
-use reference::{symbols, tokens, AnswerRow, File, Level, TokenRow, MAX_BYTES};
+use reference::{symbols, tokens, AnswerRow, File, TokenRow, MAX_BYTES};
 use std::hint::black_box;
 
 const RUNS: usize = 400;
@@ -111,15 +111,7 @@ fn kinds_of(bytes: &[u8]) -> Kinds {
     let terminals = classify(bytes, &tokens);
     let nodes = parser::read(&terminals).expect("nodes");
     let (outline, symbols) = (Outline::new(&nodes), symbols::intern(bytes, &tokens, &terminals));
-    let file = File {
-        level: Level::NEWEST,
-        bytes,
-        tokens: &tokens,
-        terminals: &terminals,
-        nodes: &nodes,
-        symbols: &symbols,
-        outline: &outline,
-    };
+    let file = File::newest(bytes, &tokens, &terminals, &nodes, &symbols, &outline);
     let names = names::bind(&file).expect("names");
     let node_kinds: Vec<u8> = nodes.iter().map(|node| node.kind).collect();
     let node_tokens: Vec<u32> = nodes.iter().map(|node| node.token).collect();
@@ -215,15 +207,7 @@ fn names_of(bytes: &[u8]) -> [f64; 3] {
         || {
             let symbols = symbols::intern(bytes, &tokens, &terminals);
             let outline = Outline::new(&nodes);
-            let file = File {
-                level: Level::NEWEST,
-                bytes,
-                tokens: &tokens,
-                terminals: &terminals,
-                nodes: &nodes,
-                symbols: &symbols,
-                outline: &outline,
-            };
+            let file = File::newest(bytes, &tokens, &terminals, &nodes, &symbols, &outline);
             names::bind(black_box(&file)).is_ok()
         },
     );

@@ -9,7 +9,7 @@ use reference::kinds::{check, underlying_types, Underlying};
 use reference::outline::Outline;
 use reference::parser::{kind, read};
 use reference::terminals::classify;
-use reference::{names, symbols, tokens, AnswerRow, Fault, File, Level, MAX_STRING};
+use reference::{names, symbols, tokens, AnswerRow, Fault, File, MAX_STRING};
 
 const FILES: u64 = 50_000;
 
@@ -152,15 +152,7 @@ fn named(bytes: &[u8]) -> Option<Named> {
     let terminals = classify(bytes, &rows);
     let nodes = read(&terminals).ok()?;
     let (outline, symbols) = (Outline::new(&nodes), symbols::intern(bytes, &rows, &terminals));
-    let file = File {
-        level: Level::NEWEST,
-        bytes,
-        tokens: &rows,
-        terminals: &terminals,
-        nodes: &nodes,
-        symbols: &symbols,
-        outline: &outline,
-    };
+    let file = File::newest(bytes, &rows, &terminals, &nodes, &symbols, &outline);
     let names = names::bind(&file).ok()?;
     let node = |&declaration: &u32| outline.declarations[declaration as usize].node;
     Some(Named {

@@ -6,7 +6,7 @@ use proved::{codes, resolve, NameColumns, Nodes, Text};
 use reference::outline::Outline;
 use reference::parser::{kind, read, role, SyntaxRow};
 use reference::terminals::classify;
-use reference::{names, symbols, tokens, File, Level, Refusal};
+use reference::{names, symbols, tokens, File, Refusal};
 
 const FILES: u64 = 50_000;
 const HIERARCHIES: u64 = 15_000;
@@ -60,15 +60,7 @@ fn parsed(bytes: &[u8]) -> Option<Parsed> {
     let terminals = classify(bytes, &rows);
     let nodes = read(&terminals).ok()?;
     let (outline, symbols) = (Outline::new(&nodes), symbols::intern(bytes, &rows, &terminals));
-    let file = File {
-        level: Level::NEWEST,
-        bytes,
-        tokens: &rows,
-        terminals: &terminals,
-        nodes: &nodes,
-        symbols: &symbols,
-        outline: &outline,
-    };
+    let file = File::newest(bytes, &rows, &terminals, &nodes, &symbols, &outline);
     let start = |token: u32| u64::from(rows[token as usize].start);
     let bindings = names::bind(&file)
         .map(|names| names.bindings)

@@ -245,7 +245,19 @@ pub struct File<'a> {
     pub outline: &'a Outline,
 }
 
-impl File<'_> {
+impl<'a> File<'a> {
+    /// By the newest rules.
+    pub fn newest(
+        bytes: &'a [u8],
+        tokens: &'a [TokenRow],
+        terminals: &'a [terminals::Terminal],
+        nodes: &'a [SyntaxRow],
+        symbols: &'a symbols::Symbols,
+        outline: &'a Outline,
+    ) -> Self {
+        File { level: Level::NEWEST, bytes, tokens, terminals, nodes, symbols, outline }
+    }
+
     /// The bytes of a token.
     fn text(&self, token: u32) -> &[u8] {
         tokens::text(self.bytes, &self.tokens[token as usize])

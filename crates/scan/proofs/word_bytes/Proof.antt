@@ -39,20 +39,36 @@ word-mark-requires-4 : tie.Need-word-mark-requires-4
 word-mark-requires-4 c κs = search needs
 
 add-result : tie.Need-add-result
-add-result c = let m = c .before in
-    omega (arith, sum-fits (m .before .before .before .before .before .before .word-mark .result) (m .before .before .before .before .word-mark2 .result) (m .before .before .word-mark3 .result) (m .word-mark4 .result))
+add-result c =
+    let m4 = c .before in
+    let m3 = m4 .before .before in
+    let m2 = m3 .before .before in
+    let m1 = m2 .before .before in
+    omega (arith, sum-fits (m1 .word-mark .result) (m2 .word-mark2 .result) (m3 .word-mark3 .result) (m4 .word-mark4 .result))
 
 add-result-2 : tie.Need-add-result-2
-add-result-2 c = let m = c .before in
-    omega (arith, sum-fits (m .before .before .before .before .before .before .word-mark .result) (m .before .before .before .before .word-mark2 .result) (m .before .before .word-mark3 .result) (m .word-mark4 .result))
+add-result-2 c =
+    let m4 = c .before in
+    let m3 = m4 .before .before in
+    let m2 = m3 .before .before in
+    let m1 = m2 .before .before in
+    omega (arith, sum-fits (m1 .word-mark .result) (m2 .word-mark2 .result) (m3 .word-mark3 .result) (m4 .word-mark4 .result))
 
 returns : tie.Need-returns
-returns c = let m = c .before in
-    some-go-on _ _ (m .before .before .before .before .before .before .before .before .before .pre .0) (m .before .before .before .before .before .before .word-mark .ensures) (m .before .before .before .before .word-mark2 .ensures) (m .before .before .word-mark3 .ensures) (m .word-mark4 .ensures) (c .if1 .taken)
+returns c =
+    let m4 = c .before in
+    let m3 = m4 .before .before in
+    let m2 = m3 .before .before in
+    let m1 = m2 .before .before in
+    some-go-on _ _ (m1 .before .before .before .pre .0) (m1 .word-mark .ensures) (m2 .word-mark2 .ensures) (m3 .word-mark3 .ensures) (m4 .word-mark4 .ensures) (c .if1 .taken)
 
 returns-2 : tie.Need-returns-2
-returns-2 c = let m = c .before in
-    all-go-on _ _ (m .before .before .before .before .before .before .before .before .before .pre .0) (m .before .before .before .before .before .before .word-mark .ensures) (m .before .before .before .before .word-mark2 .ensures) (m .before .before .word-mark3 .ensures) (m .word-mark4 .ensures) (c .if1 .left)
+returns-2 c =
+    let m4 = c .before in
+    let m3 = m4 .before .before in
+    let m2 = m3 .before .before in
+    let m1 = m2 .before .before in
+    all-go-on _ _ (m1 .before .before .before .pre .0) (m1 .word-mark .ensures) (m2 .word-mark2 .ensures) (m3 .word-mark3 .ensures) (m4 .word-mark4 .ensures) (c .if1 .left)
 
 pub word-bytes-spec : {M : Type 1} → statement M
 word-bytes-spec =
