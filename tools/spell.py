@@ -11,7 +11,8 @@ import re
 import subprocess
 import sys
 
-MODULES = {it: it.capitalize() for it in ("kinds", "names", "syntax", "theorems", "tokens", "whole")}
+# `Kinds` is the name of a module that the check makes.
+MODULES = {it: it.capitalize() for it in ("names", "syntax", "theorems", "tokens", "whole")} | {"kinds": "Semantics"}
 WITH_MODULES = ("express", "theorems")
 TYPES = {"Is-first": "IsFirst", "Deep-from": "DeepFrom", "Named-by": "NamedBy", "Marked-all": "MarkedAll"}
 WORD = re.compile(r"(?<![\w'◌·-])[\w'◌·+]+(?:-[\w'◌·+]+)+")

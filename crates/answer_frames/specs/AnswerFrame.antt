@@ -10,7 +10,7 @@ use Rattle.express.specs.Names.Scope.{type_edges}
 use Rattle.express.specs.Names.Scope as scope
 use Rattle.express.specs.Names.Fault.{constant_edges}
 use Rattle.express.specs.Names.Names.{WellNamed}
-use Rattle.express.specs.Kinds.Kind as kind
+use Rattle.express.specs.Semantics.Kind as kind
 use Rattle.scopes.specs.Range.{vertex_count, declared_nodes}
 use Rattle.constants.specs.Constants.{Holds}
 use Rattle.stages.specs.declared.Stage.{Stage}

@@ -13,13 +13,13 @@ use lib.Signed.{lt_z}
 use mir.Syntax.{w64}
 use mir.Val.{SFits, to_z}
 use mir.Facts.{to_z-of_z, to_z_pos}
-use Rattle.express.specs.Kinds.Answer.{FALSE, UNKNOWN, TRUE, Answer, indeterminate, integer, logical, binary, item, end}
-use Rattle.express.specs.Kinds.Answer as answer
-use Rattle.express.specs.Kinds.AnswerRow.{AnswerRow, row, row_of, natural, ranked}
-use Rattle.express.specs.Kinds.Bits.{bits}
-use Rattle.express.specs.Kinds.Integer.{negative}
-use Rattle.express.specs.Kinds.Logic.{rank}
-use Rattle.express.proofs.Kinds.Bits.{length_bits, number_mod}
+use Rattle.express.specs.Semantics.Answer.{FALSE, UNKNOWN, TRUE, Answer, indeterminate, integer, logical, binary, item, end}
+use Rattle.express.specs.Semantics.Answer as answer
+use Rattle.express.specs.Semantics.AnswerRow.{AnswerRow, row, row_of, natural, ranked}
+use Rattle.express.specs.Semantics.Bits.{bits}
+use Rattle.express.specs.Semantics.Integer.{negative}
+use Rattle.express.specs.Semantics.Logic.{rank}
+use Rattle.express.proofs.Semantics.Bits.{length_bits, number_mod}
 use Rattle.values.specs.Meaning.{end_number, logical_of}
 use Rattle.values.specs.declared.End.{End}
 use Rattle.values.specs.declared.End.TheVariants.{OutOfRange, ZeroDivisor, NegativePower, UnknownBoolean}

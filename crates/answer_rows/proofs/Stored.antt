@@ -14,21 +14,21 @@ use mir.Syntax.{w64}
 use mir.Val.{SFits}
 use mir.Facts.{to_z-of_z}
 use Rattle.express.specs.Tokens.Lexis.{most_bytes}
-use Rattle.express.specs.Kinds.Answer.{Logical, FALSE, UNKNOWN, TRUE, Answer, indeterminate, integer, logical, binary, item, string, end}
-use Rattle.express.specs.Kinds.AnswerRow.{AnswerRow, row, row_of, row_at}
-use Rattle.express.specs.Kinds.Bits.{join}
-use Rattle.express.specs.Kinds.Declared.{Declared, INTEGER, BOOLEAN, LOGICAL, BINARY, STRING, enumeration, other}
-use Rattle.express.specs.Kinds.Evaluate.{boolean_answer, held}
-use Rattle.express.specs.Kinds.Integer.{exact, quotient, remainder, DIV, MOD, sum, negation, power}
-use Rattle.express.specs.Kinds.Operate.{integer_in, binary_in, string_in, end_in, given, both, computed, operated, combined, applied, between}
-use Rattle.express.specs.Kinds.Relation.{Relation}
-use Rattle.express.specs.Kinds.Shape.{Arithmetic, minus, times, divide, modulo, and, Operator, plus, arithmetic, relation, connective, Sign, positive, negative, not}
-use Rattle.express.specs.Kinds.Shape as shape
-use Rattle.express.specs.Kinds.Strings.{join_strings}
+use Rattle.express.specs.Semantics.Answer.{Logical, FALSE, UNKNOWN, TRUE, Answer, indeterminate, integer, logical, binary, item, string, end}
+use Rattle.express.specs.Semantics.AnswerRow.{AnswerRow, row, row_of, row_at}
+use Rattle.express.specs.Semantics.Bits.{join}
+use Rattle.express.specs.Semantics.Declared.{Declared, INTEGER, BOOLEAN, LOGICAL, BINARY, STRING, enumeration, other}
+use Rattle.express.specs.Semantics.Evaluate.{boolean_answer, held}
+use Rattle.express.specs.Semantics.Integer.{exact, quotient, remainder, DIV, MOD, sum, negation, power}
+use Rattle.express.specs.Semantics.Operate.{integer_in, binary_in, string_in, end_in, given, both, computed, operated, combined, applied, between}
+use Rattle.express.specs.Semantics.Relation.{Relation}
+use Rattle.express.specs.Semantics.Shape.{Arithmetic, minus, times, divide, modulo, and, Operator, plus, arithmetic, relation, connective, Sign, positive, negative, not}
+use Rattle.express.specs.Semantics.Shape as shape
+use Rattle.express.specs.Semantics.Strings.{join_strings}
 use Rattle.express.specs.Syntax.Tree.{Table, count}
-use Rattle.express.proofs.Kinds.Bits.{bits_number}
-use Rattle.express.proofs.Kinds.Bounds.{Fitting, fit-?, fit_end, fit_integer, fit_logical, fit_binary, fit_string, fit_item}
-use Rattle.express.proofs.Kinds.Operations.{ends_range}
+use Rattle.express.proofs.Semantics.Bits.{bits_number}
+use Rattle.express.proofs.Semantics.Bounds.{Fitting, fit-?, fit_end, fit_integer, fit_logical, fit_binary, fit_string, fit_item}
+use Rattle.express.proofs.Semantics.Operations.{ends_range}
 use Rattle.integers.proofs.Exact.{own}
 use Rattle.operations.specs.Meaning.{sized}
 use Rattle.answer_rows.specs.Stored.{storable, stored, sized_answer}

@@ -1,7 +1,7 @@
 -- The rows in which answers are kept (K35): 8 bits for the kind and for the length, 64 signed bits for the number, of which the node of an item takes 32.
 use Rattle.std.specs.Prelude.{Bool, true, cond, ◌&&◌, [], ◌^◌, eqb, leb, ltb, length}
-use Rattle.express.specs.Kinds.Answer.{Answer, indeterminate, integer, logical, binary, item, string, end, outside, unknown_boolean}
-use Rattle.express.specs.Kinds.AnswerRow.{AnswerRow, row, row_answer}
+use Rattle.express.specs.Semantics.Answer.{Answer, indeterminate, integer, logical, binary, item, string, end, outside, unknown_boolean}
+use Rattle.express.specs.Semantics.AnswerRow.{AnswerRow, row, row_answer}
 use Rattle.express.specs.Tokens.Lexis.{most_bytes}
 use Rattle.operations.specs.Meaning.{of_size}
 use Rattle.answer_rows.specs.declared.Row.{Row}

@@ -1,8 +1,9 @@
 // The rows in which answers are kept.
+#![tactic(auto)]
 ghost use Rattle.std.specs.Prelude.{◌≡◌};
-ghost use Rattle.express.specs.Kinds.Answer.{indeterminate, binary, item, end};
-ghost use Rattle.express.specs.Kinds.AnswerRow.{row, row_of, natural, ranked};
-ghost use Rattle.express.specs.Kinds.Bits.{bits};
+ghost use Rattle.express.specs.Semantics.Answer.{indeterminate, binary, item, end};
+ghost use Rattle.express.specs.Semantics.AnswerRow.{row, row_of, natural, ranked};
+ghost use Rattle.express.specs.Semantics.Bits.{bits};
 ghost use Rattle.values.specs.Meaning.{logical_of};
 ghost use Rattle.bits.specs.Meaning.{bits_of};
 ghost use Rattle.operations.specs.Meaning.{answer_of};
@@ -21,7 +22,7 @@ const FALSE: u64 = codes::answers::FALSE as u64;
 
 const UNKNOWN: u64 = codes::answers::UNKNOWN as u64;
 
-#[derive(Drop)]
+#[derive(Clone, Copy)]
 pub struct Row {
     pub kind: u8,
     pub number: i64,

@@ -9,11 +9,11 @@ use lib.Dec.{leb}
 use lib.IntN.{ℤ}
 use lib.ListN.{length}
 use Rattle.express.specs.Syntax.Tree.{Table, count}
-use Rattle.express.specs.Kinds.DeclaredColumn.{DeclaredColumn}
-use Rattle.express.specs.Kinds.Kind.{Typing, typed, ill_typed, typing, WellTyped}
+use Rattle.express.specs.Semantics.DeclaredColumn.{DeclaredColumn}
+use Rattle.express.specs.Semantics.Kind.{Typing, typed, ill_typed, typing, WellTyped}
 use Rattle.express.specs.Names.Scope as scope
 use Rattle.express.proofs.Syntax.FormedRows.{formed_rows}
-use Rattle.express.proofs.Kinds.Typed.{typing_accepts}
+use Rattle.express.proofs.Semantics.Typed.{typing_accepts}
 use Rattle.constants.specs.Constants.{OfFile, EvaluatesConstants}
 use Rattle.stages.specs.declared.Stage.{Stage}
 use Rattle.stages.specs.declared.Stage.TheVariants.{Done, Refused}

@@ -4,7 +4,7 @@ use mathlib.Core.List.{List}
 use Prim.Native.Nat.{ℕ}
 use lib.ListN.{get_or}
 use Rattle.express.specs.Syntax.Tree.{Table}
-use Rattle.express.specs.Kinds.Kind as kind
+use Rattle.express.specs.Semantics.Kind as kind
 use Rattle.declared_types.specs.Promise.{Declares}
 use Rattle.typing.specs.declared.Typing.{Typing}
 use Rattle.typing.specs.declared.Typing.TheVariants.{Typed, Fault}

@@ -14,13 +14,13 @@ use Rattle.express.specs.Syntax.Syntax.{Read}
 use Rattle.express.specs.Syntax.Tree.{Table, count, kind, is, nodes}
 use Rattle.express.specs.Names.Scope.{bindings}
 use Rattle.express.specs.Names.Names.{WellNamed}
-use Rattle.express.specs.Kinds.Answer.{Answer}
-use Rattle.express.specs.Kinds.AnswerRow.{bytes_of, room_of}
-use Rattle.express.specs.Kinds.Declared.{Declared}
-use Rattle.express.specs.Kinds.Kind.{typed, typing, constants}
-use Rattle.express.specs.Kinds.Operate.{Kind}
-use Rattle.express.specs.Kinds.Order.{constant_order}
-use Rattle.express.specs.Kinds.Rule.{Member, an_integer, is_false, is_true, a_logical, a_binary, a_string, an_item, Holds, no_value, an_end, a_member}
+use Rattle.express.specs.Semantics.Answer.{Answer}
+use Rattle.express.specs.Semantics.AnswerRow.{bytes_of, room_of}
+use Rattle.express.specs.Semantics.Declared.{Declared}
+use Rattle.express.specs.Semantics.Kind.{typed, typing, constants}
+use Rattle.express.specs.Semantics.Operate.{Kind}
+use Rattle.express.specs.Semantics.Order.{constant_order}
+use Rattle.express.specs.Semantics.Rule.{Member, an_integer, is_false, is_true, a_logical, a_binary, a_string, an_item, Holds, no_value, an_end, a_member}
 use Rattle.express.proofs.Theorems.File.{file_exact, file_order}
 use Rattle.constants.specs.Constants.{answer_of_constant}
 use Rattle.stages.specs.Line.{room_needed}

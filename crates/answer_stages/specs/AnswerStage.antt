@@ -8,8 +8,8 @@ use Rattle.express.specs.Tokens.Lexis.{most}
 use Rattle.express.specs.Tokens.Scanned.{Scanned}
 use Rattle.express.specs.Syntax.Tree.{Table, count, nodes, is_declaration}
 use Rattle.express.specs.Names.Fault.{constant_edges}
-use Rattle.express.specs.Kinds.AnswerRow.{room_of}
-use Rattle.express.specs.Kinds.Kind.{constants, typing}
+use Rattle.express.specs.Semantics.AnswerRow.{room_of}
+use Rattle.express.specs.Semantics.Kind.{constants, typing}
 use Rattle.constants.specs.Constants.{file_answers, Room, Holds, WrittenRows, EvaluatesConstants}
 use Rattle.stages.specs.declared.Stage.{Stage}
 use Rattle.stages.specs.declared.Stage.TheVariants.{Done, Refused}

@@ -1,8 +1,8 @@
 -- The stage of kinds, after the names (replies 14 and 15): what its code leaves.
 use Rattle.std.specs.Prelude.{◌≡◌, List, ℕ, ◌≤◌, length, get_or}
 use Rattle.express.specs.Syntax.Tree.{Table, count}
-use Rattle.express.specs.Kinds.DeclaredColumn.{DeclaredColumn}
-use Rattle.express.specs.Kinds.Kind.{typing}
+use Rattle.express.specs.Semantics.DeclaredColumn.{DeclaredColumn}
+use Rattle.express.specs.Semantics.Kind.{typing}
 use Rattle.declared_types.specs.Promise.{ColumnsOf, Accepted}
 use Rattle.typing.specs.declared.Typing.{Typing}
 use Rattle.typing.specs.declared.Typing.TheVariants.{Typed, Fault}

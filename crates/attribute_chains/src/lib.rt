@@ -1,6 +1,7 @@
 // Attributes chained by their symbols: the head of a symbol's chain stands in a table, and each attribute takes two numbers of a column, its node, and
 // the rank of its owner with the link to the next attribute that is spelled so. A chain is walked with a row of bits, by rank, that says which of its
 // attributes count.
+#![tactic(auto)]
 ghost use Rattle.std.specs.Prelude.{◌≡◌, cond, ◌+◌, ◌<◌, set};
 ghost use Rattle.symbol_tables.specs.Entry.{node_limit};
 ghost use Rattle.attribute_chains.specs.Chains.{link_count, with_one, entered_pairs, FindsAmong, EntersEntries};

@@ -1,4 +1,5 @@
 // Bits in a column of words.
+#![tactic(auto)]
 ghost use Rattle.std.specs.Prelude.{◌≡◌};
 ghost use Rattle.bit_rows.specs.Bits.{bit, with_bit};
 

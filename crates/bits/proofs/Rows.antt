@@ -9,9 +9,9 @@ use lib.Pow.{pow_mono}
 use mir.Syntax.{w64}
 use mir.Val.{SFits, to_z}
 use mir.Facts.{to_z_pos}
-use Rattle.express.specs.Kinds.AnswerRow.{row, row_of}
-use Rattle.express.specs.Kinds.Bits.{join}
-use Rattle.express.proofs.Kinds.Bits.{length_bits, number_mod}
+use Rattle.express.specs.Semantics.AnswerRow.{row, row_of}
+use Rattle.express.specs.Semantics.Bits.{join}
+use Rattle.express.proofs.Semantics.Bits.{length_bits, number_mod}
 use Rattle.values.specs.Meaning.{end_number}
 use Rattle.values.specs.declared.End.{End}
 use Rattle.bits.specs.Meaning.{Joins, Canonical, binary_answer}

@@ -14,9 +14,9 @@ use mir.Syntax.{w64}
 use mir.Val.{Fits}
 use Rattle.relations.specs.Order.{then, compare_lists}
 use Rattle.relations.proofs.Order.{by_lengths}
-use Rattle.express.specs.Kinds.Bits.{bit, number, bits, join, compare_bit, compare_bits}
-use Rattle.express.proofs.Kinds.Bits.{length_bits, number_mod, number_lt, bits_mod, bits_append}
-use Rattle.express.proofs.Kinds.Order.{compare_lt, compare_gt, compare_eq}
+use Rattle.express.specs.Semantics.Bits.{bit, number, bits, join, compare_bit, compare_bits}
+use Rattle.express.proofs.Semantics.Bits.{length_bits, number_mod, number_lt, bits_mod, bits_append}
+use Rattle.express.proofs.Semantics.Order.{compare_lt, compare_gt, compare_eq}
 use Rattle.values.specs.declared.End.TheVariants.{OutOfRange}
 use Rattle.bits.specs.Meaning.{bits_of, Joins}
 use Rattle.bits.specs.declared.Binary.{Binary}

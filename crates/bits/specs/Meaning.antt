@@ -1,7 +1,7 @@
 -- What the types of the code stand for.
 use Rattle.std.specs.Prelude.{◌≡◌, Bool, List, ◌^◌, ◌<◌, ◌≤◌}
-use Rattle.express.specs.Kinds.Answer.{Answer, binary, end}
-use Rattle.express.specs.Kinds.Bits.{bits, join}
+use Rattle.express.specs.Semantics.Answer.{Answer, binary, end}
+use Rattle.express.specs.Semantics.Bits.{bits, join}
 use Rattle.values.specs.Meaning.{end_number}
 use Rattle.bits.specs.declared.Binary.{Binary}
 use Rattle.bits.specs.declared.Joined.{Joined}

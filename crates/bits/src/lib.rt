@@ -1,7 +1,8 @@
 // Binaries: joining and comparing.
+#![tactic(auto)]
 ghost use Rattle.std.specs.Prelude.{◌≡◌, min, ◌≤◌, ◌/◌, ◌%◌, ◌^◌, take};
-ghost use Rattle.express.specs.Kinds.AnswerRow.{row, row_of};
-ghost use Rattle.express.specs.Kinds.Bits.{join, number, compare_bits};
+ghost use Rattle.express.specs.Semantics.AnswerRow.{row, row_of};
+ghost use Rattle.express.specs.Semantics.Bits.{join, number, compare_bits};
 ghost use Rattle.values.specs.Meaning.{ordering_of};
 ghost use Rattle.bits.specs.Meaning.{bits_of, Joins};
 
@@ -16,14 +17,14 @@ const WORD: u8 = 64;
 
 // The last `length` bits of `number`, the leftmost of them weighing most. Every pair stands for a list of bits: what
 // `number` has left of them plays no part.
-#[derive(Drop)]
+#[derive(Clone, Copy)]
 pub struct Binary {
     pub number: u64,
     pub length: u8,
 }
 
 // What joining gives: a binary, or the end that it comes to.
-#[derive(Drop)]
+#[derive(Clone, Copy)]
 pub enum Joined {
     Whole(Binary),
     Ended(End),

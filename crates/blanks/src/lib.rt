@@ -1,18 +1,19 @@
 // Blanks: the spaces and remarks between tokens; and what every reader of bytes uses, single bytes and runs of a class.
+#![tactic(auto)]
 ghost use Rattle.std.specs.Prelude.{◌≡◌, ◌+◌, ◌≤◌, length, drop, get_or};
 ghost use Rattle.express.specs.Tokens.Bytes.{within};
 ghost use Rattle.express.specs.Tokens.Lexis.{pair, either, run, end_of_remark, skipped};
 ghost use Rattle.blanks.specs.Step.{reading, member};
 
 // What a step comes to: the place behind what was read, or a refusal, its reply and its place.
-#[derive(Drop)]
+#[derive(Clone, Copy)]
 pub enum Step {
     At(usize),
     Refused(u8, usize),
 }
 
 // The classes of bytes that a run is made of.
-#[derive(Drop)]
+#[derive(Clone, Copy)]
 pub enum Class {
     Digit,
     Bit,

@@ -10,7 +10,7 @@ use Rattle.express.specs.Syntax.Tree.{Table, is}
 use Rattle.express.specs.Syntax.Grammar.{Nonterminal, file, schema, constants, constant, base, type_declaration, underlying, where_clause, domain_rule, entity}
 use Rattle.express.specs.Syntax.Grammar.{attributes, derived, expression, sum, term, factor, operand, atom, interval, rules}
 use Rattle.express.specs.Syntax.Syntax.{Read}
-use Rattle.express.specs.Kinds.Kind as kinds
+use Rattle.express.specs.Semantics.Kind as kinds
 use Rattle.bounds.proofs.Weight.{Scale, pays}
 use Rattle.bounds.proofs.Bounds.{kept_few}
 

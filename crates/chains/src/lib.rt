@@ -1,4 +1,5 @@
 // Where a word is on the chains of identifiers: the token that is spelled like it, or the bucket that it goes into.
+#![tactic(auto)]
 ghost use Rattle.std.specs.Prelude.{◌≡◌, map, true, ◌+◌, ◌≤◌, ◌<◌, min, length, get_or};
 ghost use Rattle.express.specs.Tokens.Bytes.{lower, same};
 ghost use Rattle.express.specs.Tokens.Spelling.{spelling};
@@ -17,7 +18,7 @@ const FULL: usize = 8;
 const LATER: usize = 6;
 
 // What a walk along a chain met: a token that is spelled like the word, or none, and whether the chain has room.
-#[derive(Drop)]
+#[derive(Clone, Copy)]
 enum Met {
     At(usize),
     Full,
@@ -25,7 +26,7 @@ enum Met {
 }
 
 // Where a word is: the token that is spelled so, or the bucket that it goes into.
-#[derive(Drop)]
+#[derive(Clone, Copy)]
 pub enum Place {
     Known(usize),
     Free(usize),

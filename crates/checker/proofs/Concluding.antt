@@ -9,7 +9,7 @@ use Rattle.columns.specs.Column.{cleared, padded}
 use Rattle.columns.proofs.Laws.{clear_all, clear_front, clear_over}
 use Rattle.express.specs.Tokens.Lexis.{most, lexed}
 use Rattle.express.specs.Syntax.Tree.{count}
-use Rattle.express.specs.Kinds.Kind.{constants}
+use Rattle.express.specs.Semantics.Kind.{constants}
 use Rattle.express.specs.Whole.Reply.{Accepted, report, Tables, column, outcome, tables_after}
 use Rattle.express.specs.Whole.Reply as express
 use Rattle.constants.specs.Constants.{file_answers}

@@ -1,5 +1,7 @@
 // Numbers with names, and nothing else. The terminals stand here, the rest in modules.
 // This file is written by tools/codes from its list of words and symbols.
+#![tactic(auto)]
+
 pub mod answers;
 pub mod ends;
 pub mod labels;

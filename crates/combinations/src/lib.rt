@@ -1,8 +1,9 @@
 // What operators, signs and intervals make of answers, ends among them; what a constant holds.
+#![tactic(auto)]
 ghost use Rattle.std.specs.Prelude.{◌≡◌};
-ghost use Rattle.express.specs.Kinds.Evaluate.{boolean_answer};
-ghost use Rattle.express.specs.Kinds.Operate.{operated, combined, applied, between};
-ghost use Rattle.express.specs.Kinds.Shape.{negative, not};
+ghost use Rattle.express.specs.Semantics.Evaluate.{boolean_answer};
+ghost use Rattle.express.specs.Semantics.Operate.{operated, combined, applied, between};
+ghost use Rattle.express.specs.Semantics.Shape.{negative, not};
 ghost use Rattle.values.specs.Meaning.{logical_of, relation_of};
 ghost use Rattle.operations.specs.Meaning.{answer_of, operator_of, sign_of, Holds};
 

@@ -10,12 +10,12 @@ use Rattle.columns.specs.Column.{padded}
 use Rattle.express.specs.Syntax.NodeKind as node
 use Rattle.express.specs.Syntax.Tree.{Table, count, kind}
 use Rattle.express.specs.Names.Scope as scope
-use Rattle.express.specs.Kinds.Answer.{indeterminate}
-use Rattle.express.specs.Kinds.AnswerRow.{AnswerRow, row_of, rows_from, room_of, row_answer}
-use Rattle.express.specs.Kinds.AnswerRow as answer_row
-use Rattle.express.specs.Kinds.Declared.{declared_type}
-use Rattle.express.specs.Kinds.Kind.{constants, WellTyped}
-use Rattle.express.specs.Kinds.Rule as rule
+use Rattle.express.specs.Semantics.Answer.{indeterminate}
+use Rattle.express.specs.Semantics.AnswerRow.{AnswerRow, row_of, rows_from, room_of, row_answer}
+use Rattle.express.specs.Semantics.AnswerRow as answer_row
+use Rattle.express.specs.Semantics.Declared.{declared_type}
+use Rattle.express.specs.Semantics.Kind.{constants, WellTyped}
+use Rattle.express.specs.Semantics.Rule as rule
 use Rattle.express.proofs.Whole.AnswerRow.{row_back}
 use Rattle.string_laws.proofs.Answers.{answer_holds}
 use Rattle.constants.specs.Constants.{WrittenRows}

@@ -17,11 +17,11 @@ use Rattle.express.specs.Syntax.NodeKind as node
 use Rattle.express.specs.Syntax.Grammar.{file}
 use Rattle.express.specs.Syntax.Syntax.{Read}
 use Rattle.express.specs.Syntax.Tree.{Table, count, kind, is, schema_of}
-use Rattle.express.specs.Kinds.AnswerRow.{bytes_of}
-use Rattle.express.specs.Kinds.Kind.{constants}
+use Rattle.express.specs.Semantics.AnswerRow.{bytes_of}
+use Rattle.express.specs.Semantics.Kind.{constants}
 use Rattle.express.proofs.Syntax.Within.{schema_over}
 use Rattle.express.proofs.Names.Owned.{in_schema}
-use Rattle.express.proofs.Kinds.Backward.{schema_step, schema_end, schema_rises}
+use Rattle.express.proofs.Semantics.Backward.{schema_step, schema_end, schema_rises}
 use Rattle.constants.specs.Constants.{FillsSchemas}
 use Rattle.schemas.specs.Rows.{row, answer_of_constant, start_of, row_of_constant, is_string, OfFile, Rows, Room, Holds, Schema, Filled, FilledRows, Placed, FilledRoom, FillsSchema}
 use Rattle.constant_rows.specs.Parts.{grouped}

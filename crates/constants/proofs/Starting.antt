@@ -15,11 +15,11 @@ use Rattle.relations.proofs.Select.{keep_short}
 use Rattle.express.specs.Syntax.NodeKind as node
 use Rattle.express.specs.Syntax.Tree.{Table, count, kind, is, nodes}
 use Rattle.express.specs.Names.Scope as scope
-use Rattle.express.specs.Kinds.Answer.{Answer, indeterminate, integer, logical, binary, item, string, end, ends}
-use Rattle.express.specs.Kinds.AnswerRow.{row_at, row_of, bytes_of, room_of}
-use Rattle.express.specs.Kinds.Declared.{Declared, INTEGER, BOOLEAN, LOGICAL, BINARY, STRING, enumeration, other, declared_type}
-use Rattle.express.specs.Kinds.DeclaredColumn.{declared_number}
-use Rattle.express.specs.Kinds.Kind.{constants, WellTyped}
+use Rattle.express.specs.Semantics.Answer.{Answer, indeterminate, integer, logical, binary, item, string, end, ends}
+use Rattle.express.specs.Semantics.AnswerRow.{row_at, row_of, bytes_of, room_of}
+use Rattle.express.specs.Semantics.Declared.{Declared, INTEGER, BOOLEAN, LOGICAL, BINARY, STRING, enumeration, other, declared_type}
+use Rattle.express.specs.Semantics.DeclaredColumn.{declared_number}
+use Rattle.express.specs.Semantics.Kind.{constants, WellTyped}
 use Rattle.express.proofs.Syntax.Within.{file_last}
 use Rattle.string_laws.proofs.Answers.{StringAnswer, no_value, an_end, a_string, no_bytes, string_answer}
 use Rattle.string_places.specs.Places.{size_in, start_in, PlacesStrings}

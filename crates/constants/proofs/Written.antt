@@ -11,9 +11,9 @@ use Rattle.columns.specs.Column.{cleared, padded}
 use Rattle.columns.proofs.Laws.{length_cleared}
 use Rattle.relations.proofs.Select.{le_or}
 use Rattle.express.specs.Syntax.Tree.{Table, count}
-use Rattle.express.specs.Kinds.Answer.{Answer, indeterminate}
-use Rattle.express.specs.Kinds.AnswerRow.{AnswerRow, row_at, row_of, bytes_of, rows_from, room_of}
-use Rattle.express.specs.Kinds.Kind.{constants}
+use Rattle.express.specs.Semantics.Answer.{Answer, indeterminate}
+use Rattle.express.specs.Semantics.AnswerRow.{AnswerRow, row_at, row_of, bytes_of, rows_from, room_of}
+use Rattle.express.specs.Semantics.Kind.{constants}
 use Rattle.constants.specs.Constants.{WrittenRows, PlacesConstants, FillsSchemas, EvaluatesConstants}
 use Rattle.constant_rows.specs.Numbering.{NumbersRows}
 use Rattle.schemas.specs.Rows.{row, file_answers, start_of, row_of_constant, OfFile, Rows, Room, Holds, Filled, FilledRoom}

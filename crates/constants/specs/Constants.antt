@@ -3,9 +3,9 @@ use Rattle.std.specs.Prelude.{◌≡◌, List, map, ℕ, ◌≤◌, ℤ, pos, le
 use Rattle.std.proofs.lemmas.List.Edits.{sets}
 use Rattle.columns.specs.Column.{padded}
 use Rattle.express.specs.Syntax.Tree.{Table, count}
-use Rattle.express.specs.Kinds.Answer.{Answer}
-use Rattle.express.specs.Kinds.AnswerRow.{AnswerRow, rows_from, room_of}
-use Rattle.express.specs.Kinds.Kind.{constants}
+use Rattle.express.specs.Semantics.Answer.{Answer}
+use Rattle.express.specs.Semantics.AnswerRow.{AnswerRow, rows_from, room_of}
+use Rattle.express.specs.Semantics.Kind.{constants}
 use Rattle.schemas.specs.Rows.{start_of, row_of_constant, Placed, FilledRows, FilledRoom}
 -- what the promise is made of, for those who cite it
 pub use Rattle.constant_rows.specs.Numbering.{row_in}

@@ -1,4 +1,5 @@
 // The evaluation of the constants of a file into its answer columns, one schema after the other.
+#![tactic(auto)]
 ghost use Rattle.constants.specs.Constants.{PlacesConstants, FillsSchemas, EvaluatesConstants};
 
 use constant_rows::number_rows;

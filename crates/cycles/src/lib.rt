@@ -1,4 +1,5 @@
 // Strongly connected components, and with them the smallest vertex on a cycle and an order of dependencies.
+#![tactic(auto)]
 ghost use Rattle.std.specs.Prelude.{◌≡◌, [], ℕ, ◌+◌, ◌*◌, ◌-◌, ◌<◌, length, get_or, set};
 ghost use Rattle.graph.specs.Graph.{vertices};
 ghost use Rattle.cycles.specs.State.{cell, state};
@@ -34,7 +35,7 @@ const OPEN: usize = 1;
 const CLOSED: usize = 2;
 
 // What the search does next.
-#[derive(Drop)]
+#[derive(Clone, Copy)]
 enum Step {
     Done,
     Skip,
@@ -46,7 +47,7 @@ enum Step {
 }
 
 // How far the search is: the root to try, the open vertices, those on the path, the groups along it, the closed vertices.
-#[derive(Drop)]
+#[derive(Clone, Copy)]
 struct Counts {
     root: usize,
     height: usize,
@@ -56,14 +57,14 @@ struct Counts {
 }
 
 // The search is over, or goes on.
-#[derive(Drop)]
+#[derive(Clone, Copy)]
 enum After {
     Over,
     On(Counts),
 }
 
 // The smallest vertex on a cycle. Scratch that is too short is told the entries that it needs.
-#[derive(Drop)]
+#[derive(Clone, Copy)]
 pub enum Cycle {
     At(usize),
     Nothing,
@@ -72,7 +73,7 @@ pub enum Cycle {
 }
 
 // Whether there is an order, or else the smallest vertex on a cycle.
-#[derive(Drop)]
+#[derive(Clone, Copy)]
 pub enum Dependencies {
     Acyclic,
     Cyclic(usize),
@@ -81,7 +82,7 @@ pub enum Dependencies {
     ScratchShort(usize),
 }
 
-#[derive(Drop)]
+#[derive(Clone, Copy)]
 pub enum Grouping {
     Grouped,
     Malformed,

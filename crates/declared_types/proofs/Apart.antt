@@ -14,8 +14,8 @@ use Rattle.relations.proofs.Select.{and_snd}
 use Rattle.express.specs.Syntax.NodeKind as node
 use Rattle.express.specs.Syntax.Tree.{Table, kind, terminal, first, is}
 use Rattle.express.specs.Names.Fault.{is_enumeration}
-use Rattle.express.specs.Kinds.Declared.{declaration, bound, simple}
-use Rattle.express.specs.Kinds.DeclaredColumn.{declared_number}
+use Rattle.express.specs.Semantics.Declared.{declaration, bound, simple}
+use Rattle.express.specs.Semantics.DeclaredColumn.{declared_number}
 use Rattle.declared_types.specs.Storing.{store, enumeration_number, base_number, type_number, type_items_stored, type_stored, types_stored}
 
 -- the items of all types, and the types alone

@@ -10,7 +10,7 @@ use Rattle.relations.specs.Select.{span}
 use Rattle.express.specs.Syntax.Tree.{Table, first, is, type_node}
 use Rattle.express.specs.Names.Scope.{bindings}
 use Rattle.express.specs.Names.Fault.{is_enumeration}
-use Rattle.express.specs.Kinds.DeclaredColumn.{DeclaredColumn}
+use Rattle.express.specs.Semantics.DeclaredColumn.{DeclaredColumn}
 use Rattle.declared_types.specs.Storing.{table_of, store, enumeration_number, base_number, type_number}
 use Rattle.declared_types.specs.Storing.{type_items_stored, type_stored, constant_stored, types_stored, constants_stored}
 use Rattle.declared_types.specs.Promise.{ColumnsOf, Accepted, Declares}

@@ -17,7 +17,7 @@ use Rattle.express.specs.Syntax.Tree.{Table, count, symbol, is_name_in, is_decla
 use Rattle.express.specs.Tokens.Terminal.{the, LOGICAL}
 use Rattle.express.specs.Names.Scope.{declarations_of, edges, renaming_edges, super_edges, type_edges}
 use Rattle.express.specs.Names.Names.{WellNamed}
-use Rattle.express.specs.Kinds.Declared.{simple}
+use Rattle.express.specs.Semantics.Declared.{simple}
 use Rattle.express.proofs.Names.Meaning.{declarations_iff, edge_start, cyclic_fine}
 use Rattle.declared_types.specs.Storing.{table_of, enumeration_number, base_number, type_number}
 use Rattle.declared_types.specs.Storing.{type_items_stored, type_stored, constant_stored, types_stored, constants_stored}

@@ -9,7 +9,7 @@ use Rattle.express.specs.Syntax.Grammar.{file}
 use Rattle.express.specs.Syntax.Syntax.{Read}
 use Rattle.express.specs.Names.Scope.{bindings, type_edges}
 use Rattle.express.specs.Names.Names.{WellNamed}
-use Rattle.express.specs.Kinds.DeclaredColumn.{DeclaredColumn}
+use Rattle.express.specs.Semantics.DeclaredColumn.{DeclaredColumn}
 
 -- the columns are those of a table
 pub record ColumnsOf (t : Table) (terminals kinds tokens sizes : List ℕ) : Type 0 where

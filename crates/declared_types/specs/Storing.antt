@@ -6,8 +6,8 @@ use Rattle.express.specs.Syntax.NodeKind.{simple_type, enumeration_item, constan
 use Rattle.relations.specs.Select.{span}
 use Rattle.express.specs.Syntax.Tree.{Table, terminal, first, is, type_node}
 use Rattle.express.specs.Names.Fault.{is_enumeration}
-use Rattle.express.specs.Kinds.Declared.{declaration, bound, simple, renames}
-use Rattle.express.specs.Kinds.DeclaredColumn.{declared_number}
+use Rattle.express.specs.Semantics.Declared.{declaration, bound, simple, renames}
+use Rattle.express.specs.Semantics.DeclaredColumn.{declared_number}
 
 -- a table with these columns: what is declared goes by no others
 abbrev pub table_of : List ℕ → List ℕ → List ℕ → List ℕ → Table

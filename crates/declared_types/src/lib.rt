@@ -1,8 +1,9 @@
 // What constants and types are declared with, seen through renamings: a number for each, in a column with an entry for each node.
+#![tactic(auto)]
 ghost use Rattle.std.specs.Prelude.{◌≡◌, cond, [], ◌+◌, ◌-◌, get_or, set, eqb};
 ghost use Rattle.express.specs.Syntax.NodeKind.{enumeration_item};
-ghost use Rattle.express.specs.Kinds.Declared.{simple};
-ghost use Rattle.express.specs.Kinds.DeclaredColumn.{declared_number};
+ghost use Rattle.express.specs.Semantics.Declared.{simple};
+ghost use Rattle.express.specs.Semantics.DeclaredColumn.{declared_number};
 ghost use Rattle.declared_types.specs.Storing.{table_of, enumeration_number, base_number, type_number};
 ghost use Rattle.declared_types.specs.Storing.{type_items_stored, type_stored, constant_stored, types_stored, constants_stored};
 ghost use Rattle.declared_types.specs.Promise.{Declares};

@@ -8,10 +8,10 @@ use lib.IntN.{ℤ, pos}
 use lib.ListN.{length, get_or, replicate}
 use Rattle.columns.specs.Column.{padded}
 use Rattle.columns.proofs.Laws.{getD_padded}
-use Rattle.express.specs.Kinds.Answer.{indeterminate}
-use Rattle.express.specs.Kinds.AnswerRow.{AnswerRow, row_of, row_answer}
-use Rattle.express.specs.Kinds.Kind.{constants}
-use Rattle.express.specs.Kinds.Rule.{Exactly}
+use Rattle.express.specs.Semantics.Answer.{indeterminate}
+use Rattle.express.specs.Semantics.AnswerRow.{AnswerRow, row_of, row_answer}
+use Rattle.express.specs.Semantics.Kind.{constants}
+use Rattle.express.specs.Semantics.Rule.{Exactly}
 use Rattle.express.specs.Whole.Reply.{Accepted, Checked, accepted, refused, Report, report, Tables, answer_rows, answer_room, outcome, tables_after}
 use Rattle.express.proofs.Whole.Numbers.{numbered, reply_zero}
 use Rattle.express.proofs.Whole.AnswerRow.{row_back}

@@ -1,9 +1,9 @@
 -- THE CONTRACT OF THE PUBLIC CALL (R1, R16 to R18). Handed the bytes s and the lent tables l, it answers the report r and leaves the tables m.
 use Rattle.std.specs.Prelude.{◌≡◌, ◌↔◌, ◌≢◌, ◌⊎◌, List, ℕ, ◌≤◌, ◌<◌, ℤ, pos, length, get_or, replicate}
-use Rattle.express.specs.Kinds.Answer.{Answer}
-use Rattle.express.specs.Kinds.AnswerRow.{row, row_answer}
-use Rattle.express.specs.Kinds.Kind.{constants}
-use Rattle.express.specs.Kinds.Rule.{Exactly}
+use Rattle.express.specs.Semantics.Answer.{Answer}
+use Rattle.express.specs.Semantics.AnswerRow.{row, row_answer}
+use Rattle.express.specs.Semantics.Kind.{constants}
+use Rattle.express.specs.Semantics.Rule.{Exactly}
 use Rattle.express.specs.Whole.Reply.{Accepted, accepted, Report, report, Tables, token_entries, node_entries, answer_entries, outcome, tables_after}
 use Rattle.express.specs.Whole.Acceptance.{Acceptable}
 

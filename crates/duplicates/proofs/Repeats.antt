@@ -15,7 +15,7 @@ use Rattle.express.specs.Syntax.Tree as tree
 use Rattle.express.specs.Syntax.Tree.{Table, count, symbol, place}
 use Rattle.express.specs.Names.Fault.{Fault, fault, fine, sort, scope, alike, repeated}
 use Rattle.express.specs.Names.Names.{Stage, Passes, sooner, least}
-use Rattle.express.proofs.Kinds.Backward.{least_step, least_end}
+use Rattle.express.proofs.Semantics.Backward.{least_step, least_end}
 use Rattle.express.proofs.Names.Names.{Untied, passes_iff, least_is, least_skip, least_only}
 use Rattle.index.specs.Dictionary.{has, first_with, Continues, Indexed}
 use Rattle.index.specs.declared.dictionary.Found.{Found}

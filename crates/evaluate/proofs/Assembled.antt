@@ -10,11 +10,11 @@ use lib.IntN.{ℤ}
 use lib.ListN.{get_or}
 use Rattle.express.specs.Syntax.NodeKind as node
 use Rattle.express.specs.Syntax.Tree.{Table, kind}
-use Rattle.express.specs.Kinds.Answer.{Answer}
-use Rattle.express.specs.Kinds.Declared.{declaration, bound, denoted}
-use Rattle.express.specs.Kinds.Shape.{Shape, name, name_shape_in}
-use Rattle.express.specs.Kinds.Shape as shapes
-use Rattle.express.specs.Kinds.Evaluate.{answer_in, answer_at}
+use Rattle.express.specs.Semantics.Answer.{Answer}
+use Rattle.express.specs.Semantics.Declared.{declaration, bound, denoted}
+use Rattle.express.specs.Semantics.Shape.{Shape, name, name_shape_in}
+use Rattle.express.specs.Semantics.Shape as shapes
+use Rattle.express.specs.Semantics.Evaluate.{answer_in, answer_at}
 use Rattle.operations.specs.Meaning.{answer_of, sized}
 use Rattle.operations.specs.declared.Answer as code
 use Rattle.operations.specs.declared.Answer.TheVariants.{Indeterminate}

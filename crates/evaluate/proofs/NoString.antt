@@ -9,10 +9,10 @@ use native.Mathlib.Omega.{arith}
 use lib.Dec.{eqb}
 use lib.IntN.{ℤ}
 use lib.ListN.{get_or}
-use Rattle.express.specs.Kinds.Answer.{Answer, indeterminate, integer, logical, binary, item, string, end}
-use Rattle.express.specs.Kinds.AnswerRow.{row}
-use Rattle.express.specs.Kinds.Operate.{string_in}
-use Rattle.express.specs.Kinds.Evaluate.{answer_at}
+use Rattle.express.specs.Semantics.Answer.{Answer, indeterminate, integer, logical, binary, item, string, end}
+use Rattle.express.specs.Semantics.AnswerRow.{row}
+use Rattle.express.specs.Semantics.Operate.{string_in}
+use Rattle.express.specs.Semantics.Evaluate.{answer_at}
 use Rattle.operations.specs.Meaning.{sized}
 use Rattle.answer_rows.specs.Stored.{storable, stored, sized_answer}
 use Rattle.node_answers.specs.Answers.{answers_in}

@@ -13,13 +13,13 @@ use lib.ListN.{get_or}
 use Rattle.relations.proofs.Select.{and_fst, and_snd, or_cases}
 use Rattle.express.specs.Syntax.NodeKind as node
 use Rattle.express.specs.Syntax.Tree.{Table, kind, terminal, last, left, low, middle}
-use Rattle.express.specs.Kinds.Answer.{Answer}
-use Rattle.express.specs.Kinds.Relation.{Relation}
-use Rattle.express.specs.Kinds.Shape.{Operator, plus, arithmetic, relation, connective, Shape, integer_literal, logical_literal, binary_literal, string_literal, question}
-use Rattle.express.specs.Kinds.Shape.{item, name, unary, operator, interval, interval_operator, type, constant, unevaluated, evaluated, operator_of, shape_in}
-use Rattle.express.specs.Kinds.Operate.{string_in}
-use Rattle.express.specs.Kinds.Evaluate.{answer_in, answer_at}
-use Rattle.express.proofs.Kinds.Shapes.{Decoded, decoded_in}
+use Rattle.express.specs.Semantics.Answer.{Answer}
+use Rattle.express.specs.Semantics.Relation.{Relation}
+use Rattle.express.specs.Semantics.Shape.{Operator, plus, arithmetic, relation, connective, Shape, integer_literal, logical_literal, binary_literal, string_literal, question}
+use Rattle.express.specs.Semantics.Shape.{item, name, unary, operator, interval, interval_operator, type, constant, unevaluated, evaluated, operator_of, shape_in}
+use Rattle.express.specs.Semantics.Operate.{string_in}
+use Rattle.express.specs.Semantics.Evaluate.{answer_in, answer_at}
+use Rattle.express.proofs.Semantics.Shapes.{Decoded, decoded_in}
 use Rattle.operations.specs.Meaning.{sized}
 use Rattle.operations.specs.declared.Answer as code
 use Rattle.operations.proofs.Sized.{compares_strings, sized_combined, sized_applied, sized_held, sized_between, no_second}

@@ -8,8 +8,8 @@ use lib.IntN.{ℤ}
 use lib.ListN.{length, set}
 use lib.Seq.{get_or-set_same, get_or-set_other}
 use Rattle.express.specs.Syntax.Tree.{Table}
-use Rattle.express.specs.Kinds.Answer.{Answer, indeterminate}
-use Rattle.express.specs.Kinds.Evaluate.{answer_at}
+use Rattle.express.specs.Semantics.Answer.{Answer, indeterminate}
+use Rattle.express.specs.Semantics.Evaluate.{answer_at}
 use Rattle.operations.specs.Meaning.{sized}
 use Rattle.node_answers.specs.Answers.{answers_in, Keeps}
 use Rattle.node_answers.specs.NodeAnswer.{Against}

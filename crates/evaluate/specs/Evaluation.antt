@@ -3,10 +3,10 @@ use Rattle.std.specs.Prelude.{◌≡◌, List, ℕ, ◌+◌, ◌-◌, ◌≤◌,
 use Rattle.express.specs.Syntax.NodeKind as node
 use Rattle.express.specs.Syntax.Tree.{Table, count, kind, size, first, last, left, low, middle}
 use Rattle.express.specs.Tokens.Lexis.{most_bytes}
-use Rattle.express.specs.Kinds.Answer.{Answer, indeterminate, item, string}
-use Rattle.express.specs.Kinds.AnswerRow.{bytes_of}
-use Rattle.express.specs.Kinds.Shape.{name, name_shape_in, shape_in}
-use Rattle.express.specs.Kinds.Evaluate.{answer_in, answer_at}
+use Rattle.express.specs.Semantics.Answer.{Answer, indeterminate, item, string}
+use Rattle.express.specs.Semantics.AnswerRow.{bytes_of}
+use Rattle.express.specs.Semantics.Shape.{name, name_shape_in, shape_in}
+use Rattle.express.specs.Semantics.Evaluate.{answer_in, answer_at}
 use Rattle.operations.specs.Meaning.{sized}
 use Rattle.operations.specs.declared.Answer as operations
 use Rattle.node_answers.specs.Answers.{answers_in, Gives, Keeps}

@@ -19,17 +19,17 @@ use Rattle.express.specs.Syntax.Tree.{count, owner, schema_of}
 use Rattle.express.specs.Names.Scope.{declarations, items, own, super_edges, renaming_edges, type_edges, inherited, candidates, type_meant, items_of, item_meant, means, binding, bindings}
 use Rattle.express.specs.Names.Fault.{sort, scope, repeated, type_name_fault, cyclic, qualified, expression, constant_edges}
 use Rattle.express.specs.Names.Names.{stages, least, first_fault, names}
-use Rattle.express.specs.Kinds.Integer.{exact, quotient, remainder, DIV, MOD, power}
-use Rattle.express.specs.Kinds.Logic.{AND, OR, XOR}
+use Rattle.express.specs.Semantics.Integer.{exact, quotient, remainder, DIV, MOD, power}
+use Rattle.express.specs.Semantics.Logic.{AND, OR, XOR}
 use Rattle.relations.specs.Order.{compare_lists}
-use Rattle.express.specs.Kinds.Bits.{join}
-use Rattle.express.specs.Kinds.Strings.{join_strings}
-use Rattle.express.specs.Kinds.Declared.{simple, denoted_in}
-use Rattle.express.specs.Kinds.Shape.{operator_of, shape_in}
-use Rattle.express.specs.Kinds.Kind.{type_nodes_in, type_constants, typing}
-use Rattle.express.specs.Kinds.Evaluate.{run_in, evaluate, answers}
-use Rattle.express.specs.Kinds.Order.{constant_order}
-use Rattle.express.specs.Kinds.AnswerRow.{rows_from}
+use Rattle.express.specs.Semantics.Bits.{join}
+use Rattle.express.specs.Semantics.Strings.{join_strings}
+use Rattle.express.specs.Semantics.Declared.{simple, denoted_in}
+use Rattle.express.specs.Semantics.Shape.{operator_of, shape_in}
+use Rattle.express.specs.Semantics.Kind.{type_nodes_in, type_constants, typing}
+use Rattle.express.specs.Semantics.Evaluate.{run_in, evaluate, answers}
+use Rattle.express.specs.Semantics.Order.{constant_order}
+use Rattle.express.specs.Semantics.AnswerRow.{rows_from}
 use Rattle.relations.specs.Select.{span, first_from, keep, any}
 use Rattle.relations.specs.Reach.{added, closure}
 use Rattle.express.specs.Whole.Reply.{Accepted, Checked, accepted, refused, checked_with, checked, token_kinds, token_starts, token_lengths, node_kinds, node_tokens, node_sizes}

@@ -1,6 +1,6 @@
 pub mod Tokens
 pub mod Syntax
 pub mod Names
-pub mod Kinds
+pub mod Semantics
 pub mod Whole
 pub mod Theorems

@@ -1,5 +1,5 @@
 pub mod Tokens
 pub mod Syntax
 pub mod Names
-pub mod Kinds
+pub mod Semantics
 pub mod Whole

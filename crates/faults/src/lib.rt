@@ -1,4 +1,5 @@
 // What is wrong with a name: a reply from 9 to 13 and a place in the text.
+#![tactic(auto)]
 ghost use Rattle.std.specs.Prelude.{◌≡◌};
 ghost use Rattle.express.specs.Names.Fault as express;
 ghost use Rattle.express.specs.Names.Names as stages;
@@ -9,7 +10,7 @@ ghost use Rattle.faults.specs.Meaning.{fault_of};
 use scopes::look_ups::Meaning;
 
 // A reply and a place; reply 0 is no fault.
-#[derive(Drop)]
+#[derive(Clone, Copy)]
 pub struct Fault {
     pub number: u8,
     pub place: u32,

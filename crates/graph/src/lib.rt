@@ -1,10 +1,11 @@
 // Directed graphs whose arcs stand grouped by source: the test of the two columns, and all that a vertex reaches.
+#![tactic(auto)]
 ghost use Rattle.std.specs.Prelude.{◌≡◌, true, false, ℕ, ◌+◌, ◌-◌, ◌≤◌, ◌<◌, length, get_or};
 ghost use Rattle.graph.specs.Graph.{Graph, Tells};
 ghost use Rattle.graph.specs.Mark.{stamped, unstamped, Searches, Expands};
 
 // Whether all that is reached is marked; a queue or a column of marks that is too short is told the entries that it needs.
-#[derive(Drop)]
+#[derive(Clone, Copy)]
 pub enum Marking {
     Marked,
     Malformed,

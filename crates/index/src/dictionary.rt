@@ -5,7 +5,7 @@ use crate::{Outcome, bucket, scratch};
 use columns::{clear32, index, number};
 
 // An entry, by its index.
-#[derive(Drop)]
+#[derive(Clone, Copy)]
 pub enum Found {
     At(usize),
     Nothing,

@@ -1,6 +1,7 @@
 // A dictionary over keys, in expected linear time. Chains stand in lent scratch: a number falls into one of the buckets, as
 // many as `heads` is long; `heads` holds where a bucket's chain begins, `next` how it goes on; a link is an entry plus one, and
 // 0 ends a chain.
+#![tactic(auto)]
 pub mod dictionary;
 
 ghost use Rattle.std.specs.Prelude.{◌≡◌, ◌<◌};
@@ -18,7 +19,7 @@ pub const FACTOR: u64 = 2654435761;
 const ENTRIES: usize = 4294967295;
 
 // Whether the scratch and the columns had room for the work.
-#[derive(Drop)]
+#[derive(Clone, Copy)]
 pub enum Outcome {
     Done,
     Short,

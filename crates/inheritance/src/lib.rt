@@ -2,6 +2,7 @@
 // attributes of all that the entity reaches over supertypes. One search for each such entity; the attributes of what it reaches go
 // into a table by symbol, under the entity's own stamp. They are found by the entries of the dictionary, among which those of a declaration
 // stand together.
+#![tactic(auto)]
 ghost use Rattle.std.specs.Prelude.{◌≡◌, ◌<◌, length};
 ghost use Rattle.symbol_tables.specs.Table.{symbol_in};
 ghost use Rattle.inheritance.specs.Inheritance.{Inherits};

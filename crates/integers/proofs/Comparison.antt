@@ -7,8 +7,8 @@ use lib.Signed.{lt_z}
 use mir.Facts.{to_z-of_z}
 use mir.Syntax.{w64}
 use mir.Val.{SFits}
-use Rattle.express.specs.Kinds.Integer.{compareℤ}
-use Rattle.express.proofs.Kinds.Order.{less_integer, more_integer, same_integer}
+use Rattle.express.specs.Semantics.Integer.{compareℤ}
+use Rattle.express.proofs.Semantics.Order.{less_integer, more_integer, same_integer}
 use Rattle.integers.proofs.Exact.{own}
 
 module _ {a b : ℤ} (f : SFits w64 a) (g : SFits w64 b) where

@@ -10,8 +10,8 @@ use lib.Signed.{mag, lt_z, le_z}
 use mir.Syntax.{w64}
 use mir.Val.{SFits, to_z, of_z}
 use mir.Facts.{to_z-of_z}
-use Rattle.express.specs.Kinds.Answer.{Answer, integer, end}
-use Rattle.express.specs.Kinds.Integer.{exact, negative}
+use Rattle.express.specs.Semantics.Answer.{Answer, integer, end}
+use Rattle.express.specs.Semantics.Integer.{exact, negative}
 
 abbrev pub own : ℤ → ℤ
 own z = to_z w64 (of_z w64 z)

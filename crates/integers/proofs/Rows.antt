@@ -5,7 +5,7 @@ use lib.IntN.{ℤ, pos}
 use mir.Syntax.{w64}
 use mir.Val.{SFits, to_z, of_z}
 use mir.Facts.{to_z-of_z}
-use Rattle.express.specs.Kinds.AnswerRow.{row, row_of}
+use Rattle.express.specs.Semantics.AnswerRow.{row, row_of}
 use Rattle.values.specs.Meaning.{end_number}
 use Rattle.values.specs.declared.End.{End}
 use Rattle.integers.specs.Meaning.{integer_answer}

@@ -10,9 +10,9 @@ use lib.Signed.{lt_z, mag, nat_abs-le}
 use mir.Facts.{to_z-of_z}
 use mir.Syntax.{w64}
 use mir.Val.{SFits, of_z}
-use Rattle.express.specs.Kinds.Answer.{end}
-use Rattle.express.specs.Kinds.Integer.{exact, negation, negative}
-use Rattle.express.proofs.Kinds.Integer.{least, greatest}
+use Rattle.express.specs.Semantics.Answer.{end}
+use Rattle.express.specs.Semantics.Integer.{exact, negation, negative}
+use Rattle.express.proofs.Semantics.Integer.{least, greatest}
 use Rattle.integers.proofs.Exact.{own, exact_over, Gives, gives, sign_is, bits_are, abs_neg}
 
 -- ---- the order by the sign of a difference, so that a number can be moved to the other side

@@ -1,7 +1,8 @@
 // Integers of 64 bits: exact results, and the ends of what has none. Sums, opposites, their order, and the rows of outcomes.
+#![tactic(auto)]
 ghost use Rattle.std.specs.Prelude.{◌≡◌};
-ghost use Rattle.express.specs.Kinds.AnswerRow.{row, row_of};
-ghost use Rattle.express.specs.Kinds.Integer.{sum, difference, negation, compareℤ};
+ghost use Rattle.express.specs.Semantics.AnswerRow.{row, row_of};
+ghost use Rattle.express.specs.Semantics.Integer.{sum, difference, negation, compareℤ};
 ghost use Rattle.values.specs.Meaning.{ordering_of};
 ghost use Rattle.integers.specs.Meaning.{integer_answer};
 
@@ -14,7 +15,7 @@ pub const LEAST: i64 = -9223372036854775808;
 pub const GREATEST: i64 = 9223372036854775807;
 
 // What an operation gives: its exact result, or the end that it comes to.
-#[derive(Drop)]
+#[derive(Clone, Copy)]
 pub enum Outcome {
     Value(i64),
     Ended(End),

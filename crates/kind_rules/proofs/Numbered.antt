@@ -8,12 +8,12 @@ use native.Mathlib.Omega.{arith}
 use types.Run.{OneOf}
 use borrow.Author.Tests.{eq-eqb, ne_eqb}
 use lib.Dec.{eqb}
-use Rattle.express.specs.Kinds.Declared.{Declared, INTEGER, BOOLEAN, LOGICAL, BINARY, STRING, enumeration, other}
-use Rattle.express.specs.Kinds.DeclaredColumn.{declared_number}
-use Rattle.express.specs.Kinds.Shape.{negative, positive, operator_of}
-use Rattle.express.specs.Kinds.Operate.{Kind, logicals, items, integral, truthful, summable, comparable}
-use Rattle.express.specs.Kinds.Kind.{kind_number, of_number, common, kind_of_type, of_kind, fault, if_fits, if_evaluated}
-use Rattle.express.proofs.Kinds.KindNumbers.{number_back, number_there, common_number, integral_number, truthful_number, summable_number, comparable_number}
+use Rattle.express.specs.Semantics.Declared.{Declared, INTEGER, BOOLEAN, LOGICAL, BINARY, STRING, enumeration, other}
+use Rattle.express.specs.Semantics.DeclaredColumn.{declared_number}
+use Rattle.express.specs.Semantics.Shape.{negative, positive, operator_of}
+use Rattle.express.specs.Semantics.Operate.{Kind, logicals, items, integral, truthful, summable, comparable}
+use Rattle.express.specs.Semantics.Kind.{kind_number, of_number, common, kind_of_type, of_kind, fault, if_fits, if_evaluated}
+use Rattle.express.proofs.Semantics.KindNumbers.{number_back, number_there, common_number, integral_number, truthful_number, summable_number, comparable_number}
 use Rattle.kind_rules.specs.Findings.{class_of, class_of_sign}
 use Rattle.kind_rules.specs.declared.Class.{Class}
 use Rattle.kind_rules.specs.declared.Class.TheVariants.{Arithmetic, Unevaluated}

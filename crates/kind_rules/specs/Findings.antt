@@ -4,12 +4,12 @@ use Rattle.std.proofs.Math.Option.{Option, none, some}
 use Rattle.express.specs.Tokens.Terminal.{the}
 use Rattle.express.specs.Tokens.Terminal as word
 use Rattle.express.specs.Syntax.NodeKind as node
-use Rattle.express.specs.Kinds.Declared.{Declared}
-use Rattle.express.specs.Kinds.DeclaredColumn.{declared_number}
-use Rattle.express.specs.Kinds.Shape.{Operator, plus, arithmetic, relation, connective, Sign, positive, negative, not}
-use Rattle.express.specs.Kinds.Operate.{Kind, integers, logicals, binaries, strings, undetermined, untyped, integral, truthful, summable, comparable}
-use Rattle.express.specs.Kinds.Kind.{of_number, common, kind_of_type, of_kind, fault, if_fits, if_evaluated}
-use Rattle.express.specs.Kinds.Kind as express
+use Rattle.express.specs.Semantics.Declared.{Declared}
+use Rattle.express.specs.Semantics.DeclaredColumn.{declared_number}
+use Rattle.express.specs.Semantics.Shape.{Operator, plus, arithmetic, relation, connective, Sign, positive, negative, not}
+use Rattle.express.specs.Semantics.Operate.{Kind, integers, logicals, binaries, strings, undetermined, untyped, integral, truthful, summable, comparable}
+use Rattle.express.specs.Semantics.Kind.{of_number, common, kind_of_type, of_kind, fault, if_fits, if_evaluated}
+use Rattle.express.specs.Semantics.Kind as express
 use Rattle.kind_rules.specs.declared.Class.{Class}
 use Rattle.kind_rules.specs.declared.Class.TheVariants.{Plus, Arithmetic, Relation, Connective, Unevaluated}
 use Rattle.kind_rules.specs.declared.Finding.{Finding}

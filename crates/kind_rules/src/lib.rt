@@ -1,12 +1,13 @@
 // Kinds and declared types by their numbers: what is found at a node, from the kinds of its operands.
+#![tactic(auto)]
 ghost use Rattle.std.specs.Prelude.{◌≡◌, ◌&&◌};
 ghost use Rattle.express.specs.Syntax.NodeKind.{other_literal};
-ghost use Rattle.express.specs.Kinds.DeclaredColumn.{declared_number};
-ghost use Rattle.express.specs.Kinds.Declared as Declared;
-ghost use Rattle.express.specs.Kinds.Shape.{operator_of, sign_of};
-ghost use Rattle.express.specs.Kinds.Operate.{logicals, integral, truthful, summable, comparable};
-ghost use Rattle.express.specs.Kinds.Kind.{kind_number, of_number, if_fits};
-ghost use Rattle.express.specs.Kinds.Kind as Kind;
+ghost use Rattle.express.specs.Semantics.DeclaredColumn.{declared_number};
+ghost use Rattle.express.specs.Semantics.Declared as Declared;
+ghost use Rattle.express.specs.Semantics.Shape.{operator_of, sign_of};
+ghost use Rattle.express.specs.Semantics.Operate.{logicals, integral, truthful, summable, comparable};
+ghost use Rattle.express.specs.Semantics.Kind.{kind_number, of_number, if_fits};
+ghost use Rattle.express.specs.Semantics.Kind as Kind;
 ghost use Rattle.kind_rules.specs.Findings.{finding_of, class_of, class_of_sign, applied, leaf_found, KindOfType, Evaluated, Held};
 
 use codes::types;
@@ -25,7 +26,7 @@ pub const BINARIES: u32 = 4;
 pub const STRINGS: u32 = 5;
 
 // Operators by what they take and give; `/` is not evaluated.
-#[derive(Drop)]
+#[derive(Clone, Copy)]
 pub enum Class {
     Plus,
     Arithmetic,
@@ -35,7 +36,7 @@ pub enum Class {
 }
 
 // A node's kind, or the reply.
-#[derive(Drop)]
+#[derive(Clone, Copy)]
 pub enum Finding {
     OfKind(u32),
     Fault(u8),

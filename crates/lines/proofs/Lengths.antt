@@ -11,10 +11,10 @@ use lib.ListN.{length, get_or, take, drop, length_append, length-map, length_tak
 use Rattle.express.specs.Tokens.Bytes.{lower}
 use Rattle.express.specs.Tokens.Terminal.{bytes}
 use Rattle.express.specs.Syntax.Tree.{Table, token, schema_of}
-use Rattle.express.specs.Kinds.Answer.{Logical, FALSE, UNKNOWN, TRUE, Answer, indeterminate, integer, logical, binary, item, string, end}
-use Rattle.express.specs.Kinds.AnswerRow.{natural, ranked}
-use Rattle.express.specs.Kinds.Bits.{bits}
-use Rattle.express.proofs.Kinds.Bits.{length_bits}
+use Rattle.express.specs.Semantics.Answer.{Logical, FALSE, UNKNOWN, TRUE, Answer, indeterminate, integer, logical, binary, item, string, end}
+use Rattle.express.specs.Semantics.AnswerRow.{natural, ranked}
+use Rattle.express.specs.Semantics.Bits.{bits}
+use Rattle.express.proofs.Semantics.Bits.{length_bits}
 use Rattle.express.specs.Whole.Listing.{signed, logical_name, bit_digit, name_of, printed, answer_line}
 use Rattle.records.specs.declared.Answer as records
 use Rattle.lines.specs.declared.Line.TheVariants.{Written}

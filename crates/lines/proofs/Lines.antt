@@ -13,10 +13,10 @@ use Rattle.columns.proofs.Laws.{take_rows}
 use Rattle.relations.proofs.Select.{le_or}
 use Rattle.express.specs.Tokens.Terminal.{bytes}
 use Rattle.express.specs.Syntax.Tree.{Table, schema_of}
-use Rattle.express.specs.Kinds.Answer as express
-use Rattle.express.specs.Kinds.Answer.{indeterminate, integer, logical, binary, item, string, end}
-use Rattle.express.specs.Kinds.AnswerRow.{natural, ranked}
-use Rattle.express.specs.Kinds.Bits.{bits}
+use Rattle.express.specs.Semantics.Answer as express
+use Rattle.express.specs.Semantics.Answer.{indeterminate, integer, logical, binary, item, string, end}
+use Rattle.express.specs.Semantics.AnswerRow.{natural, ranked}
+use Rattle.express.specs.Semantics.Bits.{bits}
 use Rattle.express.specs.Whole.Listing.{decimal, signed, logical_name, bit_digit, literal, name_of, printed, line, refused_line, accepted_line}
 use Rattle.records.specs.declared.Answer.{Answer}
 use Rattle.lines.specs.declared.Line.{Line}

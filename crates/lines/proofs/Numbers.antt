@@ -19,9 +19,9 @@ use mir.Syntax.{w64}
 use mir.Val.{SFits, Fits, to_z, of_z}
 use Rattle.relations.proofs.Select.{le_or}
 use Rattle.express.specs.Tokens.Terminal.{bytes}
-use Rattle.express.specs.Kinds.AnswerRow.{natural, ranked}
-use Rattle.express.specs.Kinds.Bits.{bits}
-use Rattle.express.proofs.Kinds.Bits.{length_bits}
+use Rattle.express.specs.Semantics.AnswerRow.{natural, ranked}
+use Rattle.express.specs.Semantics.Bits.{bits}
+use Rattle.express.proofs.Semantics.Bits.{length_bits}
 use Rattle.express.specs.Whole.Listing.{digits, decimal, signed, logical_name, bit_digit}
 use Rattle.lines.specs.Piece.{Stored, Puts}
 use Rattle.lines.proofs.Pieces.{then, spelled, renamed}

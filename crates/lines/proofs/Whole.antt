@@ -16,12 +16,12 @@ use Rattle.express.specs.Tokens.Terminal.{bytes}
 use Rattle.express.specs.Tokens.Spelling.{spelling}
 use Rattle.express.specs.Syntax.NodeKind.{constant, schema}
 use Rattle.express.specs.Syntax.Tree.{Table, count, kind, token, is, schema_of}
-use Rattle.express.specs.Kinds.Answer as express
-use Rattle.express.specs.Kinds.Answer.{indeterminate, integer, logical, binary, item, string, end}
-use Rattle.express.specs.Kinds.Declared.{Declared}
-use Rattle.express.specs.Kinds.Kind.{constants}
-use Rattle.express.specs.Kinds.Rule.{Holds}
-use Rattle.express.specs.Kinds.AnswerRow.{AnswerRow, row_of}
+use Rattle.express.specs.Semantics.Answer as express
+use Rattle.express.specs.Semantics.Answer.{indeterminate, integer, logical, binary, item, string, end}
+use Rattle.express.specs.Semantics.Declared.{Declared}
+use Rattle.express.specs.Semantics.Kind.{constants}
+use Rattle.express.specs.Semantics.Rule.{Holds}
+use Rattle.express.specs.Semantics.AnswerRow.{AnswerRow, row_of}
 use Rattle.express.specs.Whole.Reply.{Accepted, accepted, refused, checked, answer_rows, answer_kinds, answer_numbers, answer_lengths, answer_room}
 use Rattle.express.specs.Whole.Acceptance.{Acceptable}
 use Rattle.express.specs.Whole.Listing.{name_of, printed, answer_line, constant_line, accepted_line, refused_line, listing}

@@ -2,8 +2,8 @@
 use Rattle.std.specs.Prelude.{◌≡◌, cond, List, [], ℕ, leb, length}
 use Rattle.std.proofs.lemmas.List.Edits.{sets}
 use Rattle.express.specs.Syntax.Tree.{Table}
-use Rattle.express.specs.Kinds.Answer as express
-use Rattle.express.specs.Kinds.AnswerRow.{row, row_answer}
+use Rattle.express.specs.Semantics.Answer as express
+use Rattle.express.specs.Semantics.AnswerRow.{row, row_answer}
 use Rattle.records.specs.declared.Answer.{Answer}
 use Rattle.lines.specs.declared.Line.{Line}
 use Rattle.lines.specs.declared.Line.TheVariants.{Written, Short}

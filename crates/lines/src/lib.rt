@@ -1,12 +1,13 @@
 // The lines of the listing, each written into a lent buffer as far as it fits.
+#![tactic(auto)]
 ghost use Rattle.std.specs.Prelude.{◌≡◌, ◌<◌, ◌≤◌, ◌+◌, ◌-◌, ◌^◌, ◌/◌, ◌%◌, eqb, length, get_or, set, take, drop};
 ghost use mathlib.Core.List.{[], ◌∷◌, ◌++◌, map, flat_map};
 ghost use Rattle.express.specs.Tokens.Bytes.{lower};
 ghost use Rattle.express.specs.Tokens.Terminal.{bytes};
 ghost use Rattle.express.specs.Syntax.Tree.{is};
 ghost use Rattle.express.specs.Syntax.NodeKind.{constant};
-ghost use Rattle.express.specs.Kinds.Bits.{bits};
-ghost use Rattle.express.specs.Kinds.AnswerRow.{natural, ranked};
+ghost use Rattle.express.specs.Semantics.Bits.{bits};
+ghost use Rattle.express.specs.Semantics.AnswerRow.{natural, ranked};
 ghost use Rattle.express.specs.Whole.Listing.{digit_byte, line_feed, decimal, signed, logical_name, bit_digit, quoted_byte, literal, name_of, printed, refused_line, accepted_line, answer_line};
 ghost use Rattle.relations.specs.Select.{first_from};
 ghost use Rattle.lines.specs.Piece.{Puts, Titled};
@@ -15,7 +16,7 @@ ghost use Rattle.lines.specs.Print.{Prints, fitted, table_of, record_answer};
 use records::Answer;
 
 // Where a line stands: in the buffer, so long; or too long for it: the buffer holds its front, and this is its length.
-#[derive(Drop)]
+#[derive(Clone, Copy)]
 pub enum Line {
     Written(usize),
     Short(usize),

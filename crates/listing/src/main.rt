@@ -1,4 +1,5 @@
 // The program: a file from the standard input, its listing to the standard output (R12).
+#![tactic(auto)]
 use checker::check;
 use columns::index;
 use libc::STDERR_FILENO;

@@ -1,4 +1,5 @@
 // The standard input into a lent buffer, and a listing to the standard output. Of descriptors it is assumed what `libc` says of `read` and `write`.
+#![tactic(auto)]
 ghost use Rattle.std.specs.Prelude.{length};
 ghost use Rattle.listing_io.specs.Reading.{Within};
 
@@ -6,7 +7,7 @@ use libc::{STDIN_FILENO, STDOUT_FILENO};
 use listing_parts::{first_part, next_part};
 
 // So many bytes; or none, for the input cannot be read.
-#[derive(Drop)]
+#[derive(Clone, Copy)]
 pub enum Input {
     Read(usize),
     Failed,

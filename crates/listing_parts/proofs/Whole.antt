@@ -12,7 +12,7 @@ use Rattle.relations.specs.Select.{span}
 use Rattle.relations.proofs.Select.{keep_mem, upto_mem}
 use Rattle.express.specs.Syntax.NodeKind.{constant}
 use Rattle.express.specs.Syntax.Tree.{Table, count, is}
-use Rattle.express.specs.Kinds.Kind.{constants}
+use Rattle.express.specs.Semantics.Kind.{constants}
 use Rattle.express.specs.Whole.Reply.{Accepted, Checked, accepted, refused, Report, report, Tables, token_entries, node_entries, answer_entries}
 use Rattle.express.specs.Whole.Reply.{outcome, tables_after, answer_kinds, answer_numbers, answer_lengths, answer_room}
 use Rattle.express.specs.Whole.Listing.{accepted_line, refused_line, listing, program}

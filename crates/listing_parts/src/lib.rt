@@ -1,4 +1,5 @@
 // The listing of an outcome, part by part: each part is as many whole lines as fit into a lent buffer.
+#![tactic(auto)]
 ghost use Rattle.std.specs.Prelude.{◌≡◌, ◌≤◌, ◌+◌, min, length, take};
 ghost use Rattle.records.specs.Rows.{rows};
 ghost use Rattle.lines.specs.Print.{Prints, table_of};
@@ -8,7 +9,7 @@ use lines::{Line, constant, next_constant};
 use records::record_at;
 
 // Where a part ends: in the buffer; after how many answers; and the node from which on the other constants come.
-#[derive(Drop)]
+#[derive(Clone, Copy)]
 pub struct Place {
     pub at: usize,
     pub line: usize,

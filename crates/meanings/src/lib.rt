@@ -1,4 +1,5 @@
 // What a name in an expression means, by the dictionary of a file and by what its owner inherits.
+#![tactic(auto)]
 ghost use Rattle.meanings.specs.Use.{ValueMeans, ByNode, InheritedOrValue, InDeclaration};
 
 use columns::index;
@@ -6,7 +7,7 @@ use scopes::at;
 use scopes::look_ups::{Meaning, declaration_meant, own_meant};
 
 // An attribute, a label or an item by its node, or a declaration by its number among these.
-#[derive(Drop)]
+#[derive(Clone, Copy)]
 pub enum Use {
     Nothing,
     Several,

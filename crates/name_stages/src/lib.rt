@@ -1,6 +1,7 @@
 // The stages of names, one after the other: what is declared twice, and the names of types with their graph; and the names in expressions
 // with the graph of the constants and its order. A stage computes on where an earlier one has found a fault; the faults are put
 // together at the end.
+#![tactic(auto)]
 ghost use Rattle.name_stages.specs.Stages.{BindsDeclarations, BindsExpressions};
 
 use faults::Fault;

@@ -11,13 +11,13 @@ use lib.IntN.{ℤ}
 use lib.ListN.{get_or, get_or-eq_default}
 use Rattle.express.specs.Syntax.NodeKind as node
 use Rattle.express.specs.Syntax.Tree.{Table, count, kind, terminal, last, left, upper, lower, middle, low}
-use Rattle.express.specs.Kinds.Answer.{Answer}
-use Rattle.express.specs.Kinds.Declared.{Declared, INTEGER, BOOLEAN, LOGICAL, BINARY, STRING, enumeration, other, declared_type}
-use Rattle.express.specs.Kinds.DeclaredColumn.{declared_number}
-use Rattle.express.specs.Kinds.Relation.{Relation}
-use Rattle.express.specs.Kinds.Shape.{Sign, operator_of, sign_of, bound_of, text, shape_in}
-use Rattle.express.specs.Kinds.Operate.{combined, applied, between}
-use Rattle.express.specs.Kinds.Evaluate.{held, answer_in, answer_at}
+use Rattle.express.specs.Semantics.Answer.{Answer}
+use Rattle.express.specs.Semantics.Declared.{Declared, INTEGER, BOOLEAN, LOGICAL, BINARY, STRING, enumeration, other, declared_type}
+use Rattle.express.specs.Semantics.DeclaredColumn.{declared_number}
+use Rattle.express.specs.Semantics.Relation.{Relation}
+use Rattle.express.specs.Semantics.Shape.{Sign, operator_of, sign_of, bound_of, text, shape_in}
+use Rattle.express.specs.Semantics.Operate.{combined, applied, between}
+use Rattle.express.specs.Semantics.Evaluate.{held, answer_in, answer_at}
 use Rattle.relations.proofs.Select.{or_cases, le_or}
 use Rattle.operations.specs.Meaning.{answer_of, sized, is_boolean, Holds}
 use Rattle.operations.specs.Meaning as operations

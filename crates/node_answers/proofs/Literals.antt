@@ -21,10 +21,10 @@ use Rattle.express.specs.Syntax.Grammar.{Nonterminal}
 use Rattle.express.specs.Syntax.NodeKind as node
 use Rattle.express.specs.Syntax.Syntax.{Read}
 use Rattle.express.specs.Syntax.Tree.{Table}
-use Rattle.express.specs.Kinds.Answer.{integer, binary}
-use Rattle.express.specs.Kinds.Bits.{number, bits}
-use Rattle.express.specs.Kinds.Shape.{logical_of}
-use Rattle.express.proofs.Kinds.Bits.{bits_number, number_lt}
+use Rattle.express.specs.Semantics.Answer.{integer, binary}
+use Rattle.express.specs.Semantics.Bits.{number, bits}
+use Rattle.express.specs.Semantics.Shape.{logical_of}
+use Rattle.express.proofs.Semantics.Bits.{bits_number, number_lt}
 use Rattle.express.proofs.Tokens.Literals.{literals, binary_read}
 use Rattle.values.specs.Meaning as values
 use Rattle.values.specs.declared.logical.Logical as logicals

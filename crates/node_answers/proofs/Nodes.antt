@@ -13,12 +13,12 @@ use Rattle.express.specs.Tokens.Terminal.{the}
 use Rattle.express.specs.Tokens.Terminal as word
 use Rattle.express.specs.Syntax.NodeKind as node
 use Rattle.express.specs.Syntax.Tree.{Table, kind, terminal, last, left, upper, lower, middle, low}
-use Rattle.express.specs.Kinds.Answer.{Logical, Answer, indeterminate, integer, logical, binary, item, string}
-use Rattle.express.specs.Kinds.Declared.{Declared, declaration, denoted, declared_type}
-use Rattle.express.specs.Kinds.Shape.{Operator, unevaluated, text, logical_of, operator_of, sign_of, bound_of, evaluated, name_shape_in, shape_in}
-use Rattle.express.specs.Kinds.Shape as shape
-use Rattle.express.specs.Kinds.Operate.{applied, between}
-use Rattle.express.specs.Kinds.Evaluate.{held, answer_in}
+use Rattle.express.specs.Semantics.Answer.{Logical, Answer, indeterminate, integer, logical, binary, item, string}
+use Rattle.express.specs.Semantics.Declared.{Declared, declaration, denoted, declared_type}
+use Rattle.express.specs.Semantics.Shape.{Operator, unevaluated, text, logical_of, operator_of, sign_of, bound_of, evaluated, name_shape_in, shape_in}
+use Rattle.express.specs.Semantics.Shape as shape
+use Rattle.express.specs.Semantics.Operate.{applied, between}
+use Rattle.express.specs.Semantics.Evaluate.{held, answer_in}
 use Rattle.node_answers.specs.Operators.{combined_by}
 use Rattle.node_answers.specs.NodeAnswer.{leaf_answer, Plain}
 

@@ -7,9 +7,9 @@ use Prim.Native.Nat.{ℕ, min, zero, suc, ◌≤◌, ◌<◌}
 use native.Mathlib.Omega.{arith}
 use lib.IntN.{ℤ, pos}
 use lib.ListN.{length, get_or, set}
-use Rattle.express.specs.Kinds.Answer.{Answer, indeterminate}
-use Rattle.express.specs.Kinds.AnswerRow.{row, row_of}
-use Rattle.express.specs.Kinds.Evaluate.{answer_at}
+use Rattle.express.specs.Semantics.Answer.{Answer, indeterminate}
+use Rattle.express.specs.Semantics.AnswerRow.{row, row_of}
+use Rattle.express.specs.Semantics.Evaluate.{answer_at}
 use Rattle.operations.specs.Meaning.{answer_of, sized}
 use Rattle.operations.proofs.Sized.{answer_sized}
 use Rattle.answer_rows.specs.Stored.{storable, stored, sized_answer, row_in}

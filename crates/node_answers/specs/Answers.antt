@@ -1,7 +1,7 @@
 -- Answers that are kept in the rows of three columns (K35).
 use Rattle.std.specs.Prelude.{◌≡◌, true, List, [], ◌∷◌, ℕ, ℤ, set}
-use Rattle.express.specs.Kinds.Answer.{Answer}
-use Rattle.express.specs.Kinds.AnswerRow.{row, row_of}
+use Rattle.express.specs.Semantics.Answer.{Answer}
+use Rattle.express.specs.Semantics.AnswerRow.{row, row_of}
 use Rattle.operations.specs.Meaning.{answer_of}
 use Rattle.answer_rows.specs.Stored.{storable, stored, sized_answer}
 use Rattle.operations.specs.declared.Answer as operations

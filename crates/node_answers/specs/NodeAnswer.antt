@@ -5,13 +5,13 @@ use Rattle.express.specs.Tokens.Terminal.{the}
 use Rattle.express.specs.Tokens.Terminal as word
 use Rattle.express.specs.Syntax.NodeKind as node
 use Rattle.express.specs.Syntax.Tree.{Table, kind, terminal, last, upper, lower, middle, low}
-use Rattle.express.specs.Kinds.Answer.{Answer, indeterminate, integer, logical, binary, string}
-use Rattle.express.specs.Kinds.Bits.{number}
-use Rattle.express.specs.Kinds.DeclaredColumn.{DeclaredColumn, declared_number}
-use Rattle.express.specs.Kinds.Declared.{Declared, declared_type}
-use Rattle.express.specs.Kinds.Shape.{text, logical_of, operator_of, bound_of, shape_in}
-use Rattle.express.specs.Kinds.Operate.{between}
-use Rattle.express.specs.Kinds.Evaluate.{held, answer_in, answer_at}
+use Rattle.express.specs.Semantics.Answer.{Answer, indeterminate, integer, logical, binary, string}
+use Rattle.express.specs.Semantics.Bits.{number}
+use Rattle.express.specs.Semantics.DeclaredColumn.{DeclaredColumn, declared_number}
+use Rattle.express.specs.Semantics.Declared.{Declared, declared_type}
+use Rattle.express.specs.Semantics.Shape.{text, logical_of, operator_of, bound_of, shape_in}
+use Rattle.express.specs.Semantics.Operate.{between}
+use Rattle.express.specs.Semantics.Evaluate.{held, answer_in, answer_at}
 use Rattle.operations.specs.Meaning.{of_size, sized}
 use Rattle.operations.specs.declared.Answer as operations
 use Rattle.node_answers.specs.Operators.{combined_by}

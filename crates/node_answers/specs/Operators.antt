@@ -1,8 +1,8 @@
 -- What is read of the terminal of a two-operand operator (K7, K10).
 use Rattle.std.proofs.Math.Option.{Option, none, some}
-use Rattle.express.specs.Kinds.Answer.{Answer, indeterminate}
-use Rattle.express.specs.Kinds.Operate.{combined}
-use Rattle.express.specs.Kinds.Shape as shape
+use Rattle.express.specs.Semantics.Answer.{Answer, indeterminate}
+use Rattle.express.specs.Semantics.Operate.{combined}
+use Rattle.express.specs.Semantics.Shape as shape
 use Rattle.operations.specs.Meaning.{operator_of}
 use Rattle.node_answers.specs.declared.operators.Reading.{Reading}
 use Rattle.node_answers.specs.declared.operators.Reading.TheVariants.{Evaluated, Unevaluated}

@@ -1,11 +1,12 @@
 // The answer of one node of an expression, from those of its operands, which are kept in the rows of three columns.
+#![tactic(auto)]
 pub mod operators;
 
 ghost use Rattle.std.specs.Prelude.{◌≡◌, ◌&&◌, ◌||◌, eqb, get_or};
 ghost use Rattle.express.specs.Tokens.Terminal.{the};
 ghost use Rattle.express.specs.Tokens.Terminal as word;
 ghost use Rattle.express.specs.Syntax.NodeKind as node;
-ghost use Rattle.express.specs.Kinds.Evaluate.{answer_at};
+ghost use Rattle.express.specs.Semantics.Evaluate.{answer_at};
 ghost use Rattle.operations.specs.Meaning.{answer_of};
 ghost use Rattle.answer_rows.specs.Stored.{stored};
 ghost use Rattle.node_answers.specs.Answers.{Gives, Stores, answers_in};

@@ -1,6 +1,6 @@
 // The operators of nodes, by the terminals of their naming tokens.
 ghost use Rattle.std.specs.Prelude.{◌≡◌};
-ghost use Rattle.express.specs.Kinds.Shape.{sign_of, bound_of, logical_of, operator_of};
+ghost use Rattle.express.specs.Semantics.Shape.{sign_of, bound_of, logical_of, operator_of};
 ghost use Rattle.values.specs.Meaning as values;
 ghost use Rattle.operations.specs.Meaning as operations;
 ghost use Rattle.node_answers.specs.Operators.{reading_of};
@@ -10,7 +10,7 @@ use values::logical::Logical;
 use values::order::Relation;
 
 // A two-operand operator; `/` is not evaluated.
-#[derive(Drop)]
+#[derive(Clone, Copy)]
 pub enum Reading {
     Evaluated(Operator),
     Unevaluated,

@@ -8,7 +8,7 @@ use lib.Dec.{T}
 use mir.Val.{has_key}
 use types.Run.{OneOf, miss}
 use denote.Enum.Declared.{tag_of}
-use Rattle.express.specs.Kinds.Operate.{integer_in, logical_in, binary_in, item_in, string_in, end_in}
+use Rattle.express.specs.Semantics.Operate.{integer_in, logical_in, binary_in, item_in, string_in, end_in}
 use Rattle.operations.specs.Meaning.{answer_of}
 use Rattle.operations.specs.declared.Answer.{Answer}
 use Rattle.operations.specs.declared.Answer.TheVariants.{Indeterminate, Integer, Logical, Binary, Item, Text, Ended}

@@ -9,18 +9,18 @@ use lib.IntN.{ℤ}
 use lib.ListN.{replicate}
 use mir.Syntax.{w64}
 use mir.Val.{SFits}
-use Rattle.express.specs.Kinds.Answer.{UNKNOWN, indeterminate, logical, end}
-use Rattle.express.specs.Kinds.Answer as answer
-use Rattle.express.specs.Kinds.Bits.{compare_bits}
-use Rattle.express.specs.Kinds.Strings.{join_strings}
-use Rattle.express.specs.Kinds.Declared.{Declared, INTEGER, BOOLEAN, LOGICAL, BINARY, STRING, enumeration, other}
-use Rattle.express.specs.Kinds.Evaluate.{boolean_answer, held}
-use Rattle.express.specs.Kinds.Integer.{sum, negation, compareℤ}
-use Rattle.express.specs.Kinds.Logic.{NOT, compare_logical}
-use Rattle.express.specs.Kinds.Operate.{given, computed, combined_logicals, compared, counted, operated, combined, applied, between}
-use Rattle.express.specs.Kinds.Relation.{Relation, related}
-use Rattle.express.specs.Kinds.Shape.{and, plus, arithmetic, relation, connective, negative, not}
-use Rattle.express.specs.Kinds.Shape as shape
+use Rattle.express.specs.Semantics.Answer.{UNKNOWN, indeterminate, logical, end}
+use Rattle.express.specs.Semantics.Answer as answer
+use Rattle.express.specs.Semantics.Bits.{compare_bits}
+use Rattle.express.specs.Semantics.Strings.{join_strings}
+use Rattle.express.specs.Semantics.Declared.{Declared, INTEGER, BOOLEAN, LOGICAL, BINARY, STRING, enumeration, other}
+use Rattle.express.specs.Semantics.Evaluate.{boolean_answer, held}
+use Rattle.express.specs.Semantics.Integer.{sum, negation, compareℤ}
+use Rattle.express.specs.Semantics.Logic.{NOT, compare_logical}
+use Rattle.express.specs.Semantics.Operate.{given, computed, combined_logicals, compared, counted, operated, combined, applied, between}
+use Rattle.express.specs.Semantics.Relation.{Relation, related}
+use Rattle.express.specs.Semantics.Shape.{and, plus, arithmetic, relation, connective, negative, not}
+use Rattle.express.specs.Semantics.Shape as shape
 use Rattle.values.specs.Meaning.{end_number, logical_of, ordering_of}
 use Rattle.values.specs.declared.End.{End}
 use Rattle.values.specs.declared.logical.Logical as values

@@ -9,16 +9,16 @@ use native.Mathlib.Omega.{arith}
 use lib.Dec.{leb}
 use lib.ListN.{length, replicate, length-append, length-replicate}
 use Rattle.express.specs.Tokens.Lexis.{most_bytes}
-use Rattle.express.specs.Kinds.Answer.{Answer, UNKNOWN, indeterminate, integer, logical, binary, item, string, end, outside}
-use Rattle.express.specs.Kinds.Bits.{join, compare_bits}
-use Rattle.express.specs.Kinds.Declared.{Declared, INTEGER, BOOLEAN, LOGICAL, BINARY, STRING, enumeration, other}
-use Rattle.express.specs.Kinds.Evaluate.{held}
-use Rattle.express.specs.Kinds.Integer.{sum, compareℤ}
-use Rattle.express.specs.Kinds.Logic.{compare_logical}
-use Rattle.express.specs.Kinds.Operate.{integer_in, logical_in, binary_in, item_in, string_in, end_in, given, both, operated, combined, applied, between}
-use Rattle.express.specs.Kinds.Relation.{Relation, related}
-use Rattle.express.specs.Kinds.Shape.{and, Operator, plus, arithmetic, relation, connective, Sign, positive, negative, not}
-use Rattle.express.specs.Kinds.Strings.{join_strings, compare_bytes}
+use Rattle.express.specs.Semantics.Answer.{Answer, UNKNOWN, indeterminate, integer, logical, binary, item, string, end, outside}
+use Rattle.express.specs.Semantics.Bits.{join, compare_bits}
+use Rattle.express.specs.Semantics.Declared.{Declared, INTEGER, BOOLEAN, LOGICAL, BINARY, STRING, enumeration, other}
+use Rattle.express.specs.Semantics.Evaluate.{held}
+use Rattle.express.specs.Semantics.Integer.{sum, compareℤ}
+use Rattle.express.specs.Semantics.Logic.{compare_logical}
+use Rattle.express.specs.Semantics.Operate.{integer_in, logical_in, binary_in, item_in, string_in, end_in, given, both, operated, combined, applied, between}
+use Rattle.express.specs.Semantics.Relation.{Relation, related}
+use Rattle.express.specs.Semantics.Shape.{and, Operator, plus, arithmetic, relation, connective, Sign, positive, negative, not}
+use Rattle.express.specs.Semantics.Strings.{join_strings, compare_bytes}
 use Rattle.strings.proofs.Laws.{length_both}
 use Rattle.operations.specs.Meaning.{answer_of, of_size, sized}
 use Rattle.operations.specs.declared.Answer as code

@@ -2,12 +2,12 @@
 use Rattle.std.specs.Prelude.{◌≡◌, Bool, true, false, length}
 use Rattle.std.proofs.Math.Option.{Option, none, some}
 use Prim.Native.Nat.{Ordering}
-use Rattle.express.specs.Kinds.Answer.{indeterminate, integer, logical, binary, item, string, end}
-use Rattle.express.specs.Kinds.Answer as answer
-use Rattle.express.specs.Kinds.Declared.{Declared, INTEGER, BOOLEAN, LOGICAL, BINARY, STRING, enumeration, other}
-use Rattle.express.specs.Kinds.Evaluate.{held}
-use Rattle.express.specs.Kinds.Shape.{minus, times, divide, modulo, power, and, or, xor, plus, arithmetic, relation, connective, positive, negative, not}
-use Rattle.express.specs.Kinds.Shape as shape
+use Rattle.express.specs.Semantics.Answer.{indeterminate, integer, logical, binary, item, string, end}
+use Rattle.express.specs.Semantics.Answer as answer
+use Rattle.express.specs.Semantics.Declared.{Declared, INTEGER, BOOLEAN, LOGICAL, BINARY, STRING, enumeration, other}
+use Rattle.express.specs.Semantics.Evaluate.{held}
+use Rattle.express.specs.Semantics.Shape.{minus, times, divide, modulo, power, and, or, xor, plus, arithmetic, relation, connective, positive, negative, not}
+use Rattle.express.specs.Semantics.Shape as shape
 use Rattle.values.specs.Meaning.{end_number, logical_of, ordering_of, relation_of}
 use Rattle.bits.specs.Meaning.{bits_of}
 pub use Rattle.strings.specs.Meaning.{of_size}

@@ -1,8 +1,9 @@
 // What operators make of the answers of their operands where none is an end.
+#![tactic(auto)]
 
 ghost use Rattle.std.specs.Prelude.{◌≡◌};
-ghost use Rattle.express.specs.Kinds.Operate.{computed, combined_logicals, compared, counted, operated};
-ghost use Rattle.express.specs.Kinds.Shape.{plus, arithmetic, relation};
+ghost use Rattle.express.specs.Semantics.Operate.{computed, combined_logicals, compared, counted, operated};
+ghost use Rattle.express.specs.Semantics.Shape.{plus, arithmetic, relation};
 ghost use Rattle.values.specs.Meaning.{logical_of, relation_of};
 ghost use Rattle.integers.specs.Meaning.{integer_answer};
 ghost use Rattle.bits.specs.Meaning.{binary_answer};
@@ -16,7 +17,7 @@ use values::logical::Logical;
 use values::order::{Order, Relation};
 
 // What an expression comes to: an item by its node; of a string the length alone is told.
-#[derive(Drop)]
+#[derive(Clone, Copy)]
 pub enum Answer {
     Indeterminate,
     Integer(i64),
@@ -28,7 +29,7 @@ pub enum Answer {
 }
 
 // The operators that take integers alone.
-#[derive(Drop)]
+#[derive(Clone, Copy)]
 pub enum Arithmetic {
     Minus,
     Times,
@@ -38,7 +39,7 @@ pub enum Arithmetic {
 }
 
 // The operators that take logicals.
-#[derive(Drop)]
+#[derive(Clone, Copy)]
 pub enum Connective {
     And,
     Or,
@@ -46,7 +47,7 @@ pub enum Connective {
 }
 
 // The operators of two operands. `+` adds integers and joins binaries and strings.
-#[derive(Drop)]
+#[derive(Clone, Copy)]
 pub enum Operator {
     Plus,
     Arithmetic(Arithmetic),
@@ -55,7 +56,7 @@ pub enum Operator {
 }
 
 // What stands before one operand.
-#[derive(Drop)]
+#[derive(Clone, Copy)]
 pub enum Sign {
     Positive,
     Negative,
@@ -63,7 +64,7 @@ pub enum Sign {
 }
 
 // The order of two values of one kind; two others have none.
-#[derive(Drop)]
+#[derive(Clone, Copy)]
 enum Comparison {
     Ordered(Order),
     Unordered,

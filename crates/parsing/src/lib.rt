@@ -1,4 +1,5 @@
 // What is common to every parse: rows of nodes packed into words, the steps of a reader, and what a whole list comes to.
+#![tactic(auto)]
 ghost use Rattle.std.specs.Prelude.{◌≡◌, ◌+◌, ◌-◌, get_or, set};
 ghost use Rattle.parsing.specs.Reading.{word, Expects, is_place};
 
@@ -16,7 +17,7 @@ pub const SIZE_UNIT: u64 = TOKEN_UNIT * PLACES;
 pub const NO_LABEL: u64 = 0;
 
 // The next token and the next row; or the token that cannot stand.
-#[derive(Drop)]
+#[derive(Clone, Copy)]
 pub enum Read {
     At(usize, usize),
     Refused(usize),
@@ -75,7 +76,7 @@ pub fn put_row(rows: &mut [u64], at: usize, first: usize, label: u64, name: usiz
 // ---- a whole list of terminals
 
 // What a list comes to: the number of its rows; or the token refused by 4 or by 5.
-#[derive(Drop)]
+#[derive(Clone, Copy)]
 pub enum Judgement {
     Good(usize),
     Unexpected(usize),
@@ -84,7 +85,7 @@ pub enum Judgement {
 
 // The public answer: accepted, with the number of nodes; the token refused by 4 or by 5; the entries that 7 asks for; the words of scratch
 // that are needed; or a list of more terminals than a file has bytes, which is reply 1.
-#[derive(Drop)]
+#[derive(Clone, Copy)]
 pub enum Parsed {
     Accepted(usize),
     Unexpected(usize),

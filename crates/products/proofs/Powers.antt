@@ -11,8 +11,8 @@ use lib.Signed.{mag, lt_z, non_neg}
 use mir.Syntax.{w64}
 use mir.Val.{SFits, Fits, to_z, of_z}
 use mir.Facts.{to_z-of_z}
-use Rattle.express.specs.Kinds.Answer.{Answer, integer, end}
-use Rattle.express.specs.Kinds.Integer.{exact, product, negative, signed, power}
+use Rattle.express.specs.Semantics.Answer.{Answer, integer, end}
+use Rattle.express.specs.Semantics.Integer.{exact, product, negative, signed, power}
 use Rattle.integers.specs.Meaning.{integer_answer}
 use Rattle.values.specs.Meaning.{end_number}
 use Rattle.values.specs.declared.End.{End}

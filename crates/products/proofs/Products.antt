@@ -10,9 +10,9 @@ use lib.Signed.{lt_z, mag, quot_z}
 use mir.Facts.{to_z-of_z}
 use mir.Syntax.{w64}
 use mir.Val.{SFits, of_z}
-use Rattle.express.specs.Kinds.Answer.{Answer, integer, end}
-use Rattle.express.specs.Kinds.Integer.{exact, product, negation, negative, signed}
-use Rattle.express.proofs.Kinds.Integer.{least, greatest}
+use Rattle.express.specs.Semantics.Answer.{Answer, integer, end}
+use Rattle.express.specs.Semantics.Integer.{exact, product, negation, negative, signed}
+use Rattle.express.proofs.Semantics.Integer.{least, greatest}
 use Rattle.products.specs.Range.{limit, beyond}
 use Rattle.integers.proofs.Exact.{own, exact_fits, exact_over, Gives, gives, below_zero, sign_is, bits_are}
 use Rattle.integers.proofs.Sums.{less_is}

@@ -12,8 +12,8 @@ use lib.Signed.{lt_z, le_z, mag, quot_z, rem_z, shr_z, mag_shr, mag_rem}
 use mir.Facts.{to_z-of_z}
 use mir.Syntax.{w64}
 use mir.Val.{SFits, of_z}
-use Rattle.express.specs.Kinds.Answer.{Answer, integer, end}
-use Rattle.express.specs.Kinds.Integer.{exact, negation, negative, signed, rest, quotient, remainder, DIV, MOD}
+use Rattle.express.specs.Semantics.Answer.{Answer, integer, end}
+use Rattle.express.specs.Semantics.Integer.{exact, negation, negative, signed, rest, quotient, remainder, DIV, MOD}
 use Rattle.integers.proofs.Exact.{own, Gives, gives, not_below, sign_is, bits_are}
 use Rattle.integers.proofs.Sums.{sub_le, sub_lt}
 

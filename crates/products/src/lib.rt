@@ -1,7 +1,8 @@
 // Integers of 64 bits: products, DIV, MOD and powers.
+#![tactic(auto)]
 ghost use Rattle.std.specs.Prelude.{◌≡◌, ◌≤◌, nat_abs};
 ghost use Rattle.std.proofs.Math.IntN.{pow};
-ghost use Rattle.express.specs.Kinds.Integer.{exact, product, DIV, MOD, power};
+ghost use Rattle.express.specs.Semantics.Integer.{exact, product, DIV, MOD, power};
 ghost use Rattle.integers.specs.Meaning.{integer_answer};
 ghost use Rattle.products.specs.Range.{limit, beyond};
 

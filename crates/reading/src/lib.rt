@@ -1,4 +1,5 @@
 // The tokens and the nodes of a file, from its bytes. The words of the parser are in an array of the call, in one of four sizes, and gone after it.
+#![tactic(auto)]
 ghost use Rattle.express.specs.Tokens.Lexis.{most};
 ghost use Rattle.reading.specs.FileReading.{few_rows, some_rows, many_rows, ReadsWithin, ReadsFile};
 
@@ -20,7 +21,7 @@ pub const SOME: usize = 6144;
 pub const MANY: usize = 20480;
 
 // How many tokens and nodes there are, and how the stages end.
-#[derive(Drop)]
+#[derive(Clone, Copy)]
 pub struct Reading {
     pub tokens: usize,
     pub nodes: usize,

@@ -7,7 +7,7 @@ use lib.IntN.{ℤ, pos}
 use lib.ListN.{length, take, replicate, length-map}
 use lib.Seq.{take_all}
 use Rattle.columns.specs.Column.{padded}
-use Rattle.express.specs.Kinds.AnswerRow.{AnswerRow}
+use Rattle.express.specs.Semantics.AnswerRow.{AnswerRow}
 use Rattle.records.specs.declared.Answer.{Answer}
 use Rattle.records.specs.Rows.{zeros, rows, filled}
 

@@ -16,7 +16,7 @@ use Rattle.express.specs.Tokens.Terminal.{terminal_of}
 use Rattle.express.specs.Tokens.Scanned.{row_bytes, token_table}
 use Rattle.express.specs.Syntax.Grammar.{file}
 use Rattle.express.specs.Syntax.Syntax.{parsed, with_rows}
-use Rattle.express.specs.Kinds.Kind.{constants}
+use Rattle.express.specs.Semantics.Kind.{constants}
 use Rattle.express.specs.Whole.Reply.{after_syntax, after_tokens, checked}
 use Rattle.express.proofs.Syntax.Syntax.{read_good}
 use Rattle.bounds.proofs.Constants.{constants_few}

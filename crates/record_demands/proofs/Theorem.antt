@@ -9,7 +9,7 @@ use lib.ListN.{length, take, replicate, length-map, length-take}
 use lib.Seq.{take-nil}
 use Rattle.columns.specs.Column.{padded}
 use Rattle.express.specs.Tokens.Lexis.{most, lexed}
-use Rattle.express.specs.Kinds.AnswerRow.{AnswerRow}
+use Rattle.express.specs.Semantics.AnswerRow.{AnswerRow}
 use Rattle.express.specs.Whole.Reply.{Accepted, Checked, accepted, refused, checked, Report, report, column, Tables, token_entries, node_entries, outcome, tables_after}
 use Rattle.express.specs.Whole.Reply as express
 use Rattle.express.proofs.Tokens.TokenRows.{tokens_of}

@@ -1,10 +1,11 @@
 // Answers as records: a lent slice of them, filled from the three number columns of the answer table.
+#![tactic(auto)]
 ghost use Rattle.std.specs.Prelude.{◌≡◌, length, get_or, take};
 ghost use Rattle.records.specs.Rows.{zeros, rows, filled};
 
 // A row of the answer table, in memory as C lays it out.
 #[repr(C)]
-#[derive(Drop)]
+#[derive(Clone, Copy)]
 pub struct Answer {
     pub kind: u8,
     pub number: i64,

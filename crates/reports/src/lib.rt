@@ -1,4 +1,5 @@
 // The report of a check, and zeros behind what stands in each table.
+#![tactic(auto)]
 ghost use Rattle.std.specs.Prelude.{◌≡◌};
 ghost use Rattle.stages.specs.Line.{kept_of};
 ghost use Rattle.reports.specs.Reporting.{Reports, ClearsTokens, ClearsNodes, ClearsAnswers};
@@ -7,7 +8,7 @@ use columns::{clear8, clear32, clear64, number};
 use stages::Stage;
 
 // What is answered: the reply and the number beside it, and how many tokens, nodes and constants there are, 0 after a refusal.
-#[derive(Drop)]
+#[derive(Clone, Copy)]
 pub struct Report {
     pub reply: u8,
     pub number: u32,

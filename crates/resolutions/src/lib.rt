@@ -1,4 +1,5 @@
 // What the names of a file come to: its roles as bytes, whether there is room for the stages, and the answer after them.
+#![tactic(auto)]
 ghost use Rattle.std.specs.Prelude.{◌≡◌, min, length, take};
 ghost use Rattle.std.proofs.lemmas.List.Edits.{sets};
 ghost use Rattle.resolutions.specs.Answer.{Narrows, StageRoom, done_with, Finishes};
@@ -23,7 +24,7 @@ const BYTE: u32 = 256;
 const TOKENS_OF_ARC: usize = 2;
 
 // All names are bound; a reply from 9 to 13 and its place; or the lent columns are too short, or fit no file.
-#[derive(Drop)]
+#[derive(Clone, Copy)]
 pub enum Resolution {
     Bound,
     Faulty(u8, u32),

@@ -12,9 +12,9 @@ use Rattle.express.specs.Tokens.Scanned.{row_bytes}
 use Rattle.express.specs.Tokens.Terminal.{terminal_of}
 use Rattle.express.specs.Names.Names.{names}
 use Rattle.express.specs.Names.Scope as scope
-use Rattle.express.specs.Kinds.Answer.{Answer}
-use Rattle.express.specs.Kinds.AnswerRow.{AnswerRow, rows_from}
-use Rattle.express.specs.Kinds.Kind.{constants, typing}
+use Rattle.express.specs.Semantics.Answer.{Answer}
+use Rattle.express.specs.Semantics.AnswerRow.{AnswerRow, rows_from}
+use Rattle.express.specs.Semantics.Kind.{constants, typing}
 use Rattle.express.specs.Whole.Reply.{Tables}
 use Rattle.express.proofs.Tokens.TokenRows.{tokens_of}
 use Rattle.scopes.specs.Range.{vertex_count}

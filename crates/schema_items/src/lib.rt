@@ -1,5 +1,6 @@
 // The items of a schema, in a table by symbol. A file is gone through from its last declaration to its first; where another schema
 // begins, its items are entered under a new stamp, so that nothing is cleared.
+#![tactic(auto)]
 ghost use Rattle.std.specs.Prelude.{◌≡◌};
 ghost use Rattle.symbol_tables.specs.Entry.{says};
 ghost use Rattle.symbol_tables.specs.Table.{symbol_in};
@@ -9,7 +10,7 @@ use columns::{index, saturating_sub};
 use scopes::at;
 
 // Of which schema the items stand in a table, and under which stamp.
-#[derive(Drop)]
+#[derive(Clone, Copy)]
 pub struct Tabled {
     pub schema: usize,
     pub stamp: u32,

@@ -12,9 +12,9 @@ use Rattle.relations.specs.Select.{span, keep}
 use Rattle.relations.proofs.Select.{le_or, placed}
 use Rattle.express.specs.Syntax.NodeKind as node
 use Rattle.express.specs.Syntax.Tree.{Table, count, kind, is}
-use Rattle.express.specs.Kinds.Answer.{Answer, indeterminate}
-use Rattle.express.specs.Kinds.AnswerRow.{bytes_of, room_of}
-use Rattle.express.specs.Kinds.Kind.{constants}
+use Rattle.express.specs.Semantics.Answer.{Answer, indeterminate}
+use Rattle.express.specs.Semantics.AnswerRow.{bytes_of, room_of}
+use Rattle.express.specs.Semantics.Kind.{constants}
 use Rattle.schemas.specs.Rows.{row, answer_of_constant, file_answers, start_of}
 use Rattle.constant_rows.proofs.Numbering.{next_one, next_none, none_yet, row_none, row_rises, row_before, row_other}
 use Rattle.string_places.proofs.Starts.{room_take}

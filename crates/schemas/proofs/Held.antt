@@ -18,11 +18,11 @@ use Rattle.relations.proofs.Select.{and_fst, and_snd, mem_span, mem_keep, mem_up
 use Rattle.express.specs.Syntax.NodeKind as node
 use Rattle.express.specs.Syntax.Tree.{Table, count, kind, size, first, last, is_declaration, nodes}
 use Rattle.express.specs.Names.Fault.{constant_edges}
-use Rattle.express.specs.Kinds.Answer.{Answer}
-use Rattle.express.specs.Kinds.AnswerRow.{AnswerRow, row_at}
-use Rattle.express.specs.Kinds.AnswerRow as answer_row
-use Rattle.express.specs.Kinds.Shape.{name, shape}
-use Rattle.express.specs.Kinds.Evaluate.{answer_at}
+use Rattle.express.specs.Semantics.Answer.{Answer}
+use Rattle.express.specs.Semantics.AnswerRow.{AnswerRow, row_at}
+use Rattle.express.specs.Semantics.AnswerRow as answer_row
+use Rattle.express.specs.Semantics.Shape.{name, shape}
+use Rattle.express.specs.Semantics.Evaluate.{answer_at}
 use Rattle.express.proofs.Syntax.FormedRows.{formed_rows}
 use Rattle.operations.specs.Meaning.{sized}
 use Rattle.answer_rows.proofs.Stored.{Storable, row_back}

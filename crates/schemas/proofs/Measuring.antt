@@ -13,17 +13,17 @@ use lib.Seq.{take_all}
 use Rattle.relations.specs.Reach.{Joins}
 use Rattle.relations.proofs.Select.{le_or}
 use Rattle.express.specs.Names.Fault.{constant_edges}
-use Rattle.express.specs.Kinds.Evaluate.{answer_at}
+use Rattle.express.specs.Semantics.Evaluate.{answer_at}
 use Rattle.operations.specs.Meaning.{sized}
 use Rattle.node_answers.specs.Answers.{answers_in}
 use Rattle.express.specs.Syntax.NodeKind as node
 use Rattle.express.specs.Syntax.Tree.{Table, count, kind, first, last}
-use Rattle.express.specs.Kinds.Answer.{Answer}
-use Rattle.express.specs.Kinds.AnswerRow.{AnswerRow}
-use Rattle.express.specs.Kinds.AnswerRow as answer_row
-use Rattle.express.specs.Kinds.Declared.{STRING, declared_type}
-use Rattle.express.specs.Kinds.Kind.{constants}
-use Rattle.express.specs.Kinds.Shape.{name, shape}
+use Rattle.express.specs.Semantics.Answer.{Answer}
+use Rattle.express.specs.Semantics.AnswerRow.{AnswerRow}
+use Rattle.express.specs.Semantics.AnswerRow as answer_row
+use Rattle.express.specs.Semantics.Declared.{STRING, declared_type}
+use Rattle.express.specs.Semantics.Kind.{constants}
+use Rattle.express.specs.Semantics.Shape.{name, shape}
 use Rattle.express.proofs.Names.Edges.{constant_edge_iff}
 use Rattle.string_laws.proofs.Expressions.{Joining}
 use Rattle.string_laws.proofs.Expressions as joining

@@ -12,16 +12,16 @@ use Rattle.express.specs.Syntax.NodeKind as node
 use Rattle.express.specs.Syntax.Tree.{Table, count, kind, size, first, last}
 use Rattle.express.specs.Tokens.Lexis.{most_bytes}
 use Rattle.express.specs.Names.Scope as scope
-use Rattle.express.specs.Kinds.Answer.{Answer, indeterminate}
-use Rattle.express.specs.Kinds.AnswerRow.{bytes_of}
-use Rattle.express.specs.Kinds.Order.{constant_order}
-use Rattle.express.specs.Kinds.Evaluate.{value}
+use Rattle.express.specs.Semantics.Answer.{Answer, indeterminate}
+use Rattle.express.specs.Semantics.AnswerRow.{bytes_of}
+use Rattle.express.specs.Semantics.Order.{constant_order}
+use Rattle.express.specs.Semantics.Evaluate.{value}
 use Rattle.express.proofs.Syntax.Formed.{Formed, Pair}
 use Rattle.express.proofs.Syntax.FormedRows.{formed_rows}
 use Rattle.express.proofs.Syntax.KindSets.{expression_kinds, below_constant}
 use Rattle.express.proofs.Tokens.Literals.{literals}
-use Rattle.express.proofs.Kinds.Bounds.{Fitting, fit-?, fit_end, fit_integer, fit_logical, fit_binary, fit_string, fit_item, evaluate_fits, value_fits}
-use Rattle.express.proofs.Kinds.Spans.{Part, Below, Inside, last_below, left_below, five_below, in_expression}
+use Rattle.express.proofs.Semantics.Bounds.{Fitting, fit-?, fit_end, fit_integer, fit_logical, fit_binary, fit_string, fit_item, evaluate_fits, value_fits}
+use Rattle.express.proofs.Semantics.Spans.{Part, Below, Inside, last_below, left_below, five_below, in_expression}
 use Rattle.string_laws.proofs.Values.{value_step}
 use Rattle.string_laws.proofs.Strings.{string_leaves}
 use Rattle.evaluate.specs.Evaluation.{OperandOf, of_sign, left_of, right_of, low_of, item_of, high_of, value_of, Valued}
@@ -60,7 +60,7 @@ module _ {t : Table} {bytes starts lengths terminals kinds tokens sizes bindings
   root_first = let z = pair.all in let i = formed.inside d l in let s : 1 ≤ size t (last d) = formed.some (last d) (omega arith) in (omega arith, omega arith)
 
   fits_constant : (c : ℕ) → Fitting t (answer_of_constant t c)
-  unfolding Rattle.express.specs.Kinds.Evaluate.answers
+  unfolding Rattle.express.specs.Semantics.Evaluate.answers
   fits_constant c =
       evaluate_fits t (scope.bindings t) (literals O.read O.scanned) (constant_order t) (replicate (count t) indeterminate) (λ m. rw (blank (count t) m) fit-?) c
 

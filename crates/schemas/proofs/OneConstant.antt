@@ -14,15 +14,15 @@ use Rattle.express.specs.Syntax.NodeKind as node
 use Rattle.express.specs.Syntax.Tree.{Table, count, kind, size, first, last}
 use Rattle.express.specs.Tokens.Lexis.{most_bytes}
 use Rattle.express.specs.Names.Scope as scope
-use Rattle.express.specs.Kinds.Answer.{Answer, indeterminate, string}
-use Rattle.express.specs.Kinds.AnswerRow.{AnswerRow, row_of, row_at, bytes_of, natural}
-use Rattle.express.specs.Kinds.Declared.{Declared, INTEGER, BOOLEAN, LOGICAL, BINARY, STRING, enumeration, other, declared_type}
-use Rattle.express.specs.Kinds.DeclaredColumn.{declared_number}
-use Rattle.express.specs.Kinds.Evaluate.{answer_at, held, value}
-use Rattle.express.specs.Kinds.Kind.{WellTyped}
-use Rattle.express.specs.Kinds.Shape.{plus, arithmetic, relation, connective, Shape, integer_literal, logical_literal, binary_literal, string_literal, question, item, name}
-use Rattle.express.specs.Kinds.Shape.{unary, operator, interval, interval_operator, type, constant, unevaluated, shape}
-use Rattle.express.proofs.Kinds.Operations.{ends_range}
+use Rattle.express.specs.Semantics.Answer.{Answer, indeterminate, string}
+use Rattle.express.specs.Semantics.AnswerRow.{AnswerRow, row_of, row_at, bytes_of, natural}
+use Rattle.express.specs.Semantics.Declared.{Declared, INTEGER, BOOLEAN, LOGICAL, BINARY, STRING, enumeration, other, declared_type}
+use Rattle.express.specs.Semantics.DeclaredColumn.{declared_number}
+use Rattle.express.specs.Semantics.Evaluate.{answer_at, held, value}
+use Rattle.express.specs.Semantics.Kind.{WellTyped}
+use Rattle.express.specs.Semantics.Shape.{plus, arithmetic, relation, connective, Shape, integer_literal, logical_literal, binary_literal, string_literal, question, item, name}
+use Rattle.express.specs.Semantics.Shape.{unary, operator, interval, interval_operator, type, constant, unevaluated, shape}
+use Rattle.express.proofs.Semantics.Operations.{ends_range}
 use Rattle.express.proofs.Syntax.FormedRows.{formed_rows}
 use Rattle.operations.specs.Meaning.{answer_of, sized}
 use Rattle.operations.specs.declared.Answer as code

@@ -16,17 +16,17 @@ use Rattle.express.specs.Syntax.NodeKind as node
 use Rattle.express.specs.Syntax.Tree.{Table, count, kind, first, last}
 use Rattle.express.specs.Names.Scope as scope
 use Rattle.express.specs.Names.Fault.{constant_edges}
-use Rattle.express.specs.Kinds.Answer.{Answer, string}
-use Rattle.express.specs.Kinds.AnswerRow.{row_at, bytes_of}
-use Rattle.express.specs.Kinds.AnswerRow as answer_row
-use Rattle.express.specs.Kinds.Declared.{Declared, STRING, declared_type}
-use Rattle.express.specs.Kinds.Kind.{WellTyped}
-use Rattle.express.specs.Kinds.Rule.{an_integer, is_false, is_true, a_logical, a_binary, a_string, an_item}
-use Rattle.express.specs.Kinds.Rule as rule
-use Rattle.express.specs.Kinds.Shape.{name, shape}
-use Rattle.express.specs.Kinds.Evaluate.{answer_at}
+use Rattle.express.specs.Semantics.Answer.{Answer, string}
+use Rattle.express.specs.Semantics.AnswerRow.{row_at, bytes_of}
+use Rattle.express.specs.Semantics.AnswerRow as answer_row
+use Rattle.express.specs.Semantics.Declared.{Declared, STRING, declared_type}
+use Rattle.express.specs.Semantics.Kind.{WellTyped}
+use Rattle.express.specs.Semantics.Rule.{an_integer, is_false, is_true, a_logical, a_binary, a_string, an_item}
+use Rattle.express.specs.Semantics.Rule as rule
+use Rattle.express.specs.Semantics.Shape.{name, shape}
+use Rattle.express.specs.Semantics.Evaluate.{answer_at}
 use Rattle.express.proofs.Names.Edges.{constant_edge_schema, constant_edge_iff}
-use Rattle.express.proofs.Kinds.Operations.{ends_range}
+use Rattle.express.proofs.Semantics.Operations.{ends_range}
 use Rattle.operations.specs.Meaning.{sized}
 use Rattle.node_answers.specs.Answers.{answers_in}
 use Rattle.string_laws.proofs.Answers.{answer_holds, holds_no_bytes}

@@ -9,8 +9,8 @@ use lib.Seq.{length-take-le, take-add, drop-drop, get_or-take, get_or_drop, get_
 use Rattle.columns.specs.Column.{cleared, padded}
 use Rattle.columns.proofs.Laws.{length_cleared}
 use Rattle.relations.proofs.Select.{le_or}
-use Rattle.express.specs.Kinds.Answer.{Answer, indeterminate}
-use Rattle.express.specs.Kinds.AnswerRow.{AnswerRow, row_at, bytes_of, rows_from, room_of}
+use Rattle.express.specs.Semantics.Answer.{Answer, indeterminate}
+use Rattle.express.specs.Semantics.AnswerRow.{AnswerRow, row_at, bytes_of, rows_from, room_of}
 
 pub rows_long : (start : ℕ) (xs : List Answer) → length (rows_from start xs) ≡ length xs
 unfolding rows_from

@@ -22,15 +22,15 @@ use Rattle.express.specs.Tokens.Scanned.{Scanned}
 use Rattle.express.specs.Names.Scope.{bindings}
 use Rattle.express.specs.Names.Fault.{constant_edges}
 use Rattle.express.specs.Names.Names.{WellNamed}
-use Rattle.express.specs.Kinds.Answer.{Answer, indeterminate}
-use Rattle.express.specs.Kinds.Shape.{Shape, integer_literal, logical_literal, binary_literal, string_literal, question, item, name, unary, operator, interval}
-use Rattle.express.specs.Kinds.Shape.{interval_operator, type, constant, unevaluated, shape}
-use Rattle.express.specs.Kinds.Order.{constant_order}
-use Rattle.express.specs.Kinds.Evaluate.{answer_in, answer_at, run_in, value, evaluate, answers}
+use Rattle.express.specs.Semantics.Answer.{Answer, indeterminate}
+use Rattle.express.specs.Semantics.Shape.{Shape, integer_literal, logical_literal, binary_literal, string_literal, question, item, name, unary, operator, interval}
+use Rattle.express.specs.Semantics.Shape.{interval_operator, type, constant, unevaluated, shape}
+use Rattle.express.specs.Semantics.Order.{constant_order}
+use Rattle.express.specs.Semantics.Evaluate.{answer_in, answer_at, run_in, value, evaluate, answers}
 use Rattle.express.proofs.Syntax.FormedRows.{formed_rows}
-use Rattle.express.proofs.Kinds.Spans.{constant_owner}
-use Rattle.express.proofs.Kinds.ConstantOrder.{named_edge, arranged}
-use Rattle.express.proofs.Kinds.Bounds.{fit-?, evaluate_fits}
+use Rattle.express.proofs.Semantics.Spans.{constant_owner}
+use Rattle.express.proofs.Semantics.ConstantOrder.{named_edge, arranged}
+use Rattle.express.proofs.Semantics.Bounds.{fit-?, evaluate_fits}
 use Rattle.express.proofs.Tokens.Literals.{literals}
 use Rattle.answer_rows.proofs.Stored.{Storable, fitting_storable}
 use Rattle.schemas.specs.Rows.{answer_of_constant}

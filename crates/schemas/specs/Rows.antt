@@ -13,13 +13,13 @@ use Rattle.express.specs.Tokens.Scanned.{Scanned}
 use Rattle.express.specs.Names.Scope as scope
 use Rattle.express.specs.Names.Fault.{constant_edges}
 use Rattle.express.specs.Names.Names.{WellNamed}
-use Rattle.express.specs.Kinds.Answer.{Answer, indeterminate}
-use Rattle.express.specs.Kinds.AnswerRow.{AnswerRow, row_of, row_at, bytes_of, room_of}
-use Rattle.express.specs.Kinds.Declared.{STRING, declared_type}
-use Rattle.express.specs.Kinds.DeclaredColumn.{DeclaredColumn, declared_number}
-use Rattle.express.specs.Kinds.Kind.{constants, WellTyped}
-use Rattle.express.specs.Kinds.Order.{constant_order}
-use Rattle.express.specs.Kinds.Evaluate.{answers, answer_at}
+use Rattle.express.specs.Semantics.Answer.{Answer, indeterminate}
+use Rattle.express.specs.Semantics.AnswerRow.{AnswerRow, row_of, row_at, bytes_of, room_of}
+use Rattle.express.specs.Semantics.Declared.{STRING, declared_type}
+use Rattle.express.specs.Semantics.DeclaredColumn.{DeclaredColumn, declared_number}
+use Rattle.express.specs.Semantics.Kind.{constants, WellTyped}
+use Rattle.express.specs.Semantics.Order.{constant_order}
+use Rattle.express.specs.Semantics.Evaluate.{answers, answer_at}
 use Rattle.constant_rows.specs.Numbering.{row_in}
 use Rattle.node_answers.specs.Answers.{Stores}
 use Rattle.string_bytes.specs.Reading.{Readable}

@@ -11,7 +11,7 @@ use Rattle.relations.proofs.Select.{span_append, keep_append}
 use Rattle.express.specs.Syntax.NodeKind.{schema}
 use Rattle.express.specs.Syntax.Tree.{Table, count, kind, role, is, is_declaration}
 use Rattle.express.specs.Names.Fault.{sort}
-use Rattle.express.proofs.Kinds.Backward.{owner_step, schema_step, owner_end, schema_end}
+use Rattle.express.proofs.Semantics.Backward.{owner_step, schema_step, owner_end, schema_end}
 use Rattle.scopes.specs.Entries.{radix, declares_other, vertex, others_before}
 use Rattle.scopes.specs.Standing.{sort_by, class_of, entry_count, Stands, Passed, Ended, Counted, MoreBy}
 use Rattle.scopes.specs.declared.Here.{Here}

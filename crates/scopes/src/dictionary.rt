@@ -6,7 +6,7 @@ ghost use Rattle.scopes.specs.Preparation.{scope_by};
 use crate::{Here, RADIX};
 
 // Whether the dictionary stands in the columns; Unfit: they do not fit each other, or are too short.
-#[derive(Drop)]
+#[derive(Clone, Copy)]
 pub enum Preparation {
     Done,
     Unfit,

@@ -1,4 +1,5 @@
 // What a file declares and where, as one dictionary over (sort, scope, symbol): its keys, and the look-ups in it.
+#![tactic(auto)]
 pub mod dictionary;
 pub mod look_ups;
 
@@ -26,7 +27,7 @@ pub const RADIX: u64 = 131072;
 
 // What is known at a node: the declaration and the schema that it lies in, and how many entries come before its own, among
 // the declarations and behind them.
-#[derive(Drop)]
+#[derive(Clone, Copy)]
 pub struct Here {
     pub owner: usize,
     pub schema: usize,
@@ -35,7 +36,7 @@ pub struct Here {
 }
 
 // How many entries the dictionary of a file has: declarations, and others behind them.
-#[derive(Drop)]
+#[derive(Clone, Copy)]
 pub struct Counts {
     pub declarations: usize,
     pub others: usize,
@@ -117,7 +118,7 @@ pub fn at64(column: &[u64], i: usize) -> u64
 }
 
 // A constant, type or entity, by its number among these: its schema, its node, and the first node behind the declaration before it.
-#[derive(Drop)]
+#[derive(Clone, Copy)]
 pub struct Extent {
     pub schema: usize,
     pub from: usize,

@@ -10,7 +10,7 @@ use crate::dictionary::key;
 use index::dictionary::{Found, find, next_of};
 
 // No entry, the only one, or more than one.
-#[derive(Drop)]
+#[derive(Clone, Copy)]
 pub enum Meaning {
     Nothing,
     One(usize),

@@ -18,7 +18,7 @@ use Rattle.express.specs.Syntax.Syntax.{parsed, with_rows, Read}
 use Rattle.express.specs.Syntax.Tree.{Table, count}
 use Rattle.express.specs.Names.Scope.{bindings}
 use Rattle.express.specs.Names.Names.{WellNamed, names}
-use Rattle.express.specs.Kinds.Kind.{Typing, typed, ill_typed, typing, constants}
+use Rattle.express.specs.Semantics.Kind.{Typing, typed, ill_typed, typing, constants}
 use Rattle.express.specs.Whole.Reply.{Checked, accepted, refused, after_kinds, after_names, after_syntax, after_tokens, checked}
 use Rattle.express.proofs.Names.Names.{names_passes}
 use Rattle.express.proofs.Syntax.Syntax.{read_good}

@@ -11,8 +11,8 @@ use Rattle.express.specs.Syntax.Tree.{Table, place}
 use Rattle.express.specs.Names.Scope.{bindings}
 use Rattle.express.specs.Names.Fault.{Fault}
 use Rattle.express.specs.Names.Names.{names}
-use Rattle.express.specs.Kinds.Kind.{Typing, typed, ill_typed, typing}
-use Rattle.express.specs.Kinds.AnswerRow.{room_of}
+use Rattle.express.specs.Semantics.Kind.{Typing, typed, ill_typed, typing}
+use Rattle.express.specs.Semantics.AnswerRow.{room_of}
 use Rattle.express.specs.Whole.Reply.{Accepted, Checked, accepted, refused, Report}
 use Rattle.parsing.specs.Parsing.{rows_of}
 use Rattle.constants.specs.Constants.{row_in, file_answers}

@@ -1,4 +1,5 @@
 // The stages of a check in a straight line, as far as the constants are counted: each is handed how the ones before it ended, and passes a refusal on.
+#![tactic(auto)]
 ghost use Rattle.std.specs.Prelude.{◌≡◌, get_or, ◌≤◌};
 ghost use Rattle.express.specs.Tokens.Lexis.{most};
 ghost use Rattle.stages.specs.Line.{count_of};
@@ -8,7 +9,7 @@ use blanks::Step;
 use parsing::Parsed;
 
 // A stage that is done, with a count, or the refusal of it or of one before it: the reply and the number beside it.
-#[derive(Drop)]
+#[derive(Clone, Copy)]
 pub enum Stage {
     Done(usize),
     Refused(u8, u32),

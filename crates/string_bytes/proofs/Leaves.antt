@@ -12,7 +12,7 @@ use Rattle.express.specs.Syntax.NodeKind as node
 use Rattle.express.specs.Tokens.Lexis.{string_value}
 use Rattle.express.specs.Tokens.Terminal.{the}
 use Rattle.express.specs.Tokens.Terminal as word
-use Rattle.express.specs.Kinds.AnswerRow.{natural}
+use Rattle.express.specs.Semantics.AnswerRow.{natural}
 use Rattle.string_bytes.specs.Spelling.{Writes, WritesRow, WritesName, WritesLiteral, WritesNode}
 use Rattle.string_bytes.proofs.Writing.{writes_none}
 

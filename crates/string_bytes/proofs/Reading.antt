@@ -17,11 +17,11 @@ use Rattle.express.specs.Syntax.Tree.{Table, kind, terminal, is}
 use Rattle.express.specs.Tokens.Lexis.{string_value}
 use Rattle.express.specs.Tokens.Terminal.{the}
 use Rattle.express.specs.Tokens.Terminal as word
-use Rattle.express.specs.Kinds.Answer.{Answer}
-use Rattle.express.specs.Kinds.AnswerRow.{bytes_of}
-use Rattle.express.specs.Kinds.Declared.{declaration, bound}
-use Rattle.express.specs.Kinds.Shape.{Operator, Shape, name, evaluated, operator_of, name_shape_in, is_string, shape_in}
-use Rattle.express.specs.Kinds.Shape as shapes
+use Rattle.express.specs.Semantics.Answer.{Answer}
+use Rattle.express.specs.Semantics.AnswerRow.{bytes_of}
+use Rattle.express.specs.Semantics.Declared.{declaration, bound}
+use Rattle.express.specs.Semantics.Shape.{Operator, Shape, name, evaluated, operator_of, name_shape_in, is_string, shape_in}
+use Rattle.express.specs.Semantics.Shape as shapes
 use Rattle.string_laws.specs.Leaves.{leaf_bytes, leaves}
 use Rattle.string_bytes.specs.Spelling.{row_bytes, node_bytes, nodes_bytes}
 use Rattle.string_bytes.specs.Reading.{Columns, Readable}

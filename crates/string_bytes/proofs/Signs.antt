@@ -6,8 +6,8 @@ use lib.Signed.{lt_z}
 use mir.Syntax.{w64}
 use mir.Val.{SFits}
 use mir.Facts.{to_z-of_z}
-use Rattle.express.specs.Kinds.AnswerRow.{natural}
-use Rattle.express.specs.Kinds.Integer.{negative}
+use Rattle.express.specs.Semantics.AnswerRow.{natural}
+use Rattle.express.specs.Semantics.Integer.{negative}
 use Rattle.integers.proofs.Exact.{own, sign_is}
 
 natural_negative : (z : ℤ) → negative z ≡ true → 0 ≡ natural z

@@ -1,9 +1,9 @@
 -- The columns in which the leaves of an expression are read (K13).
 use Rattle.std.specs.Prelude.{◌≡◌, List, ℕ, ◌-◌, ◌≤◌, ◌<◌, ℤ, get_or}
 use Rattle.express.specs.Syntax.Tree.{Table}
-use Rattle.express.specs.Kinds.Answer.{Answer}
-use Rattle.express.specs.Kinds.AnswerRow.{bytes_of}
-use Rattle.express.specs.Kinds.Shape.{name, shape_in}
+use Rattle.express.specs.Semantics.Answer.{Answer}
+use Rattle.express.specs.Semantics.AnswerRow.{bytes_of}
+use Rattle.express.specs.Semantics.Shape.{name, shape_in}
 use Rattle.string_bytes.specs.Spelling.{row_bytes}
 
 -- the columns of an expression's table e, and the kinds of the file's table t

@@ -7,7 +7,7 @@ use Rattle.express.specs.Syntax.NodeKind as node
 use Rattle.express.specs.Tokens.Lexis.{string_value}
 use Rattle.express.specs.Tokens.Terminal.{the}
 use Rattle.express.specs.Tokens.Terminal as word
-use Rattle.express.specs.Kinds.AnswerRow.{natural}
+use Rattle.express.specs.Semantics.AnswerRow.{natural}
 
 -- bytes are stored from an index on, as far as there are places; r of them there are
 pub record Writes (bytes : List ℕ) (at : ℕ) (out out' : List ℕ) (r : ℕ) : Type 0 where

@@ -1,7 +1,8 @@
 // The bytes of a string: those of the leaves of its expression, in node order. A literal is read in the text, a named constant in the room.
+#![tactic(auto)]
 ghost use Rattle.std.specs.Prelude.{◌≡◌, ◌||◌, eqb, pos, get_or, take, drop};
 ghost use Rattle.express.specs.Syntax.NodeKind as node;
-ghost use Rattle.express.specs.Kinds.AnswerRow.{natural};
+ghost use Rattle.express.specs.Semantics.AnswerRow.{natural};
 ghost use Rattle.string_bytes.specs.Spelling.{Writes, WritesRow, WritesName, WritesLiteral, WritesNode, SpellsNodes};
 
 use literals::{put_behind, string_bytes};

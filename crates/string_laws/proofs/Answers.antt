@@ -13,16 +13,16 @@ use Rattle.express.specs.Tokens.Lexis.{most_bytes}
 use Rattle.express.specs.Tokens.Scanned.{Scanned}
 use Rattle.express.specs.Names.Scope.{bindings}
 use Rattle.express.specs.Names.Names.{WellNamed}
-use Rattle.express.specs.Kinds.Answer.{Answer, indeterminate, string, end, ends}
-use Rattle.express.specs.Kinds.AnswerRow.{bytes_of}
-use Rattle.express.specs.Kinds.Declared.{Declared, STRING, declared_type}
-use Rattle.express.specs.Kinds.Kind.{WellTyped}
-use Rattle.express.specs.Kinds.Rule.{Member, an_integer, is_false, is_true, a_logical, a_binary, an_item, Holds, a_member}
-use Rattle.express.specs.Kinds.Rule as rule
-use Rattle.express.specs.Kinds.Order.{constant_order}
-use Rattle.express.specs.Kinds.Evaluate.{answer_at, answers}
+use Rattle.express.specs.Semantics.Answer.{Answer, indeterminate, string, end, ends}
+use Rattle.express.specs.Semantics.AnswerRow.{bytes_of}
+use Rattle.express.specs.Semantics.Declared.{Declared, STRING, declared_type}
+use Rattle.express.specs.Semantics.Kind.{WellTyped}
+use Rattle.express.specs.Semantics.Rule.{Member, an_integer, is_false, is_true, a_logical, a_binary, an_item, Holds, a_member}
+use Rattle.express.specs.Semantics.Rule as rule
+use Rattle.express.specs.Semantics.Order.{constant_order}
+use Rattle.express.specs.Semantics.Evaluate.{answer_at, answers}
 use Rattle.express.proofs.Syntax.FormedRows.{formed_rows}
-use Rattle.express.proofs.Kinds.Typed.{typing_accepts}
+use Rattle.express.proofs.Semantics.Typed.{typing_accepts}
 use Rattle.express.proofs.Theorems.File.{file_exact, file_order}
 
 -- ---- what a type allows

@@ -10,15 +10,15 @@ use borrow.Author.Tests.{ne_eqb}
 use Rattle.ebnf.specs.Set.{mem}
 use Rattle.express.specs.Syntax.NodeKind as node
 use Rattle.express.specs.Syntax.Tree.{Table, count, kind, size, first, last, left, middle, low, owner}
-use Rattle.express.specs.Kinds.Declared.{Declared, INTEGER, BOOLEAN, LOGICAL, BINARY, STRING, enumeration, other, declared_type}
-use Rattle.express.specs.Kinds.Shape.{Sign, positive, negative, not, plus, arithmetic, relation, connective, Shape, integer_literal, logical_literal, binary_literal}
-use Rattle.express.specs.Kinds.Shape.{string_literal, question, item, name, unary, operator, interval, interval_operator, type, constant, unevaluated, shape}
-use Rattle.express.specs.Kinds.Operate.{Kind, integers, logicals, binaries, strings, items, undetermined, untyped, comparable, takes, takes_one}
-use Rattle.express.specs.Kinds.Kind.{same, common, kind_of_type, result_of_one, of_kind, finding, Fits, WellTyped}
+use Rattle.express.specs.Semantics.Declared.{Declared, INTEGER, BOOLEAN, LOGICAL, BINARY, STRING, enumeration, other, declared_type}
+use Rattle.express.specs.Semantics.Shape.{Sign, positive, negative, not, plus, arithmetic, relation, connective, Shape, integer_literal, logical_literal, binary_literal}
+use Rattle.express.specs.Semantics.Shape.{string_literal, question, item, name, unary, operator, interval, interval_operator, type, constant, unevaluated, shape}
+use Rattle.express.specs.Semantics.Operate.{Kind, integers, logicals, binaries, strings, items, undetermined, untyped, comparable, takes, takes_one}
+use Rattle.express.specs.Semantics.Kind.{same, common, kind_of_type, result_of_one, of_kind, finding, Fits, WellTyped}
 use Rattle.express.proofs.Syntax.Formed.{Formed}
-use Rattle.express.proofs.Kinds.KindNumbers.{same_kinds}
-use Rattle.express.proofs.Kinds.Shapes.{Decoded, decoded, constant_shape}
-use Rattle.express.proofs.Kinds.Spans.{Part, Below, left_below, value_below, in_constant, in_expression, constant_of}
+use Rattle.express.proofs.Semantics.KindNumbers.{same_kinds}
+use Rattle.express.proofs.Semantics.Shapes.{Decoded, decoded, constant_shape}
+use Rattle.express.proofs.Semantics.Spans.{Part, Below, left_below, value_below, in_constant, in_expression, constant_of}
 use Rattle.express.proofs.Theorems.Exactness.{fits_kind, evaluated_kind}
 use Rattle.string_laws.proofs.Operations.{clash, Operation, alone_or_operation}
 

@@ -5,8 +5,8 @@ use Prim.Native.Nat.{ℕ, ◌+◌}
 use Rattle.relations.specs.Select.{span}
 use Rattle.relations.proofs.Select.{span_append}
 use Rattle.express.specs.Syntax.Tree.{Table}
-use Rattle.express.specs.Kinds.Answer.{Answer}
-use Rattle.express.specs.Kinds.Shape.{shape_in}
+use Rattle.express.specs.Semantics.Answer.{Answer}
+use Rattle.express.specs.Semantics.Shape.{shape_in}
 use Rattle.string_laws.specs.Leaves.{leaf_bytes, leaves}
 
 -- what two lists give, one behind the other

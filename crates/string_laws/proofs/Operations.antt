@@ -15,19 +15,19 @@ use Rattle.relations.proofs.Select.{or_cases}
 use Rattle.express.specs.Syntax.NodeKind as node
 use Rattle.express.specs.Syntax.Tree.{Table, count, kind, size, terminal, lower, upper}
 use Rattle.express.specs.Tokens.Lexis.{most_bytes}
-use Rattle.express.specs.Kinds.Integer.{negation}
-use Rattle.express.specs.Kinds.Answer.{Answer, indeterminate, integer, logical, binary, item, string, end, outside}
-use Rattle.express.specs.Kinds.Bits.{join}
-use Rattle.express.specs.Kinds.Strings.{join_strings}
-use Rattle.express.specs.Kinds.Shape.{Sign, positive, negative, not, Operator, plus, arithmetic, relation, connective, Shape, integer_literal, logical_literal, binary_literal, string_literal, question}
-use Rattle.express.specs.Kinds.Shape.{name, unary, operator, interval, interval_operator, type, constant, unevaluated}
-use Rattle.express.specs.Kinds.Shape.{sign_of, bound_of, operator_of, evaluated, shape_in}
-use Rattle.express.specs.Kinds.Shape as shapes
-use Rattle.express.specs.Kinds.Operate.{integers, string_in, integer_in, binary_in, end_in, given, both, operated, combined, applied}
+use Rattle.express.specs.Semantics.Integer.{negation}
+use Rattle.express.specs.Semantics.Answer.{Answer, indeterminate, integer, logical, binary, item, string, end, outside}
+use Rattle.express.specs.Semantics.Bits.{join}
+use Rattle.express.specs.Semantics.Strings.{join_strings}
+use Rattle.express.specs.Semantics.Shape.{Sign, positive, negative, not, Operator, plus, arithmetic, relation, connective, Shape, integer_literal, logical_literal, binary_literal, string_literal, question}
+use Rattle.express.specs.Semantics.Shape.{name, unary, operator, interval, interval_operator, type, constant, unevaluated}
+use Rattle.express.specs.Semantics.Shape.{sign_of, bound_of, operator_of, evaluated, shape_in}
+use Rattle.express.specs.Semantics.Shape as shapes
+use Rattle.express.specs.Semantics.Operate.{integers, string_in, integer_in, binary_in, end_in, given, both, operated, combined, applied}
 use Rattle.express.proofs.Syntax.KindSets.{leaf_kinds, operation_kinds}
 use Rattle.express.proofs.Syntax.Formed.{Formed}
-use Rattle.express.proofs.Kinds.Spans.{Part}
-use Rattle.express.proofs.Kinds.Operations.{Good, good-?, good_end, good_integer, exact_good, computed_good}
+use Rattle.express.proofs.Semantics.Spans.{Part}
+use Rattle.express.proofs.Semantics.Operations.{Good, good-?, good_end, good_integer, exact_good, computed_good}
 
 pub clash : {A : Type 0} → ◌≡◌ {A = ℕ} 0 1 → A
 clash z = absurd (omega arith)

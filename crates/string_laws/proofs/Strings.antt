@@ -7,15 +7,15 @@ use Prim.Native.Nat.{ℕ, zero, suc, ◌+◌, ◌≤◌, ◌<◌}
 use native.Mathlib.Omega.{arith}
 use Rattle.ebnf.specs.Set.{mem}
 use Rattle.express.specs.Syntax.Tree.{Table, count, kind, size, first, last, left, middle, low}
-use Rattle.express.specs.Kinds.Answer.{Answer, string}
-use Rattle.express.specs.Kinds.AnswerRow.{bytes_of}
-use Rattle.express.specs.Kinds.Shape.{and, relation, connective, Shape, integer_literal, logical_literal, binary_literal, string_literal, question, item, name, unary, operator, interval}
-use Rattle.express.specs.Kinds.Shape.{interval_operator, type, constant, unevaluated, shape_in}
-use Rattle.express.specs.Kinds.Operate.{combined}
-use Rattle.express.specs.Kinds.Evaluate.{answer_in, value_in}
+use Rattle.express.specs.Semantics.Answer.{Answer, string}
+use Rattle.express.specs.Semantics.AnswerRow.{bytes_of}
+use Rattle.express.specs.Semantics.Shape.{and, relation, connective, Shape, integer_literal, logical_literal, binary_literal, string_literal, question, item, name, unary, operator, interval}
+use Rattle.express.specs.Semantics.Shape.{interval_operator, type, constant, unevaluated, shape_in}
+use Rattle.express.specs.Semantics.Operate.{combined}
+use Rattle.express.specs.Semantics.Evaluate.{answer_in, value_in}
 use Rattle.express.proofs.Syntax.Formed.{Formed}
-use Rattle.express.proofs.Kinds.Shapes.{Decoded, decoded_in}
-use Rattle.express.proofs.Kinds.Spans.{Part, Below, last_below, left_below, in_expression}
+use Rattle.express.proofs.Semantics.Shapes.{Decoded, decoded_in}
+use Rattle.express.proofs.Semantics.Spans.{Part, Below, last_below, left_below, in_expression}
 use Rattle.string_laws.specs.Leaves.{leaf_bytes, leaves}
 use Rattle.string_laws.proofs.Leaves.{leaves_one, leaves_next, leaves_append}
 use Rattle.string_laws.proofs.Values.{value_step}

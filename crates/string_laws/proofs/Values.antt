@@ -10,15 +10,15 @@ use Rattle.relations.specs.Select.{span}
 use Rattle.relations.proofs.Select.{span_append, span_mem}
 use Rattle.express.specs.Syntax.NodeKind as node
 use Rattle.express.specs.Syntax.Tree.{Table, count, kind, size, first, last, within}
-use Rattle.express.specs.Kinds.Answer.{Answer, indeterminate}
-use Rattle.express.specs.Kinds.Declared.{declared_type}
-use Rattle.express.specs.Kinds.Shape.{constant, shape_in}
-use Rattle.express.specs.Kinds.Evaluate.{answer_in, answer_at, run_in, held, value_in, value}
+use Rattle.express.specs.Semantics.Answer.{Answer, indeterminate}
+use Rattle.express.specs.Semantics.Declared.{declared_type}
+use Rattle.express.specs.Semantics.Shape.{constant, shape_in}
+use Rattle.express.specs.Semantics.Evaluate.{answer_in, answer_at, run_in, held, value_in, value}
 use Rattle.express.proofs.Syntax.Formed.{Formed}
-use Rattle.express.proofs.Kinds.Shapes.{constant_shape}
-use Rattle.express.proofs.Kinds.Spans.{Part, Below, Inside, in_constant, in_expression}
-use Rattle.express.proofs.Kinds.Scratch.{Root, same_answer, value_run}
-use Rattle.express.proofs.Kinds.Walk.{length_run, run_other}
+use Rattle.express.proofs.Semantics.Shapes.{constant_shape}
+use Rattle.express.proofs.Semantics.Spans.{Part, Below, Inside, in_constant, in_expression}
+use Rattle.express.proofs.Semantics.Scratch.{Root, same_answer, value_run}
+use Rattle.express.proofs.Semantics.Walk.{length_run, run_other}
 
 -- ---- evaluation in parts
 module _ (t e : Table) (c : List ℕ) (g : ℕ → Answer) where

@@ -3,10 +3,10 @@ use mathlib.Core.List.{List, [], flat_map}
 use Rattle.std.specs.Prelude.{ℕ}
 use Rattle.relations.specs.Select.{span}
 use Rattle.express.specs.Syntax.Tree.{Table}
-use Rattle.express.specs.Kinds.Answer.{Answer}
-use Rattle.express.specs.Kinds.AnswerRow.{bytes_of}
-use Rattle.express.specs.Kinds.Shape.{Shape, integer_literal, logical_literal, binary_literal, string_literal, question, item, name, unary, operator, interval}
-use Rattle.express.specs.Kinds.Shape.{interval_operator, type, constant, unevaluated, shape_in}
+use Rattle.express.specs.Semantics.Answer.{Answer}
+use Rattle.express.specs.Semantics.AnswerRow.{bytes_of}
+use Rattle.express.specs.Semantics.Shape.{Shape, integer_literal, logical_literal, binary_literal, string_literal, question, item, name, unary, operator, interval}
+use Rattle.express.specs.Semantics.Shape.{interval_operator, type, constant, unevaluated, shape_in}
 
 -- K13: the bytes that a node by itself gives to the string in which it stands: a literal its value, the name of a constant the bytes of its answer, which g
 -- gives; an operator none

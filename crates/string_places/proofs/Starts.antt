@@ -5,8 +5,8 @@ use Prim.Native.Nat.{ℕ, zero, suc, ◌+◌, ◌≤◌, ◌<◌}
 use native.Mathlib.Omega.{arith}
 use lib.ListN.{length, get_or, take, length-append}
 use lib.Seq.{take-suc}
-use Rattle.express.specs.Kinds.Answer.{Answer, indeterminate}
-use Rattle.express.specs.Kinds.AnswerRow.{bytes_of, room_of}
+use Rattle.express.specs.Semantics.Answer.{Answer, indeterminate}
+use Rattle.express.specs.Semantics.AnswerRow.{bytes_of, room_of}
 use Rattle.string_places.specs.Places.{size_in, start_in}
 
 -- one answer more

@@ -16,13 +16,13 @@ use Rattle.relations.proofs.Select.{and_fst, and_snd}
 use Rattle.express.specs.Syntax.NodeKind as node
 use Rattle.express.specs.Syntax.Tree.{Table, terminal, left, low, lower, middle}
 use Rattle.express.specs.Tokens.Lexis.{most_bytes}
-use Rattle.express.specs.Kinds.Answer.{Answer, indeterminate, integer, logical, binary, item, string, end}
-use Rattle.express.specs.Kinds.AnswerRow.{bytes_of}
-use Rattle.express.specs.Kinds.Strings.{compare_bytes}
-use Rattle.express.specs.Kinds.Relation.{related}
-use Rattle.express.specs.Kinds.Shape.{and, relation, connective, operator_of, bound_of}
-use Rattle.express.specs.Kinds.Operate.{string_in, combined, between}
-use Rattle.express.specs.Kinds.Evaluate.{answer_at}
+use Rattle.express.specs.Semantics.Answer.{Answer, indeterminate, integer, logical, binary, item, string, end}
+use Rattle.express.specs.Semantics.AnswerRow.{bytes_of}
+use Rattle.express.specs.Semantics.Strings.{compare_bytes}
+use Rattle.express.specs.Semantics.Relation.{related}
+use Rattle.express.specs.Semantics.Shape.{and, relation, connective, operator_of, bound_of}
+use Rattle.express.specs.Semantics.Operate.{string_in, combined, between}
+use Rattle.express.specs.Semantics.Evaluate.{answer_at}
 use Rattle.values.specs.Meaning.{logical_of, ordering_of, relation_of}
 use Rattle.values.specs.declared.logical.Logical.{Logical}
 use Rattle.values.specs.declared.order.Order.{Order}

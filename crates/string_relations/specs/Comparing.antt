@@ -5,13 +5,13 @@ use Rattle.std.proofs.Math.Option.{Option, none, some}
 use Rattle.express.specs.Syntax.NodeKind as node
 use Rattle.express.specs.Syntax.Tree.{Table, last, middle}
 use Rattle.express.specs.Tokens.Lexis.{most_bytes}
-use Rattle.express.specs.Kinds.Answer.{Answer, string}
-use Rattle.express.specs.Kinds.AnswerRow.{bytes_of}
-use Rattle.express.specs.Kinds.Strings.{compare_bytes}
-use Rattle.express.specs.Kinds.Relation.{Relation}
-use Rattle.express.specs.Kinds.Shape.{Operator, plus, arithmetic, relation, connective, Shape, operator, interval, operator_of}
-use Rattle.express.specs.Kinds.Operate.{combined}
-use Rattle.express.specs.Kinds.Evaluate.{answer_at}
+use Rattle.express.specs.Semantics.Answer.{Answer, string}
+use Rattle.express.specs.Semantics.AnswerRow.{bytes_of}
+use Rattle.express.specs.Semantics.Strings.{compare_bytes}
+use Rattle.express.specs.Semantics.Relation.{Relation}
+use Rattle.express.specs.Semantics.Shape.{Operator, plus, arithmetic, relation, connective, Shape, operator, interval, operator_of}
+use Rattle.express.specs.Semantics.Operate.{combined}
+use Rattle.express.specs.Semantics.Evaluate.{answer_at}
 use Rattle.values.specs.Meaning.{ordering_of, relation_of}
 use Rattle.values.specs.declared.order.Order.{Order}
 use Rattle.values.specs.declared.order.Relation as code

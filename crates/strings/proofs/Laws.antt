@@ -10,7 +10,7 @@ use lib.ListN.{length, get_or, drop, replicate, length-replicate, replicate-appe
 use lib.Seq.{drop-cons}
 use Rattle.relations.specs.Order.{then, compare_lists}
 use Rattle.relations.proofs.Order.{compare_lt, compare_gt, compare_eq, by_lengths}
-use Rattle.express.specs.Kinds.Strings.{join_strings, compare_bytes}
+use Rattle.express.specs.Semantics.Strings.{join_strings, compare_bytes}
 use Rattle.values.specs.declared.End.TheVariants.{OutOfRange}
 use Rattle.strings.specs.Meaning.{joined_answer}
 use Rattle.strings.specs.declared.Joined.TheVariants.{Whole, Ended}

@@ -1,6 +1,6 @@
 -- What the types of the code stand for.
 use Rattle.std.specs.Prelude.{ℕ, replicate}
-use Rattle.express.specs.Kinds.Answer.{Answer, string, end}
+use Rattle.express.specs.Semantics.Answer.{Answer, string, end}
 use Rattle.values.specs.Meaning.{end_number}
 use Rattle.strings.specs.declared.Joined.{Joined}
 use Rattle.strings.specs.declared.Joined.TheVariants.{Whole, Ended}

@@ -1,6 +1,7 @@
 // Strings: joining, by their lengths, and comparing.
+#![tactic(auto)]
 ghost use Rattle.std.specs.Prelude.{◌≡◌, replicate};
-ghost use Rattle.express.specs.Kinds.Strings.{join_strings, compare_bytes};
+ghost use Rattle.express.specs.Semantics.Strings.{join_strings, compare_bytes};
 ghost use Rattle.values.specs.Meaning.{ordering_of};
 ghost use Rattle.strings.specs.Meaning.{joined_answer};
 
@@ -11,7 +12,7 @@ use values::order::Order;
 const MOST: u64 = codes::limits::STRING_BYTES as u64;
 
 // What joining gives: the length of a string, or the end that it comes to.
-#[derive(Drop)]
+#[derive(Clone, Copy)]
 pub enum Joined {
     Whole(u8),
     Ended(End),

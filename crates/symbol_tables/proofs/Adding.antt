@@ -8,7 +8,7 @@ use native.Mathlib.Omega.{arith}
 use lib.ListN.{length, get_or}
 use Rattle.relations.specs.Select.{keep}
 use Rattle.relations.proofs.Select.{span_end}
-use Rattle.express.proofs.Kinds.Backward.{keep_step}
+use Rattle.express.proofs.Semantics.Backward.{keep_step}
 use Rattle.symbol_tables.specs.Entry.{stamp_count, node_limit}
 use Rattle.symbol_tables.specs.Table.{Tabulated, OnlyStamped, Adds, either_kind, symbol_in, kinds_between, reach, AddsRange}
 use Rattle.symbol_tables.proofs.Tables.{only_same, only_then, add_only, add_tabulates}

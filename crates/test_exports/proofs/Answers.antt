@@ -1,9 +1,9 @@
 -- Logicals as numbers: the rank of what an operation gives.
 use mathlib.Core.Path.{◌≡◌}
 use Prim.Native.Nat.{ℕ, Ordering}
-use Rattle.express.specs.Kinds.Answer.{Logical}
-use Rattle.express.specs.Kinds.Logic.{rank, compare_logical}
-use Rattle.express.specs.Kinds.Relation.{Relation, related}
+use Rattle.express.specs.Semantics.Answer.{Logical}
+use Rattle.express.specs.Semantics.Logic.{rank, compare_logical}
+use Rattle.express.specs.Semantics.Relation.{Relation, related}
 
 module _ {r : ℕ} {x y z u v : Logical} (p : r ≡ rank z) where
   pub rank_two : (op : Logical → Logical → Logical) → z ≡ op x y → x ≡ u → y ≡ v → r ≡ rank (op u v)

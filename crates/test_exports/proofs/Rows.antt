@@ -5,13 +5,13 @@ use Prim.Native.Nat.{ℕ}
 use lib.IntN.{ℤ}
 use mir.Syntax.{w64}
 use mir.Val.{SFits, to_z, of_z}
-use Rattle.express.specs.Kinds.Answer.{Answer}
-use Rattle.express.specs.Kinds.AnswerRow.{AnswerRow, row_of}
-use Rattle.express.specs.Kinds.Declared.{Declared}
-use Rattle.express.specs.Kinds.Evaluate.{held}
-use Rattle.express.specs.Kinds.Operate.{combined, applied, between}
-use Rattle.express.specs.Kinds.Relation.{Relation}
-use Rattle.express.specs.Kinds.Shape.{Operator, Sign}
+use Rattle.express.specs.Semantics.Answer.{Answer}
+use Rattle.express.specs.Semantics.AnswerRow.{AnswerRow, row_of}
+use Rattle.express.specs.Semantics.Declared.{Declared}
+use Rattle.express.specs.Semantics.Evaluate.{held}
+use Rattle.express.specs.Semantics.Operate.{combined, applied, between}
+use Rattle.express.specs.Semantics.Relation.{Relation}
+use Rattle.express.specs.Semantics.Shape.{Operator, Sign}
 use Rattle.integers.proofs.Calls.{own_one}
 use Rattle.operations.specs.Meaning.{is_boolean}
 use Rattle.answer_rows.specs.Stored.{stored}

@@ -1,11 +1,11 @@
 -- Operators by their class and place, and operands by their rows; a number past the last is the last.
 use Rattle.std.specs.Prelude.{◌≡◌, Bool, cond, ℕ, eqb, ℤ}
-use Rattle.express.specs.Kinds.Answer.{Answer}
-use Rattle.express.specs.Kinds.AnswerRow.{AnswerRow, row, row_of}
-use Rattle.express.specs.Kinds.Declared.{Declared}
-use Rattle.express.specs.Kinds.Evaluate.{held}
-use Rattle.express.specs.Kinds.Shape.{Arithmetic, minus, times, divide, modulo, power, Connective, and, or, xor}
-use Rattle.express.specs.Kinds.Shape.{Operator, plus, arithmetic, relation, connective, Sign, positive, negative, not}
+use Rattle.express.specs.Semantics.Answer.{Answer}
+use Rattle.express.specs.Semantics.AnswerRow.{AnswerRow, row, row_of}
+use Rattle.express.specs.Semantics.Declared.{Declared}
+use Rattle.express.specs.Semantics.Evaluate.{held}
+use Rattle.express.specs.Semantics.Shape.{Arithmetic, minus, times, divide, modulo, power, Connective, and, or, xor}
+use Rattle.express.specs.Semantics.Shape.{Operator, plus, arithmetic, relation, connective, Sign, positive, negative, not}
 use Rattle.operations.specs.Meaning.{is_boolean}
 use Rattle.answer_rows.specs.Stored.{stored, sized_answer}
 use Rattle.test_exports.specs.Places.{relation_at}

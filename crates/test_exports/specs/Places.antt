@@ -1,8 +1,8 @@
 -- A value of a few by its place among them, counted from 0; a number past the last is the last.
 use Rattle.std.specs.Prelude.{cond, eqb}
 use Prim.Native.Nat.{ℕ, zero, suc, Ordering}
-use Rattle.express.specs.Kinds.Answer.{Logical, FALSE, UNKNOWN, TRUE}
-use Rattle.express.specs.Kinds.Relation.{Relation, less_than, greater_than, at_most, at_least, unequal, equal, instance_unequal, instance_equal}
+use Rattle.express.specs.Semantics.Answer.{Logical, FALSE, UNKNOWN, TRUE}
+use Rattle.express.specs.Semantics.Relation.{Relation, less_than, greater_than, at_most, at_least, unequal, equal, instance_unequal, instance_equal}
 
 -- the logical of a rank
 abbrev pub logical_at : ℕ → Logical

@@ -1,7 +1,7 @@
 // The arithmetic on integers. An answer passes as its row: the kind is returned, number and length are written.
 ghost use Rattle.std.specs.Prelude.{◌≡◌};
-ghost use Rattle.express.specs.Kinds.AnswerRow.{row, row_of};
-ghost use Rattle.express.specs.Kinds.Integer.{sum, difference, product, DIV, MOD, power, negation, compareℤ};
+ghost use Rattle.express.specs.Semantics.AnswerRow.{row, row_of};
+ghost use Rattle.express.specs.Semantics.Integer.{sum, difference, product, DIV, MOD, power, negation, compareℤ};
 ghost use Rattle.test_exports.specs.Places.{order_place};
 
 use crate::logicals;

@@ -1,7 +1,7 @@
 // Binaries: the last m bits of a, and the last n of b.
 ghost use Rattle.std.specs.Prelude.{◌≡◌};
-ghost use Rattle.express.specs.Kinds.AnswerRow.{row, row_of};
-ghost use Rattle.express.specs.Kinds.Bits.{bits, join, compare_bits};
+ghost use Rattle.express.specs.Semantics.AnswerRow.{row, row_of};
+ghost use Rattle.express.specs.Semantics.Bits.{bits, join, compare_bits};
 ghost use Rattle.test_exports.specs.Places.{order_place};
 
 use crate::logicals;

@@ -1,6 +1,7 @@
 // The proved functions under the names by which Rust and C call them. A number passes as itself, a slice as a pointer and a
 // length; what has a reply (a reading step, a parse, a typing, the names of a file) as its reply, returned, and its number,
 // written to a place of the caller's; any other enum as one number.
+#![tactic(auto)]
 pub mod arithmetic;
 pub mod binaries;
 pub mod graphs;

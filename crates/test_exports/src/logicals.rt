@@ -1,8 +1,8 @@
 // The three logicals and the relations, each by its place among its kind, counted from 0: FALSE, UNKNOWN, TRUE; less, same,
 // more; the relations as they are declared. A number past the last is the last.
 ghost use Rattle.std.specs.Prelude.{◌≡◌};
-ghost use Rattle.express.specs.Kinds.Logic.{rank, compare_logical, AND, OR, NOT, XOR};
-ghost use Rattle.express.specs.Kinds.Relation.{related};
+ghost use Rattle.express.specs.Semantics.Logic.{rank, compare_logical, AND, OR, NOT, XOR};
+ghost use Rattle.express.specs.Semantics.Relation.{related};
 ghost use Rattle.values.specs.Meaning.{logical_of, ordering_of, relation_of};
 ghost use Rattle.test_exports.specs.Places.{logical_at, relation_at, order_place};
 

@@ -1,8 +1,8 @@
 // The operators. An operand passes as its row of three numbers, and so does the answer: the kind is returned, number and
 // length are written.
 ghost use Rattle.std.specs.Prelude.{◌≡◌};
-ghost use Rattle.express.specs.Kinds.AnswerRow.{row, row_of};
-ghost use Rattle.express.specs.Kinds.Operate.{combined, applied, between};
+ghost use Rattle.express.specs.Semantics.AnswerRow.{row, row_of};
+ghost use Rattle.express.specs.Semantics.Operate.{combined, applied, between};
 ghost use Rattle.operations.specs.Meaning.{answer_of, arithmetic_of, connective_of, operator_of, sign_of};
 ghost use Rattle.answer_rows.specs.Stored.{stored};
 ghost use Rattle.test_exports.specs.Places.{relation_at};

@@ -1,6 +1,6 @@
 // Strings, by their bytes.
 ghost use Rattle.std.specs.Prelude.{◌≡◌};
-ghost use Rattle.express.specs.Kinds.Strings.{compare_bytes};
+ghost use Rattle.express.specs.Semantics.Strings.{compare_bytes};
 ghost use Rattle.test_exports.specs.Places.{order_place};
 
 use crate::logicals;

@@ -1,4 +1,4 @@
 pub mod Tokens
 pub mod Syntax
-pub mod Kinds
+pub mod Semantics
 pub mod Whole

@@ -15,7 +15,7 @@ use Rattle.relations.proofs.Select.{le_or, span_append, span_mem}
 use Rattle.express.specs.Syntax.Tree.{Table, count, nodes}
 use Rattle.express.specs.Names.Fault.{Fault, fine}
 use Rattle.express.specs.Names.Names.{Stage, sooner, least}
-use Rattle.express.proofs.Kinds.Backward.{least_step, least_end}
+use Rattle.express.proofs.Semantics.Backward.{least_step, least_end}
 use Rattle.scopes.specs.Range.{vertex_count, node_of, range_start}
 use Rattle.scopes.proofs.Ranges.{node_below, node_declares, range_next, range_rises, range_below}
 use Rattle.faults.specs.Meaning.{fault_of}

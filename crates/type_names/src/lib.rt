@@ -1,5 +1,6 @@
 // Replies 10 and 11 of the names of types and supertypes; what each of them is bound to, and the graph of the declarations
 // by what they rename, select or are subtypes of.
+#![tactic(auto)]
 ghost use Rattle.std.specs.Prelude.{◌≡◌, ◌<◌};
 ghost use Rattle.type_names.specs.Pass.{Stored};
 ghost use Rattle.type_names.specs.TypeName.{is_type_name_by, suits_by, makes_arc, target_by, Unbound, BoundTo, TypeNameMeant, FoundTypeName};
@@ -12,7 +13,7 @@ use scopes::{at, at8};
 
 // What is found of a node: its fault, its binding (one more than a node, or 0), and the target of its arc (one more than a
 // vertex, or 0).
-#[derive(Drop)]
+#[derive(Clone, Copy)]
 pub struct Finding {
     pub fault: Fault,
     pub binding: u32,
@@ -20,7 +21,7 @@ pub struct Finding {
 }
 
 // So many places are left before the arcs, and this is the fault with the smallest place.
-#[derive(Drop)]
+#[derive(Clone, Copy)]
 pub struct Progress {
     pub arcs: usize,
     pub least: Fault,

@@ -7,11 +7,11 @@ use native.Mathlib.Omega.{arith}
 use lib.ListN.{get_or}
 use Rattle.express.specs.Syntax.NodeKind as node
 use Rattle.express.specs.Syntax.Tree.{Table, kind, terminal, left, middle, low}
-use Rattle.express.specs.Kinds.Declared.{simple, declared_type}
-use Rattle.express.specs.Kinds.DeclaredColumn.{declared_number}
-use Rattle.express.specs.Kinds.Shape.{operator_of, sign_of}
-use Rattle.express.specs.Kinds.Operate.{logicals, comparable}
-use Rattle.express.specs.Kinds.Kind.{kind_number, of_number, common, of_kind, if_fits, if_evaluated, kind_at}
+use Rattle.express.specs.Semantics.Declared.{simple, declared_type}
+use Rattle.express.specs.Semantics.DeclaredColumn.{declared_number}
+use Rattle.express.specs.Semantics.Shape.{operator_of, sign_of}
+use Rattle.express.specs.Semantics.Operate.{logicals, comparable}
+use Rattle.express.specs.Semantics.Kind.{kind_number, of_number, common, of_kind, if_fits, if_evaluated, kind_at}
 use Rattle.kind_rules.specs.declared.Class.{Class}
 use Rattle.kind_rules.specs.declared.Finding.{Finding}
 use Rattle.kind_rules.specs.declared.Finding.TheVariants.{OfKind, Fault}

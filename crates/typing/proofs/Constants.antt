@@ -13,15 +13,15 @@ use Rattle.tree.proofs.Next.{next_kept, next_is}
 use Rattle.relations.proofs.Select.{span_mem, keep_mem, span_end}
 use Rattle.express.specs.Syntax.NodeKind as node
 use Rattle.express.specs.Syntax.Tree.{Table, count, kind, size, first, nodes, is, within}
-use Rattle.express.specs.Kinds.Shape.{shape_in}
-use Rattle.express.specs.Kinds.Operate.{Kind, untyped}
-use Rattle.express.specs.Kinds.Kind.{of_number, Finding, of_kind, fault, finding_in, kind_at, typed, if_found, if_typed}
-use Rattle.express.specs.Kinds.Kind.{type_nodes_in, type_expression_in, type_constants, constants, typing}
-use Rattle.express.specs.Kinds.Kind as express
+use Rattle.express.specs.Semantics.Shape.{shape_in}
+use Rattle.express.specs.Semantics.Operate.{Kind, untyped}
+use Rattle.express.specs.Semantics.Kind.{of_number, Finding, of_kind, fault, finding_in, kind_at, typed, if_found, if_typed}
+use Rattle.express.specs.Semantics.Kind.{type_nodes_in, type_expression_in, type_constants, constants, typing}
+use Rattle.express.specs.Semantics.Kind as express
 use Rattle.express.proofs.Syntax.Formed.{Formed}
 use Rattle.express.proofs.Syntax.FormedRows.{formed_rows}
-use Rattle.express.proofs.Kinds.Scratch.{Same, both_typed, both_ill, type_any}
-use Rattle.express.proofs.Kinds.Backward.{keep_step}
+use Rattle.express.proofs.Semantics.Scratch.{Same, both_typed, both_ill, type_any}
+use Rattle.express.proofs.Semantics.Backward.{keep_step}
 use Rattle.typing.specs.declared.Typing.{Typing}
 use Rattle.typing.specs.declared.Typing.TheVariants.{Typed, Fault}
 use Rattle.typing.specs.Typings.{kinds_of, typing_of, outcome, Against, TypesNodes, OfFile, TypesConstants}

@@ -12,8 +12,8 @@ use Rattle.express.specs.Syntax.NodeKind as node
 use Rattle.express.specs.Syntax.Tree.{Table, kind, is}
 use Rattle.express.specs.Syntax.Grammar.{expression}
 use Rattle.express.specs.Syntax.Syntax.{Read}
-use Rattle.express.specs.Kinds.Declared.{declaration}
-use Rattle.express.specs.Kinds.DeclaredColumn.{DeclaredColumn}
+use Rattle.express.specs.Semantics.Declared.{declaration}
+use Rattle.express.specs.Semantics.DeclaredColumn.{DeclaredColumn}
 use Rattle.express.proofs.Syntax.KindSets.{in_expression}
 use Rattle.express.proofs.Syntax.Within.{expression_nodes}
 use Rattle.typing.specs.Typings.{Against}

@@ -12,15 +12,15 @@ use lib.ListN.{get_or, get_or-eq_default, get_or-map}
 use Rattle.express.specs.Tokens.Lexis.{integer_value, binary_bits, string_value}
 use Rattle.express.specs.Syntax.NodeKind as node
 use Rattle.express.specs.Syntax.Tree.{Table, count, kind, terminal, owner, last, left, middle, low, is}
-use Rattle.express.specs.Kinds.Declared.{Declared, other, declaration, bound, simple, denoted_in, denoted, declared_type}
-use Rattle.express.specs.Kinds.DeclaredColumn.{declared_number}
-use Rattle.express.specs.Kinds.Shape.{Operator, plus, arithmetic, relation, connective, Sign, positive, negative, unevaluated}
-use Rattle.express.specs.Kinds.Shape.{operator_of, sign_of, evaluated, name_shape_in, shape_in}
-use Rattle.express.specs.Kinds.Shape as shape
-use Rattle.express.specs.Kinds.Answer.{Logical}
-use Rattle.express.specs.Kinds.Operate.{Kind, integers, logicals, binaries, strings, items, undetermined, untyped, comparable}
-use Rattle.express.specs.Kinds.Kind.{of_number, common, kind_of_type, Finding, of_kind, fault, if_fits, if_evaluated, finding_in, kind_at}
-use Rattle.express.proofs.Kinds.KindNumbers.{number_back}
+use Rattle.express.specs.Semantics.Declared.{Declared, other, declaration, bound, simple, denoted_in, denoted, declared_type}
+use Rattle.express.specs.Semantics.DeclaredColumn.{declared_number}
+use Rattle.express.specs.Semantics.Shape.{Operator, plus, arithmetic, relation, connective, Sign, positive, negative, unevaluated}
+use Rattle.express.specs.Semantics.Shape.{operator_of, sign_of, evaluated, name_shape_in, shape_in}
+use Rattle.express.specs.Semantics.Shape as shape
+use Rattle.express.specs.Semantics.Answer.{Logical}
+use Rattle.express.specs.Semantics.Operate.{Kind, integers, logicals, binaries, strings, items, undetermined, untyped, comparable}
+use Rattle.express.specs.Semantics.Kind.{of_number, common, kind_of_type, Finding, of_kind, fault, if_fits, if_evaluated, finding_in, kind_at}
+use Rattle.express.proofs.Semantics.KindNumbers.{number_back}
 use Rattle.relations.proofs.Select.{le_or}
 use Rattle.kind_rules.specs.Findings.{class_of, class_of_sign, applied, leaf_found}
 use Rattle.typing.specs.Typings.{kinds_of, Names, Plain}

@@ -6,9 +6,9 @@ use lib.ListN.{length, set, length-set}
 use Rattle.relations.specs.Select.{span}
 use Rattle.relations.proofs.Select.{span_step, span_end}
 use Rattle.express.specs.Syntax.Tree.{Table}
-use Rattle.express.specs.Kinds.Shape.{shape_in}
-use Rattle.express.specs.Kinds.Kind.{of_number, Finding, of_kind, finding_in, kind_at, typed, if_found, type_nodes_in}
-use Rattle.express.specs.Kinds.Kind as express
+use Rattle.express.specs.Semantics.Shape.{shape_in}
+use Rattle.express.specs.Semantics.Kind.{of_number, Finding, of_kind, finding_in, kind_at, typed, if_found, type_nodes_in}
+use Rattle.express.specs.Semantics.Kind as express
 use Rattle.kind_rules.specs.declared.Finding as found
 use Rattle.kind_rules.specs.declared.Finding.TheVariants.{OfKind}
 use Rattle.kind_rules.specs.declared.Finding.TheVariants as variants

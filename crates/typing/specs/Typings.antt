@@ -5,11 +5,11 @@ use Rattle.express.specs.Syntax.NodeKind as node
 use Rattle.express.specs.Syntax.Tree.{Table, count, kind, terminal}
 use Rattle.express.specs.Syntax.Grammar.{file}
 use Rattle.express.specs.Syntax.Syntax.{Read}
-use Rattle.express.specs.Kinds.DeclaredColumn.{DeclaredColumn}
-use Rattle.express.specs.Kinds.Shape.{name_shape_in, shape_in}
-use Rattle.express.specs.Kinds.Operate.{Kind}
-use Rattle.express.specs.Kinds.Kind.{of_number, finding_in, kind_at, typed, ill_typed, type_nodes_in, typing}
-use Rattle.express.specs.Kinds.Kind as express
+use Rattle.express.specs.Semantics.DeclaredColumn.{DeclaredColumn}
+use Rattle.express.specs.Semantics.Shape.{name_shape_in, shape_in}
+use Rattle.express.specs.Semantics.Operate.{Kind}
+use Rattle.express.specs.Semantics.Kind.{of_number, finding_in, kind_at, typed, ill_typed, type_nodes_in, typing}
+use Rattle.express.specs.Semantics.Kind as express
 use Rattle.kind_rules.specs.declared.Finding.{Finding}
 use Rattle.typing.specs.declared.Typing.{Typing}
 use Rattle.typing.specs.declared.Typing.TheVariants.{Typed, Fault}

@@ -1,5 +1,6 @@
 // The typing of constants: a kind for each node of an expression, or the first fault, 14 or 15.
 // An expression's own columns and the file's are apart, so that an expression that is read by itself is typed against a file.
+#![tactic(auto)]
 ghost use Rattle.std.specs.Prelude.{◌≡◌};
 ghost use Rattle.typing.specs.Typings.{Named, Operates, Finds, TypesNodes, TypesConstants};
 
@@ -10,7 +11,7 @@ use kind_rules::{
 use tree::{at8, at32, index_at, last, left, low, middle, next_of_kind};
 
 // What the typing of some nodes comes to: the reply and the node of the first fault.
-#[derive(Drop)]
+#[derive(Clone, Copy)]
 pub enum Typing {
     Typed,
     Fault(u8, usize),

@@ -3,11 +3,11 @@ use mathlib.Core.Path.{◌≡◌, refl, sym, ◌∙◌}
 use Prim.Native.Nat.{ℕ, ◌<◌, ◌≤◌, compare, Ordering}
 use native.Mathlib.Omega.{arith}
 use borrow.Author.Tests.{le-leb, lt-leb}
-use Rattle.express.specs.Kinds.Answer as answer
-use Rattle.express.specs.Kinds.Answer.{FALSE, UNKNOWN, TRUE}
-use Rattle.express.specs.Kinds.Logic.{rank, AND, OR, NOT, XOR}
-use Rattle.express.specs.Kinds.Relation.{related}
-use Rattle.express.proofs.Kinds.Order.{compare_lt, compare_gt, compare_eq}
+use Rattle.express.specs.Semantics.Answer as answer
+use Rattle.express.specs.Semantics.Answer.{FALSE, UNKNOWN, TRUE}
+use Rattle.express.specs.Semantics.Logic.{rank, AND, OR, NOT, XOR}
+use Rattle.express.specs.Semantics.Relation.{related}
+use Rattle.express.proofs.Semantics.Order.{compare_lt, compare_gt, compare_eq}
 use Rattle.values.specs.Meaning.{logical_of, relation_of}
 use Rattle.values.specs.declared.logical.Logical.{Logical}
 use Rattle.values.specs.declared.logical.Logical.TheVariants.{False, Unknown, True}

@@ -1,9 +1,9 @@
 -- What the types of the code stand for: the number and the value of each of their cases.
 use Prim.Native.Nat.{ℕ, Ordering}
-use Rattle.express.specs.Kinds.Answer.{FALSE, UNKNOWN, TRUE}
-use Rattle.express.specs.Kinds.Answer as answer
-use Rattle.express.specs.Kinds.Relation.{less_than, greater_than, at_most, at_least, unequal, equal, instance_unequal, instance_equal}
-use Rattle.express.specs.Kinds.Relation as relation
+use Rattle.express.specs.Semantics.Answer.{FALSE, UNKNOWN, TRUE}
+use Rattle.express.specs.Semantics.Answer as answer
+use Rattle.express.specs.Semantics.Relation.{less_than, greater_than, at_most, at_least, unequal, equal, instance_unequal, instance_equal}
+use Rattle.express.specs.Semantics.Relation as relation
 use Rattle.values.specs.declared.End.{End}
 use Rattle.values.specs.declared.End.TheVariants.{OutOfRange, ZeroDivisor, NegativePower, UnknownBoolean}
 use Rattle.values.specs.declared.logical.Logical.{Logical}

@@ -1,4 +1,5 @@
 // Logicals, the orders that relations go by, and the ends of an evaluation.
+#![tactic(auto)]
 pub mod logical;
 pub mod order;
 
@@ -6,7 +7,7 @@ ghost use Rattle.std.specs.Prelude.{◌≡◌};
 ghost use Rattle.values.specs.Meaning.{end_number};
 
 // Why an evaluation ends without a value.
-#[derive(Drop)]
+#[derive(Clone, Copy)]
 pub enum End {
     // more than 64 signed bits can hold, or than 63 bits or 255 bytes joined
     OutOfRange,

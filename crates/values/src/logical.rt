@@ -1,11 +1,11 @@
 ghost use Rattle.std.specs.Prelude.{◌≡◌};
-ghost use Rattle.express.specs.Kinds.Logic.{rank, compare_logical, AND, OR, NOT, XOR};
+ghost use Rattle.express.specs.Semantics.Logic.{rank, compare_logical, AND, OR, NOT, XOR};
 ghost use Rattle.values.specs.Meaning.{logical_of, ordering_of};
 
 use crate::order::Order;
 
 // The three logical values, in their order.
-#[derive(Drop)]
+#[derive(Clone, Copy)]
 pub enum Logical {
     False,
     Unknown,

@@ -1,12 +1,12 @@
 ghost use Rattle.std.specs.Prelude.{◌≡◌};
 ghost use Prim.Native.Nat.{compare};
-ghost use Rattle.express.specs.Kinds.Relation.{by, related};
+ghost use Rattle.express.specs.Semantics.Relation.{by, related};
 ghost use Rattle.values.specs.Meaning.{logical_of, ordering_of, relation_of};
 
 use crate::logical::Logical;
 
 // How a first operand stands to a second.
-#[derive(Drop)]
+#[derive(Clone, Copy)]
 pub enum Order {
     Less,
     Same,
@@ -14,7 +14,7 @@ pub enum Order {
 }
 
 // `<`, `>`, `<=`, `>=`, `<>`, `=`, `:<>:`, `:=:`
-#[derive(Drop)]
+#[derive(Clone, Copy)]
 pub enum Relation {
     LessThan,
     GreaterThan,

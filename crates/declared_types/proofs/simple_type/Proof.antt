@@ -1,7 +1,7 @@
 -- `declared_types::simple_type` meets its contract: the tests are the definition's. Assumes nothing.
 use Rattle.declared_types.proofs.simple_type.Statement.{statement}
 use Rattle.declared_types.proofs.simple_type.Tie as tie
-use Rattle.express.specs.Kinds.Declared.{simple}
+use Rattle.express.specs.Semantics.Declared.{simple}
 use borrow.Author.Tests.{eq-eqb, ne_eqb}
 
 returns : tie.Need-returns

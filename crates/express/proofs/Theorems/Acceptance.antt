@@ -13,7 +13,7 @@ use lib.Seq.{ext_get_or}
 use Rattle.ebnf.specs.Grammar.{Text}
 use Rattle.ebnf.specs.Rows as ebnf
 use Rattle.ebnf.specs.Depth.{Outcome, good, unexpected, too_deep}
-use Rattle.express.specs.Kinds.Answer.{Answer, indeterminate}
+use Rattle.express.specs.Semantics.Answer.{Answer, indeterminate}
 use Rattle.express.specs.Syntax.NodeKind as node
 use Rattle.express.specs.Tokens.Lexis.{TokenRow, Reading, at, tokens, counted, lexed}
 use Rattle.express.specs.Tokens.Lexis as lexis
@@ -23,19 +23,19 @@ use Rattle.express.specs.Syntax.Syntax.{whole, parsed, with_rows, Read}
 use Rattle.express.specs.Syntax.Tree.{Table, count, kind, nodes, is}
 use Rattle.express.specs.Names.Scope.{bindings}
 use Rattle.express.specs.Names.Names.{WellNamed, names}
-use Rattle.express.specs.Kinds.Operate.{Kind}
-use Rattle.express.specs.Kinds.Kind.{Typing, typed, typing, constants, WellTyped}
-use Rattle.express.specs.Kinds.Kind as kinds
-use Rattle.express.specs.Kinds.Order.{constant_order}
-use Rattle.express.specs.Kinds.Evaluate.{answers, answer_at}
-use Rattle.express.specs.Kinds.Rule.{Exactly}
-use Rattle.express.specs.Kinds.AnswerRow.{room_of}
+use Rattle.express.specs.Semantics.Operate.{Kind}
+use Rattle.express.specs.Semantics.Kind.{Typing, typed, typing, constants, WellTyped}
+use Rattle.express.specs.Semantics.Kind as kinds
+use Rattle.express.specs.Semantics.Order.{constant_order}
+use Rattle.express.specs.Semantics.Evaluate.{answers, answer_at}
+use Rattle.express.specs.Semantics.Rule.{Exactly}
+use Rattle.express.specs.Semantics.AnswerRow.{room_of}
 use Rattle.express.specs.Whole.Reply.{Accepted, accepted, refused, after_kinds, after_names, after_rows, after_syntax, after_tokens, checked}
 use Rattle.express.specs.Whole.Acceptance.{Acceptable}
 use Rattle.relations.proofs.Select.{keep_mem, upto_mem}
 use Rattle.express.proofs.Syntax.Syntax.{parsed_iff, read_good, whole_value}
 use Rattle.express.proofs.Names.Names.{names_passes}
-use Rattle.express.proofs.Kinds.Typed.{typing_accepts}
+use Rattle.express.proofs.Semantics.Typed.{typing_accepts}
 use Rattle.express.proofs.Syntax.FormedRows.{formed_rows}
 use Rattle.express.proofs.Theorems.File.{file_exact, file_order}
 

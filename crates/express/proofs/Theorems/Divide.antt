@@ -9,7 +9,7 @@ use borrow.Author.Tests.{lt-ltb}
 use lib.Arith.{digits_div, digits_mod}
 use lib.IntN.{ℤ, pos, negsuc, neg_ℤ, nat_abs, sub_ℕ, ◌+ℤ◌, ◌*ℤ◌, neg_ℤ-neg_ℤ, pos-ne-negsuc}
 use lib.Signed.{shr_z}
-use Rattle.express.specs.Kinds.Integer.{negative, signed, rest, quotient, remainder, Divided}
+use Rattle.express.specs.Semantics.Integer.{negative, signed, rest, quotient, remainder, Divided}
 
 -- ---- a - n·d, for a remainder r below that product
 sub_lt : (a b : ℕ) → a < b → sub_ℕ a b ≡ negsuc (b - suc a)

@@ -10,30 +10,30 @@ use native.Mathlib.Decide.{ℕ_discrete}
 use native.Mathlib.Omega.{arith}
 use lib.ListN.{length, set, replicate, length-set, length-replicate}
 use lib.Seq.{get_or-set_same, get_or-set_other}
-use Rattle.express.specs.Kinds.Answer.{Answer, indeterminate}
+use Rattle.express.specs.Semantics.Answer.{Answer, indeterminate}
 use Rattle.express.specs.Syntax.NodeKind as node
 use Rattle.relations.specs.Select.{span}
 use Rattle.express.specs.Syntax.Tree.{Table, count, kind, size, first, last, left, middle, low}
 use Rattle.express.proofs.Syntax.Formed.{Formed}
-use Rattle.express.specs.Kinds.Declared.{Declared, BOOLEAN, declared_type}
-use Rattle.express.specs.Kinds.Shape.{relation, Shape, integer_literal, logical_literal, binary_literal, string_literal, question, name}
-use Rattle.express.specs.Kinds.Shape.{unary, operator, interval, interval_operator, type, constant, unevaluated, shape, Literals}
-use Rattle.express.specs.Kinds.Shape as shapes
-use Rattle.express.specs.Kinds.Operate.{Kind, integers, logicals, binaries, strings, undetermined, untyped, comparable, takes, takes_one, combined, applied}
-use Rattle.express.specs.Kinds.Rule.{Holds, an_end, Gives, an_integer_literal, a_logical_literal, a_binary_literal, a_string_literal}
-use Rattle.express.specs.Kinds.Rule.{a_question, a_name, a_sign, an_operator, an_interval, a_constant, an_unknown_boolean, Exactly}
-use Rattle.express.specs.Kinds.Rule as rule
-use Rattle.express.specs.Kinds.Kind.{common, kind_of_type, of_kind, fault, if_fits, if_evaluated, finding, kind_at, typed, typing, Constant, Fits}
-use Rattle.express.specs.Kinds.Evaluate.{held, answer_in, answer_at, run_in, value, evaluate, answers}
+use Rattle.express.specs.Semantics.Declared.{Declared, BOOLEAN, declared_type}
+use Rattle.express.specs.Semantics.Shape.{relation, Shape, integer_literal, logical_literal, binary_literal, string_literal, question, name}
+use Rattle.express.specs.Semantics.Shape.{unary, operator, interval, interval_operator, type, constant, unevaluated, shape, Literals}
+use Rattle.express.specs.Semantics.Shape as shapes
+use Rattle.express.specs.Semantics.Operate.{Kind, integers, logicals, binaries, strings, undetermined, untyped, comparable, takes, takes_one, combined, applied}
+use Rattle.express.specs.Semantics.Rule.{Holds, an_end, Gives, an_integer_literal, a_logical_literal, a_binary_literal, a_string_literal}
+use Rattle.express.specs.Semantics.Rule.{a_question, a_name, a_sign, an_operator, an_interval, a_constant, an_unknown_boolean, Exactly}
+use Rattle.express.specs.Semantics.Rule as rule
+use Rattle.express.specs.Semantics.Kind.{common, kind_of_type, of_kind, fault, if_fits, if_evaluated, finding, kind_at, typed, typing, Constant, Fits}
+use Rattle.express.specs.Semantics.Evaluate.{held, answer_in, answer_at, run_in, value, evaluate, answers}
 use Rattle.relations.specs.Reach.{direct}
 use Rattle.relations.specs.Sorted.{Sorted, done, next}
-use Rattle.express.specs.Kinds.Order.{Needs, Order}
+use Rattle.express.specs.Semantics.Order.{Needs, Order}
 use Rattle.relations.proofs.Select.{and_fst, and_snd}
-use Rattle.express.proofs.Kinds.Operations.{unknown_boolean_end, Good, good-?, good_integer, good_logical, good_binary, good_string, good_item, good_of}
-use Rattle.express.proofs.Kinds.Operations.{recast, common_good, declared_good, common_typed, takes_comparable, takes_one_comparable, combined_good, between_good, applied_good, Kept, itself, unknown, held_good, holds_held}
-use Rattle.express.proofs.Kinds.Shapes.{Decoded, decoded, constant_shape}
-use Rattle.express.proofs.Kinds.Spans.{Below, last_below, left_below, five_below, value_below, in_constant, constant_owner, constant_of}
-use Rattle.express.proofs.Kinds.Typed.{typing_fits}
+use Rattle.express.proofs.Semantics.Operations.{unknown_boolean_end, Good, good-?, good_integer, good_logical, good_binary, good_string, good_item, good_of}
+use Rattle.express.proofs.Semantics.Operations.{recast, common_good, declared_good, common_typed, takes_comparable, takes_one_comparable, combined_good, between_good, applied_good, Kept, itself, unknown, held_good, holds_held}
+use Rattle.express.proofs.Semantics.Shapes.{Decoded, decoded, constant_shape}
+use Rattle.express.proofs.Semantics.Spans.{Below, last_below, left_below, five_below, value_below, in_constant, constant_owner, constant_of}
+use Rattle.express.proofs.Semantics.Typed.{typing_fits}
 
 -- ---- one node
 

@@ -10,13 +10,13 @@ use Rattle.express.specs.Syntax.Syntax.{Read}
 use Rattle.express.specs.Tokens.Scanned.{Scanned}
 use Rattle.express.specs.Names.Scope.{bindings}
 use Rattle.express.specs.Names.Names.{WellNamed}
-use Rattle.express.specs.Kinds.Operate.{Kind}
-use Rattle.express.specs.Kinds.Rule.{Exactly}
-use Rattle.express.specs.Kinds.Kind.{typed, typing}
-use Rattle.express.specs.Kinds.Evaluate.{answers, answer_at}
-use Rattle.express.specs.Kinds.Order.{Order, constant_order}
+use Rattle.express.specs.Semantics.Operate.{Kind}
+use Rattle.express.specs.Semantics.Rule.{Exactly}
+use Rattle.express.specs.Semantics.Kind.{typed, typing}
+use Rattle.express.specs.Semantics.Evaluate.{answers, answer_at}
+use Rattle.express.specs.Semantics.Order.{Order, constant_order}
 use Rattle.express.proofs.Syntax.FormedRows.{formed_rows}
-use Rattle.express.proofs.Kinds.ConstantOrder.{order_is}
+use Rattle.express.proofs.Semantics.ConstantOrder.{order_is}
 use Rattle.express.proofs.Tokens.Literals.{literals}
 use Rattle.express.proofs.Theorems.Exactness.{exactness}
 

@@ -19,21 +19,21 @@ use Rattle.express.specs.Syntax.Tree.{Table, count, nodes}
 use Rattle.express.specs.Names.Scope.{bindings}
 use Rattle.express.specs.Names.Fault.{fault}
 use Rattle.express.specs.Names.Names.{stages, names, StageFault}
-use Rattle.express.specs.Kinds.Operate.{Kind}
-use Rattle.express.specs.Kinds.Shape.{Shape, integer_literal, logical_literal, binary_literal, string_literal, question, item, name}
-use Rattle.express.specs.Kinds.Shape.{unary, operator, interval, interval_operator, type, constant, unevaluated, shape}
-use Rattle.express.specs.Kinds.Kind.{Finding, of_kind, finding, Typing, typed, ill_typed, constants, typing}
-use Rattle.express.specs.Kinds.Kind as kinds
-use Rattle.express.specs.Kinds.Order.{constant_order}
-use Rattle.express.specs.Kinds.Evaluate.{answers, answer_at}
-use Rattle.express.specs.Kinds.AnswerRow.{room_of}
+use Rattle.express.specs.Semantics.Operate.{Kind}
+use Rattle.express.specs.Semantics.Shape.{Shape, integer_literal, logical_literal, binary_literal, string_literal, question, item, name}
+use Rattle.express.specs.Semantics.Shape.{unary, operator, interval, interval_operator, type, constant, unevaluated, shape}
+use Rattle.express.specs.Semantics.Kind.{Finding, of_kind, finding, Typing, typed, ill_typed, constants, typing}
+use Rattle.express.specs.Semantics.Kind as kinds
+use Rattle.express.specs.Semantics.Order.{constant_order}
+use Rattle.express.specs.Semantics.Evaluate.{answers, answer_at}
+use Rattle.express.specs.Semantics.AnswerRow.{room_of}
 use Rattle.express.specs.Whole.Reply.{Accepted, accepted, refused, after_kinds, after_names, checked}
 use Rattle.express.proofs.Syntax.Syntax.{parsed_iff, read_good}
 use Rattle.express.proofs.Syntax.FormedRows.{formed_rows}
 use Rattle.express.proofs.Syntax.TokenOrder.{starts_rise}
 use Rattle.express.proofs.Names.Names.{names_refused}
 use Rattle.express.proofs.Names.Untied.{Rising, fault_once}
-use Rattle.express.proofs.Kinds.Typed.{typing_fault}
+use Rattle.express.proofs.Semantics.Typed.{typing_fault}
 
 -- The check comes to the names of the table t: the bytes are tokens to the end, these derive from the grammar and nest no deeper than they may, and
 -- the three tables are long enough.

@@ -19,8 +19,8 @@ use Rattle.express.specs.Syntax.Tree.{Table, count, kind, token, terminal}
 use Rattle.express.specs.Syntax.Grammar.{Nonterminal}
 use Rattle.express.specs.Syntax.Syntax.{Read}
 use Rattle.express.specs.Tokens.Scanned.{row_bytes, Scanned}
-use Rattle.express.specs.Kinds.Bits.{number}
-use Rattle.express.specs.Kinds.Shape.{text, Literals}
+use Rattle.express.specs.Semantics.Bits.{number}
+use Rattle.express.specs.Semantics.Shape.{text, Literals}
 use Rattle.express.proofs.Tokens.TokenRows.{no_row, row_at, tokens_of, integer_small, string_few, binary_some, binary_few, binary_number}
 use Rattle.express.proofs.Syntax.Within.{integer_named, binary_named}
 

@@ -10,8 +10,8 @@ use lib.ListN.{length, drop, get_or, length-take, length-drop, length-map}
 use lib.Seq.{get_or-drop, get_or-take}
 use lib.Dec.{eqb, leb, ltb}
 use borrow.Author.Tests.{ltb-true, leb-true, eqb-true, eqb-false}
-use Rattle.express.specs.Kinds.Bits as Bits
-use Rattle.express.specs.Kinds.Bits.{number}
+use Rattle.express.specs.Semantics.Bits as Bits
+use Rattle.express.specs.Semantics.Bits.{number}
 use Rattle.express.specs.Tokens.Bytes.{token_bytes, digit, within}
 use Rattle.express.specs.Tokens.Lexis.{Reading, at, refused, end_of_run, run, bit, reading_then, skipped, end_of_integer, end_of_string, end_of_short_string, end_of_binary}
 use Rattle.express.specs.Tokens.Lexis.{numeral, integer_value, binary_bits, binary_value, string_value, most_bytes}

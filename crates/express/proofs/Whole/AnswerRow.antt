@@ -8,13 +8,13 @@ use lib.Dec.{eqb}
 use lib.ListN.{length, get_or, take, drop, length-append}
 use lib.Seq.{take_at}
 use borrow.Author.Tests.{ne_eqb}
-use Rattle.express.specs.Kinds.Answer.{FALSE, UNKNOWN, TRUE, Answer, indeterminate, logical, binary, string, end}
-use Rattle.express.specs.Kinds.AnswerRow.{row_of, row_at, row_answer, bytes_of, rows_from, room_of}
+use Rattle.express.specs.Semantics.Answer.{FALSE, UNKNOWN, TRUE, Answer, indeterminate, logical, binary, string, end}
+use Rattle.express.specs.Semantics.AnswerRow.{row_of, row_at, row_answer, bytes_of, rows_from, room_of}
 use Rattle.express.specs.Syntax.Tree.{Table}
-use Rattle.express.specs.Kinds.Declared.{Declared}
-use Rattle.express.specs.Kinds.Rule.{Member, an_integer, is_false, is_true, a_logical, a_binary, a_string, an_item, Holds, no_value, an_end, a_member}
-use Rattle.express.proofs.Kinds.Bits.{bits_number}
-use Rattle.express.proofs.Kinds.Operations.{ends_range}
+use Rattle.express.specs.Semantics.Declared.{Declared}
+use Rattle.express.specs.Semantics.Rule.{Member, an_integer, is_false, is_true, a_logical, a_binary, a_string, an_item, Holds, no_value, an_end, a_member}
+use Rattle.express.proofs.Semantics.Bits.{bits_number}
+use Rattle.express.proofs.Semantics.Operations.{ends_range}
 
 drop_front : (pre s : List ℕ) → drop (length pre) (pre ++ s) ≡ s
 drop_front [] s = refl

@@ -22,12 +22,12 @@ use Rattle.express.specs.Names.Fault as names
 use Rattle.relations.specs.Reach.{Edge}
 use Rattle.express.specs.Names.Fault.{Fault, judged, repeated, type_name_fault, cyclic, qualified, expression}
 use Rattle.express.specs.Names.Names.{Stage, sooner, stages, least, first_fault, names}
-use Rattle.express.specs.Kinds.Answer.{Answer}
-use Rattle.express.specs.Kinds.AnswerRow.{room_of}
-use Rattle.express.specs.Kinds.Operate.{Kind}
-use Rattle.express.specs.Kinds.Shape.{Shape, integer_literal, logical_literal, binary_literal, string_literal, question, item, name, unary, operator, interval, interval_operator, type, constant}
-use Rattle.express.specs.Kinds.Shape.{unevaluated, shape_in}
-use Rattle.express.specs.Kinds.Kind.{Finding, of_kind, fault, finding_in, kind_at, Typing, typed, ill_typed, if_found, if_typed, type_nodes_in, type_constants, typing, constants}
+use Rattle.express.specs.Semantics.Answer.{Answer}
+use Rattle.express.specs.Semantics.AnswerRow.{room_of}
+use Rattle.express.specs.Semantics.Operate.{Kind}
+use Rattle.express.specs.Semantics.Shape.{Shape, integer_literal, logical_literal, binary_literal, string_literal, question, item, name, unary, operator, interval, interval_operator, type, constant}
+use Rattle.express.specs.Semantics.Shape.{unevaluated, shape_in}
+use Rattle.express.specs.Semantics.Kind.{Finding, of_kind, fault, finding_in, kind_at, Typing, typed, ill_typed, if_found, if_typed, type_nodes_in, type_constants, typing, constants}
 use Rattle.express.specs.Whole.Reply.{Accepted, Checked, accepted, refused, after_answers, after_kinds, after_names, after_rows, after_syntax, after_tokens, checked, report}
 use Rattle.express.proofs.Tokens.Stops.{lexed_stops}
 

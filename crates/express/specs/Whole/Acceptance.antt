@@ -2,7 +2,7 @@
 use Rattle.std.specs.Prelude.{◌≡◌, List, ℕ, ◌≤◌, ◌<◌, length, get_or}
 use Rattle.ebnf.specs.Rows.{Row}
 use Rattle.ebnf.specs.Depth.{Deep}
-use Rattle.express.specs.Kinds.Answer.{indeterminate}
+use Rattle.express.specs.Semantics.Answer.{indeterminate}
 use Rattle.express.specs.Tokens.Lexis.{at, lexed}
 use Rattle.express.specs.Tokens.Scanned.{token_table}
 use Rattle.express.specs.Syntax.Grammar.{file}
@@ -10,9 +10,9 @@ use Rattle.express.specs.Syntax.Syntax.{Parses, opening, closing, nesting, with_
 use Rattle.express.specs.Syntax.Tree.{count}
 use Rattle.express.specs.Names.Scope.{bindings}
 use Rattle.express.specs.Names.Names.{WellNamed}
-use Rattle.express.specs.Kinds.Kind.{constants, WellTyped}
-use Rattle.express.specs.Kinds.Rule.{Exactly}
-use Rattle.express.specs.Kinds.AnswerRow.{room_of}
+use Rattle.express.specs.Semantics.Kind.{constants, WellTyped}
+use Rattle.express.specs.Semantics.Rule.{Exactly}
+use Rattle.express.specs.Semantics.AnswerRow.{room_of}
 use Rattle.express.specs.Whole.Reply.{Accepted}
 
 -- The tokens derive from the grammar, every name and type is right, and nothing is too large for the limits and the tables; the tree is that of

@@ -2,7 +2,7 @@
 use Rattle.std.proofs.Math.Option.{Option, none, some}
 use Rattle.std.specs.Prelude.{List, [], ◌∷◌, ◌++◌, ℕ, pos, negsuc}
 use Prim.Native.String.{String}
-use Rattle.express.specs.Kinds.Answer.{UNKNOWN, TRUE, Answer, indeterminate, integer, logical, end}
+use Rattle.express.specs.Semantics.Answer.{UNKNOWN, TRUE, Answer, indeterminate, integer, logical, end}
 use Rattle.express.specs.Tokens.Terminal.{bytes}
 use Rattle.express.specs.Whole.Reply.{Checked, accepted, refused}
 

@@ -2,13 +2,13 @@
 use Rattle.std.specs.Prelude.{Bool, true, false, cond, ℕ, zero, suc, ◌+◌, ◌/◌, ◌%◌, eqb, ltb, ℤ, pos, negsuc, length, get_or}
 use mathlib.Core.List.{List, [], ◌∷◌, ◌++◌, map, flat_map}
 use Prim.Native.String.{String}
-use Rattle.express.specs.Kinds.Answer.{Logical, FALSE, UNKNOWN, TRUE, Answer, indeterminate, integer, logical, binary, item, string, end}
+use Rattle.express.specs.Semantics.Answer.{Logical, FALSE, UNKNOWN, TRUE, Answer, indeterminate, integer, logical, binary, item, string, end}
 use Rattle.express.specs.Tokens.Terminal.{bytes}
 use Rattle.express.specs.Tokens.Lexis.{quote}
 use Rattle.express.specs.Tokens.Spelling.{spelling}
 use Rattle.relations.specs.Select.{span}
 use Rattle.express.specs.Syntax.Tree.{Table, token, schema_of}
-use Rattle.express.specs.Kinds.Kind.{constants}
+use Rattle.express.specs.Semantics.Kind.{constants}
 use Rattle.express.specs.Whole.Reply.{Accepted, Checked, accepted, refused, checked}
 
 -- the byte of a digit

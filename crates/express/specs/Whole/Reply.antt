@@ -4,7 +4,7 @@ use Rattle.std.specs.Prelude.{cond, List, [], ◌∷◌, map, ℕ, min, eqb, leb
 use Rattle.columns.specs.Column.{padded}
 use Rattle.ebnf.specs.Rows.{Rows}
 use Rattle.ebnf.specs.Depth.{Outcome, good, unexpected, too_deep}
-use Rattle.express.specs.Kinds.Answer.{Answer}
+use Rattle.express.specs.Semantics.Answer.{Answer}
 use Rattle.express.specs.Tokens.Lexis.{TokenRow, Lexed, Reading, at, starts, tokens, lexed}
 use Rattle.express.specs.Tokens.Lexis as lexis
 use Rattle.express.specs.Tokens.Scanned.{with_tokens}
@@ -14,11 +14,11 @@ use Rattle.express.specs.Syntax.Tree.{Table, count, place}
 use Rattle.express.specs.Names.Scope.{bindings}
 use Rattle.express.specs.Names.Fault.{Fault}
 use Rattle.express.specs.Names.Names.{names}
-use Rattle.express.specs.Kinds.Kind.{Typing, typed, typing, constants}
-use Rattle.express.specs.Kinds.Kind as kinds
-use Rattle.express.specs.Kinds.Order.{constant_order}
-use Rattle.express.specs.Kinds.Evaluate.{answers, answer_at}
-use Rattle.express.specs.Kinds.AnswerRow.{AnswerRow, rows_from, room_of}
+use Rattle.express.specs.Semantics.Kind.{Typing, typed, typing, constants}
+use Rattle.express.specs.Semantics.Kind as kinds
+use Rattle.express.specs.Semantics.Order.{constant_order}
+use Rattle.express.specs.Semantics.Evaluate.{answers, answer_at}
+use Rattle.express.specs.Semantics.AnswerRow.{AnswerRow, rows_from, room_of}
 
 -- What an accepted file leaves: its tokens, its nodes, what each name is bound to, and an answer for each constant, in the order of the text.
 pub record Accepted : Type 0 where

@@ -3,7 +3,7 @@ use borrow.Author.Rules.{rules}
 use Rattle.kind_rules.proofs.agree.Statement.{statement}
 use Rattle.kind_rules.proofs.agree.Tie as tie
 use mathlib.Core.Path.{ap, ◌∙◌}
-use Rattle.express.specs.Kinds.Operate.{comparable}
+use Rattle.express.specs.Semantics.Operate.{comparable}
 use Rattle.kind_rules.proofs.Numbered.{common_kind}
 
 common_requires : tie.Need-common-requires

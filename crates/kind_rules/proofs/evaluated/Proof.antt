@@ -2,7 +2,7 @@
 use Rattle.kind_rules.proofs.evaluated.Statement.{statement}
 use Rattle.kind_rules.proofs.evaluated.Tie as tie
 use mathlib.Core.Path.{sym, ◌∙◌}
-use Rattle.express.specs.Kinds.Kind.{of_number}
+use Rattle.express.specs.Semantics.Kind.{of_number}
 use Rattle.kind_rules.proofs.Numbered.{not_evaluated, is_evaluated}
 
 returns : tie.Need-returns

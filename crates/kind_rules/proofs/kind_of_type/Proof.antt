@@ -2,7 +2,7 @@
 use Rattle.kind_rules.proofs.kind_of_type.Statement.{statement}
 use Rattle.kind_rules.proofs.kind_of_type.Tie as tie
 use mathlib.Core.Path.{sym, ap, ◌∙◌}
-use Rattle.express.specs.Kinds.Kind.{of_number}
+use Rattle.express.specs.Semantics.Kind.{of_number}
 use Rattle.kind_rules.proofs.Numbered.{boolean_kind, other_kind}
 
 returns : tie.Need-returns

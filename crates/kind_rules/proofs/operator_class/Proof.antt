@@ -3,7 +3,7 @@ use Rattle.kind_rules.proofs.operator_class.Statement.{statement}
 use Rattle.kind_rules.proofs.operator_class.Tie as tie
 use mathlib.Core.Path.{refl}
 use mathlib.Core.List.{[], ◌∷◌}
-use Rattle.express.specs.Kinds.Shape.{operator_of}
+use Rattle.express.specs.Semantics.Shape.{operator_of}
 use Rattle.kind_rules.proofs.Numbered.{by_key, class_by, no_class}
 use Rattle.kind_rules.specs.declared.Class.TheVariants.{Plus, Arithmetic, Relation, Connective}
 

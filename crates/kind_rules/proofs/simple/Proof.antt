@@ -2,7 +2,7 @@
 use Rattle.kind_rules.proofs.simple.Statement.{statement}
 use Rattle.kind_rules.proofs.simple.Tie as tie
 use borrow.Author.Tests.{ne_eqb}
-use Rattle.express.specs.Kinds.Declared.{simple}
+use Rattle.express.specs.Semantics.Declared.{simple}
 
 returns : tie.Need-returns
 unfolding simple

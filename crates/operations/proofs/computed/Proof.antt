@@ -1,5 +1,5 @@
 use borrow.Author.Rules.{rules}
-use Rattle.express.specs.Kinds.Integer.{difference, product, DIV, MOD, power}
+use Rattle.express.specs.Semantics.Integer.{difference, product, DIV, MOD, power}
 use Rattle.integers.proofs.Calls.{own_two}
 use Rattle.operations.proofs.computed.Statement.{statement}
 use Rattle.operations.proofs.computed.Tie as tie

@@ -7,7 +7,7 @@ use lib.IntN.{pos}
 use lib.ListN.{get_or, get_or-eq_default}
 use mir.Syntax.{w64}
 use mir.ValLaws.{to_z-of_z}
-use Rattle.express.specs.Kinds.AnswerRow.{natural}
+use Rattle.express.specs.Semantics.AnswerRow.{natural}
 
 mul_natural : tie.Need-overflow-mul-natural
 mul_natural c = search rules

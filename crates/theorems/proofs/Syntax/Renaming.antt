@@ -16,7 +16,7 @@ use Rattle.express.specs.Syntax.Tree.{Table, count, kind, role, first, is, is_na
 use Rattle.express.specs.Syntax.Grammar.{Nonterminal, file, schema, constants, constant, base, type_declaration, underlying, where_clause}
 use Rattle.express.specs.Syntax.Grammar.{domain_rule, entity, attributes, derived, expression, sum, term, factor, operand, atom, interval, rules, ◌·◌, opt, tok, named}
 use Rattle.express.specs.Syntax.Syntax.{whole, Read}
-use Rattle.express.specs.Kinds.Declared.{renames}
+use Rattle.express.specs.Semantics.Declared.{renames}
 use Rattle.express.proofs.Syntax.FormedRows.{kind_is, role_is, size_is, token_is, count_is, sized}
 use Rattle.express.specs.Syntax.NodeKind as node
 

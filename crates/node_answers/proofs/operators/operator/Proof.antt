@@ -2,7 +2,7 @@
 use Rattle.node_answers.proofs.operators.operator.Statement.{statement}
 use Rattle.node_answers.proofs.operators.operator.Tie as tie
 use borrow.Author.Tests.{ne_eqb}
-use Rattle.express.specs.Kinds.Shape.{operator_of}
+use Rattle.express.specs.Semantics.Shape.{operator_of}
 
 returns : tie.Need-returns
 unfolding operator_of

@@ -1,5 +1,5 @@
 use mathlib.Core.Path.{◌∙◌, ap}
-use Rattle.express.specs.Kinds.Integer.{compareℤ}
+use Rattle.express.specs.Semantics.Integer.{compareℤ}
 use Rattle.integers.proofs.Calls.{own_two}
 use Rattle.test_exports.specs.Places.{order_place}
 use Rattle.test_exports.proofs.arithmetic.woffulent_compare.Statement.{statement}

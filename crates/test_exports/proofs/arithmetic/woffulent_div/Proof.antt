@@ -1,6 +1,6 @@
 use mathlib.Core.Path.{◌∙◌, ap}
-use Rattle.express.specs.Kinds.AnswerRow.{row_of}
-use Rattle.express.specs.Kinds.Integer.{DIV}
+use Rattle.express.specs.Semantics.AnswerRow.{row_of}
+use Rattle.express.specs.Semantics.Integer.{DIV}
 use Rattle.integers.proofs.Calls.{own_two}
 use Rattle.test_exports.proofs.arithmetic.woffulent_div.Statement.{statement}
 use Rattle.test_exports.proofs.arithmetic.woffulent_div.Tie as tie

@@ -1,6 +1,6 @@
 use mathlib.Core.Path.{◌∙◌, ap}
-use Rattle.express.specs.Kinds.AnswerRow.{row_of}
-use Rattle.express.specs.Kinds.Integer.{MOD}
+use Rattle.express.specs.Semantics.AnswerRow.{row_of}
+use Rattle.express.specs.Semantics.Integer.{MOD}
 use Rattle.integers.proofs.Calls.{own_two}
 use Rattle.test_exports.proofs.arithmetic.woffulent_modulo.Statement.{statement}
 use Rattle.test_exports.proofs.arithmetic.woffulent_modulo.Tie as tie

@@ -1,6 +1,6 @@
 use mathlib.Core.Path.{◌∙◌, ap}
-use Rattle.express.specs.Kinds.AnswerRow.{row_of}
-use Rattle.express.specs.Kinds.Integer.{product}
+use Rattle.express.specs.Semantics.AnswerRow.{row_of}
+use Rattle.express.specs.Semantics.Integer.{product}
 use Rattle.integers.proofs.Calls.{own_two}
 use Rattle.test_exports.proofs.arithmetic.woffulent_multiply.Statement.{statement}
 use Rattle.test_exports.proofs.arithmetic.woffulent_multiply.Tie as tie

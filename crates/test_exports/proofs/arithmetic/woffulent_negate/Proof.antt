@@ -1,6 +1,6 @@
 use mathlib.Core.Path.{◌∙◌, ap}
-use Rattle.express.specs.Kinds.AnswerRow.{row_of}
-use Rattle.express.specs.Kinds.Integer.{negation}
+use Rattle.express.specs.Semantics.AnswerRow.{row_of}
+use Rattle.express.specs.Semantics.Integer.{negation}
 use Rattle.integers.proofs.Calls.{own_one}
 use Rattle.test_exports.proofs.arithmetic.woffulent_negate.Statement.{statement}
 use Rattle.test_exports.proofs.arithmetic.woffulent_negate.Tie as tie

@@ -1,4 +1,4 @@
-use Rattle.express.specs.Kinds.Logic.{AND}
+use Rattle.express.specs.Semantics.Logic.{AND}
 use Rattle.test_exports.proofs.Answers.{rank_two}
 use Rattle.test_exports.proofs.logicals.woffulent_and.Statement.{statement}
 use Rattle.test_exports.proofs.logicals.woffulent_and.Tie as tie

@@ -1,5 +1,5 @@
 use mathlib.Core.Path.{◌∙◌, ap}
-use Rattle.express.specs.Kinds.Logic.{rank, NOT}
+use Rattle.express.specs.Semantics.Logic.{rank, NOT}
 use Rattle.test_exports.proofs.logicals.woffulent_not.Statement.{statement}
 use Rattle.test_exports.proofs.logicals.woffulent_not.Tie as tie
 

@@ -1,4 +1,4 @@
-use Rattle.express.specs.Kinds.Logic.{OR}
+use Rattle.express.specs.Semantics.Logic.{OR}
 use Rattle.test_exports.proofs.Answers.{rank_two}
 use Rattle.test_exports.proofs.logicals.woffulent_or.Statement.{statement}
 use Rattle.test_exports.proofs.logicals.woffulent_or.Tie as tie

@@ -1,4 +1,4 @@
-use Rattle.express.specs.Kinds.Logic.{XOR}
+use Rattle.express.specs.Semantics.Logic.{XOR}
 use Rattle.test_exports.proofs.Answers.{rank_two}
 use Rattle.test_exports.proofs.logicals.woffulent_xor.Statement.{statement}
 use Rattle.test_exports.proofs.logicals.woffulent_xor.Tie as tie

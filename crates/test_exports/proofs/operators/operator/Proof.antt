@@ -1,6 +1,6 @@
 use borrow.Author.Tests.{ne_eqb}
 use mathlib.Core.Path.{◌∙◌, sym, ap}
-use Rattle.express.specs.Kinds.Shape.{arithmetic, relation, connective}
+use Rattle.express.specs.Semantics.Shape.{arithmetic, relation, connective}
 use Rattle.test_exports.specs.Operands.{operator_at}
 use Rattle.test_exports.proofs.operators.operator.Statement.{statement}
 use Rattle.test_exports.proofs.operators.operator.Tie as tie
