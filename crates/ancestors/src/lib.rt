@@ -2,6 +2,7 @@
 // reaches the one of rank j. Row 0 is no vertex's: it has the bits of all that are reached.
 // Rows are joined arc by arc in an order that is lent, of which nothing is asked: afterwards it is tested that no arc would add a bit.
 #![tactic(auto)]
+
 ghost use Rattle.std.specs.Prelude.{◌≡◌, ◌-◌, ◌≤◌, ◌<◌, length, get_or};
 ghost use Rattle.ancestors.specs.Rows.{word_count, width_limit, offset_limit, merged, contained, arc_joined, arc_closed, arcs_joined, arcs_closed, vertices_joined, vertices_closed};
 ghost use Rattle.ancestors.specs.Related.{Relates};

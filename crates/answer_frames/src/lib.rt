@@ -1,5 +1,6 @@
 // The answers of a file, with what is computed for each node in arrays of the call, in one of four sizes, and gone after it.
 #![tactic(auto)]
+
 ghost use Rattle.express.specs.Tokens.Lexis.{most};
 ghost use Rattle.reading.specs.FileReading.{few_rows, some_rows, many_rows};
 ghost use Rattle.answer_frames.specs.AnswerFrame.{AnswersWithin};

@@ -1,5 +1,6 @@
 // The rows in which answers are kept.
 #![tactic(auto)]
+
 ghost use Rattle.std.specs.Prelude.{◌≡◌};
 ghost use Rattle.express.specs.Semantics.Answer.{indeterminate, binary, item, end};
 ghost use Rattle.express.specs.Semantics.AnswerRow.{row, row_of, natural, ranked};

@@ -1,5 +1,6 @@
 // The stages of a check after the names: each is handed how the ones before it ended, and passes a refusal on.
 #![tactic(auto)]
+
 ghost use Rattle.std.specs.Prelude.{◌≡◌};
 ghost use Rattle.answer_stages.specs.AnswerStage.{FitsRoom, EvaluatesFile, AnswersFile};
 ghost use Rattle.answer_stages.specs.KindStage.{of_typing, TypesFile};

@@ -2,6 +2,7 @@
 // the rank of its owner with the link to the next attribute that is spelled so. A chain is walked with a row of bits, by rank, that says which of its
 // attributes count.
 #![tactic(auto)]
+
 ghost use Rattle.std.specs.Prelude.{◌≡◌, cond, ◌+◌, ◌<◌, set};
 ghost use Rattle.symbol_tables.specs.Entry.{node_limit};
 ghost use Rattle.attribute_chains.specs.Chains.{link_count, with_one, entered_pairs, FindsAmong, EntersEntries};

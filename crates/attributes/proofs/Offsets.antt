@@ -8,7 +8,7 @@ use Prim.Native.Nat.{ℕ, zero, suc, ◌+◌, ◌-◌, ◌≤◌, ◌<◌}
 use native.Mathlib.Omega.{arith}
 use borrow.Author.Tests.{eqb-true, eqb-false}
 use lib.Dec.{eqb}
-use lib.ListN.{length, get_or, length_append, length-map}
+use lib.ListN.{length, get_or, length-append, length-map}
 use lib.Seq.{get_or-append_seam, get_or-append-add}
 use Rattle.relations.specs.Select.{span, keep}
 use Rattle.relations.proofs.Select.{le_or, or_left, span_append, keep_append}
@@ -32,7 +32,7 @@ at_middle : (xs ys zs : List ℕ) → map (λ (e : ℕ). get_or (xs ++ (ys ++ zs
 unfolding span
 at_middle xs [] zs = refl
 at_middle xs (y ∷ ys) zs =
-    let long : length (xs ++ (y ∷ [])) ≡ suc (length xs) = omega (arith, length_append xs (y ∷ [])) in
+    let long : length (xs ++ (y ∷ [])) ≡ suc (length xs) = omega (arith, length-append xs (y ∷ [])) in
     let whole : (xs ++ (y ∷ [])) ++ (ys ++ zs) ≡ xs ++ (y ∷ (ys ++ zs)) = append_assoc xs (y ∷ []) (ys ++ zs) in
     let rest : map (λ (e : ℕ). get_or (xs ++ (y ∷ (ys ++ zs))) e 0) (span (suc (length xs)) (length ys)) ≡ ys = rw (long, whole) at (at_middle (xs ++ (y ∷ [])) ys zs) in
     let first : get_or (xs ++ (y ∷ (ys ++ zs))) (length xs) 0 ≡ y = get_or-append_seam xs y (ys ++ zs) 0 in
@@ -93,7 +93,7 @@ module _ (t : Table) where
       rw (a, b) at (kept_parts (declares_other t) 0 i n (omega arith) l)
 
   others_le : (i n : ℕ) → i ≤ n → others_before t i ≤ others_before t n
-  others_le i n l = omega (arith, before_long i, before_long n, ap length (before_parts i n l), length_append (before i) (between i n))
+  others_le i n l = omega (arith, before_long i, before_long n, ap length (before_parts i n l), length-append (before i) (between i n))
 
   -- a declaration has none
   other_undeclared : (n : ℕ) → is_declaration t n ≡ true → declares_other t n ≡ false
@@ -138,7 +138,7 @@ module _ {t : Table} {keys nodes heads next : List ℕ} (P : Prepared t keys nod
   declared_long = refl
 
   nodes_long : length nodes ≡ vertex_count t + others_before t (count t)
-  nodes_long = omega (arith, ap length nodes_are, length_append (declared_nodes t) (before t (count t)), declared_long, before_long t (count t))
+  nodes_long = omega (arith, ap length nodes_are, length-append (declared_nodes t) (before t (count t)), declared_long, before_long t (count t))
 
   keys_long : length keys ≡ length nodes
   keys_long = ap length P.keys_is ∙ length-map (entries t) _ ∙ sym (ap length P.nodes_is ∙ length-map (entries t) _)
@@ -210,7 +210,7 @@ module _ {t : Table} {keys nodes heads next : List ℕ} (P : Prepared t keys nod
         let whole : nodes ≡ xs ++ (mine ++ zs) =
         nodes_are ∙ ap (λ (b : List ℕ). declared_nodes t ++ b) parts ∙ sym (append_assoc (declared_nodes t) (before t (range_start t v)) (mine ++ zs)) in
         let from : offset_of t v ≡ length xs =
-        omega (arith, length_append (declared_nodes t) (before t (range_start t v)), declared_long, before_long t (range_start t v)) in
+        omega (arith, length-append (declared_nodes t) (before t (range_start t v)), declared_long, before_long t (range_start t v)) in
         let long : offset_of t (v + 1) - offset_of t v ≡ length mine =
         omega (
           arith,
@@ -218,7 +218,7 @@ module _ {t : Table} {keys nodes heads next : List ℕ} (P : Prepared t keys nod
           before_long t (range_start t v),
           before_long t (node_of t v),
           ap length (before_parts t (range_start t v) (node_of t v) (range_rises t v l)),
-          length_append (before t (range_start t v)) mine,
+          length-append (before t (range_start t v)) mine,
         ) in
         ap (λ (ns : List ℕ). map (λ (e : ℕ). get_or ns e 0) (span (offset_of t v) (offset_of t (v + 1) - offset_of t v))) whole
         ∙ ap₂ (λ (i d : ℕ). map (λ (e : ℕ). get_or (xs ++ (mine ++ zs)) e 0) (span i d)) from long

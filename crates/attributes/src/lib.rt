@@ -1,6 +1,7 @@
 // The attributes of declarations: by the entries of the dictionary, among which those of a declaration stand together, they are put into a table
 // by symbol under a stamp.
 #![tactic(auto)]
+
 ghost use Rattle.std.specs.Prelude.{◌≡◌, ◌%◌};
 ghost use Rattle.scopes.specs.Entries.{radix};
 ghost use Rattle.attributes.specs.Attributes.{start_in, Back, StoresOffsets, attribute_kind, CollectsEntries, CollectsQueued};

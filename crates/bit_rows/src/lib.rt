@@ -1,5 +1,6 @@
 // Bits in a column of words.
 #![tactic(auto)]
+
 ghost use Rattle.std.specs.Prelude.{◌≡◌};
 ghost use Rattle.bit_rows.specs.Bits.{bit, with_bit};
 

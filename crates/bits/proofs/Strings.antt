@@ -7,7 +7,7 @@ use native.Mathlib.Nat.{lt_of_lt_of_le, zero-add, suc-add, one-mul, mod-lt, mod-
 use native.Mathlib.Omega.{arith}
 use borrow.Author.Tests.{le-leb, lt-leb}
 use lib.Arith.{digits_lt}
-use lib.ListN.{length, take, drop, length_append}
+use lib.ListN.{length, take, drop, length-append}
 use lib.Seq.{take_at, length-take-le}
 use lib.Pow.{pow_pos, pow_mono, pow-lt, pow-add, high, low, shl_exact}
 use mir.Syntax.{w64}
@@ -46,7 +46,7 @@ module _ (k : ℕ) (h : k < 64) where
 -- ---- joining
 length_both : (a b : Binary) → length (bits_of a ++ bits_of b) ≡ a.length + b.length
 length_both a b =
-    length_append (bits_of a) (bits_of b) ∙ rw (length_bits a.length a.number, length_bits b.length b.number)
+    length-append (bits_of a) (bits_of b) ∙ rw (length_bits a.length a.number, length_bits b.length b.number)
 
 pub too_long : (a b : Binary) → 63 < a.length + b.length → Joins (bits_of a) (bits_of b) (Ended OutOfRange)
 unfolding join
@@ -98,7 +98,7 @@ first_number a l h e f = f ∙ rw e (first_is a l h)
 -- ---- comparing: by the numbers of the first l bits, and then by what follows them
 compare_add : (k m n : ℕ) → compare (k + m) (k + n) ≡ compare m n
 compare_add zero m n = rw (zero-add m, zero-add n)
-compare_add (suc k) m n = rw (suc-add k m, suc-add k n) (Prim.Native.Nat.compare.suc_suc (k + m) (k + n) ∙ compare_add k m n)
+compare_add (suc k) m n = rw (suc-add k m, suc-add k n) (Prim.Native.Nat.compare.suc-suc (k + m) (k + n) ∙ compare_add k m n)
 
 first_lt : (l : ℕ) (xs : List Bool) → l ≤ length xs → number (take l xs) < 2 ^ l
 first_lt l xs h = rw (length-take-le l xs h) at (number_lt (take l xs))

@@ -1,5 +1,6 @@
 // Binaries: joining and comparing.
 #![tactic(auto)]
+
 ghost use Rattle.std.specs.Prelude.{◌≡◌, min, ◌≤◌, ◌/◌, ◌%◌, ◌^◌, take};
 ghost use Rattle.express.specs.Semantics.AnswerRow.{row, row_of};
 ghost use Rattle.express.specs.Semantics.Bits.{join, number, compare_bits};

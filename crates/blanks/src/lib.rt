@@ -1,5 +1,6 @@
 // Blanks: the spaces and remarks between tokens; and what every reader of bytes uses, single bytes and runs of a class.
 #![tactic(auto)]
+
 ghost use Rattle.std.specs.Prelude.{◌≡◌, ◌+◌, ◌≤◌, length, drop, get_or};
 ghost use Rattle.express.specs.Tokens.Bytes.{within};
 ghost use Rattle.express.specs.Tokens.Lexis.{pair, either, run, end_of_remark, skipped};

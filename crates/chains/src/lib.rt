@@ -1,5 +1,6 @@
 // Where a word is on the chains of identifiers: the token that is spelled like it, or the bucket that it goes into.
 #![tactic(auto)]
+
 ghost use Rattle.std.specs.Prelude.{◌≡◌, map, true, ◌+◌, ◌≤◌, ◌<◌, min, length, get_or};
 ghost use Rattle.express.specs.Tokens.Bytes.{lower, same};
 ghost use Rattle.express.specs.Tokens.Spelling.{spelling};

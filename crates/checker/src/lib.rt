@@ -1,5 +1,6 @@
 // The public call: all stages of a file run, then each column and the room is cleared behind what stands in it, and the report is made.
 #![tactic(auto)]
+
 ghost use Rattle.demands.specs.Checks.{Checks, tables_of};
 ghost use Rattle.reports.specs.Reporting.{report_of};
 

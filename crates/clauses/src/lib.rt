@@ -1,5 +1,6 @@
 // The readers of what stands in a schema, by recursive descent: terminals to rows.
 #![tactic(auto)]
+
 ghost use Rattle.std.specs.Prelude.{true, ◌&&◌, ◌⊎◌, ◌++◌, ◌≡◌, ◌+◌, ◌≤◌, ◌<◌, get_or};
 ghost use Rattle.ebnf.specs.Set.{mem};
 ghost use Rattle.ebnf.specs.Grammar.{star, nt};

@@ -1,5 +1,6 @@
 // Lent columns: a number stored as far as it fits, zeros from an index on, and the cast of an index.
 #![tactic(auto)]
+
 ghost use Rattle.std.specs.Prelude.{◌≡◌, min, ◌-◌, ◌≤◌, ◌<◌, pos, set};
 ghost use Rattle.columns.specs.Column.{cleared};
 

@@ -1,5 +1,6 @@
 // What operators, signs and intervals make of answers, ends among them; what a constant holds.
 #![tactic(auto)]
+
 ghost use Rattle.std.specs.Prelude.{◌≡◌};
 ghost use Rattle.express.specs.Semantics.Evaluate.{boolean_answer};
 ghost use Rattle.express.specs.Semantics.Operate.{operated, combined, applied, between};

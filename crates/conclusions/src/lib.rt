@@ -1,5 +1,6 @@
 // The end of a check: zeros behind what stands in each column and in the room, and the report.
 #![tactic(auto)]
+
 ghost use Rattle.demands.specs.Checks.{tables_of};
 ghost use Rattle.conclusions.specs.Conclusion.{Concludes};
 

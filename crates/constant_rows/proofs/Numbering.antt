@@ -8,7 +8,7 @@ use native.Mathlib.Decide.{ℕ_discrete}
 use native.Mathlib.Omega.{arith}
 use borrow.Author.Tests.{eqb-true, eq-eqb, ne_eqb}
 use lib.Dec.{eqb}
-use lib.ListN.{length, get_or, set, length_append, length-set}
+use lib.ListN.{length, get_or, set, length-append, length-set}
 use lib.Seq.{get_or-set_same, get_or-set_other}
 use Rattle.relations.specs.Select.{span, first_from, keep}
 use Rattle.relations.proofs.Select.{le_or, First, first_is, span_mem, span_append, keep_append, keep_nothing, placed}
@@ -22,7 +22,7 @@ module _ (p : ℕ → Bool) where
   split : (a d : ℕ) → so_far (a + d) ≡ so_far a + length (keep p (span (0 + a) d))
   split a d =
       ap (λ (l : List ℕ). length (keep p l)) (span_append 0 a d) ∙ ap length (keep_append p (span 0 a) (span (0 + a) d)) ∙
-      length_append (keep p (span 0 a)) (keep p (span (0 + a) d))
+      length-append (keep p (span 0 a)) (keep p (span (0 + a) d))
 
   rises : (a b : ℕ) → a ≤ b → so_far a ≤ so_far b
   rises a b h = let q : b ≡ a + (b - a) = omega arith in rw q (omega (arith, split a (b - a)))

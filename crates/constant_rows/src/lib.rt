@@ -1,5 +1,6 @@
 // The row of each constant in the answer columns, and the parts of an order of declarations that go to each schema.
 #![tactic(auto)]
+
 pub mod parts;
 
 ghost use Rattle.constant_rows.specs.Numbering.{Fills, NumbersRows};

@@ -8,7 +8,7 @@ use native.Mathlib.Omega.{arith}
 use lib.Dec.{eqb, ltb}
 use lib.IntN.{ℤ}
 use lib.ListN.{length, get_or, take, drop, length-take, length-drop, get_or-append, get_or-eq_default}
-use lib.Seq.{length-take-le, get_or_take, get_or-drop, get_or-append-add}
+use lib.Seq.{length-take-le, get_or-take, get_or-drop, get_or-append-add}
 use Rattle.ebnf.specs.Set.{mem}
 use Rattle.relations.specs.Select.{first_from}
 use Rattle.relations.proofs.Select.{le_or, First, first_is}
@@ -52,7 +52,7 @@ module _ {A : Type 0} {z : A} {f : ℕ → A} {t : Table} {lo n at h : ℕ} {was
       part_long = omega (arith, p, length-take (length column - h) (drop h column), length-drop h column, seam)
 
       front : (r : ℕ) → r < at → get_or after r z ≡ get_or column r z
-      front r b = rw e (get_or-append (take h column) (part' ++ post) z r (omega (arith, b, front_long)) ∙ get_or_take h column r z (omega (arith, b, seam)))
+      front r b = rw e (get_or-append (take h column) (part' ++ post) z r (omega (arith, b, front_long)) ∙ get_or-take h column r z (omega (arith, b, seam)))
 
       back : (i : ℕ) → i < length part' → get_or after (at + i) z ≡ get_or part' i z
       back i b =
@@ -86,7 +86,7 @@ module _ {A : Type 0} {z : A} {f : ℕ → A} {t : Table} {lo n at h : ℕ} {was
               let g : r ≡ at + (r - at) = omega (arith, below, bound) in
               let j : h + (r - at) ≡ r = omega (arith, below, bound, seam) in
               ap (λ (x : ℕ). get_or after x z) g ∙ back (r - at) (omega (arith, below, bound, part_long)) ∙ G.rest (r - at) (omega (arith, bound)) ∙
-              get_or_take (length column - h) (drop h column) (r - at) z (omega (arith, below, bound, seam)) ∙ get_or-drop h column (r - at) z ∙
+              get_or-take (length column - h) (drop h column) (r - at) z (omega (arith, below, bound, seam)) ∙ get_or-drop h column (r - at) z ∙
               ap (λ (x : ℕ). get_or column x z) j ∙ F.rest r (omega (arith, below, bound))
 
 -- ---- the rows of strings that are there stand in the part that is lent
@@ -99,7 +99,7 @@ module _ {A : Type 0} {z : A} {f : ℕ → A} (g : ℕ → A) {t : Table} {lo n 
       let d = row_before t.kinds c n b k in
       let e = row_rises t.kinds lo c a in
       let q : h + (row t c - at) ≡ row t c - 0 = omega arith in
-      get_or_take (length column - h) (drop h column) (row t c - at) z (omega arith) ∙ get_or-drop h column (row t c - at) z ∙ ap (λ (x : ℕ). get_or column x z) q ∙
+      get_or-take (length column - h) (drop h column) (row t c - at) z (omega arith) ∙ get_or-drop h column (row t c - at) z ∙ ap (λ (x : ℕ). get_or column x z) q ∙
       F.rest (row t c - 0) (omega arith) ∙ P c (omega arith) (omega arith) k i
 
 -- ---- the room: a schema's strings lie behind those of the earlier schemas

@@ -6,7 +6,7 @@ use Prim.Native.Nat.{ℕ, ◌+◌, ◌-◌, ◌≤◌, ◌<◌}
 use native.Mathlib.Omega.{arith}
 use lib.IntN.{ℤ}
 use lib.ListN.{length, get_or, take, drop, length-map, get_or-append}
-use lib.Seq.{sets, length-sets, sets-eq, ext_get_or, get_or_drop, get_or-append-add}
+use lib.Seq.{sets, length-sets, sets-eq, ext_get_or, get_or-drop, get_or-append-add}
 use Rattle.columns.specs.Column.{cleared, padded}
 use Rattle.columns.proofs.Laws.{length_cleared}
 use Rattle.relations.proofs.Select.{le_or}
@@ -56,7 +56,7 @@ module _ {A : Type 0} {z : A} (f : AnswerRow → A) {t : Table} {was column : Li
               let h : 0 + length vs + (i - length vs) ≡ i = omega arith in
               F.rest i (omega (arith, long)) ∙
               sym (ap (λ (x : ℕ). get_or (vs ++ drop (0 + length vs) was) x z) g ∙ get_or-append-add vs (drop (0 + length vs) was) (i - length vs) z ∙
-              get_or_drop (0 + length vs) was (i - length vs) z ∙ ap (λ (x : ℕ). get_or was x z) h)
+              get_or-drop (0 + length vs) was (i - length vs) z ∙ ap (λ (x : ℕ). get_or was x z) h)
           by (inr a) =
               let n : i < length (constants t) = omega (arith, long) in
               let C = constant_at t i n in

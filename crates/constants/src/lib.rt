@@ -1,5 +1,6 @@
 // The evaluation of the constants of a file into its answer columns, one schema after the other.
 #![tactic(auto)]
+
 ghost use Rattle.constants.specs.Constants.{PlacesConstants, FillsSchemas, EvaluatesConstants};
 
 use constant_rows::number_rows;

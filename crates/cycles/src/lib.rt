@@ -1,5 +1,6 @@
 // Strongly connected components, and with them the smallest vertex on a cycle and an order of dependencies.
 #![tactic(auto)]
+
 ghost use Rattle.std.specs.Prelude.{◌≡◌, [], ℕ, ◌+◌, ◌*◌, ◌-◌, ◌<◌, length, get_or, set};
 ghost use Rattle.graph.specs.Graph.{vertices};
 ghost use Rattle.cycles.specs.State.{cell, state};

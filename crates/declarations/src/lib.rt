@@ -1,5 +1,6 @@
 // Whole files: their schemas, one after the other, to node columns.
 #![tactic(auto)]
+
 ghost use Rattle.std.specs.Prelude.{◌≤◌, ◌≡◌, length};
 ghost use Rattle.ebnf.specs.Grammar.{star, nt};
 ghost use Rattle.express.specs.Syntax.Grammar.{file, schema, ◌·◌};

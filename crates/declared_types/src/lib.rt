@@ -1,5 +1,6 @@
 // What constants and types are declared with, seen through renamings: a number for each, in a column with an entry for each node.
 #![tactic(auto)]
+
 ghost use Rattle.std.specs.Prelude.{◌≡◌, cond, [], ◌+◌, ◌-◌, get_or, set, eqb};
 ghost use Rattle.express.specs.Syntax.NodeKind.{enumeration_item};
 ghost use Rattle.express.specs.Semantics.Declared.{simple};

@@ -1,6 +1,7 @@
 // The declarations of a file as a graph: an arc from a declaration to each that a name in it means. Its arcs are stored while
 // the nodes are passed from the last to the first, from the end of a lent column, so that they come grouped by source.
 #![tactic(auto)]
+
 ghost use Rattle.std.specs.Prelude.{◌≡◌};
 ghost use Rattle.dependencies.specs.Graph.{Added};
 ghost use Rattle.dependencies.specs.Arrangement.{named, Arranges};

@@ -1,5 +1,6 @@
 // Reply 9: what is declared twice in one scope, at the later name.
 #![tactic(auto)]
+
 ghost use Rattle.duplicates.specs.Duplicates.{Repetition, Duplicates};
 
 use columns::index;

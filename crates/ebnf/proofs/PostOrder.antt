@@ -86,7 +86,7 @@ module _ {N : Type 0} (K : Kinds N) (ts : List ℕ) where
     pub role : ℕ
     pub token : ℕ
     pub children : Forest
-    pub named : mem (get_or ts token 0) (K.NamedBy kind role) ≡ true
+    pub named : mem (get_or ts token 0) (K.named_by kind role) ≡ true
     pub behind : Behind ts token (K.behind kind)
     pub match : Match (K.children kind) children
     pub all : All K ts children
@@ -149,14 +149,14 @@ module _ {N : Type 0} (K : Kinds N) (ts : List ℕ) (rs : List Row) (n : ℕ) (d
   pub size_fits : (1 ≤ size_at rs n) × (size_at rs n ≤ suc n)
   size_fits = let s = size_is in let i = d.inside in (omega (arith, s), omega (arith, s, i))
 
-  pub token_named : (k o : ℕ) → (row_at rs n).kind ≡ k → (row_at rs n).role ≡ o → mem (get_or ts (row_at rs n).token 0) (K.NamedBy k o) ≡ true
+  pub token_named : (k o : ℕ) → (row_at rs n).kind ≡ k → (row_at rs n).role ≡ o → mem (get_or ts (row_at rs n).token 0) (K.named_by k o) ≡ true
   token_named k o e f =
       let a = kind_is k e in
       let b : d.role ≡ o = ap (λ (r : Row). r.role) (sym d.row) ∙ f in
       let c : d.token ≡ (row_at rs n).token = ap (λ (r : Row). r.token) (sym d.row) in
-      subst (λ (z : ℕ). mem (get_or ts z 0) (K.NamedBy k o) ≡ true) c
-      (subst (λ (z : ℕ). mem (get_or ts d.token 0) (K.NamedBy k z) ≡ true) b
-      (subst (λ (z : ℕ). mem (get_or ts d.token 0) (K.NamedBy z d.role) ≡ true) a d.named))
+      subst (λ (z : ℕ). mem (get_or ts z 0) (K.named_by k o) ≡ true) c
+      (subst (λ (z : ℕ). mem (get_or ts d.token 0) (K.named_by k z) ≡ true) b
+      (subst (λ (z : ℕ). mem (get_or ts d.token 0) (K.named_by z d.role) ≡ true) a d.named))
 
   pub tokens_behind : (k : ℕ) → (row_at rs n).kind ≡ k → Behind ts (row_at rs n).token (K.behind k)
   tokens_behind k e =

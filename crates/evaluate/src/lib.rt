@@ -1,6 +1,7 @@
 // The evaluation of one expression against a file: its own columns and the file's are apart, and the answers of the file's constants are known.
 // The answer of each node is kept in a row of three lent columns, for its parent; of a string the length.
 #![tactic(auto)]
+
 ghost use Rattle.express.specs.Semantics.Evaluate.{answer_at};
 ghost use Rattle.node_answers.specs.Answers.{Keeps, answers_in};
 ghost use Rattle.evaluate.specs.Evaluation.{Named, Item, EvaluatesNode, EvaluatesNodes};

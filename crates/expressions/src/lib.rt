@@ -1,5 +1,6 @@
 // Expressions by recursive descent: terminals to rows of nodes.
 #![tactic(auto)]
+
 ghost use Rattle.std.specs.Prelude.{true, ◌&&◌, ◌≡◌, ◌+◌, ◌≤◌, get_or};
 ghost use Rattle.ebnf.specs.Set.{mem};
 ghost use Rattle.express.specs.Tokens.Terminal.{identifier, dot, lbrace};

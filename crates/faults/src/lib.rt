@@ -1,5 +1,6 @@
 // What is wrong with a name: a reply from 9 to 13 and a place in the text.
 #![tactic(auto)]
+
 ghost use Rattle.std.specs.Prelude.{◌≡◌};
 ghost use Rattle.express.specs.Names.Fault as express;
 ghost use Rattle.express.specs.Names.Names as stages;

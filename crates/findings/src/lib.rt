@@ -1,6 +1,7 @@
 // What is found of a name in an expression, of `type.item`, and of other nodes that can be at fault: the fault, the binding, and
 // the constant that is named.
 #![tactic(auto)]
+
 pub mod nodes;
 
 ghost use Rattle.std.specs.Prelude.{◌≡◌};

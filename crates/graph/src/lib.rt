@@ -1,5 +1,6 @@
 // Directed graphs whose arcs stand grouped by source: the test of the two columns, and all that a vertex reaches.
 #![tactic(auto)]
+
 ghost use Rattle.std.specs.Prelude.{◌≡◌, true, false, ℕ, ◌+◌, ◌-◌, ◌≤◌, ◌<◌, length, get_or};
 ghost use Rattle.graph.specs.Graph.{Graph, Tells};
 ghost use Rattle.graph.specs.Mark.{stamped, unstamped, Searches, Expands};

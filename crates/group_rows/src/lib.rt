@@ -1,5 +1,6 @@
 // What is read of the rows that a search for components leaves: whether a vertex has an arc into its own group, and each vertex put at its place.
 #![tactic(auto)]
+
 ghost use Rattle.std.specs.Prelude.{◌≡◌, ◌+◌, ◌*◌, ◌<◌, length};
 ghost use Rattle.graph.specs.Graph.{Tells};
 ghost use Rattle.group_rows.specs.Rows.{cell, Grouped, Inner, Arrangeable, Arranged};

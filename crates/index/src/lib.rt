@@ -2,6 +2,7 @@
 // many as `heads` is long; `heads` holds where a bucket's chain begins, `next` how it goes on; a link is an entry plus one, and
 // 0 ends a chain.
 #![tactic(auto)]
+
 pub mod dictionary;
 
 ghost use Rattle.std.specs.Prelude.{◌≡◌, ◌<◌};

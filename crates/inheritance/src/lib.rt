@@ -3,6 +3,7 @@
 // into a table by symbol, under the entity's own stamp. They are found by the entries of the dictionary, among which those of a declaration
 // stand together.
 #![tactic(auto)]
+
 ghost use Rattle.std.specs.Prelude.{◌≡◌, ◌<◌, length};
 ghost use Rattle.symbol_tables.specs.Table.{symbol_in};
 ghost use Rattle.inheritance.specs.Inheritance.{Inherits};

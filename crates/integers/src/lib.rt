@@ -1,5 +1,6 @@
 // Integers of 64 bits: exact results, and the ends of what has none. Sums, opposites, their order, and the rows of outcomes.
 #![tactic(auto)]
+
 ghost use Rattle.std.specs.Prelude.{◌≡◌};
 ghost use Rattle.express.specs.Semantics.AnswerRow.{row, row_of};
 ghost use Rattle.express.specs.Semantics.Integer.{sum, difference, negation, compareℤ};

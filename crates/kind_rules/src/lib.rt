@@ -1,5 +1,6 @@
 // Kinds and declared types by their numbers: what is found at a node, from the kinds of its operands.
 #![tactic(auto)]
+
 ghost use Rattle.std.specs.Prelude.{◌≡◌, ◌&&◌};
 ghost use Rattle.express.specs.Syntax.NodeKind.{other_literal};
 ghost use Rattle.express.specs.Semantics.DeclaredColumn.{declared_number};

@@ -1,5 +1,6 @@
 // The rows of a parse, which stand in words, laid out in columns.
 #![tactic(auto)]
+
 ghost use Rattle.std.specs.Prelude.{◌≡◌, min};
 ghost use Rattle.parsing.specs.Outcome.{answered, kind_in, role_in, token_in, size_in, unpacked, count, LaysOut};
 

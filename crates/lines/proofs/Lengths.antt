@@ -7,7 +7,7 @@ use native.Mathlib.Omega.{arith}
 use borrow.Author.Tests.{le-leb}
 use lib.Dec.{eqb}
 use lib.IntN.{ℤ, pos, negsuc}
-use lib.ListN.{length, get_or, take, drop, length_append, length-map, length_take, length_drop}
+use lib.ListN.{length, get_or, take, drop, length-append, length-map, length-take, length-drop}
 use Rattle.express.specs.Tokens.Bytes.{lower}
 use Rattle.express.specs.Tokens.Terminal.{bytes}
 use Rattle.express.specs.Syntax.Tree.{Table, token, schema_of}
@@ -30,8 +30,8 @@ module _ (t : Table) where
       omega (
         arith,
         length-map part lower,
-        length_take (get_or t.lengths i 0) (drop (get_or t.starts i 0) t.bytes),
-        length_drop (get_or t.starts i 0) t.bytes,
+        length-take (get_or t.lengths i 0) (drop (get_or t.starts i 0) t.bytes),
+        length-drop (get_or t.starts i 0) t.bytes,
       )
 
   signed_short : (z : ℤ) → length (signed z) ≤ 21
@@ -60,7 +60,7 @@ module _ (t : Table) where
     printed_short r h =
         let n = natural r.number in
         choice r.number (ranked n) (bits r.length n) n (take r.length (drop n room)) r.kind
-        (omega (arith, length_bits r.length n)) (omega (arith, length_take r.length (drop n room)))
+        (omega (arith, length_bits r.length n)) (omega (arith, length-take r.length (drop n room)))
         (eqb r.kind 0) (eqb r.kind 1) (eqb r.kind 2) (eqb r.kind 3) (eqb r.kind 4) (eqb r.kind 5)
 
     pub line_short : (c : ℕ) (r : records.Answer) → r.length < 256 → length (answer_line t c (record_answer room r)) ≤ 3 * length t.bytes + 600
@@ -70,11 +70,11 @@ module _ (t : Table) where
         let answer = printed t (record_answer room r) in
         omega (
           arith,
-          length_append (front ++ bytes "." ++ own ++ bytes " = " ++ answer) (10 ∷ []),
-          length_append (front ++ bytes "." ++ own ++ bytes " = ") answer,
-          length_append (front ++ bytes "." ++ own) (bytes " = "),
-          length_append (front ++ bytes ".") own,
-          length_append front (bytes "."),
+          length-append (front ++ bytes "." ++ own ++ bytes " = " ++ answer) (10 ∷ []),
+          length-append (front ++ bytes "." ++ own ++ bytes " = ") answer,
+          length-append (front ++ bytes "." ++ own) (bytes " = "),
+          length-append (front ++ bytes ".") own,
+          length-append front (bytes "."),
           name_short (schema_of t c),
           name_short c,
           printed_short r h,

@@ -7,7 +7,7 @@ use Prim.Native.Nat.{ℕ, zero, suc, ◌+◌, ◌-◌, ◌≤◌, ◌<◌}
 use native.Mathlib.Omega.{arith}
 use lib.Dec.{eqb}
 use lib.IntN.{pos}
-use lib.ListN.{length, get_or, take, drop, replicate, length_append, length_map, get_or-eq_default, get_or-map}
+use lib.ListN.{length, get_or, take, drop, replicate, length-append, length-map, get_or-eq_default, get_or-map}
 use Rattle.columns.specs.Column.{padded}
 use Rattle.columns.proofs.Laws.{getD_padded}
 use Rattle.ebnf.specs.Rows.{Row}
@@ -57,7 +57,7 @@ module _ (t : Table) (n₁ n₂ n₃ n₄ : ℕ) where
   is_lent k m = ap (λ (x : ℕ). eqb x k) (getD_padded 0 n₃ t.kinds m)
 
   count_lent : count t ≤ count lent
-  count_lent = omega (arith, length_append t.kinds (replicate (n₃ - count t) 0))
+  count_lent = omega (arith, length-append t.kinds (replicate (n₃ - count t) 0))
 
   -- past the nodes there is no schema, and no name
   schema_lent : length t.tokens ≤ count t → (c : ℕ) → name_of t (schema_of lent c) ≡ name_of t (schema_of t c)
@@ -124,8 +124,8 @@ module _ (a : Accepted) (m₁ m₂ m₃ m₄ : ℕ) where
   long z f m =
       omega (
         arith,
-        length_append (map f (answer_rows a)) (replicate (m - length (map f (answer_rows a))) z),
-        length_map (answer_rows a) f,
+        length-append (map f (answer_rows a)) (replicate (m - length (map f (answer_rows a))) z),
+        length-map (answer_rows a) f,
         rows_counted 0 a.answers,
       )
 
@@ -158,7 +158,7 @@ module _ (a : Accepted) (n₁ n₂ n₃ n₄ m₁ m₂ m₃ m₄ : ℕ) where
     short : length a.table.tokens ≤ count a.table
     short =
         rw ok.table_is
-        (omega (arith, length_map ok.rows (λ (r : Row). r.token), length_map ok.rows (λ (r : Row). r.kind)))
+        (omega (arith, length-map ok.rows (λ (r : Row). r.token), length-map ok.rows (λ (r : Row). r.kind)))
 
     pub line_is : (i : ℕ) → i < length a.answers → printed_line i ≡ constant_line a i
     line_is i h =

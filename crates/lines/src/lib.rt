@@ -1,5 +1,6 @@
 // The lines of the listing, each written into a lent buffer as far as it fits.
 #![tactic(auto)]
+
 ghost use Rattle.std.specs.Prelude.{◌≡◌, ◌<◌, ◌≤◌, ◌+◌, ◌-◌, ◌^◌, ◌/◌, ◌%◌, eqb, length, get_or, set, take, drop};
 ghost use mathlib.Core.List.{[], ◌∷◌, ◌++◌, map, flat_map};
 ghost use Rattle.express.specs.Tokens.Bytes.{lower};

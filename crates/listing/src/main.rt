@@ -1,5 +1,6 @@
 // The program: a file from the standard input, its listing to the standard output (R12).
 #![tactic(auto)]
+
 use checker::check;
 use columns::index;
 use libc::STDERR_FILENO;

@@ -1,5 +1,6 @@
 // The standard input into a lent buffer, and a listing to the standard output. Of descriptors it is assumed what `libc` says of `read` and `write`.
 #![tactic(auto)]
+
 ghost use Rattle.std.specs.Prelude.{length};
 ghost use Rattle.listing_io.specs.Reading.{Within};
 

@@ -1,5 +1,6 @@
 // The listing of an outcome, part by part: each part is as many whole lines as fit into a lent buffer.
 #![tactic(auto)]
+
 ghost use Rattle.std.specs.Prelude.{◌≡◌, ◌≤◌, ◌+◌, min, length, take};
 ghost use Rattle.records.specs.Rows.{rows};
 ghost use Rattle.lines.specs.Print.{Prints, table_of};

@@ -1,5 +1,6 @@
 // Where the literals of a text end: integers, the exponents of reals, strings, binaries.
 #![tactic(auto)]
+
 ghost use Rattle.std.specs.Prelude.{◌≡◌, false, ◌+◌, ◌<◌, length, drop};
 ghost use Rattle.express.specs.Tokens.Bytes.{digit};
 ghost use Rattle.express.specs.Tokens.Lexis.{run, end_of_integer, digits_of_exponent, end_of_exponent, end_of_binary, end_of_string};

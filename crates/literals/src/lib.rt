@@ -1,5 +1,6 @@
 // The values of integer, binary and string literals, from the bytes of their tokens.
 #![tactic(auto)]
+
 ghost use Rattle.std.specs.Prelude.{◌≡◌, cond, ◌+◌, ◌-◌, ◌≤◌, ◌<◌, eqb, length as size, take, drop, set};
 ghost use Rattle.std.proofs.lemmas.List.Edits.{sets};
 ghost use Rattle.express.specs.Tokens.Lexis.{numeral, greatest, integer_value, binary_value, quote, string_value};

@@ -1,5 +1,6 @@
 // All that a vertex reaches, marked in a lent column, for columns of any lengths and contents.
 #![tactic(auto)]
+
 ghost use Rattle.std.specs.Prelude.{◌≡◌, length, replicate};
 ghost use Rattle.graph.specs.Mark.{Markable, Marks, lent, Answers};
 

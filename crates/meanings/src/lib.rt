@@ -1,5 +1,6 @@
 // What a name in an expression means, by the dictionary of a file and by what its owner inherits.
 #![tactic(auto)]
+
 ghost use Rattle.meanings.specs.Use.{ValueMeans, ByNode, InheritedOrValue, InDeclaration};
 
 use columns::index;

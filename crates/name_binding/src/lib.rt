@@ -1,5 +1,6 @@
 // The dictionary of a file, and all stages of names over it, from the first to the last.
 #![tactic(auto)]
+
 ghost use Rattle.name_binding.specs.Binding.{BindsNames};
 ghost use Rattle.name_binding.specs.Prepared.{PreparesFile};
 

@@ -1,5 +1,6 @@
 // The names of a file, with scratch in arrays of the call, in one of four sizes, and gone after it. The orders of the declarations are lent.
 #![tactic(auto)]
+
 ghost use Rattle.express.specs.Tokens.Lexis.{most};
 ghost use Rattle.reading.specs.FileReading.{few_rows, some_rows, many_rows};
 ghost use Rattle.name_frames.specs.NameFrame.{NamesWithin};

@@ -2,6 +2,7 @@
 // with the graph of the constants and its order. A stage computes on where an earlier one has found a fault; the faults are put
 // together at the end.
 #![tactic(auto)]
+
 ghost use Rattle.name_stages.specs.Stages.{BindsDeclarations, BindsExpressions};
 
 use faults::Fault;

@@ -9,7 +9,7 @@ use native.Mathlib.Decide.{ℕ_discrete}
 use borrow.Author.Tests.{eq-eqb, ne_eqb, eqb-true, not-true, not-false}
 use lib.Dec.{eqb}
 use lib.ListN.{length, get_or, take, length-map, length-take}
-use lib.Seq.{sets, length-sets, take_all, get_or_take, ext_get_or, length-take-le}
+use lib.Seq.{sets, length-sets, take_all, get_or-take, ext_get_or, length-take-le}
 use Rattle.columns.proofs.Laws.{take_rows}
 use Rattle.ebnf.specs.Rows.{Row}
 use Rattle.relations.specs.Select.{span}
@@ -173,7 +173,7 @@ bound_all t bound l h =
     ext_get_or 0 (take (count t) bound) (map (binding t) (tree.nodes t)) (length-take-le (count t) bound l ∙ sym long)
     (λ n m.
     let w : n < count t = omega (arith, m, length-take-le (count t) bound l) in
-    get_or_take (count t) bound n 0 w ∙ h n w ∙ sym (mapped_all (binding t) (count t) n w))
+    get_or-take (count t) bound n 0 w ∙ h n w ∙ sym (mapped_all (binding t) (count t) n w))
 
 abbrev is_unfit : Resolution → Bool
 is_unfit Bound = false

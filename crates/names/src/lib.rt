@@ -1,5 +1,6 @@
 // The names of a file, from its bytes, its tokens and its nodes.
 #![tactic(auto)]
+
 ghost use Rattle.std.specs.Prelude.{◌≤◌, length};
 ghost use Rattle.names.specs.Resolution.{BindsPrepared, ResolvesRoles, Resolves};
 ghost use Rattle.resolutions.specs.Answer.{StageRoom};

@@ -1,5 +1,6 @@
 // The limit on nesting: the first token that is too deep, where the tokens that are read end, and what the answer on these says of all.
 #![tactic(auto)]
+
 ghost use Rattle.std.specs.Prelude.{◌≡◌, ◌≤◌};
 ghost use Rattle.ebnf.specs.Depth.{opened};
 ghost use Rattle.express.specs.Syntax.Syntax.{opening, closing, nesting};

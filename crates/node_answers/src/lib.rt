@@ -1,5 +1,6 @@
 // The answer of one node of an expression, from those of its operands, which are kept in the rows of three columns.
 #![tactic(auto)]
+
 pub mod operators;
 
 ghost use Rattle.std.specs.Prelude.{◌≡◌, ◌&&◌, ◌||◌, eqb, get_or};

@@ -6,7 +6,7 @@ use mathlib.Core.List.{List, ◌++◌}
 use Rattle.columns.specs.Column.{cleared_before}
 use Prim.Native.Nat.{ℕ, ◌≤◌}
 use native.Mathlib.Omega.{arith}
-use lib.ListN.{length, take, drop, replicate, length_append, length_replicate}
+use lib.ListN.{length, take, drop, replicate, length-append, length-replicate}
 use lib.Seq.{length-take-le, drop_at}
 use Rattle.graph.specs.Graph.{vertices, Graph}
 use Rattle.cycles.specs.State.{needed}
@@ -40,7 +40,7 @@ module _ {first to : List ℕ} (g : Graph first to) (column scratch front z : Li
 
 -- ---- the search after that
 cleared_twice : (k : ℕ) (s : List ℕ) → cleared_before 0 k (cleared_before 0 k s) ≡ cleared_before 0 k s
-cleared_twice k s = ap (λ (r : List ℕ). replicate k 0 ++ r) (drop_at (replicate k 0) (drop k s) k (length_replicate k 0))
+cleared_twice k s = ap (λ (r : List ℕ). replicate k 0 ++ r) (drop_at (replicate k 0) (drop k s) k (length-replicate k 0))
 
 pub sorted : {first to : List ℕ} (was is : Lent) (b : Bool) → b ≡ true → Sorts first to was is b → OrderAnswers first to was is dependencies.Acyclic
 sorted was is true e s = s
@@ -69,8 +69,8 @@ module _ {first to : List ℕ} (column scratch : List ℕ) (mid is : Lent) (q : 
         a.short,
         a.needs,
         ap length c.scratch_is,
-        length_append (replicate (needed (vertices first)) 0) (drop (needed (vertices first)) scratch),
-        length_replicate {A = ℕ} (needed (vertices first)) 0,
+        length-append (replicate (needed (vertices first)) 0) (drop (needed (vertices first)) scratch),
+        length-replicate {A = ℕ} (needed (vertices first)) 0,
       ))
 
 module _ (first to column scratch : List ℕ) (mid is : Lent) (r : Dependencies) (a : OrderAnswers first to mid is r) where

@@ -2,6 +2,7 @@
 // theirs. Nothing is promised of that: the places are tested afterwards, which takes less than to prove them, and where they are no order the
 // search for components tells, which finds the cycle.
 #![tactic(auto)]
+
 ghost use Rattle.std.specs.Prelude.{◌≡◌, true, List, ◌+◌, ◌≤◌, ◌<◌, length, get_or};
 ghost use Rattle.cycles.specs.Answer.{lent, OrderAnswers};
 ghost use Rattle.orders.specs.Places.{Falls, Places, Copies, CopiesIf, SortsIn, Sorts};

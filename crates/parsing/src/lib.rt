@@ -1,5 +1,6 @@
 // What is common to every parse: rows of nodes packed into words, the steps of a reader, and what a whole list comes to.
 #![tactic(auto)]
+
 ghost use Rattle.std.specs.Prelude.{◌≡◌, ◌+◌, ◌-◌, get_or, set};
 ghost use Rattle.parsing.specs.Reading.{word, Expects, is_place};
 

@@ -1,5 +1,6 @@
 // The stages of a check from the nodes on: names, and answers by the orders that names leave.
 #![tactic(auto)]
+
 ghost use Rattle.std.specs.Prelude.{◌≡◌};
 ghost use Rattle.pipeline.specs.Binding.{Declarations, AnswersNamed};
 ghost use Rattle.pipeline.specs.NameStage.{of_resolution, NamesFile};

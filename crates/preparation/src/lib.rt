@@ -1,5 +1,6 @@
 // The dictionary of what a file declares is made: its nodes are classed and counted, and their entries stored.
 #![tactic(auto)]
+
 ghost use Rattle.std.specs.Prelude.{◌≡◌, true, cond, ◌&&◌, ◌+◌, ◌/◌, ◌%◌, ◌≤◌, ◌<◌, length, get_or, set};
 ghost use Rattle.scopes.specs.Entries.{sorts, Entry, radix};
 ghost use Rattle.scopes.specs.Standing.{table_of, declares, sort_by, entry_count, class_of, class_table, PassedBy, Ended, MoreBy, Counted, Counting};

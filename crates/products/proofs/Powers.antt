@@ -6,7 +6,7 @@ use native.Mathlib.Nat.{add-zero, add-suc, mul-le-mul, le_trans}
 use native.Mathlib.Numerals.{add-one}
 use native.Mathlib.Omega.{arith}
 use lib.Dec.{T, eqb}
-use lib.IntN.{ℤ, pos, negsuc, nat_abs, ◌*ℤ◌, pow, one, *ℤ_zero}
+use lib.IntN.{ℤ, pos, negsuc, nat_abs, ◌*ℤ◌, pow, one, *ℤ-zero}
 use lib.Signed.{mag, lt_z, non_neg}
 use mir.Syntax.{w64}
 use mir.Val.{SFits, Fits, to_z, of_z}
@@ -78,7 +78,7 @@ raising_all {a} {v} {n} {i} R l =
 of_zero : (n : ℕ) → (n ≡ 0 → ⊥) → pow (pos 0) n ≡ pos 0
 unfolding pow
 of_zero zero h = absurd (h refl)
-of_zero (suc n) h = *ℤ_zero (pow (pos 0) n)
+of_zero (suc n) h = *ℤ-zero (pow (pos 0) n)
 
 of_one : (n : ℕ) → pow (pos 1) n ≡ pos 1
 unfolding pow one

@@ -5,7 +5,7 @@ use Prim.Native.Nat.{ℕ, zero, suc, ◌-◌, ◌*◌, ◌/◌, ◌<◌, ◌≤�
 use native.Mathlib.Nat.{zero-mul, div-lt_iff_lt-mul, le-div_iff_mul-le}
 use native.Mathlib.Omega.{arith}
 use borrow.Author.Tests.{ltb-true, ltb-false, le-ltb}
-use lib.IntN.{ℤ, pos, negsuc, neg_ℤ, nat_abs, ◌+ℤ◌, ◌*ℤ◌, +ℤ_comm, neg_ℤ-neg_ℤ, *ℤ_zero}
+use lib.IntN.{ℤ, pos, negsuc, neg_ℤ, nat_abs, ◌+ℤ◌, ◌*ℤ◌, +ℤ_comm, neg_ℤ-neg_ℤ, *ℤ-zero}
 use lib.Signed.{lt_z, mag, quot_z}
 use mir.Facts.{to_z-of_z}
 use mir.Syntax.{w64}
@@ -162,7 +162,7 @@ module _ {a b : ℤ} (f : SFits w64 a) (g : SFits w64 b) where
   beyond_plus p = rw (to_z-of_z f, to_z-of_z g) (plus_beyond a b (sign_is f p))
 
 pub mul_zero : {b : ℤ} (a : ℤ) → SFits w64 b → of_z w64 b ≡ 0 → integer (pos 0) ≡ product a b
-mul_zero a g e = rw (bits_are g e, *ℤ_zero a) (sym (exact_fits (pos 0) (omega arith)))
+mul_zero a g e = rw (bits_are g e, *ℤ-zero a) (sym (exact_fits (pos 0) (omega arith)))
 
 minus_one : (a : ℤ) → a *ℤ negsuc 0 ≡ neg_ℤ a
 minus_one (pos m) = let e : m * 1 ≡ m = omega arith in rw e

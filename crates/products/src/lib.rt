@@ -1,5 +1,6 @@
 // Integers of 64 bits: products, DIV, MOD and powers.
 #![tactic(auto)]
+
 ghost use Rattle.std.specs.Prelude.{◌≡◌, ◌≤◌, nat_abs};
 ghost use Rattle.std.proofs.Math.IntN.{pow};
 ghost use Rattle.express.specs.Semantics.Integer.{exact, product, DIV, MOD, power};

@@ -1,5 +1,6 @@
 // The tokens and the nodes of a file, from its bytes. The words of the parser are in an array of the call, in one of four sizes, and gone after it.
 #![tactic(auto)]
+
 ghost use Rattle.express.specs.Tokens.Lexis.{most};
 ghost use Rattle.reading.specs.FileReading.{few_rows, some_rows, many_rows, ReadsWithin, ReadsFile};
 

@@ -1,5 +1,6 @@
 // The public call beside `check`: the answers go into a lent slice of records (R11).
 #![tactic(auto)]
+
 ghost use Rattle.demands.specs.Checks.{Checks, tables_of};
 ghost use Rattle.reports.specs.Reporting.{report_of};
 ghost use Rattle.express.specs.Tokens.Lexis.{most};

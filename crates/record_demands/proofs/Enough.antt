@@ -6,7 +6,7 @@ use Prim.Native.Nat.{ℕ, ◌+◌, ◌*◌, ◌≤◌, ◌<◌, min}
 use native.Mathlib.Omega.{arith}
 use borrow.Author.Tests.{le-leb, lt-leb}
 use lib.Dec.{leb}
-use lib.ListN.{length, length_map}
+use lib.ListN.{length, length-map}
 use Rattle.ebnf.specs.Rows.{Rows}
 use Rattle.ebnf.specs.Depth.{Outcome, good, unexpected, too_deep}
 use Rattle.relations.proofs.Select.{le_or}
@@ -34,7 +34,7 @@ module _ (s : List ℕ) (token_rows node_rows room n most : ℕ) (few_tokens : l
       omega (
         arith,
         constants_few (read_good file (token_table s) r e),
-        length_map (lexed s).rows (λ t. terminal_of t.kind (row_bytes s t)),
+        length-map (lexed s).rows (λ t. terminal_of t.kind (row_bytes s t)),
         few_tokens,
       )
 

@@ -6,7 +6,7 @@ use native.Mathlib.Nat.{le_antisymm}
 use native.Mathlib.Numerals.{add-one, add-one-le}
 use native.Mathlib.Omega.{arith}
 use lib.IntN.{ℤ, pos}
-use lib.ListN.{length, get_or, take, set, length-take, length-set, get_or_eq_default}
+use lib.ListN.{length, get_or, take, set, length-take, length-set, get_or-eq_default}
 use lib.Seq.{get_or-take, take-suc, take-suc-set, take-length}
 use Rattle.columns.proofs.Laws.{getD_padded, length_padded}
 use Rattle.records.specs.declared.Answer.{Answer}
@@ -39,7 +39,7 @@ module _ (ks : List ℕ) (ns : List ℤ) (ls : List ℕ) (count i : ℕ) where
 
   pub row_past : min count (min (length ks) (min (length ns) (length ls))) ≤ i → get_or (take count (rows ks ns ls)) i zeros ≡ zeros
   row_past h =
-      get_or_eq_default (take count (rows ks ns ls)) zeros (omega (arith, length-take count (rows ks ns ls), length_rows ks ns ls))
+      get_or-eq_default (take count (rows ks ns ls)) zeros (omega (arith, length-take count (rows ks ns ls), length_rows ks ns ls))
 
 -- the columns of some records have these records as their rows
 pub rows_of_columns : (rs : List Answer) → rows (map (λ (r : Answer). r.kind) rs) (map (λ (r : Answer). r.number) rs) (map (λ (r : Answer). r.length) rs) ≡ rs

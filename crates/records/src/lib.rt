@@ -1,5 +1,6 @@
 // Answers as records: a lent slice of them, filled from the three number columns of the answer table.
 #![tactic(auto)]
+
 ghost use Rattle.std.specs.Prelude.{◌≡◌, length, get_or, take};
 ghost use Rattle.records.specs.Rows.{zeros, rows, filled};
 

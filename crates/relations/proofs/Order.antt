@@ -12,17 +12,17 @@ use Rattle.relations.proofs.Select.{le_or}
 -- ---- natural numbers
 pub compare_lt : (m n : ℕ) → m < n → compare m n ≡ Ordering.lt
 compare_lt m zero h = absurd (omega arith)
-compare_lt zero (suc n) h = compare.zero_suc n
-compare_lt (suc m) (suc n) h = compare.suc_suc m n ∙ compare_lt m n (omega arith)
+compare_lt zero (suc n) h = compare.zero-suc n
+compare_lt (suc m) (suc n) h = compare.suc-suc m n ∙ compare_lt m n (omega arith)
 
 pub compare_gt : (m n : ℕ) → n < m → compare m n ≡ Ordering.gt
 compare_gt zero n h = absurd (omega arith)
-compare_gt (suc m) zero h = compare.suc_zero m
-compare_gt (suc m) (suc n) h = compare.suc_suc m n ∙ compare_gt m n (omega arith)
+compare_gt (suc m) zero h = compare.suc-zero m
+compare_gt (suc m) (suc n) h = compare.suc-suc m n ∙ compare_gt m n (omega arith)
 
 pub compare_refl : (n : ℕ) → compare n n ≡ Ordering.eq
-compare_refl zero = compare.zero_zero
-compare_refl (suc n) = compare.suc_suc n n ∙ compare_refl n
+compare_refl zero = compare.zero-zero
+compare_refl (suc n) = compare.suc-suc n n ∙ compare_refl n
 
 pub compare_eq : (m n : ℕ) → m ≡ n → compare m n ≡ Ordering.eq
 compare_eq m n e = rw e (compare_refl n)
@@ -72,13 +72,13 @@ total_numbers = total_by (λ (n : ℕ). n) (λ x y e. e)
 module _ {A : Type 0} (c : A → A → Ordering) where
   pub by_lengths : (l : ℕ) (xs ys : List A) → l ≡ min (length xs) (length ys) → compare_lists c (drop l xs) (drop l ys) ≡ compare (length xs) (length ys)
   unfolding compare_lists
-  by_lengths zero [] [] e = sym compare.zero_zero
-  by_lengths zero [] (y ∷ ys) e = sym (compare.zero_suc (length ys))
-  by_lengths zero (x ∷ xs) [] e = sym (compare.suc_zero (length xs))
+  by_lengths zero [] [] e = sym compare.zero-zero
+  by_lengths zero [] (y ∷ ys) e = sym (compare.zero-suc (length ys))
+  by_lengths zero (x ∷ xs) [] e = sym (compare.suc-zero (length xs))
   by_lengths zero (x ∷ xs) (y ∷ ys) e = absurd (omega arith)
   by_lengths (suc l) [] ys e = absurd (omega arith)
   by_lengths (suc l) (x ∷ xs) [] e = absurd (omega arith)
-  by_lengths (suc l) (x ∷ xs) (y ∷ ys) e = by_lengths l xs ys (omega arith) ∙ sym (compare.suc_suc (length xs) (length ys))
+  by_lengths (suc l) (x ∷ xs) (y ∷ ys) e = by_lengths l xs ys (omega arith) ∙ sym (compare.suc-suc (length xs) (length ys))
 
 module _ {A : Type 0} (c : A → A → Ordering) (T : Total c) where
   then_opposite : (o p : Ordering) → opposite (then o p) ≡ then (opposite o) (opposite p)

@@ -1,5 +1,6 @@
 // The report of a check, and zeros behind what stands in each table.
 #![tactic(auto)]
+
 ghost use Rattle.std.specs.Prelude.{◌≡◌};
 ghost use Rattle.stages.specs.Line.{kept_of};
 ghost use Rattle.reports.specs.Reporting.{Reports, ClearsTokens, ClearsNodes, ClearsAnswers};

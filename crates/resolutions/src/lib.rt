@@ -1,5 +1,6 @@
 // What the names of a file come to: its roles as bytes, whether there is room for the stages, and the answer after them.
 #![tactic(auto)]
+
 ghost use Rattle.std.specs.Prelude.{◌≡◌, min, length, take};
 ghost use Rattle.std.proofs.lemmas.List.Edits.{sets};
 ghost use Rattle.resolutions.specs.Answer.{Narrows, StageRoom, done_with, Finishes};

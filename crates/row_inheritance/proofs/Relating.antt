@@ -10,7 +10,7 @@ use native.Mathlib.Decide.{dec_lt}
 use mathlib.Core.Logic.{by_cases}
 use native.Mathlib.Omega.{arith}
 use lib.ListN.{length, get_or, take, drop, get_or-append, get_or-eq_default}
-use lib.Seq.{get_or_take}
+use lib.Seq.{get_or-take}
 use Rattle.graph.specs.Graph.{vertices}
 use Rattle.graph.proofs.Arcs.{arc_target}
 use Rattle.bit_rows.specs.Bits.{word, bit}
@@ -63,7 +63,7 @@ module _ {kinds nodes first to : List ℕ} {symbols declarations entities width 
 
   rank_at : (v : ℕ) → v < vertices first → get_or ranks v 0 ≡ rank_in kinds nodes v
   rank_at v l =
-      get_or_take (symbols + declarations - symbols) (drop symbols table) v 0 (omega (arith, D)) ∙ sym (at_part symbols table v (omega arith)) ∙ S.is v (omega (arith, D))
+      get_or-take (symbols + declarations - symbols) (drop symbols table) v 0 (omega (arith, D)) ∙ sym (at_part symbols table v (omega arith)) ∙ S.is v (omega (arith, D))
 
   rank_known : (v : ℕ) → 0 < get_or ranks v 0 → v < vertices first
   rank_known v l =

@@ -1,6 +1,7 @@
 // Inherited attributes by rows of bits: which entity reaches which stands in rows, the attributes of all that is reached stand in chains by symbol, and each
 // node that asks walks the chain of its symbol with the row of its owner. Where that does not fit what is lent, each entity searches for itself.
 #![tactic(auto)]
+
 ghost use Rattle.std.specs.Prelude.{◌≡◌, ◌+◌, ◌*◌, ◌≤◌, ◌<◌, length};
 ghost use Rattle.columns.specs.Column.{cleared_before};
 ghost use Rattle.graph.specs.Graph.{Tells};

@@ -2,6 +2,7 @@
 // arrays one calls the stages for short files, and two call the others: with one call a stage that has large arrays would become a part of its caller,
 // and its arrays a part of one frame with those of the others.
 #![tactic(auto)]
+
 ghost use Rattle.express.specs.Tokens.Lexis.{most};
 ghost use Rattle.demands.specs.Checks.{tables_of};
 ghost use Rattle.reading.specs.FileReading.{small_bytes, middle_bytes};

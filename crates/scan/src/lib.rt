@@ -1,5 +1,6 @@
 // The token reader: bytes to a table of tokens, lent as three columns.
 #![tactic(auto)]
+
 ghost use Rattle.std.specs.Prelude.{◌≡◌, true, false, ◌+◌, ◌≤◌, ◌<◌, length, get_or, set};
 ghost use Rattle.express.specs.Tokens.Bytes.{digit, letter, word_byte};
 ghost use Rattle.express.specs.Tokens.Lexis.{run, end_of_exponent};

@@ -1,6 +1,7 @@
 // The items of a schema, in a table by symbol. A file is gone through from its last declaration to its first; where another schema
 // begins, its items are entered under a new stamp, so that nothing is cleared.
 #![tactic(auto)]
+
 ghost use Rattle.std.specs.Prelude.{◌≡◌};
 ghost use Rattle.symbol_tables.specs.Entry.{says};
 ghost use Rattle.symbol_tables.specs.Table.{symbol_in};

@@ -4,8 +4,8 @@ use mathlib.Core.Logic.{◌⊎◌, inl, inr}
 use mathlib.Core.List.{List, [], ◌∷◌, ◌++◌, flat_map}
 use Prim.Native.Nat.{ℕ, zero, suc, ◌+◌, ◌-◌, ◌≤◌, ◌<◌}
 use native.Mathlib.Omega.{arith}
-use lib.ListN.{length, get_or, take, drop, replicate, length-append, length-take, length-drop, length-replicate, get_or_replicate, take-append-drop, get_or-eq_default}
-use lib.Seq.{length-take-le, take-add, drop-drop, get_or-take, get_or_drop, get_or-append-add, ext_get_or}
+use lib.ListN.{length, get_or, take, drop, replicate, length-append, length-take, length-drop, length-replicate, get_or-replicate, take-append-drop, get_or-eq_default}
+use lib.Seq.{length-take-le, take-add, drop-drop, get_or-take, get_or-drop, get_or-append-add, ext_get_or}
 use Rattle.columns.specs.Column.{cleared, padded}
 use Rattle.columns.proofs.Laws.{length_cleared}
 use Rattle.relations.proofs.Select.{le_or}
@@ -59,8 +59,8 @@ pub part_same :
 part_same was room q start size h =
     ext_get_or 0 (take size (drop start room)) (take size (drop start was)) long (λ i l.
     let k : i < size = omega (arith, l, length-take size (drop start room)) in
-    get_or-take size (drop start room) i 0 k ∙ get_or_drop start room i 0 ∙ h (start + i) (omega arith) ∙
-    sym (get_or-take size (drop start was) i 0 k ∙ get_or_drop start was i 0))
+    get_or-take size (drop start room) i 0 k ∙ get_or-drop start room i 0 ∙ h (start + i) (omega arith) ∙
+    sym (get_or-take size (drop start was) i 0 k ∙ get_or-drop start was i 0))
   where
     long : length (take size (drop start room)) ≡ length (take size (drop start was))
     long =
@@ -83,7 +83,7 @@ cleared_behind n room i l = by (le_or (length room) i)
         let long = length-take-le n room (omega arith) in
         let g : i ≡ length (take n room) + (i - n) = omega (arith, long) in
         ap (λ (x : ℕ). get_or (cleared 0 n room) x 0) g ∙ get_or-append-add (take n room) (replicate (length room - n) 0) (i - n) 0 ∙
-        get_or_replicate (length room - n) (i - n) 0 0 (omega arith)
+        get_or-replicate (length room - n) (i - n) 0 0 (omega arith)
 
 pub strings_padded :
     (vs room room' : List ℕ) → length vs ≤ length room → length room' ≡ length room → take (length vs) room' ≡ vs →
@@ -95,5 +95,5 @@ strings_padded vs room room' l q e h =
     (omega (arith, q, length-drop (length vs) room', length-replicate {A = ℕ} (length room - length vs) 0))
     (λ i b.
     let k : i < length room - length vs = omega (arith, q, b, length-drop (length vs) room') in
-    get_or_drop (length vs) room' i 0 ∙ h (length vs + i) (omega arith) ∙ cleared_behind (length vs) room (length vs + i) (omega arith) ∙
-    sym (get_or_replicate (length room - length vs) i 0 0 k)))
+    get_or-drop (length vs) room' i 0 ∙ h (length vs + i) (omega arith) ∙ cleared_behind (length vs) room (length vs + i) (omega arith) ∙
+    sym (get_or-replicate (length room - length vs) i 0 0 k)))

@@ -1,6 +1,7 @@
 // The evaluation of the constants of one schema into the answer columns and the room. First the lengths of strings are measured; when their places are known,
 // strings are written and the other constants evaluated.
 #![tactic(auto)]
+
 ghost use Rattle.std.specs.Prelude.{◌≡◌};
 ghost use Rattle.schemas.specs.Rows.{due, EvaluatesConstant, MeasuresConstant, MeasuresConstants, WritesString, FillsConstant, FillsSchema};
 

@@ -4,7 +4,7 @@ use mathlib.Core.Logic.{◌⊎◌, inl, inr, ⊎_elim}
 use mathlib.Core.Bool.{Bool, true, false, cond, ◌&&◌, ◌||◌, false≢true}
 use Prim.Native.Nat.{ℕ, ◌+◌, ◌*◌, ◌-◌, ◌%◌, ◌≤◌, ◌<◌}
 use native.Mathlib.Omega.{arith}
-use borrow.Author.Tests.{eqb-true, eq_eqb}
+use borrow.Author.Tests.{eqb-true, eq-eqb}
 use lib.Dec.{eqb, leb}
 use Rattle.relations.proofs.Select.{and_fst, and_snd, and_both, or_cases, untrue, first_is}
 use Rattle.express.specs.Syntax.NodeKind.{name, enumeration_item, constant, type, attribute_name, derived_attribute, rule, entity, schema, labelled, supertype_name}
@@ -28,13 +28,13 @@ module _ (a h s b g r : ℕ) (hs : h < radix) (ss : s < radix) (gs : g < radix) 
   pub key_test : eqb (key_of a h s) (key_of b g r) ≡ (eqb a b && (eqb h g && eqb s r))
   key_test =
       same_test _ _
-      (λ e. let p = key_parts (eqb-true _ _ e) in and_both _ _ (eq_eqb a b p.0) (and_both _ _ (eq_eqb h g p.1) (eq_eqb s r p.2)))
+      (λ e. let p = key_parts (eqb-true _ _ e) in and_both _ _ (eq-eqb a b p.0) (and_both _ _ (eq-eqb h g p.1) (eq-eqb s r p.2)))
       (λ e.
       let p : a ≡ b = eqb-true a b (and_fst (eqb a b) (eqb h g && eqb s r) e) in
       let q = and_snd (eqb a b) (eqb h g && eqb s r) e in
       let h' : h ≡ g = eqb-true h g (and_fst (eqb h g) (eqb s r) q) in
       let s' : s ≡ r = eqb-true s r (and_snd (eqb h g) (eqb s r) q) in
-      eq_eqb (key_of a h s) (key_of b g r) (cc))
+      eq-eqb (key_of a h s) (key_of b g r) (cc))
 
 -- within the bounds nothing is cut off
 pub key_within : (a h s : ℕ) {k : ℕ} → k ≡ key_of (a % sorts) (h % radix) s → a < sorts → h < radix → k ≡ key_of a h s

@@ -1,5 +1,6 @@
 // What a file declares and where, as one dictionary over (sort, scope, symbol): its keys, and the look-ups in it.
 #![tactic(auto)]
+
 pub mod dictionary;
 pub mod look_ups;
 

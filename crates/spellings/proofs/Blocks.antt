@@ -6,7 +6,7 @@ use mathlib.Core.Logic.{◌⊎◌, inl, inr, ⊎_elim}
 use Prim.Native.Nat.{ℕ, zero, suc, ◌+◌, ◌*◌, ◌-◌, ◌/◌, ◌%◌, ◌^◌, ◌≤◌, ◌<◌, min}
 use native.Mathlib.Nat.{pow-suc, one-le-pow, one-mul, mod-eq_of_lt, mod-le, mod-one, lt_of_le_of_lt, le_trans, le_of_eq}
 use native.Mathlib.Omega.{arith}
-use borrow.Author.Tests.{eqb_true, eq-eqb}
+use borrow.Author.Tests.{eqb-true, eq-eqb}
 use lib.Arith.{digits_div, digits_mod, mod-mul}
 use lib.Bits.{bit_and, bit_or, bit_xor, differ, and_block, or_block, xor_block, and_le_l, and_le_r, or_lt, xor_lt, xor_add_and, xor_step}
 use lib.Dec.{eqb}
@@ -37,7 +37,7 @@ unfolding below
 case_digit e l z =
     let t : not (eqb (bit_and e 223) 0) || (eqb e 0 || eqb e 32) ≡ true = each 256 (λ x. not (eqb (bit_and x 223) 0) || (eqb x 0 || eqb x 32)) refl e l in
     let u : eqb e 0 || eqb e 32 ≡ true = rw (eq-eqb (bit_and e 223) 0 z) at t in
-    ⊎_elim (λ p. inl (eqb_true e 0 p)) (λ p. inr (eqb_true e 32 p)) (or_cases (eqb e 0) (eqb e 32) u)
+    ⊎_elim (λ p. inl (eqb-true e 0 p)) (λ p. inr (eqb-true e 32 p)) (or_cases (eqb e 0) (eqb e 32) u)
 
 -- ---- numbers that differ in no bit, or in the bit of the case
 
@@ -90,7 +90,7 @@ letter_pair a b la lb z w =
     each 256 (λ x. not (eqb (bit_and 128 (no_letter x)) 0) || eqb (lower x) (lower (partner x))) refl a la in
     let v : bit_and 128 (no_letter a) ≡ 0 = ap (λ (x : ℕ). bit_and (x * 4) (no_letter a)) (sym q) ∙ w in
     let u : eqb (lower a) (lower (partner a)) ≡ true = rw (eq-eqb (bit_and 128 (no_letter a)) 0 v) at t in
-    eqb_true (lower a) (lower (partner a)) u ∙ ap lower (sym (partner_is a b q)))
+    eqb-true (lower a) (lower (partner a)) u ∙ ap lower (sym (partner_is a b q)))
     (case_digit (bit_xor a b) (xor_lt 8 a b la lb) z)
 
 -- ---- digit by digit
@@ -239,7 +239,7 @@ agrees {X} {W} a b n e z w =
           let d : X ≡ bit_xor (number_of 8 f) (number_of 8 g) % 256 ^ min n 8 = e ∙ ap (λ (x : ℕ). bit_xor x b % 256 ^ min n 8) ea ∙ ap (λ (x : ℕ). bit_xor (number_of 8 f) x % 256 ^ min n 8) eb in
           let v : W ≡ no_letters 8 (number_of 8 f) = w ∙ ap (no_letters 8) ea in
           agreed 8 (min n 8) f g hf hg (omega arith) (ap (λ (x : ℕ). bit_and x 16131858542891098079) (sym d) ∙ z)
-          (ap (λ (x : ℕ). bit_and (x * 4) (no_letters 8 (number_of 8 f))) (sym d) ∙ ap (bit_and (X * 4)) (sym v) ∙ eqb_true (bit_and (X * 4) W) 0 t) j (omega arith);
+          (ap (λ (x : ℕ). bit_and (x * 4) (no_letters 8 (number_of 8 f))) (sym d) ∙ ap (bit_and (X * 4)) (sym v) ∙ eqb-true (bit_and (X * 4) W) 0 t) j (omega arith);
     }
 
 pub agrees_not : {a b n : ℕ} → Agrees a b n false

@@ -1,5 +1,6 @@
 // Words as they are spelled, letters without case: the hash of one, and whether two are spelled alike.
 #![tactic(auto)]
+
 ghost use Rattle.std.specs.Prelude.{◌≡◌, map, true, ◌+◌, ◌%◌, ◌^◌, ◌≤◌, ◌<◌, min, length, take, drop};
 ghost use Rattle.express.specs.Tokens.Bytes.{lower, same};
 ghost use Rattle.spellings.specs.Blocks.{no_letters, Eight, Agrees, SurelyAlike};

@@ -1,5 +1,6 @@
 // The stages of a check in a straight line, as far as the constants are counted: each is handed how the ones before it ended, and passes a refusal on.
 #![tactic(auto)]
+
 ghost use Rattle.std.specs.Prelude.{◌≡◌, get_or, ◌≤◌};
 ghost use Rattle.express.specs.Tokens.Lexis.{most};
 ghost use Rattle.stages.specs.Line.{count_of};

@@ -1,5 +1,6 @@
 // The bytes of a string: those of the leaves of its expression, in node order. A literal is read in the text, a named constant in the room.
 #![tactic(auto)]
+
 ghost use Rattle.std.specs.Prelude.{◌≡◌, ◌||◌, eqb, pos, get_or, take, drop};
 ghost use Rattle.express.specs.Syntax.NodeKind as node;
 ghost use Rattle.express.specs.Semantics.AnswerRow.{natural};

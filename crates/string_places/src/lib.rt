@@ -1,5 +1,6 @@
 // Where the strings of answer rows lie in the room.
 #![tactic(auto)]
+
 ghost use Rattle.string_places.specs.Places.{PlacesStrings};
 
 use tree::at8;

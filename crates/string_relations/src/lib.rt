@@ -1,5 +1,6 @@
 // Relations and intervals of strings: while nodes are evaluated a string is its length, and where two are compared their bytes are those of their leaves.
 #![tactic(auto)]
+
 ghost use Rattle.std.specs.Prelude.{◌≡◌, ◌&&◌};
 ghost use Rattle.string_relations.specs.Comparing.{SpellsNode, OrdersNodes, Relates, is_text, is_relation, Compares};
 ghost use Rattle.string_relations.specs.Compared.{RelatesOperands, ComparesItem, Compared};

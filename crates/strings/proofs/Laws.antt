@@ -62,7 +62,7 @@ pub ruleset comparisons = (compares_whole, less_byte, more_byte, compares_more, 
 -- strings of zeros compare by their lengths
 pub compare_zeros : (m n : ℕ) → compare_bytes (replicate m 0) (replicate n 0) ≡ compare m n
 unfolding compare_lists
-compare_zeros zero zero = sym compare.zero_zero
-compare_zeros zero (suc n) = sym (compare.zero_suc n)
-compare_zeros (suc m) zero = sym (compare.suc_zero m)
-compare_zeros (suc m) (suc n) = compare_zeros m n ∙ sym (compare.suc_suc m n)
+compare_zeros zero zero = sym compare.zero-zero
+compare_zeros zero (suc n) = sym (compare.zero-suc n)
+compare_zeros (suc m) zero = sym (compare.suc-zero m)
+compare_zeros (suc m) (suc n) = compare_zeros m n ∙ sym (compare.suc-suc m n)

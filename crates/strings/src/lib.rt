@@ -1,5 +1,6 @@
 // Strings: joining, by their lengths, and comparing.
 #![tactic(auto)]
+
 ghost use Rattle.std.specs.Prelude.{◌≡◌, replicate};
 ghost use Rattle.express.specs.Semantics.Strings.{join_strings, compare_bytes};
 ghost use Rattle.values.specs.Meaning.{ordering_of};

@@ -1,6 +1,7 @@
 // What symbols mean among some nodes, in a table by symbol. Each entry has a stamp beside what it says, so that nothing is cleared
 // between two uses: under a new stamp every entry says none.
 #![tactic(auto)]
+
 ghost use Rattle.std.specs.Prelude.{◌≡◌, ◌+◌, ◌*◌, ◌<◌};
 ghost use Rattle.symbol_tables.specs.Entry.{code_count, stamp_count, node_limit, held, joined, says};
 ghost use Rattle.symbol_tables.specs.Table.{Adds, AddsRange, either_kind};

@@ -1,5 +1,6 @@
 // Interning: for each identifier the least identifier that is spelled alike, letters without case.
 #![tactic(auto)]
+
 ghost use Rattle.std.specs.Prelude.{◌≡◌, length, get_or};
 ghost use Rattle.index.specs.Room.{enough};
 ghost use Rattle.symbols.specs.Interning.{Interns, FindsSymbol};

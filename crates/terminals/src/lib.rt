@@ -1,5 +1,6 @@
 // Tokens to terminals: reserved words and symbols by a perfect hash.
 #![tactic(auto)]
+
 mod table;
 
 ghost use Rattle.std.specs.Prelude.{◌≡◌, true, false, [], ◌∷◌, ◌+◌, ◌-◌, ◌≤◌, ◌<◌, min, length, take, drop, get_or};

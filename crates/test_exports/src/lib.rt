@@ -2,6 +2,7 @@
 // length; what has a reply (a reading step, a parse, a typing, the names of a file) as its reply, returned, and its number,
 // written to a place of the caller's; any other enum as one number.
 #![tactic(auto)]
+
 pub mod arithmetic;
 pub mod binaries;
 pub mod graphs;

@@ -1,5 +1,6 @@
 // Reading the columns of a tree: an entry, a child of a node, the next node of a kind.
 #![tactic(auto)]
+
 ghost use Rattle.std.specs.Prelude.{◌≡◌, ◌+◌, ◌-◌, ◌≤◌, ◌<◌, eqb, length, get_or};
 ghost use Rattle.relations.specs.Select.{span, first_from, any};
 ghost use Rattle.express.specs.Syntax.Tree as Tree;

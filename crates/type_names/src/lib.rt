@@ -1,6 +1,7 @@
 // Replies 10 and 11 of the names of types and supertypes; what each of them is bound to, and the graph of the declarations
 // by what they rename, select or are subtypes of.
 #![tactic(auto)]
+
 ghost use Rattle.std.specs.Prelude.{◌≡◌, ◌<◌};
 ghost use Rattle.type_names.specs.Pass.{Stored};
 ghost use Rattle.type_names.specs.TypeName.{is_type_name_by, suits_by, makes_arc, target_by, Unbound, BoundTo, TypeNameMeant, FoundTypeName};

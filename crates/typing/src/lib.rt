@@ -1,6 +1,7 @@
 // The typing of constants: a kind for each node of an expression, or the first fault, 14 or 15.
 // An expression's own columns and the file's are apart, so that an expression that is read by itself is typed against a file.
 #![tactic(auto)]
+
 ghost use Rattle.std.specs.Prelude.{◌≡◌};
 ghost use Rattle.typing.specs.Typings.{Named, Operates, Finds, TypesNodes, TypesConstants};
 

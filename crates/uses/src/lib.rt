@@ -1,6 +1,7 @@
 // Replies 10 to 12 of names in expressions, of SELF in a constant and of own names that are inherited too; what each name is
 // bound to, and the graph of the declarations by the constants that they name.
 #![tactic(auto)]
+
 ghost use Rattle.std.specs.Prelude.{◌≡◌, ◌≤◌, length};
 ghost use Rattle.scopes.specs.NoneFrom.{NoneFrom};
 ghost use Rattle.uses.specs.Binding.{finds_by, may_find, may_find_at, Decodes, FindingAt, BindsRange, BindsUses};

@@ -1,5 +1,6 @@
 // Logicals, the orders that relations go by, and the ends of an evaluation.
 #![tactic(auto)]
+
 pub mod logical;
 pub mod order;
 

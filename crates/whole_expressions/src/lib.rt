@@ -1,5 +1,6 @@
 // One whole expression by itself, to node columns.
 #![tactic(auto)]
+
 ghost use Rattle.std.specs.Prelude.{◌≡◌, ◌≤◌, length};
 ghost use Rattle.express.specs.Syntax.Grammar.{expression};
 ghost use Rattle.parsing.specs.Parsing.{Parsing};

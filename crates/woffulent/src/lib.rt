@@ -1,6 +1,7 @@
 // The public call under a C name, for programs in other languages: a number passes as itself, a slice as a pointer and a length, and what
 // stands beside the reply through places that are lent.
 #![tactic(auto)]
+
 ghost use Rattle.std.specs.Prelude.{◌≡◌};
 ghost use Rattle.demands.specs.Checks.{Checks, tables_of};
 ghost use Rattle.reports.specs.Reporting.{report_of};

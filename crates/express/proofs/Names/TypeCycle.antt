@@ -6,7 +6,7 @@ use mathlib.Core.List.Memᴰ
 use mathlib.Core.List.{List, [], ◌∷◌, Memᴰ}
 use Prim.Native.Nat.{ℕ, ◌<◌}
 use native.Mathlib.Omega.{arith}
-use borrow.Author.Tests.{eqb_true, eqb-false, ne_eqb}
+use borrow.Author.Tests.{eqb-true, eqb-false, ne_eqb}
 use lib.Dec.{eqb}
 use Rattle.express.specs.Syntax.NodeKind as node
 use Rattle.express.specs.Syntax.Tree.{Table, count, kind, role, place, nodes, is, is_name_in}
@@ -49,9 +49,9 @@ module _ (t : Table) (types : Passes (nodes t) (type_name_fault t)) where
       let r = edge_start t (is_name_in t node.supertype_name) (declarations_of t) a b e in
       let n = r.0 in
       let h = and_fst (is t node.name n) (eqb (role t n) node.supertype_name) r.2 in
-      let q : role t n ≡ node.supertype_name = eqb_true (role t n) node.supertype_name (and_snd (is t node.name n) (eqb (role t n) node.supertype_name) r.2) in
+      let q : role t n ≡ node.supertype_name = eqb-true (role t n) node.supertype_name (and_snd (is t node.name n) (eqb (role t n) node.supertype_name) r.2) in
       let s = type_suits n r.1 h (λ (z : role t n ≡ node.in_expression). omega arith) b r.4 in
-      eqb_true (kind t b) node.entity (rw q at s)
+      eqb-true (kind t b) node.entity (rw q at s)
 
   module _ (d : Read file t) where
     -- a renaming starts at a type
@@ -87,5 +87,5 @@ module _ (t : Table) (types : Passes (nodes t) (type_name_fault t)) where
     )
       where
         by : (b : Bool) → is t node.entity n ≡ b → Reaches (Joins (type_edges t)) n n → Reaches (Joins (renaming_edges t)) n n ⊎ Reaches (Joins (super_edges t)) n n
-        by true e r = inr (from_entity r (eqb_true (kind t n) node.entity e)).0
+        by true e r = inr (from_entity r (eqb-true (kind t n) node.entity e)).0
         by false e r = inl (to_type r (eqb-false (kind t n) node.entity e))

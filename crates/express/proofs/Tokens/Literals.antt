@@ -8,7 +8,7 @@ use native.Mathlib.Decide.{dec_lt}
 use native.Mathlib.Omega.{arith}
 use borrow.Author.Tests.{eqb-false}
 use lib.Dec.{eqb}
-use lib.ListN.{length, get_or, get_or_map, get_or-eq_default}
+use lib.ListN.{length, get_or, get_or-map, get_or-eq_default}
 use Rattle.express.specs.Tokens.Bytes.{within, upper, same}
 use Rattle.express.specs.Tokens.Lexis.{TokenRow, lexed, starts, integer_value, binary_bits, binary_value, string_value, most_bytes}
 use Rattle.express.specs.Tokens.Terminal as word
@@ -91,16 +91,16 @@ module _ {x : Nonterminal} {t : Table} (R : Read x t) (S : Scanned t) where
   text_is : (n : ℕ) → text t n ≡ row_bytes t.bytes (row n)
   text_is n =
       let a : get_or t.lengths (token t n) 0 ≡ (row n).size = ap (λ (c : List ℕ). get_or c (token t n) 0) S.lengths_are ∙
-      get_or_map (λ (r : TokenRow). r.size) (lexed t.bytes).rows (token t n) no_row in
+      get_or-map (λ (r : TokenRow). r.size) (lexed t.bytes).rows (token t n) no_row in
       let b : get_or t.starts (token t n) 0 ≡ (row n).start = ap (λ (c : List ℕ). get_or c (token t n) 0) S.starts_are ∙
-      get_or_map (λ (r : TokenRow). r.start) (lexed t.bytes).rows (token t n) no_row in
+      get_or-map (λ (r : TokenRow). r.start) (lexed t.bytes).rows (token t n) no_row in
       rw (a, b)
 
   terminal_is : (n : ℕ) → terminal t n ≡ terminal_of (row n).kind (row_bytes t.bytes (row n))
   unfolding terminal_of
   terminal_is n =
       ap (λ (c : List ℕ). get_or c (token t n) 0) S.terminals_are ∙
-      get_or_map (λ (r : TokenRow). terminal_of r.kind (row_bytes t.bytes r)) (lexed t.bytes).rows (token t n) no_row
+      get_or-map (λ (r : TokenRow). terminal_of r.kind (row_bytes t.bytes r)) (lexed t.bytes).rows (token t n) no_row
 
   inside : (n k : ℕ) → kind t n ≡ k → k ≢ 0 → n < count t
   inside n k e h = by (dec_lt n (count t))

@@ -7,7 +7,7 @@ use native.Mathlib.Omega.{arith}
 use native.Mathlib.Decide.{dec_lt}
 use lib.Dec.{eqb}
 use lib.ListN.{length, take, drop, get_or, length-take, length-drop, drop_of_length-le}
-use lib.Seq.{get_or_take, get_or-drop}
+use lib.Seq.{get_or-take, get_or-drop}
 use Rattle.express.specs.Tokens.Bytes.{token_bytes}
 use Rattle.express.specs.Tokens.Lexis.{quote, unpaired, string_value}
 use Rattle.express.proofs.Tokens.Places.{one_cut}
@@ -63,5 +63,5 @@ inner_byte s p n i h =
     let near : i < length t - 2 = omega (arith, length_inner t) in
     let less : 1 + i < n = omega (arith, length-take n (drop p s)) in
     let same : p + (1 + i) ≡ p + 1 + i = omega arith in
-    get_or_take (length t - 2) (drop 1 t) i 0 near ∙ get_or-drop 1 t i 0 ∙ get_or_take n (drop p s) (1 + i) 0 less ∙ get_or-drop p s (1 + i) 0 ∙
+    get_or-take (length t - 2) (drop 1 t) i 0 near ∙ get_or-drop 1 t i 0 ∙ get_or-take n (drop p s) (1 + i) 0 less ∙ get_or-drop p s (1 + i) 0 ∙
     ap (λ (k : ℕ). get_or s k 0) same

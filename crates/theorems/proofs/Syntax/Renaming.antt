@@ -7,7 +7,7 @@ use Prim.Native.Nat.{ℕ, suc, ◌+◌, ◌-◌, ◌<◌}
 use native.Mathlib.Omega.{arith}
 use lib.ListN.{length, length-append}
 use lib.Seq.{get_or-append_seam}
-use borrow.Author.Tests.{eq_eqb, ne_eqb}
+use borrow.Author.Tests.{eq-eqb, ne_eqb}
 use Rattle.ebnf.specs.Grammar.{Mark, node as a_node, leaf, Ebnf, none, mark, step, nt, Derives, nothing, marked, both, right, rule, left, token}
 use Rattle.ebnf.specs.Rows.{Row, Rows, in_rows}
 use Rattle.ebnf.proofs.PostOrder.{no_row, row_at}
@@ -172,12 +172,12 @@ module _ {x : Nonterminal} {t : Table} (d : Read x t) where
       by i r a b c g (simple h) =
           let u : naming t (first t n) ≡ suc (suc (suc i)) = b ∙ ap (λ (q : Row). q.token) h in
           let k : kind t (first t n) ≡ 13 = c ∙ ap (λ (q : Row). q.kind) h in
-          eq_eqb (naming t (first t n)) (naming t n + 2) (omega (arith, a, u)) ∙ rw k refl
+          eq-eqb (naming t (first t n)) (naming t n + 2) (omega (arith, a, u)) ∙ rw k refl
       by i r a b c g (renamed h) =
           let u : naming t (first t n) ≡ suc (suc (suc i)) = b ∙ ap (λ (q : Row). q.token) h in
           let k : kind t (first t n) ≡ 6 = c ∙ ap (λ (q : Row). q.kind) h in
           let o : role t (first t n) ≡ 3 = g ∙ ap (λ (q : Row). q.role) h in
-          eq_eqb (naming t (first t n)) (naming t n + 2) (omega (arith, a, u)) ∙ rw (k, o) refl
+          eq-eqb (naming t (first t n)) (naming t n + 2) (omega (arith, a, u)) ∙ rw (k, o) refl
       by i r a b c g (item h) =
           let u : naming t (first t n) ≡ suc (suc (suc (suc (suc (suc i))))) = b ∙ ap (λ (q : Row). q.token) h in
           let k : kind t (first t n) ≡ 14 = c ∙ ap (λ (q : Row). q.kind) h in

@@ -1,0 +1,11 @@
+-- `bit_rows::has` meets its contract. Assumes nothing.
+use Prim.Native.Nat.{ℕ, ◌/◌, ◌%◌, ◌^◌}
+use mathlib.Core.Path.{ap}
+use lib.Dec.{eqb}
+use Rattle.bit_rows.specs.Bits.{bit}
+use Rattle.bit_rows.proofs.has.Goals as goal
+
+unfolding bit
+
+pub returns : goal.returns
+returns c = ap (λ (w : ℕ). eqb (w / 2 ^ (c.args.i % 32) % 2) 1) c.at.ensures

@@ -1,0 +1,14 @@
+-- `bit_rows::set` meets its contract. Assumes nothing.
+use Rattle.bit_rows.specs.Bits.{with_bit}
+use mathlib.Core.Path.{◌∙◌}
+use Rattle.bit_rows.proofs.Bits.{shifted}
+use Rattle.bit_rows.proofs.set.Goals as goal
+
+unfolding with_bit
+
+)
+
+pub returns : goal.returns
+returns c = c.put32.ensures ∙ rw (
+  shifted c.args.i,
+  c.at.ensures,

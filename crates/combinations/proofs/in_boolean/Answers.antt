@@ -1,0 +1,10 @@
+use Rattle.combinations.proofs.in_boolean.Goals as goal
+
+pub returns-in-False : goal.returns-in-False
+returns-in-False c = rw c.in-False.is
+
+pub returns-in-Unknown : goal.returns-in-Unknown
+returns-in-Unknown c = rw c.in-Unknown.is
+
+pub returns-in-True : goal.returns-in-True
+returns-in-True c = rw c.in-True.is

@@ -1,0 +1,19 @@
+-- `declared_types::store_constants` meets its contract: what is left to store, from entry i of the order on, gives what is wanted. Assumes nothing.
+use Prim.Native.Nat.{◌-◌}
+use Rattle.declared_types.specs.Storing.{constants_stored}
+use Rattle.declared_types.proofs.Passing.{along_starts, along_read, along_ends}
+use Rattle.declared_types.proofs.store_constants.Goals as goal
+
+unfolding constants_stored
+
+pub loop-i-init : goal.loop-i-init
+loop-i-init c = along_starts _ _ _
+
+pub loop-i-preserved : goal.loop-i-preserved
+loop-i-preserved c = along_read _ _ c.loop-i-test.true c.loop-i.invariant c.store_constant.auto.column c.index-constant.ensures c.store_constant.ensures
+
+pub shape_of-column : goal.shape_of-column
+shape_of-column c = c.loop-i.invariant.long
+
+pub returns : goal.returns
+returns c = along_ends _ _ c.loop-i-test.false c.loop-i.invariant

@@ -1,0 +1,43 @@
+-- `graph::expand` meets its contract. Assumes nothing.
+use Rattle.graph.proofs.Mark.{going_start, going_step, going_end, expands_none, stamps_room}
+use Prim.Native.Nat.{ℕ, ◌-◌}
+use mathlib.Core.Logic.{⊎_elim, inl, inr}
+use mathlib.Core.Path.{sym, ◌∙◌, ap}
+use native.Mathlib.Omega.{arith}
+use lib.ListN.{set}
+use Rattle.graph.proofs.expand.Goals as goal
+
+)
+
+pub returns-then-first-u : goal.returns-then-first-u
+returns-then-first-u c = expands_none c.requires c.if-first-u.true
+
+pub loop-e-init : goal.loop-e-init
+loop-e-init c = going_start c.requires (c.index-e.ensures ∙ c.entry.ensures) (c.index-end.ensures ∙ c.entry-2.ensures)
+
+pub overflow_add-t : goal.overflow_add-t
+overflow_add-t c = omega (
+  arith,
+  stamps_room c.args.stamp c.loop-e.mark c.index-w.result c.loop-e.invariant.ends (sym
+      c.is_unstamped.ensures ∙ c.if-is_unstamped.true),
+  c.loop-e.invariant.mark_long,
+
+pub loop-e-preserved : goal.loop-e-preserved
+loop-e-preserved c =    going_step c.loop-e.invariant c.loop-e-test.true c.index-w.result (c.index-w.ensures ∙ c.entry-target.ensures) _ _ _
+    (⊎_elim
+    (λ w. inl (
+      sym c.is_unstamped.ensures ∙ w.0.taken,
+      w.9 ∙ w.2.ensures,
+      w.10 ∙ w.6.ensures ∙ ap (λ (x : ℕ). set c.loop-e.queue c.loop-e.t x) (sym c.index-w.ensures),
+      w.11,
+    ))
+    (λ w. inr (sym c.is_unstamped.ensures ∙ w.0.left, w.1, w.2, w.3)) c.if-is_unstamped.branch)
+
+pub shape_of-mark : goal.shape_of-mark
+shape_of-mark c = c.loop-e.invariant.mark_long
+
+pub shape_of-queue : goal.shape_of-queue
+shape_of-queue c = c.loop-e.invariant.queue_long
+
+pub returns : goal.returns
+returns c = going_end c.loop-e.invariant c.loop-e-test.false

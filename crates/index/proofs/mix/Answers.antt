@@ -1,0 +1,9 @@
+-- `index::mix` meets its contract: it computes the definition. Assumes nothing.
+use mathlib.Core.Path.{refl}
+use Rattle.index.specs.Bucket.{mixed}
+use Rattle.index.proofs.mix.Goals as goal
+
+unfolding mixed
+
+pub returns : goal.returns
+returns c = refl

@@ -1,0 +1,31 @@
+-- The loop fills the column up to the word that it is at.
+use Prim.Native.Nat.{◌-◌}
+use mathlib.Core.Path.{refl}
+use native.Mathlib.Omega.{arith}
+use Rattle.parsing.specs.Outcome.{token_in}
+use Rattle.parsing.proofs.Columns.{filled_none, filled_length, filled_more, filled_all}
+use Rattle.layout.proofs.unpack_tokens.Goals as goal
+
+pub loop-i-init : goal.loop-i-init
+loop-i-init c = filled_none token_in c.shorter.ensures c.shorter-end.ensures
+
+pub bounds-words-i : goal.bounds-words-i
+bounds-words-i c = omega (arith, c.loop-i.invariant.inside)
+
+pub bounds-tokens-i : goal.bounds-tokens-i
+bounds-tokens-i c = omega (arith, c.loop-i.invariant.room, filled_length token_in c.loop-i.invariant)
+
+pub overflow_add-i : goal.overflow_add-i
+overflow_add-i c = omega (arith, c.loop-i.invariant.inside)
+
+pub loop-i-smaller : goal.loop-i-smaller
+loop-i-smaller c = omega arith
+
+pub loop-i-preserved : goal.loop-i-preserved
+loop-i-preserved c = filled_more token_in c.loop-i.invariant c.loop-i-test.true refl c.token_of.ensures
+
+pub shape_of-tokens : goal.shape_of-tokens
+shape_of-tokens c = filled_length token_in c.loop-i.invariant
+
+pub returns : goal.returns
+returns c = filled_all token_in c.loop-i.invariant c.loop-i-test.false

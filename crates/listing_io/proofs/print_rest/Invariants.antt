@@ -1,0 +1,10 @@
+use mathlib.Core.Path.{◌≡◌}
+use Prim.Native.Nat.{◌-◌}
+use lib.ListN.{length}
+use Rattle.listing_io.proofs.print_rest.Given as goal
+
+abbrev pub invariant-loop-line : goal.invariant-loop-line
+invariant-loop-line l = length l.out ≡ length l.initial.out
+
+abbrev pub decreases-loop-line : goal.decreases-loop-line
+decreases-loop-line l = l.constants - l.line

@@ -1,0 +1,96 @@
+-- `row_inheritance::inherit_fitting` meets its contract. Assumes nothing.
+use mathlib.Core.Path.{refl, ◌∙◌}
+use native.Mathlib.Omega.{arith}
+use Prim.Native.Nat.{◌-◌}
+use lib.ListN.{length}
+use Rattle.row_inheritance.proofs.Ranking.{before_few}
+use Rattle.row_inheritance.proofs.Inheriting.{by_rows, by_none, some_width}
+use Rattle.row_inheritance.proofs.inherit_fitting.Goals as goal
+
+)
+
+)
+
+)
+
+)
+
+)
+
+)) c.before.before.store_declarations.ensures
+
+pub overflow_sub-n : goal.overflow_sub-n
+overflow_sub-n c = omega (arith, c.requires.some)
+
+pub order_declarations-requires : goal.order_declarations-requires
+order_declarations-requires c = omega (
+  arith,
+  c.requires.order_room,
+  c.requires.rank_room,
+
+pub rank_declarations-entities-requires : goal.rank_declarations-entities-requires
+rank_declarations-entities-requires c = (
+  omega (
+    arith,
+    c.requires.few,
+  ),
+  omega (
+    arith,
+    c.requires.rank_room,
+    c.order_declarations.auto.table,
+  ),
+
+pub relate_entities-width-requires : goal.relate_entities-width-requires
+relate_entities-width-requires c = (
+  omega (
+    arith,
+    c.rank_declarations-entities.ensures.total,
+    before_few c.args.kinds.now c.args.entry_nodes.now (length c.args.first.now - 1),
+  ),
+  omega (
+    arith,
+    c.requires.few,
+  ),
+  c.requires.order_room,
+  omega (
+    arith,
+    c.requires.rank_room,
+    c.order_declarations.auto.table,
+    c.rank_declarations-entities.auto.table,
+  ),
+
+pub shape_of-table-then-width-eq0 : goal.shape_of-table-then-width-eq0
+shape_of-table-then-width-eq0 c = c.rank_declarations-entities.auto.table ∙ c.order_declarations.auto.table
+
+pub returns-then-width-eq0 : goal.returns-then-width-eq0
+returns-then-width-eq0 c = by_none
+
+pub clear_heads-requires : goal.clear_heads-requires
+clear_heads-requires c = omega (
+  arith,
+  c.requires.rank_room,
+  c.order_declarations.auto.table,
+  c.rank_declarations-entities.auto.table,
+
+pub chain_attributes-chained-requires : goal.chain_attributes-chained-requires
+chain_attributes-chained-requires c = omega (
+  arith,
+  c.requires.rank_room,
+  c.order_declarations.auto.table,
+  c.rank_declarations-entities.auto.table,
+  c.clear_heads.auto.table,
+
+pub shape_of-table-then-pairs-chained : goal.shape_of-table-then-pairs-chained
+shape_of-table-then-pairs-chained c = c.chain_attributes-chained.auto.table ∙ c.clear_heads.auto.table ∙ c.rank_declarations-entities.auto.table ∙ c.order_declarations.auto.table
+
+pub returns-then-pairs-chained : goal.returns-then-pairs-chained
+returns-then-pairs-chained c = by_none
+
+pub shape_of-table : goal.shape_of-table
+shape_of-table c = c.chain_attributes-chained.auto.table ∙ c.clear_heads.auto.table ∙ c.rank_declarations-entities.auto.table ∙ c.order_declarations.auto.table
+
+pub returns : goal.returns
+returns c = by_rows c.requires refl (c.rank_declarations-entities.auto.table ∙ c.order_declarations.auto.table) c.rank_declarations-entities.ensures c.relate_entities-width.ensures (some_width c.if-width-eq0.false) c.clear_heads.ensures c.clear_heads.auto.table c.chain_attributes-chained.ensures (omega (
+  arith,
+  c.if-pairs-chained.false,
+  c.chain_attributes-chained.auto.pairs,

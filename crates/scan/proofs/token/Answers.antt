@@ -1,0 +1,30 @@
+-- The kind by the first byte, and the end that the reader of that kind gives (`Tokens`).
+use mathlib.Core.Path.{sym, ◌∙◌}
+use mathlib.Core.Bool.{false}
+use Rattle.scan.proofs.Tokens.{lone_token, word_token, string_token, binary_token, symbol_token}
+use native.Mathlib.Omega.{arith}
+use Rattle.scan.proofs.token.Goals as goal
+
+pub returns-then-is_lone : goal.returns-then-is_lone
+returns-then-is_lone c = lone_token _ _ (omega (arith, c.type_inv.s c.args.at)) (sym c.is_lone.ensures ∙ c.if-is_lone.true)
+
+pub returns-then-is_letter : goal.returns-then-is_letter
+returns-then-is_letter c = word_token _ _ c.requires.0 (sym c.is_letter.ensures ∙ c.if-is_letter.true) c.word_end.ensures
+
+pub number-requires : goal.number-requires
+number-requires c = (c.requires.0, sym c.is_letter.ensures ∙ c.if-is_letter.false, sym c.is_within.ensures ∙ c.if-is_within.true)
+
+pub returns-then-b-eq39 : goal.returns-then-b-eq39
+returns-then-b-eq39 c = string_token _ _ (sym c.is_letter.ensures ∙ c.if-is_letter.false) (sym c.is_within.ensures ∙ c.if-is_within.false) c.if-b-eq39.true
+    c.string_end.ensures
+
+pub returns-then-b-eq37 : goal.returns-then-b-eq37
+returns-then-b-eq37 c = binary_token _ _ (sym c.is_letter.ensures ∙ c.if-is_letter.false) (sym c.is_within.ensures ∙ c.if-is_within.false) c.if-b-eq39.false
+    c.if-b-eq37.true c.binary_end.ensures
+
+pub symbol_end-requires : goal.symbol_end-requires
+symbol_end-requires c = (c.requires.0, sym c.is_lone.ensures ∙ c.if-is_lone.false)
+
+pub returns : goal.returns
+returns c = symbol_token _ _ (sym c.is_letter.ensures ∙ c.if-is_letter.false) (sym c.is_within.ensures ∙ c.if-is_within.false) c.if-b-eq39.false
+    c.if-b-eq37.false c.symbol_end.ensures

@@ -1,0 +1,8 @@
+-- `spellings::hash_clipped` meets its contract: the part that is there is the word. Assumes nothing.
+use Rattle.spellings.proofs.Spellings.{clipped_hash}
+use mathlib.Core.Path.{refl}
+use Rattle.spellings.proofs.hash_clipped.Goals as goal
+
+pub returns : goal.returns
+returns c = clipped_hash c.args.s.now c.args.at
+    c.args.n c.shorter-from.ensures c.shorter.ensures refl c.hash.ensures

@@ -1,0 +1,8 @@
+use mathlib.Core.Path.{◌∙◌, ap}
+use Rattle.express.specs.Semantics.AnswerRow.{row_of}
+use Rattle.express.specs.Semantics.Integer.{MOD}
+use Rattle.integers.proofs.Calls.{own_two}
+use Rattle.test_exports.proofs.arithmetic.woffulent_modulo.Goals as goal
+
+pub returns : goal.returns
+returns c = c.answer_row.ensures ∙ ap row_of (own_two MOD c.ranges.a c.ranges.b c.modulo.ensures)

@@ -1,0 +1,6 @@
+use mathlib.Core.Path.{◌∙◌, ap}
+use Rattle.test_exports.specs.Places.{order_place}
+use Rattle.test_exports.proofs.texts.woffulent_compare_strings.Goals as goal
+
+pub returns : goal.returns
+returns c = c.order_place.ensures ∙ ap order_place c.compare.ensures
