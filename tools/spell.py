@@ -14,7 +14,7 @@ import sys
 # `Kinds` is the name of a module that the check makes.
 MODULES = {it: it.capitalize() for it in ("names", "syntax", "theorems", "tokens", "whole")} | {"kinds": "Semantics"}
 WITH_MODULES = ("express", "theorems")
-TYPES = {"Is-first": "IsFirst", "Deep-from": "DeepFrom", "Named-by": "NamedBy", "Marked-all": "MarkedAll"}
+TYPES = {"Is-first": "IsFirst", "Deep-from": "DeepFrom", "Named-by": "named_by", "Marked-all": "MarkedAll"}
 WORD = re.compile(r"(?<![\w'◌·-])[\w'◌·+]+(?:-[\w'◌·+]+)+")
 DECLARES = re.compile(r"^\s*(?:(?:abbrev|unfoldable|pub)\s+)*(data\s+|record\s+|ruleset\s+)?([^\s(){}\[\];,.`@\"]+)\s*(?::|\{|\(|=)", re.M)
 IMPORTS = re.compile(r"use\s+([^\s{;]+)\.\{([^}]*)\}")
@@ -111,7 +111,7 @@ def main(kit):
         text = text_of(path)
         here = declared(text)
         ours, theirs = imported(text, crates)
-        keeps = {it for it in of_kit if it not in here and it not in ours and (it not in own or it in theirs)}
+        keeps = {it for it in of_kit if it in theirs or (it not in here and it not in ours and it not in own)}
         before = set(re.findall(r"[^\s(){}\[\];,.`@\"]+", PART.sub(" ", text)))
         for word in set(WORD.findall(text)) - keeps:
             if not word.startswith(MADE) and spelled(word) in before:

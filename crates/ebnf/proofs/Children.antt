@@ -155,7 +155,7 @@ chain rs a e S (S' ∷ Ss) x =
     let v = l.2 in
     let w = some_end rs a _ S' Ss l.3 in
     let q : (e - size_at rs (e - 1)) - 1 ≡ (e - 1) - size_at rs (e - 1) = omega (arith, u, v) in
-    (l.0, omega (arith, u, v, w), subst (λ (p : ℕ). Chain rs a p S' Ss) q (chain rs a _ S' Ss l.3))
+    (l.0, omega (arith, u, v, w), subst (λ (p : ℕ). Chain rs a p S' Ss) q (chain rs a (e - size_at rs (e - 1)) S' Ss l.3))
 
 -- THE CHILDREN OF ROW n, where they are a fixed number
 pub children_chain : {N : Type 0} (K : Kinds N) (ts : List ℕ) (rs : List Row) (n k : ℕ) (S : List Sort) (Ss : List (List Sort)) → Node K ts rs n → (row_at rs n).kind ≡ k →

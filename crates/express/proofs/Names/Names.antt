@@ -195,6 +195,7 @@ module _ (ns : List ℕ) where
 
   refused_only : (ss : List Stage) → ((s : Stage) → Memᴰ s ss → Untied ns s) → (f : Fault) → StageFault ns f ss → f ≡ first_fault ss ns
   unfolding first_fault
+  refused_only [] tie f x'' = elim x'' [ ]
   refused_only (s ∷ ss) tie f (here L) =
       let e = least_only s ns (tie s (Memᴰ.head refl)) f L in
       ⊎_elim (λ q. absurd (L.fault (ap (λ (x : Fault). x.number) e ∙ q.0))) (λ q. e ∙ sym q.1) (or_else (least s ns) (first_fault ss ns))

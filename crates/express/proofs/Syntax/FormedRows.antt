@@ -66,7 +66,7 @@ module _ {x : Nonterminal} {t : Table} (d : Read x t) where
 
   in_table : (a p : ℕ) (S : List Sort) (Ss : List (List Sort)) → Chain d.rows a p S Ss → Children t a p S Ss
   in_table a p S [] c = rw (kind_is p, role_is p, size_is p) c
-  in_table a p S (S' ∷ Ss) c = rw (kind_is p, role_is p, size_is p) (c.0, c.1, in_table a _ S' Ss c.2)
+  in_table a p S (S' ∷ Ss) c = rw (kind_is p, role_is p, size_is p) (c.0, c.1, in_table a (p - size_at d.rows p) S' Ss c.2)
 
   -- ---- each node
 

@@ -7,6 +7,8 @@ use native.Mathlib.Nat.{le_trans, min-le_left, min-le_right}
 use Rattle.express.specs.Whole.Reply.{shortest}
 
 pub shortest_le : (ns : List ℕ) (n : ℕ) → Memᴰ n ns → shortest ns ≤ n
+shortest_le [] n x' = elim x' [ ]
+shortest_le (m ∷ []) n (Memᴰ.tail i) = elim i [ ]
 shortest_le (m ∷ []) n (Memᴰ.head e) = omega (arith, e)
 shortest_le (m ∷ k ∷ ns) n (Memᴰ.head e) = omega (arith, e, min-le_left m (shortest (k ∷ ns)))
 shortest_le (m ∷ k ∷ ns) n (Memᴰ.tail i) = le_trans (min-le_right m (shortest (k ∷ ns))) (shortest_le (k ∷ ns) n i)
