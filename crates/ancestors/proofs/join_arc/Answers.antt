@@ -6,8 +6,6 @@ use Rattle.ancestors.specs.Rows.{arc_joined}
 use Rattle.ancestors.proofs.Steps.{rows_low}
 use Rattle.ancestors.proofs.join_arc.Goals as goal
 
-unfolding arc_joined
-
 pub overflow_mul-rank : goal.overflow_mul-rank
 overflow_mul-rank c = omega (arith, rows_low c.requires)
 
@@ -27,4 +25,5 @@ pub merge-requires : goal.merge-requires
 merge-requires c = search (rules, rows_low c.requires)
 
 pub returns : goal.returns
+unfolding arc_joined
 returns c = c.merge.ensures ∙ rw (c.set-2.ensures, c.set.ensures)

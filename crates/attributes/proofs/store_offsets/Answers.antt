@@ -5,8 +5,6 @@ use Rattle.graph.proofs.Store.{zeros}
 use Rattle.attributes.proofs.Offsetting.{offsetting_starts, offsetting_ends, offsetting_goes}
 use Rattle.attributes.proofs.store_offsets.Goals as goal
 
-)
-
 pub loop-v-init : goal.loop-v-init
 loop-v-init c = offsetting_starts (zeros c.args.table.now _ c.clear32.ensures)
 
@@ -18,9 +16,10 @@ overflow_add-base c = omega (
   c.loop-v-test.true,
   c.ranges.offsets,
   c.well_formed,
+)
 
 pub loop-v-preserved : goal.loop-v-preserved
-loop-v-preserved c =    let s = c.start.ensures in
+loop-v-preserved c = let s = c.start.ensures in
     offsetting_goes c.loop-v.invariant c.loop-v-test.true c.saturating_sub-declarations.ensures c.saturating_sub-base.ensures (rw s at c.back-e.ensures) c.number.ensures c.put32.ensures
 
 pub shape_of-table : goal.shape_of-table

@@ -5,7 +5,6 @@ use lib.Dec.{eqb}
 use Rattle.bit_rows.specs.Bits.{bit}
 use Rattle.bit_rows.proofs.has.Goals as goal
 
-unfolding bit
-
 pub returns : goal.returns
+unfolding bit
 returns c = ap (λ (w : ℕ). eqb (w / 2 ^ (c.args.i % 32) % 2) 1) c.at.ensures

@@ -4,11 +4,9 @@ use mathlib.Core.Path.{◌∙◌}
 use Rattle.bit_rows.proofs.Bits.{shifted}
 use Rattle.bit_rows.proofs.set.Goals as goal
 
-unfolding with_bit
-
-)
-
 pub returns : goal.returns
+unfolding with_bit
 returns c = c.put32.ensures ∙ rw (
   shifted c.args.i,
   c.at.ensures,
+)

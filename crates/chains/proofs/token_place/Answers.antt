@@ -9,12 +9,12 @@ use native.Mathlib.Omega.{arith}
 use Rattle.chains.proofs.token_place.Goals as goal
 
 -- token i has its start, its length and its link, and there is a bucket
-ready : (l : tie.Else1) → Lined l.before.before.before.before.before.before.before.args.bytes.now l.before.before.before.before.before.before.before.args.starts.now
-    l.before.before.before.before.before.before.before.args.lengths.now l.before.before.before.before.before.before.before.args.next.now
-    (l.before.before.before.before.before.before.before.args.i + 1) × (0 < length l.before.before.before.before.before.before.before.args.heads.now)
+ready : (l : goal.Else-not-lined) → Lined l.args.bytes.now l.args.starts.now
+    l.args.lengths.now l.args.next.now
+    (l.args.i + 1) × (0 < length l.args.heads.now)
 ready l =
-    let s = l.before.before.before.before.before.before.before.args in
-    token_lined s.bytes.now s.starts.now s.lengths.now s.heads.now s.next.now s.i l.before.lined.ensures l.if1.false
+    let s = l.args in
+    token_lined s.bytes.now s.starts.now s.lengths.now s.heads.now s.next.now s.i l.lined.ensures l.if-not-lined.false-raw
 
 pub returns-then-not-lined : goal.returns-then-not-lined
 returns-then-not-lined c = let s = c.args in

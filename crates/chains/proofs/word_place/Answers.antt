@@ -3,8 +3,6 @@ use Rattle.chains.proofs.Places.{in_bucket, all_lined, word_nowhere, places_word
 use native.Mathlib.Omega.{arith}
 use Rattle.chains.proofs.word_place.Goals as goal
 
-)
-
 pub returns-then-heads-eq0 : goal.returns-then-heads-eq0
 returns-then-heads-eq0 c = word_nowhere _ _ _ c.if-heads-eq0.true
 
@@ -15,6 +13,7 @@ pub place_from-requires : goal.place_from-requires
 place_from-requires c = (
   all_lined _ _ _ (omega (arith, c.shorter.ensures, c.shorter-limit.ensures)),
   in_bucket c.range-b.ensures c.hash.ensures.is,
+)
 
 pub returns : goal.returns
 returns c = places_word _ _ _ (omega (arith, c.shorter.ensures, c.shorter-limit.ensures)) c.place_from.ensures

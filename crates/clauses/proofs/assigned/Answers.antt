@@ -6,8 +6,6 @@ use Rattle.clauses.proofs.Laws.{sound_ready, assigned_small}
 use Rattle.clauses.proofs.Clauses.{assigned_name, assigned_colon, assigned_type, assigned_becomes, assigned_value, assigned_reads}
 use Rattle.clauses.proofs.assigned.Goals as goal
 
-)
-
 pub returns-in_default : goal.returns-in_default
 returns-in_default c = assigned_name c.requires.0 c.args.label
     c.requires.1 c.expect-name.ensures c.in_default.is
@@ -25,9 +23,10 @@ base-kind-requires c = (
       c.requires.0 c.in-At.is)
       c.in-At-colon.is,
   omega arith,
+)
 
 pub returns-in_default-kind : goal.returns-in_default-kind
-returns-in_default-kind c =    let g = expect_ready c.expect-colon.ensures (expect_ready
+returns-in_default-kind c = let g = expect_ready c.expect-colon.ensures (expect_ready
     c.expect-name.ensures
     c.requires.0
     c.in-At.is)
@@ -41,7 +40,7 @@ returns-in_default-kind c =    let g = expect_ready c.expect-colon.ensures (expe
     c.in-At-colon.is g c.base-kind.ensures c.in_default-kind.is
 
 pub returns-in_default-becomes : goal.returns-in_default-becomes
-returns-in_default-becomes c =    let g = expect_ready c.expect-colon.ensures (expect_ready
+returns-in_default-becomes c = let g = expect_ready c.expect-colon.ensures (expect_ready
     c.expect-name.ensures
     c.requires.0 c.in-At.is)
     c.in-At-colon.is in
@@ -52,7 +51,7 @@ returns-in_default-becomes c =    let g = expect_ready c.expect-colon.ensures (e
     c.in-At-kind.is c.expect-becomes.ensures c.in_default-becomes.is
 
 pub returns-in_default-given : goal.returns-in_default-given
-returns-in_default-given c =    let g = expect_ready c.expect-colon.ensures (expect_ready c.expect-name.ensures
+returns-in_default-given c = let g = expect_ready c.expect-colon.ensures (expect_ready c.expect-name.ensures
     c.requires.0 c.in-At.is)
     c.in-At-colon.is in
     let h = expect_ready c.expect-becomes.ensures (sound_ready
@@ -70,7 +69,7 @@ returns-in_default-given c =    let g = expect_ready c.expect-colon.ensures (exp
     c.in_default-given.is
 
 pub closed-requires : goal.closed-requires
-closed-requires c =    let h = expect_ready c.expect-becomes.ensures (sound_ready
+closed-requires c = let h = expect_ready c.expect-becomes.ensures (sound_ready
     c.base-kind.result
     c.base-kind.ensures.sound
     c.in-At-kind.is)
@@ -87,7 +86,7 @@ closed-requires c =    let h = expect_ready c.expect-becomes.ensures (sound_read
     )
 
 pub returns : goal.returns
-returns c =    let g = expect_ready c.expect-colon.ensures (expect_ready
+returns c = let g = expect_ready c.expect-colon.ensures (expect_ready
     c.expect-name.ensures
     c.requires.0
     c.in-At.is)

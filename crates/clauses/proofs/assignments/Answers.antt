@@ -9,8 +9,6 @@ use Rattle.parsing.proofs.Laws.{reads_at, ready_of}
 use Rattle.clauses.proofs.Laws.{loops_begin, loops_turn, loops_at, many_refused, many_ends, list_refused, list_then, reads_goes, assigned_ok, begins_at}
 use Rattle.clauses.proofs.assignments.Goals as goal
 
-)
-
 pub returns-in_default : goal.returns-in_default
 returns-in_default c = list_refused (reads_goes c.assigned-first.ensures) c.in_default.is
 
@@ -20,12 +18,13 @@ loop-rows-init c = (
   ready_of c.requires.0
       c.assigned-first.ensures.ahead c.in-At.is,
   loops_begin,
+)
 
 pub assigned-next-requires : goal.assigned-next-requires
 assigned-next-requires c = (c.loop-rows.invariant.1, c.requires.1)
 
 pub returns-in_default-next : goal.returns-in_default-next
-returns-in_default-next c =    let t = begins_at c.args.terminals.now c.loop-rows.q
+returns-in_default-next c = let t = begins_at c.args.terminals.now c.loop-rows.q
     c.args.label true
     c.requires.1 (seen_one
     c.args.terminals.now
@@ -43,7 +42,7 @@ pub loop-rows-smaller : goal.loop-rows-smaller
 loop-rows-smaller c = omega (arith, reads_at c.assigned-next.ensures c.in-At-next.is)
 
 pub loop-rows-preserved : goal.loop-rows-preserved
-loop-rows-preserved c =    let t = begins_at c.args.terminals.now c.loop-rows.q
+loop-rows-preserved c = let t = begins_at c.args.terminals.now c.loop-rows.q
     c.args.label true c.requires.1 (seen_one c.args.terminals.now c.loop-rows.q 1
     c.token.ensures c.loop-rows-test.true) in (
       search rules,
@@ -57,7 +56,7 @@ loop-rows-preserved c =    let t = begins_at c.args.terminals.now c.loop-rows.q
     )
 
 pub returns : goal.returns
-returns c =    list_then (reads_goes c.assigned-first.ensures) c.in-At.is
+returns c = list_then (reads_goes c.assigned-first.ensures) c.in-At.is
     (many_ends c.loop-rows.invariant.2 (assigned_ok c.args.label
     c.requires.1) c.loop-rows.invariant.1
     (begins_at c.args.terminals.now c.loop-rows.q

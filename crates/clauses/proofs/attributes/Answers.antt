@@ -7,10 +7,6 @@ use Rattle.clauses.proofs.Laws.{sound_ready}
 use Rattle.clauses.proofs.Clauses.{attributes_listed, attributes_colon, attributes_optional, attributes_plain}
 use Rattle.clauses.proofs.attributes.Goals as goal
 
-)
-
-)
-
 pub names-listed-requires : goal.names-listed-requires
 names-listed-requires c = (c.requires, omega arith)
 
@@ -29,9 +25,10 @@ overflow_add-q2 c = omega (
       c.names-listed.result
       c.names-listed.ensures.sound
       c.in-At.is) c.in-At-colon.is),
+)
 
 pub group-requires : goal.group-requires
-group-requires c =    let g = expect_ready c.expect-colon.ensures (sound_ready
+group-requires c = let g = expect_ready c.expect-colon.ensures (sound_ready
     c.names-listed.result
     c.names-listed.ensures.sound
     c.in-At.is) c.in-At-colon.is in
@@ -40,7 +37,7 @@ group-requires c =    let g = expect_ready c.expect-colon.ensures (sound_ready
     (onward g l, omega arith, omega (arith, token_small c.requires))
 
 pub returns-then-token-eq-OPTIONAL : goal.returns-then-token-eq-OPTIONAL
-returns-then-token-eq-OPTIONAL c =    attributes_optional c.requires c.names-listed.ensures
+returns-then-token-eq-OPTIONAL c = attributes_optional c.requires c.names-listed.ensures
     c.in-At.is
     c.expect-colon.ensures c.in-At-colon.is
     (seen_one c.args.terminals.now c.in-At-colon.q2 112 c.token.ensures
@@ -55,9 +52,10 @@ group-requires-2 c = (
   omega arith,
   omega
       (arith, token_small c.requires),
+)
 
 pub returns : goal.returns
-returns c =    attributes_plain c.requires c.names-listed.ensures
+returns c = attributes_plain c.requires c.names-listed.ensures
     c.in-At.is
     c.expect-colon.ensures c.in-At-colon.is
     (seen_other c.args.terminals.now c.in-At-colon.q2 112 c.token.ensures

@@ -3,10 +3,6 @@ use Rattle.parsing.proofs.Laws.{rows_few, token_small}
 use Rattle.clauses.proofs.Laws.{types_none, types_row}
 use Rattle.clauses.proofs.base.Goals as goal
 
-)
-
-)
-
 pub returns-then-kind-eq-NO_LABEL : goal.returns-then-kind-eq-NO_LABEL
 returns-then-kind-eq-NO_LABEL c = types_none c.token.result c.type_label-kind.result c.token.ensures c.type_label-kind.ensures c.if-kind-eq-NO_LABEL.true
 
@@ -16,6 +12,7 @@ overflow_add-result c = omega (
   token_small c.requires.0,
   rows_few
       c.requires.0,
+)
 
 pub overflow_add-result-2 : goal.overflow_add-result-2
 overflow_add-result-2 c = omega (
@@ -23,6 +20,7 @@ overflow_add-result-2 c = omega (
   token_small c.requires.0,
   rows_few
       c.requires.0,
+)
 
 pub returns : goal.returns
 returns c = types_row c.token.result c.type_label-kind.result

@@ -4,8 +4,6 @@ use Rattle.parsing.proofs.Steps.{expect_ready}
 use Rattle.clauses.proofs.Laws.{closes_refused, closes_row}
 use Rattle.clauses.proofs.closed.Goals as goal
 
-)
-
 pub returns-in_default : goal.returns-in_default
 returns-in_default c = closes_refused c.args.first c.expect-end.ensures c.in_default.is
 
@@ -14,6 +12,7 @@ overflow_add-result c = omega (
   arith,
   rows_few (expect_ready c.expect-end.ensures
       c.requires.0 c.in-At.is),
+)
 
 pub returns : goal.returns
 returns c = closes_row c.args.first

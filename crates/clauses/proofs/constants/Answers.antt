@@ -9,8 +9,6 @@ use Rattle.clauses.proofs.Laws.{opt_absent, opt_reads}
 use Rattle.clauses.proofs.Clauses.{constants_list, constants_end, constants_reads}
 use Rattle.clauses.proofs.constants.Goals as goal
 
-)
-
 pub returns-then-token-ne-CONSTANT : goal.returns-then-token-ne-CONSTANT
 returns-then-token-ne-CONSTANT c = opt_absent c.requires (seen_other c.args.terminals.now
     c.args.p 53 c.token.ensures c.if-token-ne-CONSTANT.true)
@@ -23,9 +21,10 @@ assignments-list-requires c = (
   onward c.requires (one_inside c.args.terminals.now
       c.args.p c.token.result 53 c.token.ensures c.if-token-ne-CONSTANT.false (omega arith)),
   inl refl,
+)
 
 pub returns-in_default : goal.returns-in_default
-returns-in_default c =    let t = seen_one c.args.terminals.now
+returns-in_default c = let t = seen_one c.args.terminals.now
     c.args.p 53
     c.token.ensures c.if-token-ne-CONSTANT.false in
     opt_reads c.requires t (constants_list
@@ -33,7 +32,7 @@ returns-in_default c =    let t = seen_one c.args.terminals.now
     c.in_default.is)
 
 pub returns-in_default-end : goal.returns-in_default-end
-returns-in_default-end c =    let t = seen_one c.args.terminals.now
+returns-in_default-end c = let t = seen_one c.args.terminals.now
     c.args.p 53
     c.token.ensures
     c.if-token-ne-CONSTANT.false in
@@ -43,7 +42,7 @@ returns-in_default-end c =    let t = seen_one c.args.terminals.now
     c.expect-end.ensures c.in_default-end.is)
 
 pub returns : goal.returns
-returns c =    let t = seen_one c.args.terminals.now
+returns c = let t = seen_one c.args.terminals.now
     c.args.p 53
     c.token.ensures
     c.if-token-ne-CONSTANT.false in

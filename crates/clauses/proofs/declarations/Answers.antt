@@ -11,8 +11,6 @@ use Rattle.parsing.proofs.Terminals.{seen}
 use Rattle.clauses.proofs.Laws.{loops_begin, loops_turn, loops_at, many_refused, many_ends, declarations_ok}
 use Rattle.clauses.proofs.declarations.Goals as goal
 
-)
-
 pub loop-rows-init : goal.loop-rows-init
 loop-rows-init c = (refl, c.requires, loops_begin)
 
@@ -42,6 +40,7 @@ loop-rows-preserved c = (
       c.token.ensures
       c.begins_declaration.ensures c.loop-rows-test.true)
       (declared_reads c.declaration-next.ensures)) c.in-At.is,
+)
 
 pub returns : goal.returns
 returns c = many_ends c.loop-rows.invariant.2 declarations_ok c.loop-rows.invariant.1 (seen

@@ -7,10 +7,6 @@ use Rattle.clauses.proofs.Clauses.{entity_1, entity_2, entity_3, entity_4, entit
 use mathlib.Core.Path.{◌∙◌}
 use Rattle.clauses.proofs.entity.Goals as goal
 
-)
-
-)
-
 pub head-name-requires : goal.head-name-requires
 head-name-requires c = (c.requires, omega arith)
 
@@ -44,7 +40,7 @@ returns-in_default-body c = entity_4 c.requires c.head-name.ensures c.in-At.is c
     c.members-body.ensures c.in_default-body.is
 
 pub returns-in_default-end : goal.returns-in_default-end
-returns-in_default-end c =    entity_5 c.requires
+returns-in_default-end c = entity_5 c.requires
     c.head-name.ensures c.in-At.is
     c.supertypes-supers.ensures c.in-At-supers.is
     c.expect-semicolon.ensures
@@ -56,6 +52,7 @@ pub overflow_add-p : goal.overflow_add-p
 overflow_add-p c = omega (
   arith,
   token_small c.requires,
+)
 
 pub closed-requires : goal.closed-requires
 closed-requires c = (
@@ -69,12 +66,13 @@ closed-requires c = (
     token_small
         c.requires,
   ),
+)
 
 pub shape_of-rows : goal.shape_of-rows
 shape_of-rows c = c.closed.auto.rows ∙ (c.members-body.auto.rows ∙ c.supertypes-supers.auto.rows)
 
 pub returns : goal.returns
-returns c =    entity_reads c.requires
+returns c = entity_reads c.requires
     c.head-name.ensures
     c.in-At.is
     c.supertypes-supers.ensures c.in-At-supers.is c.expect-semicolon.ensures c.in-At-semicolon.is c.members-body.ensures

@@ -9,8 +9,6 @@ use Rattle.clauses.proofs.Laws.{sound_ready}
 use Rattle.clauses.proofs.Clauses.{enumeration_stopped, enumeration_refused, enumeration_reads}
 use Rattle.clauses.proofs.enumeration.Goals as goal
 
-)
-
 pub overflow_add-p : goal.overflow_add-p
 overflow_add-p c = omega (arith, token_small c.requires.0)
 
@@ -19,7 +17,7 @@ returns-in_default c = enumeration_stopped c.requires.0 (mem_one _ _ c.requires.
     c.expect-of.ensures c.in_default.is
 
 pub ids-items-requires : goal.ids-items-requires
-ids-items-requires c =    let l = one_inside c.args.terminals.now c.args.p
+ids-items-requires c = let l = one_inside c.args.terminals.now c.args.p
     (get_or c.args.terminals.now c.args.p 0) 76 refl
     (mem_one _ _ c.requires.1) (omega arith) in
     (expect_ready c.expect-of.ensures (onward c.requires.0 l) c.in-At.is, omega arith)
@@ -35,6 +33,7 @@ overflow_add-result c = omega (
   arith,
   rows_few (sound_ready c.ids-items.result
       c.ids-items.ensures.sound c.in-At-items.is),
+)
 
 pub returns : goal.returns
 returns c = enumeration_reads c.requires.0 (mem_one _ _ c.requires.1)

@@ -2,8 +2,6 @@ use native.Mathlib.Omega.{arith}
 use Rattle.clauses.proofs.Laws.{sound_ready, groups_refused, groups_closed}
 use Rattle.clauses.proofs.group.Goals as goal
 
-)
-
 pub base-kind-requires : goal.base-kind-requires
 base-kind-requires c = (c.requires.0, omega arith)
 
@@ -17,6 +15,7 @@ closed-requires c = (
       c.in-At.is,
   c.requires.1,
   c.requires.2,
+)
 
 pub returns : goal.returns
 returns c = groups_closed c.args.first

@@ -8,8 +8,6 @@ use Rattle.parsing.proofs.Terminals.{seen_one, seen_other}
 use Rattle.clauses.proofs.Laws.{loops_begin, loops_turn, loops_at, many_refused, many_ends, reads_goes, groups_ok}
 use Rattle.clauses.proofs.groups.Goals as goal
 
-)
-
 pub loop-rows-init : goal.loop-rows-init
 loop-rows-init c = (refl, c.requires, loops_begin)
 
@@ -37,6 +35,7 @@ loop-rows-preserved c = (
       c.loop-rows.q 1 c.token.ensures
       c.loop-rows-test.true) (reads_goes c.attributes-next.ensures))
       c.in-At.is,
+)
 
 pub returns : goal.returns
 returns c = many_ends c.loop-rows.invariant.2 groups_ok c.loop-rows.invariant.1 (seen_other

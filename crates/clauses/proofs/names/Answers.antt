@@ -8,10 +8,6 @@ use Rattle.parsing.proofs.Steps.{onward, one_inside}
 use Rattle.clauses.proofs.Laws.{sound_ready, loops_begin, loops_turn, loops_at, many_refused, many_ends, list_refused, list_then, leaf_goes, comma_goes, names_ok, leaf_onward}
 use Rattle.clauses.proofs.names.Goals as goal
 
-)
-
-)
-
 pub returns-in_default : goal.returns-in_default
 returns-in_default c = list_refused (leaf_goes c.requires.1
     c.requires.0 c.id-first.ensures) c.in_default.is
@@ -26,9 +22,10 @@ id-next-requires c = (
       c.token.result 8 c.token.ensures c.loop-rows-test.true
       (omega arith)),
   c.requires.1,
+)
 
 pub returns-in_default-next : goal.returns-in_default-next
-returns-in_default-next c =    let t = seen_one c.args.terminals.now c.loop-rows.q 8
+returns-in_default-next c = let t = seen_one c.args.terminals.now c.loop-rows.q 8
     c.token.ensures c.loop-rows-test.true in
     let l = one_inside c.args.terminals.now c.loop-rows.q c.token.result 8
     c.token.ensures c.loop-rows-test.true (omega arith) in
@@ -47,9 +44,10 @@ loop-rows-smaller c = omega (
   leaf_onward c.id-next.ensures c.in-At-next.is,
   (sound_ready
       c.id-next.result c.id-next.ensures.sound c.in-At-next.is).within,
+)
 
 pub loop-rows-preserved : goal.loop-rows-preserved
-loop-rows-preserved c =    let t = seen_one c.args.terminals.now c.loop-rows.q 8
+loop-rows-preserved c = let t = seen_one c.args.terminals.now c.loop-rows.q 8
     c.token.ensures c.loop-rows-test.true in
     let l = one_inside c.args.terminals.now c.loop-rows.q
     c.token.result 8 c.token.ensures
@@ -65,7 +63,7 @@ loop-rows-preserved c =    let t = seen_one c.args.terminals.now c.loop-rows.q 8
     )
 
 pub returns : goal.returns
-returns c =    list_then (leaf_goes c.requires.1
+returns c = list_then (leaf_goes c.requires.1
     c.requires.0
     c.id-first.ensures) c.in-At.is
     (many_ends c.loop-rows.invariant.2 (names_ok c.args.label)

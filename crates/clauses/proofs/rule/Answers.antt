@@ -4,8 +4,6 @@ use Rattle.parsing.proofs.Laws.{ready_of, token_small}
 use Rattle.clauses.proofs.Clauses.{label_ready, labelled_refused, labelled_reads, plain_refused, plain_reads}
 use Rattle.clauses.proofs.rule.Goals as goal
 
-)
-
 pub is_labelled-requires : goal.is_labelled-requires
 is_labelled-requires c = token_small c.requires
 
@@ -13,7 +11,7 @@ pub overflow_add-p : goal.overflow_add-p
 overflow_add-p c = omega (arith, token_small c.requires)
 
 pub returns-in_default : goal.returns-in_default
-returns-in_default c =    let g = label_ready c.requires
+returns-in_default c = let g = label_ready c.requires
     c.is_labelled.result c.is_labelled.ensures
     c.if-is_labelled.true in
     labelled_refused c.requires
@@ -21,7 +19,7 @@ returns-in_default c =    let g = label_ready c.requires
     c.if-is_labelled.true (c.expression_at-named.ensures.reads g) c.in_default.is
 
 pub closed-requires : goal.closed-requires
-closed-requires c =    let g = label_ready c.requires
+closed-requires c = let g = label_ready c.requires
     c.is_labelled.result
     c.is_labelled.ensures
     c.if-is_labelled.true in (
@@ -32,7 +30,7 @@ closed-requires c =    let g = label_ready c.requires
     )
 
 pub returns-then-is_labelled : goal.returns-then-is_labelled
-returns-then-is_labelled c =    let g = label_ready c.requires
+returns-then-is_labelled c = let g = label_ready c.requires
     c.is_labelled.result
     c.is_labelled.ensures
     c.if-is_labelled.true in
@@ -57,6 +55,7 @@ closed-requires-2 c = (
   omega arith,
   omega
       (arith, token_small c.requires),
+)
 
 pub returns : goal.returns
 returns c = plain_reads c.requires

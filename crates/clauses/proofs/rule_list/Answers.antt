@@ -10,10 +10,6 @@ use Rattle.parsing.proofs.Terminals.{seen}
 use Rattle.clauses.proofs.Laws.{loops_begin, loops_turn, loops_at, many_refused, many_ends, list_refused, list_then, reads_goes, rules_ok}
 use Rattle.clauses.proofs.rule_list.Goals as goal
 
-)
-
-)
-
 pub returns-in_default : goal.returns-in_default
 returns-in_default c = list_refused (reads_goes c.rule-first.ensures) c.in_default.is
 
@@ -23,12 +19,13 @@ loop-rows-init c = (
   ready_of c.requires c.rule-first.ensures.ahead
       c.in-At.is,
   loops_begin,
+)
 
 pub rule-next-requires : goal.rule-next-requires
 rule-next-requires c = c.loop-rows.invariant.1
 
 pub returns-in_default-next : goal.returns-in_default-next
-returns-in_default-next c =    list_then (reads_goes c.rule-first.ensures)
+returns-in_default-next c = list_then (reads_goes c.rule-first.ensures)
     c.in-At.is
     (many_refused (loops_turn c.loop-rows.invariant.2 rules_ok
     c.loop-rows.invariant.1 (seen
@@ -50,6 +47,7 @@ loop-rows-preserved c = (
       c.token.ensures
       c.begins_rule.ensures c.loop-rows-test.true)
       (reads_goes c.rule-next.ensures)) c.in-At-next.is,
+)
 
 pub returns : goal.returns
 returns c = list_then (reads_goes c.rule-first.ensures)

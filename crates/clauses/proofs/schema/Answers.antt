@@ -7,10 +7,6 @@ use Rattle.clauses.proofs.Clauses.{schema_1, schema_2, schema_3, schema_4, schem
 use mathlib.Core.Path.{◌∙◌}
 use Rattle.clauses.proofs.schema.Goals as goal
 
-)
-
-)
-
 pub head-name-requires : goal.head-name-requires
 head-name-requires c = (c.requires, omega arith)
 
@@ -43,7 +39,7 @@ returns-in_default-declared c = schema_4 c.requires c.head-name.ensures c.in-At.
     c.in-At-values.is c.declarations-declared.ensures c.in_default-declared.is
 
 pub returns-in_default-end : goal.returns-in_default-end
-returns-in_default-end c =    schema_5 c.requires
+returns-in_default-end c = schema_5 c.requires
     c.head-name.ensures c.in-At.is
     c.expect-semicolon.ensures c.in-At-semicolon.is c.constants-values.ensures
     c.in-At-values.is
@@ -54,6 +50,7 @@ pub overflow_add-p : goal.overflow_add-p
 overflow_add-p c = omega (
   arith,
   token_small c.requires,
+)
 
 pub closed-requires : goal.closed-requires
 closed-requires c = (
@@ -67,12 +64,13 @@ closed-requires c = (
     token_small
         c.requires,
   ),
+)
 
 pub shape_of-rows : goal.shape_of-rows
 shape_of-rows c = c.closed.auto.rows ∙ (c.declarations-declared.auto.rows ∙ c.constants-values.auto.rows)
 
 pub returns : goal.returns
-returns c =    schema_reads c.requires
+returns c = schema_reads c.requires
     c.head-name.ensures
     c.in-At.is
     c.expect-semicolon.ensures c.in-At-semicolon.is

@@ -9,10 +9,6 @@ use Rattle.clauses.proofs.Laws.{sound_ready}
 use Rattle.clauses.proofs.Clauses.{selection_refused, selection_reads}
 use Rattle.clauses.proofs.selection.Goals as goal
 
-)
-
-)
-
 pub overflow_add-p : goal.overflow_add-p
 overflow_add-p c = omega (arith, token_small c.requires.0)
 
@@ -21,6 +17,7 @@ ids-selected-requires c = (
   onward c.requires.0 (one_inside c.args.terminals.now c.args.p (get_or
       c.args.terminals.now c.args.p 0) 126 refl (mem_one _ _ c.requires.1) (omega arith)),
   omega arith,
+)
 
 pub returns-in_default : goal.returns-in_default
 returns-in_default c = selection_refused c.requires.0
@@ -31,6 +28,7 @@ overflow_add-result c = omega (
   arith,
   rows_few (sound_ready c.ids-selected.result
       c.ids-selected.ensures.sound c.in-At.is),
+)
 
 pub returns : goal.returns
 returns c = selection_reads c.requires.0

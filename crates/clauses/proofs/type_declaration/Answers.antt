@@ -7,10 +7,6 @@ use Rattle.clauses.proofs.Clauses.{type_1, type_2, type_3, type_4, type_5, type_
 use mathlib.Core.Path.{◌∙◌}
 use Rattle.clauses.proofs.type_declaration.Goals as goal
 
-)
-
-)
-
 pub head-name-requires : goal.head-name-requires
 head-name-requires c = (c.requires, omega arith)
 
@@ -42,7 +38,7 @@ returns-in_default-semicolon c = type_4 c.requires c.head-name.ensures
     c.expect-semicolon.ensures c.in_default-semicolon.is
 
 pub rules-ruled-requires : goal.rules-ruled-requires
-rules-ruled-requires c =    let g = expect_ready c.expect-equal.ensures (sound_ready
+rules-ruled-requires c = let g = expect_ready c.expect-equal.ensures (sound_ready
     c.head-name.result
     c.head-name.ensures.sound c.in-At.is)
     c.in-At-equal.is in
@@ -51,7 +47,7 @@ rules-ruled-requires c =    let g = expect_ready c.expect-equal.ensures (sound_r
     c.in-At-under.is) c.in-At-semicolon.is
 
 pub returns-in_default-ruled : goal.returns-in_default-ruled
-returns-in_default-ruled c =    type_5 c.requires
+returns-in_default-ruled c = type_5 c.requires
     c.head-name.ensures c.in-At.is
     c.expect-equal.ensures c.in-At-equal.is c.underlying-under.ensures
     c.in-At-under.is
@@ -59,7 +55,7 @@ returns-in_default-ruled c =    type_5 c.requires
     c.in-At-semicolon.is c.rules-ruled.ensures c.in_default-ruled.is
 
 pub returns-in_default-end : goal.returns-in_default-end
-returns-in_default-end c =    type_6 c.requires
+returns-in_default-end c = type_6 c.requires
     c.head-name.ensures
     c.in-At.is c.expect-equal.ensures
     c.in-At-equal.is c.underlying-under.ensures c.in-At-under.is c.expect-semicolon.ensures
@@ -71,6 +67,7 @@ pub overflow_add-p : goal.overflow_add-p
 overflow_add-p c = omega (
   arith,
   token_small c.requires,
+)
 
 pub closed-requires : goal.closed-requires
 closed-requires c = (
@@ -84,12 +81,13 @@ closed-requires c = (
     token_small
         c.requires,
   ),
+)
 
 pub shape_of-rows : goal.shape_of-rows
 shape_of-rows c = c.closed.auto.rows ∙ (c.rules-ruled.auto.rows ∙ c.underlying-under.auto.rows)
 
 pub returns : goal.returns
-returns c =    type_reads c.requires
+returns c = type_reads c.requires
     c.head-name.ensures
     c.in-At.is
     c.expect-equal.ensures

@@ -6,8 +6,6 @@ use Rattle.constant_rows.proofs.Numbering.{filling_starts, filling_next, filling
 use native.Mathlib.Omega.{arith}
 use Rattle.constant_rows.proofs.fill.Goals as goal
 
-)
-
 pub loop-i-init : goal.loop-i-init
 loop-i-init c = (filling_starts, omega arith, inr refl)
 
@@ -24,6 +22,7 @@ loop-i-preserved c = (
   )) refl,
   omega (arith, c.loop-i.invariant.1),
   inl (omega (arith, c.loop-i-test.true)),
+)
 
 pub shape_of-column : goal.shape_of-column
 shape_of-column c = c.loop-i.invariant.0.len

@@ -13,41 +13,27 @@ use native.Mathlib.Omega.{arith}
 use Rattle.constants.proofs.evaluate_schemas.Goals as goal
 
 -- the parts of the order, where they are lent
-parts : (c : tie.After-has-parts invariant_loop decreases_loop) → c.has_parts.result ≡ true → grouped c.before.before.before.before.before.before.before.before.before.before.before.before.before.before.before.before.before.before.args.kinds.now c.before.before.before.before.before.before.before.before.before.before.before.before.before.before.before.before.before.before.args.order.now ≡ true
+parts : (c : goal.After-has_parts-are_parted) → c.has_parts-are_parted.result ≡ true → grouped c.args.kinds.now c.args.order.now ≡ true
+parts c = grouped_parts c.args.kinds.now c.args.order.now (c.next_of_kind-n.result + 1) c.has_parts-are_parted.ensures
 
-parts c = grouped_parts c.before.before.before.before.before.before.before.before.before.before.before.before.before.before.before.before.before.before.args.kinds.now c.before.before.before.before.before.before.before.before.before.before.before.before.before.before.before.before.before.before.args.order.now (c.before.next_of_kind.result + 1) c.has_parts.ensures
-
-low : (c : tie.After-shorter3 invariant_loop decreases_loop) → c.before.before.before.before.before.before.loop.from ≤ c.before.before.before.part_end.result
-
-low c = to_from c.before.before.before.before.before.before.loop.invariant.filling.begun c.before.before.before.before.before.before.loop.n c.before.before.before.before.before.before.before.has_parts.result (omega (
+low : (c : goal.After-shorter-c) → c.loop-n.from ≤ c.part_end-to.result
+low c = to_from c.loop-n.invariant.filling.begun c.loop-n.n c.has_parts-are_parted.result (omega (
   arith,
-  c.before.before.before.before.before.before.loop.invariant.filling.ahead,
+  c.loop-n.invariant.filling.ahead,
+)) c.next_part-next.ensures c.args.kinds.now (parts c) c.part_end-to.ensures
 
-)) c.before.before.before.before.next_part.ensures c.before.before.before.before.before.before.before.before.before.before.before.before.before.before.before.before.before.before.before.before.before.before.before.before.before.args.kinds.now (parts c.before.before.before.before.before.before.before) c.before.before.before.part_end.ensures
-
-high : (c : tie.After-shorter3 invariant_loop decreases_loop) → c.before.before.before.part_end.result ≤ length c.before.before.before.before.before.before.before.before.before.before.before.before.before.before.before.before.before.before.before.before.before.before.before.before.before.args.order.now
-
-high c = to_upto c.before.before.before.before.before.before.loop.invariant.filling.begun c.before.before.before.before.before.before.loop.n c.before.before.before.before.before.before.before.has_parts.result (omega (
+high : (c : goal.After-shorter-c) → c.part_end-to.result ≤ length c.args.order.now
+high c = to_upto c.loop-n.invariant.filling.begun c.loop-n.n c.has_parts-are_parted.result (omega (
   arith,
-  c.before.before.before.before.before.before.loop.invariant.filling.ahead,
-
-)) c.before.before.before.before.next_part.ensures c.before.before.before.before.before.before.before.before.before.before.before.before.before.before.before.before.before.before.before.before.before.before.before.before.before.args.kinds.now (parts c.before.before.before.before.before.before.before) c.before.before.before.part_end.ensures
-
-)
-
-)
-
-)
-
-)
-
-)
+  c.loop-n.invariant.filling.ahead,
+)) c.next_part-next.ensures c.args.kinds.now (parts c) c.part_end-to.ensures
 
 pub overflow_add-n : goal.overflow_add-n
 overflow_add-n c = omega (
   arith,
   schema_among c.args.kinds.now c.next_of_kind-n.ensures,
   c.well_formed,
+)
 
 pub loop-n-init : goal.loop-n-init
 loop-n-init c = filling_next filling_starts c.next_of_kind-n.ensures
@@ -58,6 +44,7 @@ offset_bounds-order-from c = omega (
   low c,
   high c,
   c.well_formed,
+)
 
 pub slice_bounds-evaluate_schema-count : goal.slice_bounds-evaluate_schema-count
 slice_bounds-evaluate_schema-count c = low c
@@ -74,18 +61,21 @@ offset_bounds-answer_numbers-b c = omega (
   c.shorter-b.ensures,
   c.loop-n.invariant.filling.numbers_kept,
   c.well_formed,
+)
 
 pub overflow_add-lo : goal.overflow_add-lo
 overflow_add-lo c = omega (
   arith,
   c.loop-n-test.true,
   c.well_formed,
+)
 
 pub loop-n-smaller : goal.loop-n-smaller
 loop-n-smaller c = let h = next_beyond _ _ _ c.next_of_kind-n-in-loop-n.ensures in omega (
   arith,
   h,
   c.loop-n-test.true,
+)
 
 pub loop-n-preserved : goal.loop-n-preserved
 loop-n-preserved c = filling_next (filling_schema c.loop-n.invariant.filling c.loop-n-test.true (c.loop-n.invariant.stands c.loop-n-test.true) c.shorter-a.ensures c.shorter-b.ensures c.shorter-c.ensures c.index_at-at.ensures

@@ -4,10 +4,6 @@ use Prim.Native.Nat.{◌-◌}
 use native.Mathlib.Omega.{arith}
 use Rattle.cycles.proofs.close.Goals as goal
 
-)
-
-)
-
 pub loop-i-init : goal.loop-i-init
 loop-i-init c = closes_start c.requires
 
@@ -22,6 +18,7 @@ put-requires c = (
   omega (arith, closes_room c.loop-i.invariant c.loop-i-test.true c.get-v.ensures),
   omega
       (arith, c.loop-i.invariant.closable.small),
+)
 
 pub overflow_sub-i : goal.overflow_sub-i
 overflow_sub-i c = c.loop-i.invariant.low
@@ -42,19 +39,20 @@ put-requires-in-loop-i c = (
     c.loop-i-test.true,
     c.loop-i.invariant.closable.small,
   ),
+)
 
 pub overflow_add-i : goal.overflow_add-i
-overflow_add-i c =    omega (
-      arith,
-      c.loop-i-test.true,
-      c.loop-i.invariant.closable.small,
-    )
+overflow_add-i c = omega (
+  arith,
+  c.loop-i-test.true,
+  c.loop-i.invariant.closable.small,
+)
 
 pub loop-i-smaller : goal.loop-i-smaller
 loop-i-smaller c = omega (arith, c.loop-i-test.true)
 
 pub loop-i-preserved : goal.loop-i-preserved
-loop-i-preserved c =    closes_step c.loop-i.invariant
+loop-i-preserved c = closes_step c.loop-i.invariant
     c.loop-i-test.true
     c.get-v.ensures c.put.ensures
     c.put-in-loop-i.ensures

@@ -7,8 +7,6 @@ use Prim.Native.Nat.{◌-◌}
 use native.Mathlib.Omega.{arith}
 use Rattle.cycles.proofs.components.Goals as goal
 
-)
-
 pub returns-then-not-valid : goal.returns-then-not-valid
 returns-then-not-valid c = record { no = λ g. tells_fail c.valid.ensures c.if-not-valid.true-raw g; kept = refl }
 
@@ -42,22 +40,23 @@ groups_in-requires c = (
       c.valid.ensures c.if-not-valid.false-raw) c.if-scratch-needed.false,
   length-take-le _ c.args.column.now
       c.if-column-n.false,
+)
 
 pub returns : goal.returns
-returns c =    record {
-      used =
-          used (tells_pass c.valid.ensures
-          c.if-not-valid.false-raw)
-          c.if-scratch-needed.false c.groups_in.ensures.zeros
-          c.args.column.now
-          c.groups_in.new.group c.if-column-n.false
-          c.groups_in.auto.group;
-      groups =
-          groups_front c.groups_in.new.group _ (c.groups_in.auto.group ∙
-          length-take-le _
-          c.args.column.now
-          c.if-column-n.false) (tells_pass
-          c.valid.ensures
-          c.if-not-valid.false-raw)
-          c.groups_in.ensures.groups;
-    }
+returns c = record {
+  used =
+      used (tells_pass c.valid.ensures
+      c.if-not-valid.false-raw)
+      c.if-scratch-needed.false c.groups_in.ensures.zeros
+      c.args.column.now
+      c.groups_in.new.group c.if-column-n.false
+      c.groups_in.auto.group;
+  groups =
+      groups_front c.groups_in.new.group _ (c.groups_in.auto.group ∙
+      length-take-le _
+      c.args.column.now
+      c.if-column-n.false) (tells_pass
+      c.valid.ensures
+      c.if-not-valid.false-raw)
+      c.groups_in.ensures.groups;
+}

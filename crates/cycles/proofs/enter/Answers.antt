@@ -2,8 +2,6 @@
 use native.Mathlib.Omega.{arith}
 use Rattle.cycles.proofs.enter.Goals as goal
 
-)
-
 pub put-requires-3 : goal.put-requires-3
 put-requires-3 c = (
   omega (
@@ -18,14 +16,15 @@ put-requires-3 c = (
     c.type_inv.first
         c.args.w,
   ),
+)
 
 pub returns : goal.returns
-returns c =    rw (
-      c.put-6.ensures,
-      c.put-5.ensures,
-      c.put-4.ensures,
-      c.put-3.ensures,
-      c.index.ensures,
-      c.put-2.ensures,
-      c.put.ensures,
-    )
+returns c = rw (
+  c.put-6.ensures,
+  c.put-5.ensures,
+  c.put-4.ensures,
+  c.put-3.ensures,
+  c.index.ensures,
+  c.put-2.ensures,
+  c.put.ensures,
+)

@@ -6,8 +6,6 @@ use Prim.Native.Nat.{◌<◌, ◌≤◌}
 use native.Mathlib.Omega.{arith}
 use Rattle.cycles.proofs.follow.Goals as goal
 
-)
-
 pub returns-then-group-ne-OPEN : goal.returns-then-group-ne-OPEN
 returns-then-group-ne-OPEN c = (
   refl,
@@ -17,9 +15,10 @@ returns-then-group-ne-OPEN c = (
       c.args.e c.index-w.result 0
       c.index-w.ensures (λ z. c.if-group-eq-NEW.false (c.get-group.ensures ∙ z)) (λ z. c.if-group-ne-OPEN.true
       (c.get-group.ensures ∙ z)),
+)
 
 pub returns-then-get : goal.returns-then-get
-returns-then-get c =    let k : cell c.args.s.now 1
+returns-then-get c = let k : cell c.args.s.now 1
     c.index-w.result < cell
     c.args.s.now 4
     c.get-last.result = omega (arith, c.get.ensures, c.get-2.ensures, c.if-get.true) in
@@ -32,7 +31,7 @@ returns-then-get c =    let k : cell c.args.s.now 1
     c.get-group.ensures ∙ c.if-group-ne-OPEN.false) k
 
 pub returns : goal.returns
-returns c =    let k : cell c.args.s.now 4
+returns c = let k : cell c.args.s.now 4
     c.get-last.result ≤ cell
     c.args.s.now 1
     c.index-w.result = omega (

@@ -8,8 +8,6 @@ use Prim.Native.Nat.{◌-◌}
 use native.Mathlib.Omega.{arith}
 use Rattle.cycles.proofs.topological_order.Goals as goal
 
-)
-
 pub returns-then-not-valid : goal.returns-then-not-valid
 returns-then-not-valid c = record { no = λ g. tells_fail c.valid.ensures c.if-not-valid.true-raw g; kept = refl }
 
@@ -43,31 +41,32 @@ order_in-v-requires c = (
       c.valid.ensures c.if-not-valid.false-raw) c.if-scratch-needed.false,
   length-take-le _ c.args.column.now
       c.if-column-n.false,
+)
 
 pub returns-then-v-n : goal.returns-then-v-n
-returns-then-v-n c =    record {
-      used =
-          used (tells_pass c.valid.ensures
-          c.if-not-valid.false-raw)
-          c.if-scratch-needed.false c.order_in-v.ensures.zeros
-          c.args.column.now c.order_in-v.new.order c.if-column-n.false c.order_in-v.auto.order;
-      replies = replies_cycle (c.order_in-v.ensures.found.cycle c.if-v-n.true);
-      kept =
-          kept_front (vertices
-          c.args.first.now) c.args.column.now c.order_in-v.new.order
-          (c.order_in-v.ensures.kept c.if-v-n.true);
-    }
+returns-then-v-n c = record {
+  used =
+      used (tells_pass c.valid.ensures
+      c.if-not-valid.false-raw)
+      c.if-scratch-needed.false c.order_in-v.ensures.zeros
+      c.args.column.now c.order_in-v.new.order c.if-column-n.false c.order_in-v.auto.order;
+  replies = replies_cycle (c.order_in-v.ensures.found.cycle c.if-v-n.true);
+  kept =
+      kept_front (vertices
+      c.args.first.now) c.args.column.now c.order_in-v.new.order
+      (c.order_in-v.ensures.kept c.if-v-n.true);
+}
 
 pub returns : goal.returns
-returns c =    record {
-      used =
-          used (tells_pass c.valid.ensures
-          c.if-not-valid.false-raw)
-          c.if-scratch-needed.false c.order_in-v.ensures.zeros
-          c.args.column.now c.order_in-v.new.order c.if-column-n.false c.order_in-v.auto.order;
-      replies = replies_none (c.order_in-v.ensures.found.none c.if-v-n.false);
-      ordered =
-          ordered_front c.order_in-v.new.order _
-          (c.order_in-v.auto.order ∙ length-take-le _
-          c.args.column.now c.if-column-n.false) (c.order_in-v.ensures.ordered c.if-v-n.false);
-    }
+returns c = record {
+  used =
+      used (tells_pass c.valid.ensures
+      c.if-not-valid.false-raw)
+      c.if-scratch-needed.false c.order_in-v.ensures.zeros
+      c.args.column.now c.order_in-v.new.order c.if-column-n.false c.order_in-v.auto.order;
+  replies = replies_none (c.order_in-v.ensures.found.none c.if-v-n.false);
+  ordered =
+      ordered_front c.order_in-v.new.order _
+      (c.order_in-v.auto.order ∙ length-take-le _
+      c.args.column.now c.if-column-n.false) (c.order_in-v.ensures.ordered c.if-v-n.false);
+}

@@ -7,14 +7,6 @@ use Rattle.express.specs.Syntax.Grammar.{file as file'}
 use Rattle.parsing.proofs.Columns.{parsing, too_long, too_little}
 use Rattle.declarations.proofs.parse.Goals as goal
 
-)
-
-)) (omega (
-  arith,
-  c.before.before.before.before.before.before.before.before.before.before.before.before.before.before.before.before.if2.false,
-
-)) c.before.before.before.before.before.before.before.before.before.before.parse_in.ensures refl
-
 pub returns-then-n-gt-MOST : goal.returns-then-n-gt-MOST
 returns-then-n-gt-MOST c = too_long file' c.if-n-gt-MOST.true
 
@@ -35,8 +27,13 @@ parse_in-requires c = (
       c.args.terminals.now)
       c.args.scratch.now (omega
       (arith, c.if-scratch-n.false)),
+)
 
 pub returns : goal.returns
 returns c = parsing refl (omega (
   arith,
   c.if-n-gt-MOST.false,
+)) (omega (
+  arith,
+  c.if-scratch-n.false,
+)) c.parse_in.ensures refl

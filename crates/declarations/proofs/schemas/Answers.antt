@@ -8,12 +8,6 @@ use Rattle.parsing.proofs.Terminals.{seen_one, seen_other}
 use Rattle.clauses.proofs.Laws.{loops_begin, loops_turn, loops_at, many_refused, many_ends, list_refused, list_then, reads_goes, schemas_ok}
 use Rattle.declarations.proofs.schemas.Goals as goal
 
-)
-
-)
-
-)
-
 pub returns-in_default : goal.returns-in_default
 returns-in_default c = list_refused (reads_goes (c.schema_at-first.ensures.reads
     c.requires)) c.in_default.is
@@ -25,9 +19,10 @@ loop-rows-init c = (
       (c.schema_at-first.ensures.reads
       c.requires).ahead c.in-At.is,
   loops_begin,
+)
 
 pub returns-in_default-next : goal.returns-in_default-next
-returns-in_default-next c =    list_then (reads_goes
+returns-in_default-next c = list_then (reads_goes
     (c.schema_at-first.ensures.reads
     c.requires))
     c.in-At.is
@@ -43,6 +38,7 @@ loop-rows-smaller c = omega (
   arith,
   reads_at (c.schema_at-next.ensures.reads
       c.loop-rows.invariant.1) c.in-At-next.is,
+)
 
 pub loop-rows-preserved : goal.loop-rows-preserved
 loop-rows-preserved c = (
@@ -56,6 +52,7 @@ loop-rows-preserved c = (
       c.token.ensures c.loop-rows-test.true) (reads_goes
       (c.schema_at-next.ensures.reads
       c.loop-rows.invariant.1))) c.in-At-next.is,
+)
 
 pub returns : goal.returns
 returns c = list_then (reads_goes (c.schema_at-first.ensures.reads

@@ -5,8 +5,6 @@ use Rattle.parsing.proofs.Limit.{end_within, whole_ready, judges}
 use Rattle.parsing.proofs.Columns.{judged_few}
 use Rattle.declarations.proofs.whole.Goals as goal
 
-}
-
 pub slice_bounds-file-end : goal.slice_bounds-file-end
 slice_bounds-file-end c = sym (length-take-le c.end_of-end.result c.args.terminals.now (end_within
     c.args.terminals.now c.first_deep-deep.result c.end_of-end.result c.end_of-end.ensures))
@@ -28,3 +26,4 @@ returns c = record {
       (end_within c.args.terminals.now
       c.first_deep-deep.result c.end_of-end.result
       c.end_of-end.ensures) c.judged.ensures c.file-read.ensures.ahead;
+}

@@ -4,15 +4,13 @@ use borrow.Author.Tests.{le-leb, lt-leb}
 use native.Mathlib.Omega.{arith}
 use Rattle.declared_types.proofs.enumeration.Goals as goal
 
-unfolding enumeration_number
-
-unfolding enumeration_number
-
 pub returns-then-node-gt-LAST_NODE : goal.returns-then-node-gt-LAST_NODE
+unfolding enumeration_number
 returns-then-node-gt-LAST_NODE c = simp (lt-leb _ _ c.if-node-gt-LAST_NODE.true)
 
 pub overflow_add-result : goal.overflow_add-result
 overflow_add-result c = omega (arith, c.number.ensures (omega arith), c.if-node-gt-LAST_NODE.false)
 
 pub returns : goal.returns
+unfolding enumeration_number
 returns c = simp (le-leb _ _ c.if-node-gt-LAST_NODE.false) (omega (arith, c.number.ensures (omega arith)))

@@ -3,28 +3,20 @@ use Rattle.express.specs.Semantics.Declared.{simple}
 use borrow.Author.Tests.{eq-eqb, ne_eqb}
 use Rattle.declared_types.proofs.simple_type.Goals as goal
 
-unfolding simple
-
-unfolding simple
-
-unfolding simple
-
-unfolding simple
-
-unfolding simple
-
-unfolding simple
-
 pub returns-then-word-eq-INTEGER : goal.returns-then-word-eq-INTEGER
+unfolding simple
 returns-then-word-eq-INTEGER c = simp (eq-eqb _ _ c.if-word-eq-INTEGER.true)
 
 pub returns-then-word-eq-BOOLEAN : goal.returns-then-word-eq-BOOLEAN
+unfolding simple
 returns-then-word-eq-BOOLEAN c = simp (ne_eqb _ _ c.if-word-eq-INTEGER.false, eq-eqb _ _ c.if-word-eq-BOOLEAN.true)
 
 pub returns-then-word-eq-LOGICAL : goal.returns-then-word-eq-LOGICAL
+unfolding simple
 returns-then-word-eq-LOGICAL c = simp (ne_eqb _ _ c.if-word-eq-INTEGER.false, ne_eqb _ _ c.if-word-eq-BOOLEAN.false, eq-eqb _ _ c.if-word-eq-LOGICAL.true)
 
 pub returns-then-word-eq-BINARY : goal.returns-then-word-eq-BINARY
+unfolding simple
 returns-then-word-eq-BINARY c = simp (
   ne_eqb _ _ c.if-word-eq-INTEGER.false,
   ne_eqb _ _ c.if-word-eq-BOOLEAN.false,
@@ -33,6 +25,7 @@ returns-then-word-eq-BINARY c = simp (
 )
 
 pub returns-then-word-eq-STRING : goal.returns-then-word-eq-STRING
+unfolding simple
 returns-then-word-eq-STRING c = simp (
   ne_eqb _ _ c.if-word-eq-INTEGER.false,
   ne_eqb _ _ c.if-word-eq-BOOLEAN.false,
@@ -42,6 +35,7 @@ returns-then-word-eq-STRING c = simp (
 )
 
 pub returns : goal.returns
+unfolding simple
 returns c = simp (
   ne_eqb _ _ c.if-word-eq-INTEGER.false,
   ne_eqb _ _ c.if-word-eq-BOOLEAN.false,

@@ -4,8 +4,6 @@ use Rattle.declared_types.specs.Storing.{types_stored}
 use Rattle.declared_types.proofs.Passing.{along_starts, along_goes_on, along_ends}
 use Rattle.declared_types.proofs.store_types.Goals as goal
 
-unfolding types_stored
-
 pub loop-i-init : goal.loop-i-init
 loop-i-init c = along_starts _ _ _
 
@@ -17,4 +15,5 @@ pub shape_of-column : goal.shape_of-column
 shape_of-column c = c.loop-i.invariant.long
 
 pub returns : goal.returns
+unfolding types_stored
 returns c = along_ends _ _ c.loop-i-test.false c.loop-i.invariant

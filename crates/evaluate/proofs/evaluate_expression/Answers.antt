@@ -5,8 +5,6 @@ use native.Mathlib.Omega.{arith}
 use Rattle.evaluate.proofs.Walking.{going_starts, going_on, going_ends}
 use Rattle.evaluate.proofs.evaluate_expression.Goals as goal
 
-)
-
 pub loop-n-init : goal.loop-n-init
 loop-n-init c = going_starts
 
@@ -15,6 +13,7 @@ overflow_add-n c = omega (
   arith,
   c.loop-n-test.true,
   c.ranges.hi,
+)
 
 pub loop-n-smaller : goal.loop-n-smaller
 loop-n-smaller c = omega (arith, c.loop-n-test.true)

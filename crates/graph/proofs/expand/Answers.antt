@@ -7,8 +7,6 @@ use native.Mathlib.Omega.{arith}
 use lib.ListN.{set}
 use Rattle.graph.proofs.expand.Goals as goal
 
-)
-
 pub returns-then-first-u : goal.returns-then-first-u
 returns-then-first-u c = expands_none c.requires c.if-first-u.true
 
@@ -21,9 +19,10 @@ overflow_add-t c = omega (
   stamps_room c.args.stamp c.loop-e.mark c.index-w.result c.loop-e.invariant.ends (sym
       c.is_unstamped.ensures ∙ c.if-is_unstamped.true),
   c.loop-e.invariant.mark_long,
+)
 
 pub loop-e-preserved : goal.loop-e-preserved
-loop-e-preserved c =    going_step c.loop-e.invariant c.loop-e-test.true c.index-w.result (c.index-w.ensures ∙ c.entry-target.ensures) _ _ _
+loop-e-preserved c = going_step c.loop-e.invariant c.loop-e-test.true c.index-w.result (c.index-w.ensures ∙ c.entry-target.ensures) _ _ _
     (⊎_elim
     (λ w. inl (
       sym c.is_unstamped.ensures ∙ w.0.taken,

@@ -5,8 +5,6 @@ use mathlib.Core.Path.{refl}
 use native.Mathlib.Omega.{arith}
 use Rattle.graph.proofs.inside.Goals as goal
 
-)
-
 pub loop-e-init : goal.loop-e-init
 loop-e-init c = (omega arith, λ k f l. absurd (omega arith))
 
@@ -17,13 +15,13 @@ pub bounds-to-e : goal.bounds-to-e
 bounds-to-e c = omega arith
 
 pub returns-then-n-index : goal.returns-then-n-index
-returns-then-n-index c =    tells_no refl (λ h. omega (
-      arith,
-      h c.loop-e.e c.loop-e.invariant.0
-          c.loop-e-test.true,
-      c.index.ensures,
-      c.if-n-index.true,
-    ))
+returns-then-n-index c = tells_no refl (λ h. omega (
+  arith,
+  h c.loop-e.e c.loop-e.invariant.0
+      c.loop-e-test.true,
+  c.index.ensures,
+  c.if-n-index.true,
+))
 
 pub overflow_add-e : goal.overflow_add-e
 overflow_add-e c = omega arith
@@ -40,6 +38,7 @@ loop-e-preserved c = (
         arith,
         c.if-n-index.false,
       )),
+)
 
 pub returns : goal.returns
 returns c = tells_yes refl (λ k f l. c.loop-e.invariant.1 k f (omega arith))

@@ -5,8 +5,6 @@ use mathlib.Core.Path.{refl}
 use native.Mathlib.Omega.{arith}
 use Rattle.graph.proofs.rising.Goals as goal
 
-)
-
 pub loop-v-init : goal.loop-v-init
 loop-v-init c = (omega arith, λ k l. absurd (omega arith))
 
@@ -39,6 +37,7 @@ loop-v-preserved c = (
   omega arith,
   rising_more c.args.first.now c.loop-v.v
       c.loop-v.invariant.1 (omega (arith, c.if-first-v.false)),
+)
 
 pub returns : goal.returns
 returns c = tells_yes refl (λ k l. c.loop-v.invariant.1 k (omega arith))

@@ -5,10 +5,6 @@ use mathlib.Core.Path.{◌∙◌}
 use native.Mathlib.Omega.{arith}
 use Rattle.graph.proofs.search.Goals as goal
 
-)
-
-)
-
 pub loop-head-init : goal.loop-head-init
 loop-head-init c = front_start c.expand-tail.ensures
 
@@ -20,11 +16,13 @@ overflow_add-head c = omega (
   arith,
   head_low c.loop-head.invariant c.loop-head-test.true,
   c.expand-tail.auto.mark,
+)
 
 pub loop-head-smaller : goal.loop-head-smaller
 loop-head-smaller c = omega (
   arith,
   head_low c.loop-head.invariant c.loop-head-test.true,
+)
 
 pub loop-head-preserved : goal.loop-head-preserved
 loop-head-preserved c = front_step c.loop-head.invariant _ c.loop-head-test.true (c.index-u.ensures ∙ c.entry.ensures) c.expand-tail-in-loop-head.ensures c.expand-tail-in-loop-head.auto.mark c.expand-tail-in-loop-head.auto.queue

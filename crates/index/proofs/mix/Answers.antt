@@ -3,7 +3,6 @@ use mathlib.Core.Path.{refl}
 use Rattle.index.specs.Bucket.{mixed}
 use Rattle.index.proofs.mix.Goals as goal
 
-unfolding mixed
-
 pub returns : goal.returns
+unfolding mixed
 returns c = refl

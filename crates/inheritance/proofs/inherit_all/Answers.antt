@@ -5,14 +5,13 @@ use lib.Seq.{length-take-le}
 use Rattle.inheritance.proofs.Doing.{inherits_in_parts}
 use Rattle.inheritance.proofs.inherit_all.Goals as goal
 
-)))
-
 pub slice_bounds-inherit_declarations-end-2 : goal.slice_bounds-inherit_declarations-end-2
 slice_bounds-inherit_declarations-end-2 c = sym (length-take-le _ c.args.table.now (omega (
   arith,
   c.shorter-named.ensures,
   c.saturating_sub.ensures,
   c.shorter.ensures,
+)))
 
 pub slice_bounds-inherit_declarations-end-4 : goal.slice_bounds-inherit_declarations-end-4
 slice_bounds-inherit_declarations-end-4 c = sym (length-take-le _ c.args.mark.now (omega (arith, c.shorter-marks.ensures)))

@@ -4,13 +4,12 @@ use native.Mathlib.Omega.{arith}
 use Rattle.inheritance.proofs.Doing.{inherits_in_none, inherits_in_more}
 use Rattle.inheritance.proofs.inherit_in.Goals as goal
 
-)
-
 pub overflow_add-v : goal.overflow_add-v
 overflow_add-v c = omega (
   arith,
   c.requires,
   c.well_formed,
+)
 
 pub shape_of-table : goal.shape_of-table
 shape_of-table c = c.collect_queued.auto.table

@@ -4,7 +4,7 @@ use Rattle.kind_rules.proofs.Numbered.{both_fit, first_misfit}
 use Rattle.kind_rules.proofs.interval.Goals as goal
 
 pub returns-then-agree : goal.returns-then-agree
-returns-then-agree c = c.fits2.ensures ∙ both_fit c.agree.ensures c.if-agree.true c.agree-then-agree.ensures
+returns-then-agree c = c.fits.ensures ∙ both_fit c.agree.ensures c.if-agree.true c.agree-then-agree.ensures
 
 pub returns : goal.returns
 returns c = first_misfit _ c.agree.ensures c.if-agree.false

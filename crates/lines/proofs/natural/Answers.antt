@@ -2,8 +2,6 @@ use native.Mathlib.Omega.{arith}
 use Rattle.lines.proofs.Numbers.{natural_zero, natural_small, natural_is, natural_casts}
 use Rattle.lines.proofs.natural.Goals as goal
 
-)
-
 pub returns-then-z-lt0 : goal.returns-then-z-lt0
 returns-then-z-lt0 c = (natural_zero _ c.ranges.z c.if-z-lt0.true, omega arith)
 
@@ -19,3 +17,4 @@ returns c = (
         c.ranges.z c.if-z-lt0.false,
     natural_small _ c.ranges.z c.if-z-lt0.false,
   ),
+)

@@ -8,17 +8,17 @@ use lib.Seq.{length-take-le}
 use native.Mathlib.Omega.{arith}
 use Rattle.marking.proofs.reachable.Goals as goal
 
-room : (l : tie.Else3) → Markable l.before.before.before.before.before.before.before.before.before.args.first.now
-    l.before.before.before.before.before.before.before.before.before.args.to.now
-    l.before.before.before.before.before.before.before.before.before.args.from
-    l.before.before.before.before.before.before.before.before.before.args.mark.now
-    l.before.before.before.before.before.before.before.before.before.args.queue.now
+room : (l : goal.Else-shorter-n) → Markable l.args.first.now
+    l.args.to.now
+    l.args.from
+    l.args.mark.now
+    l.args.queue.now
 room l =
     record {
-      graph = tells_pass l.before.before.before.before.valid.ensures l.before.before.before.if1.false;
-      source = omega (arith, l.before.before.if2.false);
-      mark_room = omega (arith, l.before.shorter.ensures, l.if3.false);
-      queue_room = omega (arith, l.before.shorter.ensures, l.if3.false);
+      graph = tells_pass l.valid.ensures l.if-not-valid.false-raw;
+      source = omega (arith, l.if-n-from.false);
+      mark_room = omega (arith, l.shorter.ensures, l.if-shorter-n.false);
+      queue_room = omega (arith, l.shorter.ensures, l.if-shorter-n.false);
     }
 
 pub returns-then-not-valid : goal.returns-then-not-valid

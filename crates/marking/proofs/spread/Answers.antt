@@ -4,10 +4,9 @@ use Rattle.graph.proofs.Mark.{markable_set, ones}
 use mathlib.Core.Path.{refl}
 use Rattle.marking.proofs.spread.Goals as goal
 
-)
-
 pub returns : goal.returns
 returns c = (
   ones (markable_set c.requires _ _ c.clear32.auto.column
       refl) (zeros c.args.mark.now _ c.clear32.ensures) c.search.ensures,
   all_zeros c.search.new.queue c.clear32-2.ensures c.search.auto.queue,
+)

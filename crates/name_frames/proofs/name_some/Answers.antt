@@ -4,8 +4,6 @@ use Rattle.reading.specs.FileReading.{some_rows}
 use Rattle.name_frames.proofs.Framing.{counted, with_arrays}
 use Rattle.name_frames.proofs.name_some.Goals as goal
 
-}) c.before.before.before.before.before.before.before.before.before.before.before.before.before.before.before.name_file.ensures
-
 pub slice_bounds-name_file-end : goal.slice_bounds-name_file-end
 slice_bounds-name_file-end c = counted _
 
@@ -56,3 +54,4 @@ returns c = with_arrays some_rows (record {
   to_small = lit≤ tt;
   links_fit = lit≤ tt;
   search_fit = lit≤ tt;
+}) c.name_file.ensures

@@ -4,8 +4,6 @@ use Rattle.names.proofs.Fitting.{prepared_bound}
 use native.Mathlib.Omega.{arith}
 use Rattle.names.proofs.bind_prepared.Goals as goal
 
-))
-
 pub slice_bounds-bind_names-end : goal.slice_bounds-bind_names-end
 slice_bounds-bind_names-end c = part_long _ _ c.requires.1
 
@@ -16,6 +14,7 @@ pub slice_bounds-bind_names-end-4 : goal.slice_bounds-bind_names-end-4
 slice_bounds-bind_names-end-4 c = part_long _ _ (omega (
   arith,
   c.requires.0.first_room,
+))
 
 pub returns : goal.returns
 returns c = prepared_bound _ c.requires.0 c.bind_names.ensures

@@ -4,10 +4,6 @@ use mathlib.Core.Path.{◌∙◌}
 use native.Mathlib.Omega.{arith}
 use Rattle.names.proofs.resolve_roles.Goals as goal
 
-)
-
-)
-
 pub shape_of-symbols-then-not-fits : goal.shape_of-symbols-then-not-fits
 shape_of-symbols-then-not-fits c = c.prepare-prepared.auto.symbols
 
@@ -27,25 +23,27 @@ pub shape_of-scratch-then-not-fits : goal.shape_of-scratch-then-not-fits
 shape_of-scratch-then-not-fits c = c.prepare-prepared.auto.links
 
 pub returns-then-not-fits : goal.returns-then-not-fits
-returns-then-not-fits c = unfit_resolved c.prepare-prepared.ensures c.count_entries-counts.ensures c.prepare-prepared.auto.links c.room-enough.ensures c.fits2.ensures c.if-not-fits.true-raw
+returns-then-not-fits c = unfit_resolved c.prepare-prepared.ensures c.count_entries-counts.ensures c.prepare-prepared.auto.links c.room-enough.ensures c.fits.ensures c.if-not-fits.true-raw
 
 pub slice_bounds-bind_prepared-end : goal.slice_bounds-bind_prepared-end
-slice_bounds-bind_prepared-end c = symbols_within c.prepare-prepared.ensures c.count_entries-counts.ensures (fits_done _ c.fits2.ensures c.if-not-fits.false-raw)
+slice_bounds-bind_prepared-end c = symbols_within c.prepare-prepared.ensures c.count_entries-counts.ensures (fits_done _ c.fits.ensures c.if-not-fits.false-raw)
 
 pub slice_bounds-bind_prepared-end-2 : goal.slice_bounds-bind_prepared-end-2
-slice_bounds-bind_prepared-end-2 c = symbols_cut c.prepare-prepared.ensures c.count_entries-counts.ensures (fits_done _ c.fits2.ensures c.if-not-fits.false-raw)
+slice_bounds-bind_prepared-end-2 c = symbols_cut c.prepare-prepared.ensures c.count_entries-counts.ensures (fits_done _ c.fits.ensures c.if-not-fits.false-raw)
 
 pub overflow_add-counts : goal.overflow_add-counts
 overflow_add-counts c = omega (
   arith,
-  sum_small c.prepare-prepared.ensures c.count_entries-counts.ensures (fits_done _ c.fits2.ensures c.if-not-fits.false-raw),
+  sum_small c.prepare-prepared.ensures c.count_entries-counts.ensures (fits_done _ c.fits.ensures c.if-not-fits.false-raw),
+)
 
 pub bind_prepared-fault-requires : goal.bind_prepared-fault-requires
 bind_prepared-fault-requires c = (
-  fits_room c.prepare-prepared.result c.room-enough.ensures c.fits2.ensures
+  fits_room c.prepare-prepared.result c.room-enough.ensures c.fits.ensures
       c.if-not-fits.false-raw,
-  keys_fit c.prepare-prepared.ensures c.count_entries-counts.ensures (fits_done _ c.fits2.ensures c.if-not-fits.false-raw),
-  nodes_fit c.prepare-prepared.ensures c.count_entries-counts.ensures (fits_done _ c.fits2.ensures c.if-not-fits.false-raw),
+  keys_fit c.prepare-prepared.ensures c.count_entries-counts.ensures (fits_done _ c.fits.ensures c.if-not-fits.false-raw),
+  nodes_fit c.prepare-prepared.ensures c.count_entries-counts.ensures (fits_done _ c.fits.ensures c.if-not-fits.false-raw),
+)
 
 pub shape_of-bindings : goal.shape_of-bindings
 shape_of-bindings c = c.finish.auto.bindings ∙ c.bind_prepared-fault.auto.bound
@@ -81,4 +79,4 @@ pub shape_of-scratch : goal.shape_of-scratch
 shape_of-scratch c = c.bind_prepared-fault.auto.scratch ∙ c.prepare-prepared.auto.links
 
 pub returns : goal.returns
-returns c = file_resolved _ c.prepare-prepared.ensures c.count_entries-counts.ensures c.fits2.ensures c.if-not-fits.false-raw c.bind_prepared-fault.ensures c.bind_prepared-fault.auto.bound c.finish.ensures
+returns c = file_resolved _ c.prepare-prepared.ensures c.count_entries-counts.ensures c.fits.ensures c.if-not-fits.false-raw c.bind_prepared-fault.ensures c.bind_prepared-fault.auto.bound c.finish.ensures

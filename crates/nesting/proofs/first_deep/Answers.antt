@@ -7,13 +7,8 @@ use Rattle.parsing.proofs.Limit.{deep_start, deep_here, deep_on, deep_end}
 use native.Mathlib.Omega.{arith}
 use Rattle.nesting.proofs.first_deep.Goals as goal
 
-unfolding mem tabulated
-
-)
-
-)
-
 pub loop-i-init : goal.loop-i-init
+unfolding mem tabulated
 loop-i-init c = (
   rw (
     c.byte_index.ensures.0,
@@ -24,6 +19,7 @@ loop-i-init c = (
   omega arith,
   omega arith,
   deep_start c.args.terminals.now,
+)
 
 pub bounds-terminals-i : goal.bounds-terminals-i
 bounds-terminals-i c = omega arith
@@ -51,6 +47,7 @@ loop-i-preserved c = (
   sym (deep_on c.args.terminals.now
       c.loop-i.i c.loop-i.depth _ c.loop-i-test.true refl
       c.nested-depth.result c.nested-depth.ensures (λ h. omega (arith, h, c.if-depth-gt-NESTING.false))) ∙ c.loop-i.invariant.3,
+)
 
 pub returns : goal.returns
 returns c = deep_end c.args.terminals.now c.loop-i.i c.loop-i.depth (omega arith)

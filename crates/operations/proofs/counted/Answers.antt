@@ -1,4 +1,4 @@
-use mathlib.Core.List.{◌∷◌}
+use mathlib.Core.List.{[], ◌∷◌}
 use Rattle.operations.proofs.Cases.{a_logical, not_logical}
 use Rattle.operations.proofs.counted.Goals as goal
 

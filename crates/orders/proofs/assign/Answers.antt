@@ -4,12 +4,6 @@ use Prim.Native.Nat.{◌-◌}
 use native.Mathlib.Omega.{arith}
 use Rattle.orders.proofs.assign.Goals as goal
 
-)
-
-)
-
-)
-
 pub loop-v-init : goal.loop-v-init
 loop-v-init c = (refl, omega arith)
 
@@ -24,6 +18,7 @@ place_free-then-requires c = (
     c.loop-v.invariant.1,
     c.requires,
   ),
+)
 
 pub follow-taken-requires : goal.follow-taken-requires
 follow-taken-requires c = (
@@ -39,6 +34,7 @@ follow-taken-requires c = (
     c.loop-v.invariant.1,
     c.requires,
   ),
+)
 
 pub loop-v-smaller : goal.loop-v-smaller
 loop-v-smaller c = omega (arith, c.loop-v-test.true)
@@ -52,6 +48,7 @@ loop-v-preserved c = (
     c.place_free-then.ensures,
     c.loop-v.invariant.1,
   ),
+)
 
 pub shape_of-s : goal.shape_of-s
 shape_of-s c = c.loop-v.invariant.0 ∙ c.count.auto.s ∙ c.start.auto.s

@@ -4,10 +4,6 @@ use Prim.Native.Nat.{◌-◌}
 use native.Mathlib.Omega.{arith}
 use Rattle.orders.proofs.follow.Goals as goal
 
-)
-
-)
-
 pub loop-taken-init : goal.loop-taken-init
 loop-taken-init c = (refl, omega arith, omega arith)
 
@@ -28,6 +24,7 @@ release-taken-requires c = (
     c.loop-taken.invariant.1,
     c.requires.2,
   ),
+)
 
 pub loop-taken-smaller : goal.loop-taken-smaller
 loop-taken-smaller c = omega (arith, c.loop-taken-test.true)
@@ -41,6 +38,7 @@ loop-taken-preserved c = (
     arith,
     c.loop-taken.invariant.2,
   ),
+)
 
 pub shape_of-s : goal.shape_of-s
 shape_of-s c = c.loop-taken.invariant.0

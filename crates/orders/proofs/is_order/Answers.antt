@@ -5,12 +5,6 @@ use native.Mathlib.Omega.{arith}
 use Rattle.orders.proofs.Placing.{never, places_start, places_step, places_end, passed}
 use Rattle.orders.proofs.is_order.Goals as goal
 
-)
-
-)
-
-)
-
 pub loop-v-init : goal.loop-v-init
 loop-v-init c = (places_start, omega arith)
 
@@ -37,6 +31,7 @@ overflow_add-v c = omega (
   arith,
   c.loop-v-test.true,
   c.requires,
+)
 
 pub returns-then-not-lead_before : goal.returns-then-not-lead_before
 returns-then-not-lead_before c = never
@@ -46,6 +41,7 @@ overflow_add-v-in-loop-v c = omega (
   arith,
   c.loop-v-test.true,
   c.requires,
+)
 
 pub loop-v-smaller : goal.loop-v-smaller
 loop-v-smaller c = omega (arith, c.loop-v-test.true)
@@ -55,6 +51,7 @@ loop-v-preserved c = (
   places_step c.loop-v.invariant.0 c.at-p.ensures.0 c.at-w.ensures.0 c.if-n-p.false c.if-n-w.false (sym c.at.ensures.0 ∙ c.if-at-v.false) (sym c.at-in-loop-v.ensures.0 ∙ c.if-at-v-2.false)
       (rw (← c.at-in-loop-v-2.ensures.0, ← c.at-in-loop-v-3.ensures.0) (c.lead_before.ensures (passed _ c.if-not-lead_before.false-raw))),
   omega (arith, c.loop-v-test.true),
+)
 
 pub returns : goal.returns
 returns c = λ _. places_end c.loop-v.invariant.0 c.loop-v.invariant.1 c.loop-v-test.false

@@ -4,10 +4,6 @@ use Prim.Native.Nat.{◌-◌}
 use native.Mathlib.Omega.{arith}
 use Rattle.orders.proofs.release.Goals as goal
 
-)
-
-)
-
 pub loop-e-init : goal.loop-e-init
 loop-e-init c = (refl, omega arith)
 
@@ -19,6 +15,7 @@ place_free-taken-requires c = (
     c.loop-e.invariant.1,
     c.requires.1,
   ),
+)
 
 pub loop-e-preserved : goal.loop-e-preserved
 loop-e-preserved c = (
@@ -28,6 +25,7 @@ loop-e-preserved c = (
     c.place_free-taken.ensures,
     c.loop-e.invariant.1,
   ),
+)
 
 pub shape_of-s : goal.shape_of-s
 shape_of-s c = c.loop-e.invariant.0

@@ -7,8 +7,6 @@ use Rattle.orders.proofs.Sorting.{sorts}
 use mathlib.Core.Logic.{inl}
 use Rattle.orders.proofs.sort.Goals as goal
 
-)
-
 pub returns-then-not-valid : goal.returns-then-not-valid
 returns-then-not-valid c = (refl, inl refl)
 
@@ -41,6 +39,7 @@ sort_in-requires c = let g = tells_pass c.valid.ensures c.if-not-valid.false-raw
   arith,
   g.small,
   length-take-le _ c.args.column.now c.if-column-n.false,
+)
 
 pub returns : goal.returns
 returns c = sorts (tells_pass c.valid.ensures c.if-not-valid.false-raw) c.args.column.now c.args.scratch.now _ _ c.if-column-n.false c.if-scratch-needed.false c.sort_in.auto.order c.sort_in.result c.sort_in.ensures

@@ -5,8 +5,6 @@ use lib.Seq.{length-take-le}
 use Rattle.pipeline.proofs.Binding.{named_answered}
 use Rattle.pipeline.proofs.answer_named.Goals as goal
 
-)))
-
 pub slice_bounds-answer_file-end : goal.slice_bounds-answer_file-end
 slice_bounds-answer_file-end c = sym (length-take-le c.shorter-v.result _ (omega (arith, c.shorter-v.ensures, c.shorter.ensures)))
 
@@ -15,6 +13,7 @@ slice_bounds-answer_file-end-2 c = sym (length-take-le c.shorter-v.result _ (ome
   arith,
   c.shorter-v.ensures,
   c.shorter.ensures,
+)))
 
 pub shape_of-declared : goal.shape_of-declared
 shape_of-declared c = c.answer_file.auto.declared

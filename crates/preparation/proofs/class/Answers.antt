@@ -9,16 +9,16 @@ use Rattle.preparation.proofs.class.Goals as goal
 
 -- the letter that is read
 letter :
-    (c : tie.After-result) →
-    get_or c.before.before.before.before.before.args.classes.now (c.before.byte_index.result * 8 + c.before.before.shorter.result) 0
-    ≡ first_letter + class_of (sort_by c.before.before.before.before.before.args.kind c.before.before.before.before.before.args.role)
+    (c : goal.After-result-1) →
+    get_or c.args.classes.now (c.byte_index.result * 8 + c.shorter-column.result) 0
+    ≡ first_letter + class_of (sort_by c.args.kind c.args.role)
 letter c =
-    class_at c.before.before.before.before.before.args.classes.now c.before.before.before.before.before.requires c.before.before.before.before.before.args.kind c.before.before.before.before.if1.false c.before.before.before.before.before.args.role c.before.before.shorter.result (c.before.byte_index.result * 8 + c.before.before.shorter.result) (λ h. omega (
+    class_at c.args.classes.now c.requires c.args.kind c.if-kind-ge-ROWS.false c.args.role c.shorter-column.result (c.byte_index.result * 8 + c.shorter-column.result) (λ h. omega (
       arith,
       h,
-      c.before.before.shorter.ensures,
-      c.before.before.before.index.ensures,
-    )) (λ h. omega (arith, h, c.before.before.shorter.ensures, c.before.before.before.index.ensures)) (omega (arith, c.before.byte_index.ensures))
+      c.shorter-column.ensures,
+      c.index.ensures,
+    )) (λ h. omega (arith, h, c.shorter-column.ensures, c.index.ensures)) (omega (arith, c.byte_index.ensures))
 
 pub returns-then-kind-ge-ROWS : goal.returns-then-kind-ge-ROWS
 returns-then-kind-ge-ROWS c = class_high c.args.kind c.args.role c.if-kind-ge-ROWS.true

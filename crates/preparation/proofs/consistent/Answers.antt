@@ -4,10 +4,6 @@ use native.Mathlib.Omega.{arith}
 use Rattle.preparation.proofs.Checking.{passing_starts, passing_goes_on, passing_ends, too_many, too_short, outside, too_high, fits_surely}
 use Rattle.preparation.proofs.consistent.Goals as goal
 
-)) (omega (arith, c.before.before.if2.false, c.before.before.before.shorter.ensures))
-
-)) (rw c.before.before.before.index.ensures at c.if5.false)
-
 pub returns-then-kinds-ge-RADIX : goal.returns-then-kinds-ge-RADIX
 returns-then-kinds-ge-RADIX c = too_many c.if-kinds-ge-RADIX.true
 
@@ -23,6 +19,7 @@ loop-i-init c = passing_starts c.if-kinds-ge-RADIX.false (omega (
   arith,
   c.if-shorter-kinds.false,
   c.shorter.ensures,
+)) (omega (arith, c.if-shorter-kinds.false, c.shorter.ensures))
 
 pub bounds-tokens-i : goal.bounds-tokens-i
 bounds-tokens-i c = omega (arith, c.loop-i.invariant.tokens, c.loop-i-test.true)
@@ -47,6 +44,7 @@ loop-i-preserved c = passing_goes_on c.loop-i.invariant (omega (
   arith,
   c.index-k.ensures,
   c.if-symbols-k.false,
+)) (rw c.index-k.ensures at c.if-symbols-k-ge-RADIX.false)
 
 pub returns : goal.returns
 returns c = passing_ends c.loop-i.invariant c.loop-i-test.false

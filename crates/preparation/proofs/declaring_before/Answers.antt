@@ -5,8 +5,6 @@ use Rattle.preparation.specs.Declaring.{may_declare}
 use Rattle.scopes.proofs.NoneFrom.{none_yet, none_more}
 use Rattle.preparation.proofs.declaring_before.Goals as goal
 
-)
-
 pub loop-i-init : goal.loop-i-init
 loop-i-init c = none_yet _
 
@@ -19,6 +17,7 @@ bounds-roles-i c = omega (
   c.loop-i-test.true,
   c.loop-i.invariant.low,
   c.requires.1,
+)
 
 pub returns-then-may_declare : goal.returns-then-may_declare
 returns-then-may_declare c = c.loop-i.invariant

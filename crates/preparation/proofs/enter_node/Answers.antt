@@ -3,8 +3,6 @@ use mathlib.Core.Path.{refl}
 use Rattle.preparation.proofs.Filling.{keyed, entered_none, entered_one}
 use Rattle.preparation.proofs.enter_node.Goals as goal
 
-)
-
 pub returns-then-sort-eq-NO_SORT : goal.returns-then-sort-eq-NO_SORT
 returns-then-sort-eq-NO_SORT c = (entered_none _ c.if-sort-eq-NO_SORT.true, entered_none _ c.if-sort-eq-NO_SORT.true)
 
@@ -17,3 +15,4 @@ returns c = (
       c.scope.ensures) c.enter.ensures.0,
   entered_one _ c.if-sort-eq-NO_SORT.false
       c.choose-at.ensures refl c.enter.ensures.1,
+)

@@ -1,14 +1,5 @@
 use Rattle.scopes.specs.Standing.{table_of}
-use Rattle.preparation.proofs.Filling.{
-  Entering,
-  entering_starts,
-  entering_small,
-  entering_fits,
-  entering_goes_on,
-  entering_skip,
-  entering_passes,
-  filling_ends,
-  filling_long,
+use Rattle.preparation.proofs.Filling.{Entering}
 use Prim.Native.Nat.{◌-◌}
 use Rattle.preparation.proofs.fill.Given as goal
 

@@ -1,10 +1,10 @@
 use Rattle.products.proofs.Quotients.{Divides, div_zero, div_minus_one, safe, rem_below, div_up, div_down, div_same}
 use Rattle.products.proofs.div.Goals as goal
 
-divides : (c : tie.Else2) → Divides c.before.before.args.a c.before.before.args.b
+divides : (c : goal.Else-b-eqminus1) → Divides c.args.a c.args.b
 divides c =
-    let s = c.before.before.ranges in
-    record { first = s.a; second = s.b; not_zero = c.before.if1.false; not_minus_one = c.if2.false }
+    let s = c.ranges in
+    record { first = s.a; second = s.b; not_zero = c.if-b-eq0.false; not_minus_one = c.if-b-eqminus1.false }
 
 pub returns-then-b-eq0 : goal.returns-then-b-eq0
 returns-then-b-eq0 c = div_zero _ c.ranges.b c.if-b-eq0.true

@@ -1,10 +1,10 @@
 use Rattle.products.proofs.Quotients.{Divides, mod_zero, mod_minus_one, safe, mod_up, mod_down, mod_opposite, mod_same}
 use Rattle.products.proofs.modulo.Goals as goal
 
-divides : (c : tie.Else2) → Divides c.before.before.args.a c.before.before.args.b
+divides : (c : goal.Else-b-eqminus1) → Divides c.args.a c.args.b
 divides c =
-    let s = c.before.before.ranges in
-    record { first = s.a; second = s.b; not_zero = c.before.if1.false; not_minus_one = c.if2.false }
+    let s = c.ranges in
+    record { first = s.a; second = s.b; not_zero = c.if-b-eq0.false; not_minus_one = c.if-b-eqminus1.false }
 
 pub returns-then-b-eq0 : goal.returns-then-b-eq0
 returns-then-b-eq0 c = mod_zero _ c.ranges.b c.if-b-eq0.true

@@ -3,10 +3,10 @@ use Rattle.products.proofs.Quotients.{Divides}
 use Rattle.products.proofs.Products.{mul_zero, mul_minus_one, mul_safe, mul_bounded}
 use Rattle.products.proofs.multiply.Goals as goal
 
-divides : (c : tie.Else2) → Divides c.before.before.args.a c.before.before.args.b
+divides : (c : goal.Else-b-eqminus1) → Divides c.args.a c.args.b
 divides c =
-    let s = c.before.before.ranges in
-    record { first = s.a; second = s.b; not_zero = c.before.if1.false; not_minus_one = c.if2.false }
+    let s = c.ranges in
+    record { first = s.a; second = s.b; not_zero = c.if-b-eq0.false; not_minus_one = c.if-b-eqminus1.false }
 
 pub returns-then-b-eq0 : goal.returns-then-b-eq0
 returns-then-b-eq0 c = mul_zero c.args.a c.ranges.b c.if-b-eq0.true

@@ -7,18 +7,6 @@ use Rattle.row_inheritance.proofs.Ranking.{before_few}
 use Rattle.row_inheritance.proofs.Inheriting.{by_rows, by_none, some_width}
 use Rattle.row_inheritance.proofs.inherit_fitting.Goals as goal
 
-)
-
-)
-
-)
-
-)
-
-)
-
-)) c.before.before.store_declarations.ensures
-
 pub overflow_sub-n : goal.overflow_sub-n
 overflow_sub-n c = omega (arith, c.requires.some)
 
@@ -27,6 +15,7 @@ order_declarations-requires c = omega (
   arith,
   c.requires.order_room,
   c.requires.rank_room,
+)
 
 pub rank_declarations-entities-requires : goal.rank_declarations-entities-requires
 rank_declarations-entities-requires c = (
@@ -39,6 +28,7 @@ rank_declarations-entities-requires c = (
     c.requires.rank_room,
     c.order_declarations.auto.table,
   ),
+)
 
 pub relate_entities-width-requires : goal.relate_entities-width-requires
 relate_entities-width-requires c = (
@@ -58,6 +48,7 @@ relate_entities-width-requires c = (
     c.order_declarations.auto.table,
     c.rank_declarations-entities.auto.table,
   ),
+)
 
 pub shape_of-table-then-width-eq0 : goal.shape_of-table-then-width-eq0
 shape_of-table-then-width-eq0 c = c.rank_declarations-entities.auto.table ∙ c.order_declarations.auto.table
@@ -71,6 +62,7 @@ clear_heads-requires c = omega (
   c.requires.rank_room,
   c.order_declarations.auto.table,
   c.rank_declarations-entities.auto.table,
+)
 
 pub chain_attributes-chained-requires : goal.chain_attributes-chained-requires
 chain_attributes-chained-requires c = omega (
@@ -79,6 +71,7 @@ chain_attributes-chained-requires c = omega (
   c.order_declarations.auto.table,
   c.rank_declarations-entities.auto.table,
   c.clear_heads.auto.table,
+)
 
 pub shape_of-table-then-pairs-chained : goal.shape_of-table-then-pairs-chained
 shape_of-table-then-pairs-chained c = c.chain_attributes-chained.auto.table ∙ c.clear_heads.auto.table ∙ c.rank_declarations-entities.auto.table ∙ c.order_declarations.auto.table
@@ -94,3 +87,4 @@ returns c = by_rows c.requires refl (c.rank_declarations-entities.auto.table ∙
   arith,
   c.if-pairs-chained.false,
   c.chain_attributes-chained.auto.pairs,
+)) c.store_declarations.ensures

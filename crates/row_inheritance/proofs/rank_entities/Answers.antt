@@ -4,10 +4,6 @@ use Rattle.row_inheritance.proofs.Ranking.{ranking_starts, ranking_few, ranking_
 use native.Mathlib.Omega.{arith}
 use Rattle.row_inheritance.proofs.rank_entities.Goals as goal
 
-)
-
-)
-
 pub loop-v-init : goal.loop-v-init
 loop-v-init c = ranking_starts
 
@@ -19,6 +15,7 @@ loop-v-smaller-then-at8-eq-ENTITY c = omega (
   arith,
   c.loop-v.invariant.long,
   c.loop-v-test.true,
+)
 
 pub loop-v-preserved-then-at8-eq-ENTITY : goal.loop-v-preserved-then-at8-eq-ENTITY
 loop-v-preserved-then-at8-eq-ENTITY c = ranking_more c.loop-v.invariant c.loop-v-test.true c.at.ensures c.index.ensures c.at8.ensures c.if-at8-eq-ENTITY.true c.number.ensures c.put32.ensures
@@ -28,6 +25,7 @@ loop-v-smaller c = omega (
   arith,
   c.loop-v.invariant.long,
   c.loop-v-test.true,
+)
 
 pub loop-v-preserved : goal.loop-v-preserved
 loop-v-preserved c = ranking_none c.loop-v.invariant c.loop-v-test.true c.at.ensures c.index.ensures c.at8.ensures c.if-at8-eq-ENTITY.false c.put32-else-at8-eq-ENTITY.ensures

@@ -9,8 +9,6 @@ use Rattle.scan.proofs.Rows.{too_long, progress_first, skip_refused, all_read, t
 use native.Mathlib.Omega.{arith}
 use Rattle.scan.proofs.fill.Goals as goal
 
-unfolding word_table lone_table lone tabulated word_byte
-
 pub returns-then-src-most : goal.returns-then-src-most
 returns-then-src-most c = too_long _ _ c.args.src.now _ _ _ c.index-most.ensures c.if-src-most.true
 
@@ -42,6 +40,7 @@ pub returns-then-p-src : goal.returns-then-p-src
 returns-then-p-src c = all_read c.loop-p.invariant _ c.skip-space.ensures c.in-At.is c.if-p-src.true
 
 pub token-read-requires : goal.token-read-requires
+unfolding word_table lone_table lone tabulated word_byte
 token-read-requires c = (c.if-p-src.false, refl, refl)
 
 pub shape_of-kinds-in_default-read : goal.shape_of-kinds-in_default-read

@@ -9,8 +9,8 @@ use native.Mathlib.Omega.{arith}
 use Rattle.scan.proofs.number.Goals as goal
 
 -- the byte behind the digits
-byte_is : (p : tie.After-byte) → p.byte.result ≡ get_or p.before.before.before.args.s.now (run digit p.before.before.before.args.s.now p.before.before.before.args.at) 0
-byte_is p = p.byte.ensures ∙ ap (λ x. get_or p.before.before.before.args.s.now x 0) p.before.run_end.ensures
+byte_is : (p : goal.After-byte) → p.byte.result ≡ get_or p.args.s.now (run digit p.args.s.now p.args.at) 0
+byte_is p = p.byte.ensures ∙ ap (λ x. get_or p.args.s.now x 0) p.run_end-end.ensures
 
 pub real_end-requires : goal.real_end-requires
 real_end-requires c = omega (arith, c.run_end-end.ensures, run_high digit c.args.s.now c.args.at (omega arith))

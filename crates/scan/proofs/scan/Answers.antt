@@ -6,11 +6,11 @@ use Rattle.scan.proofs.Rows.{scan_refused, scan_short, scan_fits}
 use Rattle.scan.proofs.scan.Goals as goal
 
 -- the room is that of the shortest column
-room_is : (p : tie.After-shorter2)
-    → p.shorter2.result ≡ min (length p.before.before.before.before.before.before.args.kinds.now)
-    (min (length p.before.before.before.before.before.before.args.starts.now)
-    (length p.before.before.before.before.before.before.args.lengths.now))
-room_is p = p.shorter2.ensures ∙ ap (min (length p.before.before.before.before.before.before.args.kinds.now)) p.before.shorter.ensures
+room_is : (p : goal.After-shorter-room)
+    → p.shorter-room.result ≡ min (length p.args.kinds.now)
+    (min (length p.args.starts.now)
+    (length p.args.lengths.now))
+room_is p = p.shorter-room.ensures ∙ ap (min (length p.args.kinds.now)) p.shorter.ensures
 
 pub returns-in_default : goal.returns-in_default
 returns-in_default c = scan_refused c.args.limit c.args.src.now c.fill-step.ensures c.in_default.is

@@ -6,10 +6,6 @@ use Rattle.scan.proofs.Symbols.{assign_is}
 use native.Mathlib.Omega.{arith}
 use Rattle.scan.proofs.symbol_end.Goals as goal
 
-unfolding end_of_symbol
-
-unfolding end_of_symbol
-
 pub returns-then-byte-eq58 : goal.returns-then-byte-eq58
 returns-then-byte-eq58 c = let a = c.args in
     rw (eq-eqb _ _ c.if-byte-eq58.true) at
@@ -23,6 +19,7 @@ returns-then-is_pair c = let a = c.args in
     c.byte.ensures)
 
 pub returns-then-size-eq0 : goal.returns-then-size-eq0
+unfolding end_of_symbol
 returns-then-size-eq0 c = rw (
   ← size_is _ _ _ _ _ _ c.byte-c.ensures c.byte-2.ensures c.byte-3.ensures c.symbol_size-size.ensures,
   eq-eqb _ _ c.if-size-eq0.true,
@@ -38,5 +35,6 @@ overflow_add-result-2 c = let a = c.args in
     )
 
 pub returns : goal.returns
+unfolding end_of_symbol
 returns c = rw
     (← size_is _ _ _ _ _ _ c.byte-c.ensures c.byte-2.ensures c.byte-3.ensures c.symbol_size-size.ensures, ne_eqb _ _ c.if-size-eq0.false)

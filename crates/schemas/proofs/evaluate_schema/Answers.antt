@@ -5,8 +5,6 @@ use Prim.Native.Nat.{◌-◌}
 use native.Mathlib.Omega.{arith}
 use Rattle.schemas.proofs.evaluate_schema.Goals as goal
 
-)
-
 pub loop-i-init : goal.loop-i-init
 loop-i-init c = passing_starts
 
@@ -15,6 +13,7 @@ overflow_add-i c = omega (
   arith,
   c.loop-i-test.true,
   c.well_formed,
+)
 
 pub loop-i-smaller-then-is_due : goal.loop-i-smaller-then-is_due
 loop-i-smaller-then-is_due c = omega (arith, c.loop-i-test.true)

@@ -6,8 +6,6 @@ use mathlib.Core.Path.{refl}
 use native.Mathlib.Omega.{arith}
 use Rattle.schemas.proofs.measure_constants.Goals as goal
 
-)
-
 pub loop-i-init : goal.loop-i-init
 loop-i-init c = measuring_starts
 
@@ -16,6 +14,7 @@ overflow_add-i c = omega (
   arith,
   c.loop-i-test.true,
   c.well_formed,
+)
 
 pub loop-i-smaller-then-is_due : goal.loop-i-smaller-then-is_due
 loop-i-smaller-then-is_due c = omega (arith, c.loop-i-test.true)

@@ -3,8 +3,6 @@ use Rattle.spellings.proofs.Blocks.{short_blocks, short_hashes, told}
 use native.Mathlib.Omega.{arith}
 use Rattle.spellings.proofs.hash_at.Goals as goal
 
-)
-
 pub eight-requires : goal.eight-requires
 eight-requires c = omega (arith, c.inside.ensures (told c.inside.result c.if-not-inside.false-raw))
 
@@ -17,9 +15,10 @@ join-requires-2 c = (
         c.type_inv.s j,
       )) c.if-n-gt-EIGHT.false
       c.eight.ensures c.first_bytes-x.ensures).1.small,
+)
 
 pub returns : goal.returns
-returns c =    short_hashes c.args.s.now
+returns c = short_hashes c.args.s.now
     c.args.at
     c.args.n (λ j. omega (
       arith,

@@ -5,8 +5,6 @@ use native.Mathlib.Omega.{arith}
 use mathlib.Core.Path.{refl}
 use Rattle.spellings.proofs.high_at_others.Goals as goal
 
-unfolding no_letters ones
-
 pub overflow_add-result : goal.overflow_add-result
 overflow_add-result c = omega (arith, and_le_r c.args.a 6872316419617283935)
 
@@ -17,4 +15,5 @@ pub overflow_add-result-2 : goal.overflow_add-result-2
 overflow_add-result-2 c = omega (arith, and_le_r c.args.a 6872316419617283935)
 
 pub returns : goal.returns
+unfolding no_letters ones
 returns c = refl

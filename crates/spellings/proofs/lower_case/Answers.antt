@@ -3,17 +3,14 @@ use Rattle.express.specs.Tokens.Bytes.{lower}
 use borrow.Author.Tests.{le-leb, lt-leb}
 use Rattle.spellings.proofs.lower_case.Goals as goal
 
-unfolding lower
-
-unfolding lower
-
-unfolding lower
-
 pub returns-then-b-lt65 : goal.returns-then-b-lt65
+unfolding lower
 returns-then-b-lt65 c = simp (lt-leb _ _ c.if-b-lt65.true)
 
 pub returns-then-b-gt90 : goal.returns-then-b-gt90
+unfolding lower
 returns-then-b-gt90 c = simp (le-leb _ _ c.if-b-lt65.false, lt-leb _ _ c.if-b-gt90.true)
 
 pub returns : goal.returns
+unfolding lower
 returns c = simp (le-leb _ _ c.if-b-lt65.false, le-leb _ _ c.if-b-gt90.false)

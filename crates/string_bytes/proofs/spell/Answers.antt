@@ -5,8 +5,6 @@ use Prim.Native.Nat.{◌-◌}
 use native.Mathlib.Omega.{arith}
 use Rattle.string_bytes.proofs.spell.Goals as goal
 
-)
-
 pub loop-n-init : goal.loop-n-init
 loop-n-init c = going_starts
 
@@ -21,6 +19,7 @@ overflow_add-at c = let h = going_inside c.loop-n.invariant in let g = going_lon
   c.shorter-at.ensures,
   c.node_bytes-size.auto,
   c.well_formed,
+)
 
 pub overflow_add-n : goal.overflow_add-n
 overflow_add-n c = omega (arith, c.loop-n-test.true, c.ranges.hi)

@@ -5,12 +5,6 @@ use Rattle.string_places.proofs.Placing.{placing_starts, placing_string, placing
 use native.Mathlib.Omega.{arith}
 use Rattle.string_places.proofs.place_strings.Goals as goal
 
-)
-
-)
-
-)) (c.byte_index.ensures.0 ∙ c.before.at82.ensures) c.byte_index.ensures.1
-
 pub loop-i-init : goal.loop-i-init
 loop-i-init c = placing_starts
 
@@ -21,12 +15,14 @@ overflow_add-start c = omega (
   c.loop-i.invariant.few,
   c.loop-i-test.true,
   c.byte_index-start.ensures.1,
+)
 
 pub overflow_add-i : goal.overflow_add-i
 overflow_add-i c = omega (
   arith,
   c.shorter-end.ensures,
   c.loop-i-test.true,
+)
 
 pub loop-i-smaller-then-at8-eq-STRING : goal.loop-i-smaller-then-at8-eq-STRING
 loop-i-smaller-then-at8-eq-STRING c = omega arith
@@ -35,6 +31,7 @@ pub loop-i-preserved-then-at8-eq-STRING : goal.loop-i-preserved-then-at8-eq-STRI
 loop-i-preserved-then-at8-eq-STRING c = placing_string c.loop-i.invariant c.loop-i-test.true c.at8.ensures c.if-at8-eq-STRING.true c.put64.ensures (omega (
   arith,
   c.shorter-end.ensures,
+)) (c.byte_index-start.ensures.0 ∙ c.at8-then-at8-eq-STRING.ensures) c.byte_index-start.ensures.1
 
 pub overflow_add-i-else-at8-eq-STRING : goal.overflow_add-i-else-at8-eq-STRING
 overflow_add-i-else-at8-eq-STRING c = omega (arith, c.shorter-end.ensures, c.loop-i-test.true)

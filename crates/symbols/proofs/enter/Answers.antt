@@ -7,19 +7,19 @@ use native.Mathlib.Omega.{arith}
 use Rattle.symbols.proofs.enter.Goals as goal
 
 -- the place that the chains tell, for there is room for token i
-found : (t : tie.After-token-place) → Places t.before.before.before.before.before.before.before.before.before.args.bytes.now
-    t.before.before.before.before.before.before.before.before.before.args.starts.now
-    t.before.before.before.before.before.before.before.before.before.args.lengths.now
-    t.before.before.before.before.before.before.before.before.before.args.heads.now
-    t.before.before.before.before.before.before.before.before.before.args.next.now
-    (spelling t.before.before.before.before.before.before.before.before.before.args.bytes.now
-    t.before.before.before.before.before.before.before.before.before.args.starts.now
-    t.before.before.before.before.before.before.before.before.before.args.lengths.now
-    t.before.before.before.before.before.before.before.before.before.args.i)
-    t.before.before.before.before.before.before.before.before.before.args.i t.token_place.result
+found : (t : goal.After-token_place-place) → Places t.args.bytes.now
+    t.args.starts.now
+    t.args.lengths.now
+    t.args.heads.now
+    t.args.next.now
+    (spelling t.args.bytes.now
+    t.args.starts.now
+    t.args.lengths.now
+    t.args.i)
+    t.args.i t.token_place-place.result
 found t =
-    let ready = t.before.before.before.before.before.before.before.before.before.requires in
-    t.token_place.ensures.is ready.lined ready.some
+    let ready = t.requires in
+    t.token_place-place.ensures.is ready.lined ready.some
 
 pub bounds-symbols-i : goal.bounds-symbols-i
 bounds-symbols-i c = c.requires.stored

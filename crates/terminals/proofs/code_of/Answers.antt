@@ -10,21 +10,21 @@ use native.Mathlib.Omega.{arith}
 use Rattle.terminals.proofs.code_of.Goals as goal
 
 -- what is known once the hash is there
-abbrev word_of : tie.Start → mathlib.Core.List.List ℕ
+abbrev word_of : goal.Start → mathlib.Core.List.List ℕ
 word_of p = folded p.args.fold (take p.args.n (drop p.args.start p.args.s.now))
 
-slot_here : (p : tie.After-hash-of)
-    → Slot p.before.before.before.args.slots.now p.before.before.before.args.offsets.now p.before.before.before.args.text.now
-    (word_of p.before.before.before) p.before.before.before.args.n
-    (get_or p.before.before.before.args.slots.now p.hash_of.result 0)
+slot_here : (p : goal.After-hash_of)
+    → Slot p.args.slots.now p.args.offsets.now p.args.text.now
+    (word_of p) p.args.n
+    (get_or p.args.slots.now p.hash_of.result 0)
 slot_here p = record {
-  slots_are = p.before.before.before.requires.1;
-  offsets_are = p.before.before.before.requires.2;
-  text_is = p.before.before.before.requires.3;
+  slots_are = p.requires.1;
+  offsets_are = p.requires.2;
+  text_is = p.requires.3;
   size =
-      length_folded p.before.before.before.args.s.now p.before.before.before.args.start p.before.before.before.args.n
-      p.before.before.before.requires.0 p.before.before.before.args.fold;
-  slot = ap (λ (h : ℕ). get_or p.before.before.before.args.slots.now h 0) p.hash_of.ensures;
+      length_folded p.args.s.now p.args.start p.args.n
+      p.requires.0 p.args.fold;
+  slot = ap (λ (h : ℕ). get_or p.args.slots.now h 0) p.hash_of.ensures;
 }
 
 pub returns-then-n-gt-LONGEST : goal.returns-then-n-gt-LONGEST

@@ -12,14 +12,14 @@ use Rattle.terminals.proofs.Entries.{ending_of, miss_long, word_low, word_other}
 use native.Mathlib.Omega.{arith}
 use Rattle.terminals.proofs.may_be_reserved.Goals as goal
 
-abbrev bytes_of : tie.Start → List ℕ
+abbrev bytes_of : (c : goal.Start) → List ℕ
 bytes_of p = take p.args.n (drop p.args.start p.args.s.now)
 
-size : (p : tie.Start) → length (folded true (bytes_of p)) ≡ p.args.n
+size : (p : goal.Start) → length (folded true (bytes_of p)) ≡ p.args.n
 size p = length_folded p.args.s.now p.args.start p.args.n p.requires.0 true
 
 -- the bit that the code reads is that of the word in upper case
-bit_is : (p : tie.Start) → (p.args.n ≡ 0 → ⊥) → (first : ℕ) → first ≡ get_or p.args.s.now p.args.start 0 % ending_count
+bit_is : (p : goal.Start) → (p.args.n ≡ 0 → ⊥) → (first : ℕ) → first ≡ get_or p.args.s.now p.args.start 0 % ending_count
     → get_or p.args.endings.now first 0 / 2 ^ (get_or p.args.s.now (p.args.start + p.args.n - 1) 0 % ending_count) % 2 ≡ ending_of (folded true (bytes_of p))
 bit_is p some first is =
     rw (p.requires.1, is) (sym (ending_is p.args.s.now p.args.start p.args.n p.requires.0 (omega (arith, some))))

@@ -6,42 +6,35 @@ use Rattle.terminals.proofs.Columns.{of_byte}
 use native.Mathlib.Omega.{arith}
 use Rattle.terminals.proofs.one_byte.Goals as goal
 
-unfolding among same
-
-unfolding among same
-
-unfolding among same
-
-unfolding among same
-
-unfolding among same
-
-unfolding among same
-
-unfolding among same
-
 pub returns-then-b-le63 : goal.returns-then-b-le63
 returns-then-b-le63 c = c.low_byte.ensures
 
 pub returns-in-91 : goal.returns-in-91
+unfolding among same
 returns-in-91 c = of_byte _ 91 _ c.in-91.is refl
 
 pub returns-in-92 : goal.returns-in-92
+unfolding among same
 returns-in-92 c = of_byte _ 92 _ c.in-92.is refl
 
 pub returns-in-93 : goal.returns-in-93
+unfolding among same
 returns-in-93 c = of_byte _ 93 _ c.in-93.is refl
 
 pub returns-in-123 : goal.returns-in-123
+unfolding among same
 returns-in-123 c = of_byte _ 123 _ c.in-123.is refl
 
 pub returns-in-124 : goal.returns-in-124
+unfolding among same
 returns-in-124 c = of_byte _ 124 _ c.in-124.is refl
 
 pub returns-in-125 : goal.returns-in-125
+unfolding among same
 returns-in-125 c = of_byte _ 125 _ c.in-125.is refl
 
 pub returns-in_default : goal.returns-in_default
+unfolding among same
 returns-in_default c = rw (
   ne_eqb 40 c.args.b (λ e. omega (arith, e, c.if-b-le63.false)),
   ne_eqb 41 c.args.b (λ e. omega (arith, e, c.if-b-le63.false)),

@@ -8,14 +8,14 @@ use native.Mathlib.Omega.{arith}
 use Rattle.terminals.proofs.terminal.Goals as goal
 
 -- as many bytes as the token has and the text still has
-clipped : (p : tie.After-shorter) → p.shorter.result ≡ min p.before.before.before.args.size (length p.before.before.before.args.s.now - p.before.before.before.args.start)
-clipped p = p.shorter.ensures ∙ ap (min p.before.before.before.args.size) p.before.saturating_sub.ensures
+clipped : (p : goal.After-shorter-n) → p.shorter-n.result ≡ min p.args.size (length p.args.s.now - p.args.start)
+clipped p = p.shorter-n.ensures ∙ ap (min p.args.size) p.saturating_sub.ensures
 
-abbrev bytes_of : tie.Start → mathlib.Core.List.List Prim.Native.Nat.ℕ
+abbrev bytes_of : (c : goal.Start) → mathlib.Core.List.List Prim.Native.Nat.ℕ
 bytes_of p = take p.args.size (drop p.args.start p.args.s.now)
 
-bytes_are : (p : tie.After-shorter) → take p.shorter.result (drop p.before.before.before.args.start p.before.before.before.args.s.now) ≡ bytes_of p.before.before.before
-bytes_are p = part_short p.before.before.before.args.s.now p.before.before.before.args.start p.before.before.before.args.size _ (clipped p)
+bytes_are : (p : goal.After-shorter-n) → take p.shorter-n.result (drop p.args.start p.args.s.now) ≡ bytes_of p
+bytes_are p = part_short p.args.s.now p.args.start p.args.size _ (clipped p)
 
 pub word-requires : goal.word-requires
 word-requires c = (omega (arith, clipped c), c.requires.0, c.requires.1, c.requires.2, c.requires.3)

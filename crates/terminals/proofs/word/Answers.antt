@@ -5,7 +5,7 @@ use lib.ListN.{take, drop}
 use Rattle.terminals.proofs.Entries.{word_low, word_high}
 use Rattle.terminals.proofs.word.Goals as goal
 
-abbrev bytes_of : tie.Start → List ℕ
+abbrev bytes_of : (c : goal.Start) → List ℕ
 bytes_of p = take p.args.n (drop p.args.start p.args.s.now)
 
 pub returns-then-not-may_be_reserved : goal.returns-then-not-may_be_reserved

@@ -6,12 +6,6 @@ use native.Mathlib.Omega.{arith}
 use Prim.Native.Nat.{◌-◌}
 use Rattle.type_names.proofs.bind_range.Goals as goal
 
-)
-
-)
-
-)
-
 pub loop-i-init : goal.loop-i-init
 loop-i-init c = (
   range_starts (omega (arith, c.shorter-i.ensures)) (range_reached c.shorter.ensures c.shorter-i.ensures),
@@ -21,6 +15,7 @@ loop-i-init c = (
     c.shorter-i.ensures,
   ),
   omega (arith, c.shorter.ensures, c.shorter-i.ensures),
+)
 
 pub bounds-kinds-i : goal.bounds-kinds-i
 bounds-kinds-i c = omega (arith, c.loop-i.invariant.1, c.loop-i-test.true)
@@ -39,6 +34,7 @@ loop-i-preserved-then-is_type_name c = (
     arith,
     c.loop-i.invariant.2,
   ),
+)
 
 pub loop-i-preserved : goal.loop-i-preserved
 loop-i-preserved c = (
@@ -48,6 +44,7 @@ loop-i-preserved c = (
     c.loop-i.invariant.1,
   ),
   omega (arith, c.loop-i.invariant.2),
+)
 
 pub shape_of-bound : goal.shape_of-bound
 shape_of-bound c = c.loop-i.invariant.0.bound_long

@@ -6,14 +6,6 @@ use native.Mathlib.Omega.{arith}
 use Prim.Native.Nat.{◌-◌}
 use Rattle.uses.proofs.bind_range.Goals as goal
 
-)
-
-)
-
-)
-
-)
-
 pub found_before-i-requires : goal.found_before-i-requires
 found_before-i-requires c = (
   omega (arith, c.shorter.ensures, c.shorter-reach.ensures),
@@ -22,9 +14,10 @@ found_before-i-requires c = (
     c.shorter.ensures,
     c.shorter-reach.ensures,
   ),
+)
 
 pub loop-i-init : goal.loop-i-init
-loop-i-init c =    let N = c.found_before-i.ensures in
+loop-i-init c = let N = c.found_before-i.ensures in
     let r = c.shorter-reach.ensures in
     let w = c.shorter.ensures in (
       range_leaves_out (range_starts (omega (arith, r)) (range_reached w r)) c.args.bound.now (λ n l. refl) N,
@@ -43,6 +36,7 @@ bounds-roles-n c = omega (
   arith,
   c.loop-i.invariant.2,
   c.loop-i-test.true,
+)
 
 pub overflow_cast-roles : goal.overflow_cast-roles
 overflow_cast-roles c = omega (arith, c.type_inv.roles (c.loop-i.i - 1))
@@ -52,11 +46,11 @@ loop-i-smaller-then-has_finding c = omega (
   arith,
   c.loop-i-test.true,
   c.found_before-i-in-loop-i.ensures.low,
+)
 
 pub loop-i-preserved-then-has_finding : goal.loop-i-preserved-then-has_finding
-loop-i-preserved-then-has_finding c =    let I = c.loop-i.invariant in
-    let N = c.found_before-i-in-loop-i.ensures in
-    (
+loop-i-preserved-then-has_finding c = let I = c.loop-i.invariant in
+    let N = c.found_before-i-in-loop-i.ensures in (
       range_leaves_out
           (range_stores I.0 c.loop-i-test.true
           (range_use c.loop-i.i c.at-code.result refl refl c.has_finding.ensures c.loop-i.bound c.loop-i-test.true I.0.upto
@@ -71,11 +65,11 @@ loop-i-smaller c = omega (
   arith,
   c.loop-i-test.true,
   c.found_before-i-in-loop-i.ensures.low,
+)
 
 pub loop-i-preserved : goal.loop-i-preserved
-loop-i-preserved c =    let I = c.loop-i.invariant in
-    let N = c.found_before-i-in-loop-i.ensures in
-    (
+loop-i-preserved c = let I = c.loop-i.invariant in
+    let N = c.found_before-i-in-loop-i.ensures in (
       range_leaves_out
           (range_passes I.0 c.loop-i-test.true
           (range_other c.loop-i.i c.at-code.result refl refl c.has_finding.ensures c.loop-i.bound c.if-has_finding.false c.at-code.ensures))

@@ -5,8 +5,6 @@ use Rattle.uses.proofs.Uses.{uses_start, uses_go_on, uses_end}
 use native.Mathlib.Omega.{arith}
 use Rattle.uses.proofs.bind_uses.Goals as goal
 
-)
-
 pub loop-v-init : goal.loop-v-init
 loop-v-init c = uses_start c.saturating_sub-v.ensures refl c.fine.ensures c.begin-tabled.ensures
 
@@ -14,9 +12,10 @@ pub loop-v-smaller : goal.loop-v-smaller
 loop-v-smaller c = omega (
   arith,
   c.loop-v-test.true,
+)
 
 pub loop-v-preserved : goal.loop-v-preserved
-loop-v-preserved c =    uses_go_on c.loop-v.invariant c.number.ensures c.put32.ensures c.loop-v-test.true c.number-stamp.ensures c.declaration-d.ensures c.turn_to-tabled.ensures c.bind_range-so_far.ensures
+loop-v-preserved c = uses_go_on c.loop-v.invariant c.number.ensures c.put32.ensures c.loop-v-test.true c.number-stamp.ensures c.declaration-d.ensures c.turn_to-tabled.ensures c.bind_range-so_far.ensures
     c.bind_range-so_far.auto.bound c.bind_range-so_far.auto.to c.turn_to-tabled.auto.table
 
 pub shape_of-bound : goal.shape_of-bound

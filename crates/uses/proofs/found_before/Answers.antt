@@ -7,8 +7,6 @@ use Rattle.scopes.proofs.NoneFrom.{none_yet, none_more}
 use Rattle.uses.specs.Binding.{may_find}
 use Rattle.uses.proofs.found_before.Goals as goal
 
-)
-
 pub loop-i-init : goal.loop-i-init
 loop-i-init c = none_yet _
 
@@ -21,6 +19,7 @@ bounds-roles-i c = omega (
   c.loop-i-test.true,
   c.loop-i.invariant.low,
   c.requires.1,
+)
 
 pub returns-then-may_find : goal.returns-then-may_find
 returns-then-may_find c = c.loop-i.invariant
@@ -29,7 +28,7 @@ pub loop-i-smaller : goal.loop-i-smaller
 loop-i-smaller c = omega (arith, c.loop-i-test.true)
 
 pub loop-i-preserved : goal.loop-i-preserved
-loop-i-preserved c =    none_more _ c.loop-i.invariant c.loop-i-test.true
+loop-i-preserved c = none_more _ c.loop-i.invariant c.loop-i-test.true
     (ap (may_find (get_or c.args.kinds.now (c.loop-i.i - 1) 0) (get_or c.args.roles.now (c.loop-i.i - 1) 0)) (sym c.at.ensures) ∙ sym c.may_find.ensures ∙ c.if-may_find.false)
 
 pub returns : goal.returns

@@ -5,8 +5,6 @@ use Rattle.uses.proofs.Uses.{or_none, and_none, and_all}
 use Rattle.scopes.specs.Standing.{is_member}
 use Rattle.uses.proofs.has_finding.Goals as goal
 
-) (c.is_scope_member.ensures ∙ and_all _)
-
 pub returns-then-kind-eq-NAME : goal.returns-then-kind-eq-NAME
 returns-then-kind-eq-NAME c = rw c.if-kind-eq-NAME.true (or_none _)
 
@@ -22,6 +20,7 @@ returns-then-code-ne0 c = rw (
   ne_eqb _ _ c.if-kind-eq-QUALIFIED_ITEM.false,
   ne_eqb _ _ c.if-kind-eq-SELF_REFERENCE.false,
   ne_eqb _ _ c.if-code-ne0.true,
+) (c.is_scope_member.ensures ∙ and_all _)
 
 pub returns : goal.returns
 returns c = rw (ne_eqb _ _ c.if-kind-eq-NAME.false, ne_eqb _ _ c.if-kind-eq-QUALIFIED_ITEM.false, ne_eqb _ _ c.if-kind-eq-SELF_REFERENCE.false, c.if-code-ne0.false)

@@ -3,7 +3,6 @@ use Rattle.scopes.specs.Entries.{key_of}
 use mathlib.Core.Path.{refl}
 use Rattle.scopes.proofs.dictionary.key.Goals as goal
 
-unfolding key_of
-
 pub returns : goal.returns
+unfolding key_of
 returns c = refl

@@ -1,8 +1,6 @@
 -- `test_exports::naming::woffulent_resolve` meets its contract: it hands on the resolution in numbers. Assumes nothing.
 use Rattle.test_exports.proofs.naming.woffulent_resolve.Goals as goal
 
-}
-
 pub shape_of-bindings : goal.shape_of-bindings
 shape_of-bindings c = c.resolve-resolution.auto.bindings
 
@@ -46,3 +44,4 @@ returns c = record {
   encodes = c.resolution_reply.ensures;
   number_is
       = c.resolution_place.ensures;
+}
