@@ -18,6 +18,8 @@ TYPES = {"Is-first": "IsFirst", "Deep-from": "DeepFrom", "Named-by": "named_by",
 WORD = re.compile(r"(?<![\w'◌·-])[\w'◌·+]+(?:-[\w'◌·+]+)+")
 DECLARES = re.compile(r"^\s*(?:(?:abbrev|unfoldable|pub)\s+)*(data\s+|record\s+|ruleset\s+)?([^\s(){}\[\];,.`@\"]+)\s*(?::|\{|\(|=)", re.M)
 IMPORTS = re.compile(r"use\s+([^\s{;]+)\.\{([^}]*)\}")
+# What the language's own modules declare, beside the kit's files.
+BUILT_IN = {"zero-zero", "zero-suc", "suc-zero", "suc-suc", "ℤ-zero"}
 MADE = ("Need-", "Lts-", "After-", "In-", "At-", "Then-", "Else-", "Inv-")
 
 
@@ -59,7 +61,7 @@ def turned(text, keeps, met):
 
     def turn(m):
         word = m.group(0)
-        if word in keeps or word.startswith(MADE):
+        if word in keeps or word in BUILT_IN or word.startswith(MADE):
             return word
         met.add(word)
         return spelled(word)
