@@ -1,11 +1,11 @@
 -- The laws of columns that every crate cites, for elements of any type. Assumes nothing.
 use mathlib.Core.Path.{◌≡◌, refl, sym, ap, ◌∙◌}
-use mathlib.Core.List.{List, [], ◌∷◌, ◌++◌, append-nil, append_assoc}
+use mathlib.Core.List.{List, [], ◌∷◌, ◌++◌, append-nil}
 use Prim.Native.Nat.{ℕ, zero, suc, ◌+◌, ◌-◌, ◌<◌, ◌≤◌}
 use native.Mathlib.Omega.{arith}
 use native.Mathlib.Numerals.{add-one}
-use native.Mathlib.Nat.{add-zero, zero-add}
-use lib.ListN.{length, take, drop, set, get_or, replicate, length-set, length-append, length-take, length-drop, length-replicate}
+use native.Mathlib.Nat.{add-zero}
+use lib.ListN.{length, take, drop, set, get_or, replicate, length-set, length-append, length-take, length-replicate}
 use lib.Seq.{length-take-le, sets, length-sets, sets-eq, take_all, take_at, take-take, take-suc-set, append_snoc, set_out, get_or-set_same, get_or-set_other, get_or-take}
 use Rattle.columns.specs.Column.{cleared, cleared_before, padded, tabulated}
 

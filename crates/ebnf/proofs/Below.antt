@@ -8,7 +8,6 @@ use native.Mathlib.Omega.{arith}
 use lib.ListN.{length, length-append}
 use Rattle.ebnf.specs.Rows.{Row}
 use Rattle.ebnf.specs.Trees.{Forest, empty, add, flat}
-use Rattle.ebnf.specs.Check.{passes}
 use Rattle.ebnf.proofs.Sets.{and_split, lt_or_le}
 use Rattle.ebnf.proofs.Sorts.{every, every_of}
 use Rattle.ebnf.proofs.Parts.{Part, one, many, Match, m_end, m_one, m_skip, m_more, Kinds, All}

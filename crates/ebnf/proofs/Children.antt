@@ -6,7 +6,6 @@ use mathlib.Core.Path.{◌≡◌, refl, ap, subst}
 use Prim.Native.Nat.{ℕ, suc, ◌+◌, ◌-◌, ◌≤◌, ◌<◌}
 use native.Mathlib.Omega.{arith}
 use lib.ListN.{length, length-append}
-use Rattle.ebnf.specs.Grammar.{token}
 use Rattle.ebnf.specs.Rows.{Row}
 use Rattle.ebnf.specs.Trees.{Forest, empty, add, beside, flat}
 use Rattle.ebnf.proofs.Trees.{flat_beside}

@@ -9,12 +9,12 @@ use native.Mathlib.Nat.{le_refl}
 use native.Mathlib.Omega.{arith}
 use borrow.Author.Tests.{leb-true, not-true}
 use lib.Dec.{leb}
-use lib.ListN.{length, get_or, get_or-append, length-append}
+use lib.ListN.{length, get_or-append, length-append}
 use lib.Seq.{get_or-append-add}
 use Rattle.ebnf.specs.Grammar.{Mark, silent, here, node, leaf, Ebnf, none, mark, step, seq, alt, star, fork, nt}
 use Rattle.ebnf.specs.Grammar.{Derives, nothing, marked, token, both, left, right, stop, more, label, other, rule, Text}
-use Rattle.ebnf.specs.Rows.{Row, Rows, stamp_rows, stamp_name, in_rows}
-use Rattle.ebnf.proofs.Sets.{and_split, or_split, lt_or_le}
+use Rattle.ebnf.specs.Rows.{Row, Rows, in_rows}
+use Rattle.ebnf.proofs.Sets.{and_split, lt_or_le}
 use Rattle.ebnf.proofs.Derivations.{mono}
 use Rattle.ebnf.proofs.PostOrder.{no_row, row_at}
 

@@ -12,9 +12,7 @@ use borrow.Author.Tests.{not-true, eqb-false}
 use Rattle.ebnf.specs.Grammar.{Mark, silent, here, node, leaf, Ebnf, none, mark, step, seq, alt, star, fork, nt}
 use Rattle.ebnf.specs.Grammar.{Derives, nothing, marked, token, both, left, right, stop, more, label, other, rule, Text}
 use Rattle.ebnf.specs.Rows.{Row, stamp_rows, Rows, in_rows}
-use Rattle.ebnf.specs.Depth.{good}
 use Rattle.ebnf.proofs.Sets.{and_split, or_split, lt_or_le}
-use Rattle.ebnf.proofs.Parts.{fits}
 use Rattle.ebnf.proofs.PostOrder.{no_row, row_at, size_at}
 
 module _ {N : Type 0} (rules : N → Ebnf N) (k : ℕ) where

@@ -16,7 +16,6 @@ use Rattle.ebnf.proofs.Sets.{and_split, or_split, in_more, mem_itself}
 use Rattle.ebnf.proofs.Predictive.{Predictive}
 use Rattle.ebnf.proofs.Lookahead.{eats}
 use Rattle.ebnf.proofs.Sorts.{Sort, sort, of_sorts, sorts_within, of_itself, every_of}
-use Prim.Native.String.{◌∷◌ as ◌then◌}
 
 -- A part of a row of trees: one tree of these sorts, or any number of them.
 pub data Part : Type 0 where

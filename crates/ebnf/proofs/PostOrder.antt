@@ -8,13 +8,12 @@ use native.Mathlib.Omega.{arith}
 use lib.ListN.{length, get_or, get_or-append, length-append}
 use lib.Seq.{get_or-append_seam, get_or-append-add}
 use Rattle.ebnf.specs.Set.{mem}
-use Rattle.ebnf.specs.Grammar.{Ebnf, token, Text}
+use Rattle.ebnf.specs.Grammar.{Ebnf, Text}
 use Rattle.ebnf.specs.Rows.{Row, Rows, in_rows}
 use Rattle.ebnf.specs.Trees.{Forest, empty, add, beside, flat}
 use Rattle.ebnf.specs.Parse.{Tables}
 use Rattle.ebnf.proofs.Sets.{lt_or_le}
 use Rattle.ebnf.proofs.Predictive.{Predictive}
-use Rattle.ebnf.proofs.Lookahead.{inside}
 use Rattle.ebnf.proofs.Trees.{tree_of_rows}
 use Rattle.ebnf.proofs.Sorts.{Sort, of_sorts}
 use Rattle.ebnf.proofs.Parts.{Part, Match, Behind, Kinds, keeps, All, formed}

@@ -1,9 +1,9 @@
 -- Nodes side by side stand in the order of the text: a row that stands before the tree of another is named by an earlier token.
 use mathlib.Core.Bool.{Bool, true, false, not, ◌&&◌, ◌||◌, false≢true}
 use mathlib.Core.List.{List, [], ◌∷◌, ◌++◌}
-use mathlib.Core.Logic.{◌⊎◌, inl, inr, ⊎_elim}
-use mathlib.Core.Path.{◌≡◌, refl, sym, ap, ◌∙◌, subst}
-use Prim.Native.Nat.{ℕ, zero, suc, ◌+◌, ◌-◌, ◌≤◌, ◌<◌}
+use mathlib.Core.Logic.{inl, inr}
+use mathlib.Core.Path.{◌≡◌, refl, ap, subst}
+use Prim.Native.Nat.{ℕ, zero, suc, ◌+◌, ◌≤◌, ◌<◌}
 use native.Mathlib.Nat.{le_refl}
 use native.Mathlib.Omega.{arith}
 use lib.ListN.{length, length-append}
@@ -12,7 +12,6 @@ use Rattle.ebnf.specs.Grammar.{Derives, nothing, marked, token, both, left, righ
 use Rattle.ebnf.specs.Rows.{Row, Rows, in_rows}
 use Rattle.ebnf.specs.Parse.{Tables}
 use Rattle.ebnf.proofs.Sets.{and_split}
-use Rattle.ebnf.proofs.Derivations.{mono}
 use Rattle.ebnf.proofs.Predictive.{Predictive}
 use Rattle.ebnf.proofs.Lookahead.{eats}
 use Rattle.ebnf.proofs.PostOrder.{row_at, size_at}

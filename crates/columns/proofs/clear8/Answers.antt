@@ -1,5 +1,4 @@
 -- `columns::clear8` meets its contract, by the laws of `Clearing`. Assumes nothing.
-use Prim.Native.Nat.{◌-◌}
 use native.Mathlib.Omega.{arith}
 use lib.ListN.{length-set}
 use Rattle.columns.proofs.Laws.{clearing_starts, clearing_goes_on, clearing_ends}

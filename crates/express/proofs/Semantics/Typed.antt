@@ -12,7 +12,7 @@ use lib.ListN.{length, set, replicate, length-set, length-replicate}
 use lib.Seq.{get_or-set_same, get_or-set_other}
 use Rattle.express.specs.Syntax.NodeKind as node
 use Rattle.relations.specs.Select.{span, keep, Ascending, nil, cons}
-use Rattle.express.specs.Syntax.Tree.{Table, count, kind, size, first, nodes, is, low, within}
+use Rattle.express.specs.Syntax.Tree.{Table, count, kind, size, first, nodes, is, within}
 use Rattle.express.proofs.Syntax.Formed.{Formed}
 use Rattle.express.specs.Semantics.Shape.{shape}
 use Rattle.express.specs.Semantics.Operate.{Kind, untyped}

@@ -3,14 +3,14 @@ use mathlib.Core.Path.{◌≡◌, refl, sym, ap, ◌∙◌}
 use mathlib.Core.Logic.{◌≢◌}
 use mathlib.Core.Bool.{Bool, true, false, cond, ◌||◌, false≢true}
 use mathlib.Core.List.{List, [], ◌∷◌, map}
-use Prim.Native.Nat.{ℕ, ◌-◌, ◌^◌, ◌≤◌, ◌<◌}
+use Prim.Native.Nat.{ℕ, ◌^◌, ◌≤◌, ◌<◌}
 use native.Mathlib.Decide.{dec_lt}
 use native.Mathlib.Omega.{arith}
 use borrow.Author.Tests.{eqb-false}
 use lib.Dec.{eqb}
 use lib.ListN.{length, get_or, get_or-map, get_or-eq_default}
 use Rattle.express.specs.Tokens.Bytes.{within, upper, same}
-use Rattle.express.specs.Tokens.Lexis.{TokenRow, lexed, starts, integer_value, binary_bits, binary_value, string_value, most_bytes}
+use Rattle.express.specs.Tokens.Lexis.{TokenRow, lexed, integer_value, binary_bits, binary_value, string_value, most_bytes}
 use Rattle.express.specs.Tokens.Terminal as word
 use Rattle.express.specs.Tokens.Terminal.{Fixed, identifier, the, symbols, reserved, among, terminal_of}
 use Rattle.express.specs.Syntax.NodeKind as node
