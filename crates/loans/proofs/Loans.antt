@@ -5,26 +5,29 @@ use Prim.Native.Nat.{ℕ, zero, suc, ◌+◌}
 use lib.Dec.{T}
 use lib.ListN.{length, replicate, length-replicate}
 use seplogic.Ra.Ura.{Ura}
-use seplogic.Ra.TreeShare.{full_share}
+use base.Fraction.{full_share}
 use mir.Syntax.{Width, Lifetime, Ty, ty_array, int_big}
 use mir.Val.{Val, vint, has_ty, WT, Fits}
 use base.Logic.{SProp, ent, sep, ex, guard, via, guard_i, ex_i}
 use base.Fml.{Lft, GName, Fml, fsep, feq, fat, froom, fdead, flent}
 use prog.Wp.{Env}
 use types.Logic.{Logic, sem}
-use types.Kit.{Item, ‵, later, ◌$◌, ◌∵◌, !, qed, by, move, keep, use1, use3, rewrite, drop, fsplit, fjoin, fpick, fpack, feq_l, await, updating, now as at_once, done}
+use types.Kit.{Item, ‵, ◌⊛◌, later, ◌$◌, ◌∵◌, !, qed, by, move, keep, use1, use3, rewrite, drop, split, fsplit, fjoin, fpick, fpack, feq_l, await, updating, now as at_once, show, done}
 use types.Tokens.{lent_back}
 use types.Run.{Opd, forget}
 use types.SemTy.{cells, Arr}
 use types.Share.{parts, arr_parts}
 use denote.RattleType.{RattleType}
-use denote.Shadow.{shadow}
+use denote.Shadow.{shadow, pure_i}
+use denote.SharingLaws.{said_shr_laws}
+use denote.Lends.{lent_cut}
+use denote.Copied.{Copied, each_lends}
 use denote.Laws.{Typed, Is, Copy}
 use denote.Memory.{cell_at, lone, part_at, mem, shares, part_of}
 use denote.Array.{each, array_val, Array, Array-Typed, Array-repeat}
 use denote.ArrayMemory.{Single, Array-apart, Array-whole}
-use denote.Slice.{slice_val, MutSlice, ShrSlice, Room, finally}
-use denote.Lend.{Held, lends_slice, slice_back, lends_shr_slice}
+use denote.Slice.{slice_val, MutSlice, ShrSlice, Room, finally, shr_slice_at, elements_shared}
+use denote.Lend.{Held, lends_slice, slice_back}
 
 -- ---- a large constant as an operand, such as the length of an array
 
@@ -83,7 +86,7 @@ module _ {M : Type 1} {𝓤 : Ura M} (𝓛 : Logic 𝓤) (R : RattleType) (singl
 
   abbrev pub Lent : Lifetime → Lft → List R.Denot → GName → SProp 𝓤
   Lent ℓ κ xs γ =
-      sep 𝓤 ⟦ (MutSlice ℓ κ R).own_val (record { ptr = (l, 0); name = γ; now = xs }) (slice_val (l, 0) n ∷ []) ⟧ (A.lent κ (Held R n l 0 γ))
+      sep 𝓤 ⟦ (MutSlice ℓ κ R).own_val (record { ref_ptr = (l, 0); ghost_name = γ; now = xs }) (slice_val (l, 0) n ∷ []) ⟧ (A.lent κ (Held R n l 0 γ))
 
   -- at the whole share, the parts of a list in memory are its cells
   whole : (xs : List R.Denot) (o : ℕ) → ◌≡◌ {A = Fml} (parts (mem R) (shares R) full_share xs l o) (cells (mem R) xs l o)
@@ -100,7 +103,7 @@ module _ {M : Type 1} {𝓤 : Ura M} (𝓛 : Logic 𝓤) (R : RattleType) (singl
   pub lends : (ℓ : Lifetime) (κ : Lft) (xs : List R.Denot) → length xs ≡ n → Room R n → ent 𝓤 ⟦ Lies xs ⟧ (H.⇛ (ex 𝓤 (Lent ℓ κ xs)))
   lends ℓ κ xs long room =
       subst (λ (m : ℕ). ent 𝓤 ⟦ Lies xs ⟧
-      (H.⇛ (ex 𝓤 (λ (γ : GName). sep 𝓤 ⟦ (MutSlice ℓ κ R).own_val (record { ptr = (l, 0); name = γ; now = xs }) (slice_val (l, 0) m ∷ []) ⟧ (A.lent κ (Held R m l 0 γ)))))) long
+      (H.⇛ (ex 𝓤 (λ (γ : GName). sep 𝓤 ⟦ (MutSlice ℓ κ R).own_val (record { ref_ptr = (l, 0); ghost_name = γ; now = xs }) (slice_val (l, 0) m ∷ []) ⟧ (A.lent κ (Held R m l 0 γ)))))) long
       (via 𝓤 ⟦ (Arr (mem R) n).own_at xs l 0 ⟧ (apart xs)
       (qed 𝓛 (‵ ((Arr (mem R) n).own_at xs l 0) ∷ []) ∵ fsplit ! $ drop ! $ by ! (lends_slice 𝓛 R ℓ κ xs l 0 (subst (Room R) (sym long) room))))
 
@@ -119,13 +122,24 @@ module _ {M : Type 1} {𝓤 : Ura M} (𝓛 : Logic 𝓤) (R : RattleType) (singl
   LentShared ℓ κ xs γ =
       sep 𝓤 ⟦ (ShrSlice ℓ κ R).own_val (record { ref_ptr = (l, 0); now = xs }) (slice_val (l, 0) n ∷ []) ⟧ (A.lent κ (Shared xs))
 
-  pub shares_out : (ℓ : Lifetime) (κ : Lft) (xs : List R.Denot) → length xs ≡ n → Room R n → ent 𝓤 ⟦ Lies xs ⟧ (H.⇛ (ex 𝓤 (LentShared ℓ κ xs)))
-  shares_out ℓ κ xs long room =
-      via 𝓤 ⟦ Shared xs ⟧ (Array-apart 𝓛 R full_share single n xs l 0)
-      (subst (λ (m : ℕ). ent 𝓤 ⟦ (arr_parts (shares R) m).part full_share xs l 0 ⟧
-      (H.⇛ (ex 𝓤 (λ (γ : GName). sep 𝓤 ⟦ (ShrSlice ℓ κ R).own_val (record { ref_ptr = (l, 0); now = xs }) (slice_val (l, 0) m ∷ []) ⟧
-      (A.lent κ ((arr_parts (shares R) m).part full_share xs l 0)))))) long
-      (lends_shr_slice 𝓛 R ℓ κ full_share xs l 0 (subst (Room R) (sym long) room)))
+  abbrev Reads : List R.Denot → Lft → Fml
+  Reads xs = elements_shared R xs l 0
+
+  -- an element that can be copied is lent out of the memory itself, with no token
+  pub shares_out : Copied 𝓛 R → (ℓ : Lifetime) (κ : Lft) (xs : List R.Denot) → length xs ≡ n → Room R n → ent 𝓤 ⟦ Lies xs ⟧ (H.⇛ (ex 𝓤 (LentShared ℓ κ xs)))
+  shares_out copied ℓ κ xs long room =
+      let long_is : Fml = feq ℕ (length xs) n in
+      let apart_xs : Fml = parts (mem R) (shares R) full_share xs l 0 in
+      let out : ent 𝓤 ⟦ Shared xs ⟧ (sep 𝓤 ⟦ apart_xs ⟧ ⟦ long_is ⟧) = qed 𝓛 (‵ (Shared xs) ∷ []) ∵ fsplit ! $ move ! (1 ∷ 0 ∷ []) $ done ! in
+      let back : ent 𝓤 (sep 𝓤 ⟦ apart_xs ⟧ ⟦ long_is ⟧) ⟦ Shared xs ⟧ =
+      qed 𝓛 (‵ apart_xs ∷ ‵ long_is ∷ []) {P = ⟦ Shared xs ⟧} (move ! (1 ∷ 0 ∷ []) $ fjoin ! $ done !) in
+      let twice : ent 𝓤 ⟦ long_is ⟧ (sep 𝓤 ⟦ long_is ⟧ ⟦ long_is ⟧) = (said_shr_laws long_is tt).contraction M 𝓤 𝓛 κ in
+      qed 𝓛 (‵ (Lies xs) ∷ []) ∵ use1 𝓛 (‵ (Shared xs)) (Array-apart 𝓛 R full_share single n xs l 0) $ updating ! $
+      use1 𝓛 (later (‵ (Reads xs κ) ⊛ (‵ long_is ⊛ ‵ (flent κ (Shared xs)))))
+      (lent_cut 𝓛 (Shared xs) apart_xs long_is (Reads xs) out back twice (each_lends 𝓛 R copied full_share xs l 0) κ) $
+      await ! tt $ split ! $ move ! (1 ∷ []) $ split ! $ drop ! $ at_once ! $ show ! (LentShared ℓ κ xs) 0 $ move ! (1 ∷ []) $
+      pure_i ! (shr_slice_at R (record { ref_ptr = (l, 0); now = xs }) (slice_val (l, 0) n ∷ [])) (tt, (tt, tt))
+      (ap (λ (m : ℕ). slice_val (l, 0) m ∷ []) (sym long), subst (Room R) (sym long) room) $ fjoin ! $ done !
 
   pub shared_back : (κ : Lft) (xs : List R.Denot) → ent 𝓤 (sep 𝓤 (A.dead κ) (A.lent κ (Shared xs))) (H.⇛ ⟦ Lies xs ⟧)
   shared_back κ xs =

@@ -59,30 +59,26 @@ module _ (ks : List ℕ) (ns : List ℤ) (ls : List ℕ) (count n : ℕ) where
 
 -- ---- a loop that fills: the slice as it is and the list wanted agree on the first i records
 
-pub record Filling (want : List Answer) (n : ℕ) : Type 0 where
-  pub i : ℕ
-  pub have : List Answer
+pub record Filling (want : List Answer) (n i : ℕ) (have : List Answer) : Type 0 where
   pub within : i ≤ n
   pub long : length have ≡ n
   pub upto : take i have ≡ take i want
 
-unfoldable pub filling_starts : (want : List Answer) (was : List Answer) → Filling want (length was)
-filling_starts want was = record { i = 0; have = was; within = zero-le; long = refl; upto = refl }
+pub filling_starts : (want was : List Answer) → Filling want (length was) 0 was
+filling_starts want was = record { within = zero-le; long = refl; upto = refl }
 
-unfoldable pub filling_goes_on : (want : List Answer) (n : ℕ) → length want ≡ n → (s : Filling want n) → s.i < n → (r : Answer) → r ≡ get_or want s.i zeros → Filling want n
-filling_goes_on want n e s h r is = record {
-  i = s.i + 1;
-  have = set s.have s.i r;
+pub filling_goes_on : {want : List Answer} {n i : ℕ} {have : List Answer} → length want ≡ n → Filling want n i have → i < n → (r : Answer) → r ≡ get_or want i zeros → Filling want n (i + 1) (set have i r)
+filling_goes_on {want} {n} {i} {have} e s h r is = record {
   within = add-one-le h;
-  long = length-set s.have s.i r ∙ s.long;
+  long = length-set have i r ∙ s.long;
   upto =
-      let here : s.i < length s.have = omega (arith, s.long) in
-      let there : s.i < length want = omega (arith, e) in
-      rw (add-one, take-suc-set s.have s.i r here, take-suc want s.i zeros there, s.upto, is);
+      let here : i < length have = omega (arith, s.long) in
+      let there : i < length want = omega (arith, e) in
+      rw (add-one, take-suc-set have i r here, take-suc want i zeros there, s.upto, is);
 }
 
-pub filling_ends : (want : List Answer) (n : ℕ) → length want ≡ n → (s : Filling want n) → n ≤ s.i → s.have ≡ want
-filling_ends want n e s h =
-    let here : length s.have ≡ s.i = s.long ∙ le_antisymm h s.within in
-    let there : length want ≡ s.i = e ∙ le_antisymm h s.within in
-    sym (take-length s.have) ∙ ap (λ (m : ℕ). take m s.have) here ∙ s.upto ∙ ap (λ (m : ℕ). take m want) (sym there) ∙ take-length want
+pub filling_ends : {want : List Answer} {n i : ℕ} {have : List Answer} → length want ≡ n → Filling want n i have → n ≤ i → have ≡ want
+filling_ends {want} {n} {i} {have} e s h =
+    let here : length have ≡ i = s.long ∙ le_antisymm h s.within in
+    let there : length want ≡ i = e ∙ le_antisymm h s.within in
+    sym (take-length have) ∙ ap (λ (m : ℕ). take m have) here ∙ s.upto ∙ ap (λ (m : ℕ). take m want) (sym there) ∙ take-length want
