@@ -3,8 +3,8 @@
 
 use checker::check;
 use columns::index;
-use libc::STDERR_FILENO;
 use listing_io::{Input, print, read_input};
+use std::io::Write;
 
 // One byte more than a file may have: so much is enough to refuse it.
 const BYTES: usize = 65537;
@@ -22,7 +22,7 @@ const ROOM: usize = ANSWERS * codes::limits::STRING_BYTES;
 const LINES: usize = 262144;
 
 // Whether the whole listing was written.
-fn list(src: &[u8]) -> bool {
+fn list<W: Write>(output: &mut W, src: &[u8]) -> bool {
     let mut token_kinds = [0u8; TOKENS];
     let mut token_starts = [0u32; TOKENS];
     let mut token_lengths = [0u32; TOKENS];
@@ -50,6 +50,7 @@ fn list(src: &[u8]) -> bool {
     );
     let mut out = [0u8; LINES];
     print(
+        output,
         &mut out,
         src,
         &token_starts,
@@ -66,18 +67,18 @@ fn list(src: &[u8]) -> bool {
     )
 }
 
-fn complain(what: &[u8]) {
-    io::write_all(STDERR_FILENO, what);
+fn complain<W: Write>(errors: &mut W, what: &[u8]) {
+    let _ = errors.write_all(what);
 }
 
-fn main() {
+fn main(rt: HostRuntime) {
     let mut src = [0u8; BYTES];
-    let read = read_input(&mut src);
+    let read = read_input(&mut rt.stdin(), &mut src);
     let Input::Read(length) = read else {
-        complain(b"listing: the standard input cannot be read\n");
+        complain(&mut rt.stderr(), b"listing: the standard input cannot be read\n");
         return;
     };
-    if !list(&src[..length]) {
-        complain(b"listing: the standard output cannot be written\n");
+    if !list(&mut rt.stdout(), &src[..length]) {
+        complain(&mut rt.stderr(), b"listing: the standard output cannot be written\n");
     }
 }

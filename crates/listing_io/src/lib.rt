@@ -1,11 +1,11 @@
-// The standard input into a lent buffer, and a listing to the standard output. Of descriptors it is assumed what `libc` says of `read` and `write`.
+// A reader into a lent buffer, and a listing to a writer. Of both it is assumed what std's `Read` and `Write` say.
 #![tactic(auto)]
 
 ghost use Rattle.std.specs.Prelude.{length};
 ghost use Rattle.listing_io.specs.Reading.{Within};
 
-use libc::{STDIN_FILENO, STDOUT_FILENO};
 use listing_parts::{first_part, next_part};
+use std::io::{Read, Write};
 
 // So many bytes; or none, for the input cannot be read.
 #[derive(Clone, Copy)]
@@ -14,17 +14,15 @@ pub enum Input {
     Failed,
 }
 
-// The standard input to its end, or as much of it as the buffer holds.
-pub fn read_input(buffer: &mut [u8]) -> Input
+// The input to its end, or as much of it as the buffer holds.
+pub fn read_input<R: Read>(input: &mut R, buffer: &mut [u8]) -> Input
     ensures { Within (length buffer.new) result }
 {
     let mut done = 0;
     while done < buffer.len() {
-        let got = libc::read(STDIN_FILENO, &mut buffer[done..]);
-        if got < 0 {
+        let Ok(more) = input.read(&mut buffer[done..]) else {
             return Input::Failed;
-        }
-        let more = io::count(got, &buffer[done..]);
+        };
         if more == 0 {
             return Input::Read(done);
         }
@@ -34,7 +32,8 @@ pub fn read_input(buffer: &mut [u8]) -> Input
 }
 
 // The lines from an answer and a node on, each part written before the next is made; whether all were written.
-fn print_rest<'a>(
+fn print_rest<'a, W: Write>(
+    output: &mut W,
     out: &mut [u8],
     text: &'a [u8],
     starts: &'a [u32],
@@ -71,7 +70,7 @@ fn print_rest<'a>(
             return false;
         }
         let end = next.at;
-        if !io::write_all(STDOUT_FILENO, &out[..end]) {
+        if output.write_all(&out[..end]).is_err() {
             return false;
         }
         line = next.line;
@@ -81,7 +80,8 @@ fn print_rest<'a>(
 }
 
 // The listing of an outcome; whether all of it was written. A line is written with its part, or not at all.
-pub fn print<'a>(
+pub fn print<'a, W: Write>(
+    output: &mut W,
     out: &mut [u8],
     text: &'a [u8],
     starts: &'a [u32],
@@ -115,10 +115,11 @@ pub fn print<'a>(
     if end == 0 {
         return false;
     }
-    if !io::write_all(STDOUT_FILENO, &out[..end]) {
+    if output.write_all(&out[..end]).is_err() {
         return false;
     }
     print_rest(
+        output,
         out,
         text,
         starts,

@@ -1,43 +1,46 @@
 -- `lines::put_answer` meets its contract, by the kind of the record. Assumes nothing.
+use mathlib.Core.List.{[]}
+use Rattle.std.proofs.Common.{rules}
 use Rattle.lines.proofs.Pieces.{renamed}
 use Rattle.lines.proofs.Lines.{prints_indeterminate, prints_integer, prints_logical, prints_binary, prints_item, prints_string, prints_end}
+use Rattle.lines.specs.Print.{table_of}
 use Rattle.lines.proofs.put_answer.Goals as goal
 
 pub returns-in-0 : goal.returns-in-0
-returns-in-0 c = renamed c.put_byte.ensures (prints_indeterminate _ _
+returns-in-0 c = renamed c.put_byte.ensures (prints_indeterminate (table_of c.args.text.now c.args.starts.now c.args.lengths.now [] c.args.tokens.now) c.args.room.now
     c.args.answer
     c.in-0.is)
 
 pub returns-in-1 : goal.returns-in-1
-returns-in-1 c = renamed c.put_integer.ensures (prints_integer _ _
+returns-in-1 c = renamed c.put_integer.ensures (prints_integer (table_of c.args.text.now c.args.starts.now c.args.lengths.now [] c.args.tokens.now) c.args.room.now
     c.args.answer
-    (record { sfits = c.struct_told-1.given.1.0.1 })
+    (search rules)
     c.in-1.is)
 
 pub returns-in-2 : goal.returns-in-2
-returns-in-2 c = renamed c.put_logical.ensures (prints_logical _ _
+returns-in-2 c = renamed c.put_logical.ensures (prints_logical (table_of c.args.text.now c.args.starts.now c.args.lengths.now [] c.args.tokens.now) c.args.room.now
     c.args.answer
-    (record { sfits = c.struct_told-1.given.1.0.1 })
+    (search rules)
     c.natural.ensures.0 c.in-2.is)
 
 pub returns-in-3 : goal.returns-in-3
-returns-in-3 c = renamed c.put_binary.ensures (prints_binary _ _
+returns-in-3 c = renamed c.put_binary.ensures (prints_binary (table_of c.args.text.now c.args.starts.now c.args.lengths.now [] c.args.tokens.now) c.args.room.now
     c.args.answer
-    (record { sfits = c.struct_told-1.given.1.0.1 })
+    (search rules)
     c.natural-in-3.ensures.0 c.in-3.is)
 
 pub returns-in-4 : goal.returns-in-4
-returns-in-4 c = renamed c.put_named.ensures (prints_item _ _
+returns-in-4 c = renamed c.put_named.ensures (prints_item (table_of c.args.text.now c.args.starts.now c.args.lengths.now [] c.args.tokens.now) c.args.room.now
     c.args.answer
-    (record { sfits = c.struct_told-1.given.1.0.1 })
+    (search rules)
     c.natural-in-4.ensures.0 c.in-4.is)
 
 pub returns-in-5 : goal.returns-in-5
-returns-in-5 c = renamed c.put_string.ensures (prints_string _ _
+returns-in-5 c = renamed c.put_string.ensures (prints_string (table_of c.args.text.now c.args.starts.now c.args.lengths.now [] c.args.tokens.now) c.args.room.now
     c.args.answer
-    (record { sfits = c.struct_told-1.given.1.0.1 })
+    (search rules)
     c.natural-in-5.ensures.0 c.in-5.is)
 
 pub returns-in_default : goal.returns-in_default
-returns-in_default c = let n = c.in_default.in_default-own.rest in renamed c.put_end.ensures (prints_end _ _
+returns-in_default c = let n = c.in_default.in_default-own.rest in renamed c.put_end.ensures (prints_end (table_of c.args.text.now c.args.starts.now c.args.lengths.now [] c.args.tokens.now) c.args.room.now
     c.args.answer n.0.0.0.0.0.1 n.0.0.0.0.1 n.0.0.0.1 n.0.0.1 n.0.1 n.1)

@@ -4,4 +4,4 @@ use lib.Seq.{length-take-le}
 use Rattle.listing_io.proofs.print.Goals as goal
 
 pub slice_bounds-write_all-end-2 : goal.slice_bounds-write_all-end-2
-slice_bounds-write_all-end-2 c = sym (length-take-le _ _ c.first_part-first.ensures.within)
+slice_bounds-write_all-end-2 g c = sym (length-take-le _ _ c.first_part-first.ensures.within)

@@ -9,8 +9,8 @@ fewer : (n i j : ℕ) → i < n → i < j → n - j < n - i
 fewer n i j h k = omega arith
 
 pub slice_bounds-write_all-end-in-loop-line : goal.slice_bounds-write_all-end-in-loop-line
-slice_bounds-write_all-end-in-loop-line c = sym (length-take-le _ _ c.next_part-next.ensures.within)
+slice_bounds-write_all-end-in-loop-line g c = sym (length-take-le _ _ c.next_part-next.ensures.within)
 
 pub loop-line-smaller : goal.loop-line-smaller
-loop-line-smaller c = fewer _ _ _ c.loop-line-test.true
+loop-line-smaller g c = fewer _ _ _ c.loop-line-test.true
     c.if-next-line.false

@@ -4,7 +4,7 @@ use lib.ListN.{length}
 use Rattle.listing_io.proofs.print_rest.Given as goal
 
 abbrev pub invariant-loop-line : goal.invariant-loop-line
-invariant-loop-line l = length l.out ≡ length l.initial.out
+invariant-loop-line g l = length l.out ≡ length l.initial.out
 
 abbrev pub decreases-loop-line : goal.decreases-loop-line
-decreases-loop-line l = l.constants - l.line
+decreases-loop-line g l = l.constants - l.line

@@ -5,4 +5,4 @@ use native.Mathlib.Omega.{arith}
 use Rattle.listing_io.proofs.read_input.Goals as goal
 
 pub loop-done-init : goal.loop-done-init
-loop-done-init c = (omega arith, refl)
+loop-done-init g c = (omega arith, refl)

@@ -10,14 +10,14 @@ loop-line-init c = going_starts _ _ _ _ _ _ c.requires
 pub returns-in_default : goal.returns-in_default
 returns-in_default c = going_stops _ _ _ _ c.loop-line.invariant
     c.loop-line-test.true (printed_by
-    c.loop-line.node c.line_at_lem.ensures
+    c.loop-line.node c.line_at-written.ensures
     c.next_constant-here.ensures c.in_default.is)
 
 pub overflow_add-at : goal.overflow_add-at
 overflow_add-at c = let fits = going_fits _ _ _ _ c.loop-line.invariant
     c.loop-line-test.true (printed_by
     c.loop-line.node
-    c.line_at_lem.ensures
+    c.line_at-written.ensures
     c.next_constant-here.ensures c.in-Written.is) in
     record {
       fits = omega (arith, fits, c.well_formed);
@@ -27,7 +27,7 @@ pub loop-line-preserved : goal.loop-line-preserved
 loop-line-preserved c = going_goes_on _ _ _ _ c.loop-line.invariant
     c.loop-line-test.true (printed_by
     c.loop-line.node
-    c.line_at_lem.ensures
+    c.line_at-written.ensures
     c.next_constant-here.ensures c.in-Written.is)
     c.next_constant-here.ensures c.behind-node.ensures
 
