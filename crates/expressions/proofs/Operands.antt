@@ -188,14 +188,14 @@ module _ {ts : List ℕ} {p n : ℕ} (g : Ready ts p n) (s : Bool) (t : ℕ) (f 
   compared_there {b = b} {r = r} z u i =
       record {
         ahead = ahead_more r i.ahead;
-        goes = record { on = λ x. phrased i (by_leaf true (At (p + 1) (n + 1)) b (omega arith) (omega arith) g (comparison_at true z) (refl, u) (apart x)); keeps = search rules; rests = λ h. search rules };
+        goes = record { on = λ x. phrased i (by_leaf true (At (p + 1) (n + 1)) b (omega arith) (omega arith) g (comparison_at true z) (refl, u) (apart x)) };
       }
 
   pub compared_not : {a : List ℕ} → s ≡ false → Compares ts p n (Refused p) a a
   compared_not {a} z =
       record {
         ahead = tt;
-        goes = record { on = λ x. dead refl (by_leaf false (Refused p) a (omega arith) (omega arith) g (comparison_at false z) (refl, refl) (apart x)); keeps = search rules; rests = λ h. search rules };
+        goes = record { on = λ x. dead refl (by_leaf false (Refused p) a (omega arith) (omega arith) g (comparison_at false z) (refl, refl) (apart x)) };
       }
 
 -- ---- intervals
