@@ -1,12 +1,12 @@
 -- Operands, atoms and intervals. Assumes nothing.
 use mathlib.Core.Bool.{Bool, true, false, not, ◌&&◌, cond}
-use mathlib.Core.List.{List, [], ◌∷◌, ◌++◌}
+use mathlib.Core.List.{List, [], ◌∷◌}
 use mathlib.Core.Path.{◌≡◌, refl, sym, ap, subst, ◌∙◌}
-use Prim.Native.Nat.{ℕ, suc, ◌+◌, ◌-◌, ◌≤◌, ◌<◌}
+use Prim.Native.Nat.{ℕ, ◌+◌, ◌-◌, ◌≤◌, ◌<◌}
 use native.Mathlib.Omega.{arith}
 use lib.Dec.{eqb}
 use lib.ListN.{length, get_or, set}
-use borrow.Author.Tests.{eq-eqb, ne_eqb}
+use borrow.Author.Tests.{ne_eqb}
 use Rattle.ebnf.specs.Set.{mem, disjoint}
 use Rattle.ebnf.specs.Grammar.{leaf, Ebnf, none, step, seq, alt, nt}
 use Rattle.ebnf.specs.Rows.{Rows}
@@ -23,7 +23,6 @@ use Rattle.parsing.proofs.Terminals.{is_one, not_one, inside}
 use Rattle.parsing.proofs.Steps.{onward, expect_goes, by_token}
 use Rattle.parsing.proofs.Laws.{start, finish, last, alone, apart, together, dead, refused_found, told, passed}
 use Rattle.parsing.proofs.Laws.{by_leaf, by_row, phrased, left, right, ahead_left, ahead_right, operator, reads, reads_at, compares_at}
-use borrow.Author.Rules.{rules}
 
 -- ---- atoms
 

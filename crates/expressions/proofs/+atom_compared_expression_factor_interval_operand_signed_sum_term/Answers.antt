@@ -1,10 +1,7 @@
 -- The readers of expressions, which call each other: each call is nearer to the end of the list, or at the same token one level further in. By Operators and Operands.
-use Prim.Native.Nat.{◌-◌}
-use borrow.Fn.PlainCycle.{is}
 use mathlib.Core.Path.{refl, sym, ◌∙◌}
 use native.Mathlib.Omega.{arith}
 use borrow.Author.Rules.{rules}
-use borrow.Author.Tests.{not-true, not-false}
 use lib.ListN.{get_or}
 use Rattle.ebnf.specs.Set.{mem}
 use Rattle.express.specs.Tokens.Terminal.{power}
@@ -25,7 +22,7 @@ pub atom-overflow_add-p : goal.atom-overflow_add-p
 atom-overflow_add-p t c = omega (arith, token_small c.requires)
 
 pub atom-expression-inner-requires : goal.atom-expression-inner-requires
-atom-expression-inner-requires t c =    let l = one_inside c.args.terminals.now c.args.p
+atom-expression-inner-requires t c = let l = one_inside c.args.terminals.now c.args.p
     c.token-c.result 24 c.token-c.ensures c.if-c-eq-LPAREN.true (omega arith) in
     (omega (arith, c.decreases, l), onward c.requires l)
 
@@ -50,7 +47,7 @@ atom-overflow_add-result t c = omega (
   token_small c.requires,
   rows_few
       c.requires,
-  )
+)
 
 pub atom-overflow_add-result-2 : goal.atom-overflow_add-result-2
 atom-overflow_add-result-2 t c = omega (
@@ -58,7 +55,7 @@ atom-overflow_add-result-2 t c = omega (
   token_small c.requires,
   rows_few
       c.requires,
-  )
+)
 
 pub atom-returns : goal.atom-returns
 atom-returns t c = atom_row c.requires
@@ -72,7 +69,7 @@ compared-overflow_add-p t c = omega (
   token_small c.requires,
   rows_few
       c.requires,
-  )
+)
 
 pub compared-overflow_add-n : goal.compared-overflow_add-n
 compared-overflow_add-n t c = omega (
@@ -80,10 +77,10 @@ compared-overflow_add-n t c = omega (
   token_small c.requires,
   rows_few
       c.requires,
-  )
+)
 
 pub compared-sum-requires : goal.compared-sum-requires
-compared-sum-requires t c =    let l = comparison_inside c.requires
+compared-sum-requires t c = let l = comparison_inside c.requires
     c.is_comparison.result c.token.result
     c.token.ensures c.is_comparison.ensures
     c.if-is_comparison.true in (
@@ -113,11 +110,10 @@ expression-returns-in_default t c = once_refused expression' sum' relations refl
     c.sum-left.ensures c.in_default.is
 
 pub expression-returns-then-not-is_relation : goal.expression-returns-then-not-is_relation
-expression-returns-then-not-is_relation t c =    once_alone expression' sum' relations refl c.requires
+expression-returns-then-not-is_relation t c = once_alone expression' sum' relations refl c.requires
     c.sum-left.ensures c.in-At.is
     (seen c.args.terminals.now
-    c.in-At.q relations c.token.ensures c.is_relation.ensures (not-true
-    c.is_relation.result c.if-not-is_relation.true-raw))
+    c.in-At.q relations c.token.ensures c.is_relation.ensures c.if-not-is_relation.true)
 
 pub expression-overflow_add-q : goal.expression-overflow_add-q
 expression-overflow_add-q t c = omega (
@@ -125,13 +121,12 @@ expression-overflow_add-q t c = omega (
   c.requires.small,
   reads_at
       c.sum-left.ensures c.in-At.is,
-  )
+)
 
 pub expression-sum-right-requires : goal.expression-sum-right-requires
 unfolding mem
-expression-sum-right-requires t c =    let t = seen c.args.terminals.now
-    c.in-At.q relations c.token.ensures c.is_relation.ensures (not-false
-    c.is_relation.result c.if-not-is_relation.false-raw) in
+expression-sum-right-requires t c = let t = seen c.args.terminals.now
+    c.in-At.q relations c.token.ensures c.is_relation.ensures c.if-not-is_relation.false in
     let g = once_ready expression' sum' relations refl c.requires
     c.sum-left.ensures c.in-At.is t refl in (
       omega (
@@ -145,11 +140,11 @@ expression-sum-right-requires t c =    let t = seen c.args.terminals.now
     )
 
 pub expression-returns-in_default-right : goal.expression-returns-in_default-right
-expression-returns-in_default-right t c =    once_stopped expression' sum' relations refl c.requires c.sum-left.ensures
+expression-returns-in_default-right t c = once_stopped expression' sum' relations refl c.requires c.sum-left.ensures
     c.in-At.is
     (seen c.args.terminals.now c.in-At.q relations
     c.token.ensures c.is_relation.ensures
-    (not-false c.is_relation.result c.if-not-is_relation.false-raw))
+    c.if-not-is_relation.false)
     c.sum-right.ensures c.in_default-right.is
 
 pub expression-overflow_add-result : goal.expression-overflow_add-result
@@ -162,16 +157,14 @@ expression-overflow_add-result t c = omega (
       c.in-At.is,
   reads_at
       c.sum-right.ensures c.in-At-right.is,
-  )
+)
 
 pub expression-returns : goal.expression-returns
-expression-returns t c =    once_both expression' sum' relations refl c.requires
+expression-returns t c = once_both expression' sum' relations refl c.requires
     c.sum-left.ensures
     c.in-At.is
     (seen c.args.terminals.now c.in-At.q relations c.token.ensures
-    c.is_relation.ensures (not-false
-    c.is_relation.result
-    c.if-not-is_relation.false-raw))
+    c.is_relation.ensures c.if-not-is_relation.false)
     c.sum-right.ensures c.in-At-right.is c.put_row.ensures
 
 pub factor-loop-q2-init : goal.factor-loop-q2-init
@@ -209,14 +202,14 @@ factor-overflow_add-q t c = omega (
   c.requires.small,
   reads_at c.operand-right.ensures
       c.in-At.is,
-  )
+)
 
 pub factor-loop-q2-smaller : goal.factor-loop-q2-smaller
 factor-loop-q2-smaller t c = omega (
   arith,
   reads_at c.operand-right.ensures
       c.in-At.is,
-  )
+)
 
 pub factor-loop-q2-preserved : goal.factor-loop-q2-preserved
 unfolding mem
@@ -228,13 +221,13 @@ factor-loop-q2-preserved t c = (
       c.operand-right.ensures
       c.in-At.is c.combined-m.ensures
       c.if-q-p.false refl (seen_one c.args.terminals.now c.in-At.q2 32 c.token.ensures c.if-token-ne-POWER.false),
-  )
+)
 
 pub interval-overflow_add-p : goal.interval-overflow_add-p
 interval-overflow_add-p t c = omega (arith, token_small c.requires.0)
 
 pub interval-sum-low-requires : goal.interval-sum-low-requires
-interval-sum-low-requires t c =    let l = one_inside c.args.terminals.now c.args.p (get_or c.args.terminals.now
+interval-sum-low-requires t c = let l = one_inside c.args.terminals.now c.args.p (get_or c.args.terminals.now
     c.args.p 0) 21 refl (mem_one _ _ c.requires.1) (omega arith) in
     (omega (arith, c.decreases, l), onward c.requires.0 l)
 
@@ -243,7 +236,7 @@ interval-returns-in_default t c = low_refused c.requires.0
     c.requires.1 c.sum-low.ensures c.in_default.is
 
 pub interval-compared-item-requires : goal.interval-compared-item-requires
-interval-compared-item-requires t c =    let g = onward c.requires.0 (brace_inside
+interval-compared-item-requires t c = let g = onward c.requires.0 (brace_inside
     c.requires.0
     c.requires.1 c.sum-low.ensures) in (
       omega (
@@ -263,7 +256,7 @@ interval-returns-in_default-item t c = item_refused c.requires.0
     c.in-At.is c.compared-item.ensures c.in_default-item.is
 
 pub interval-compared-high-requires : goal.interval-compared-high-requires
-interval-compared-high-requires t c =    let g = onward c.requires.0
+interval-compared-high-requires t c = let g = onward c.requires.0
     (brace_inside c.requires.0
     c.requires.1
     c.sum-low.ensures) in
@@ -290,14 +283,14 @@ interval-returns-in_default-high t c = high_refused c.requires.0 c.requires.1
     c.in-At-item.is c.compared-high.ensures c.in_default-high.is
 
 pub interval-returns-in_default-end : goal.interval-returns-in_default-end
-interval-returns-in_default-end t c =    end_refused c.requires.0 c.requires.1
+interval-returns-in_default-end t c = end_refused c.requires.0 c.requires.1
     c.sum-low.ensures c.in-At.is c.compared-item.ensures
     c.in-At-item.is
     c.compared-high.ensures c.in-At-high.is
     c.expect-end.ensures c.in_default-end.is
 
 pub interval-overflow_add-result : goal.interval-overflow_add-result
-interval-overflow_add-result t c =    let l = interval_count c.requires.0
+interval-overflow_add-result t c = let l = interval_count c.requires.0
     c.requires.1
     c.sum-low.ensures
     c.in-At.is c.compared-item.ensures c.in-At-item.is c.compared-high.ensures
@@ -311,7 +304,7 @@ interval-shape_of-rows t c = c.put_row.auto.rows ∙
     (c.compared-item.auto.rows ∙ c.sum-low.auto.rows))
 
 pub interval-returns : goal.interval-returns
-interval-returns t c =    interval_whole c.requires.0
+interval-returns t c = interval_whole c.requires.0
     c.requires.1
     c.sum-low.ensures
     c.in-At.is c.compared-item.ensures c.in-At-item.is c.compared-high.ensures
@@ -331,7 +324,7 @@ pub operand-interval-requires : goal.operand-interval-requires
 operand-interval-requires t c = (
   omega (arith, c.decreases),
   (c.requires, is_one _ _ (sym c.token-c.ensures ∙ c.if-c-eq-LBRACE.true)),
-  )
+)
 
 pub operand-returns-then-c-eq-LBRACE : goal.operand-returns-then-c-eq-LBRACE
 operand-returns-then-c-eq-LBRACE t c = operand_interval c.requires
@@ -349,7 +342,7 @@ operand-signed-requires t c = (
         c.args.p signs c.token-c.ensures
         c.is_sign.ensures c.if-is_sign.true,
   ),
-  )
+)
 
 pub operand-returns-then-is_sign : goal.operand-returns-then-is_sign
 operand-returns-then-is_sign t c = c.signed.ensures
@@ -358,10 +351,10 @@ pub operand-atom-requires : goal.operand-atom-requires
 operand-atom-requires t c = (
   omega (arith, c.decreases),
   c.requires,
-  )
+)
 
 pub operand-returns : goal.operand-returns
-operand-returns t c =    operand_plain c.requires
+operand-returns t c = operand_plain c.requires
     c.is_qualified.result
     c.is_qualified.ensures c.if-is_qualified.false
     c.token-c.result
@@ -373,7 +366,7 @@ pub signed-overflow_add-p : goal.signed-overflow_add-p
 signed-overflow_add-p t c = omega (arith, token_small c.requires.0)
 
 pub signed-atom-inner-requires : goal.signed-atom-inner-requires
-signed-atom-inner-requires t c =    let g = sign_ready c.requires.0 c.requires.1 in
+signed-atom-inner-requires t c = let g = sign_ready c.requires.0 c.requires.1 in
     (omega (arith, c.decreases, g.within), g)
 
 pub signed-returns-in_default : goal.signed-returns-in_default
@@ -386,7 +379,7 @@ signed-overflow_add-result t c = omega (
   sign_count c.requires.0
       c.requires.1
       c.atom-inner.ensures c.in-At.is,
-  )
+)
 
 pub signed-returns : goal.signed-returns
 signed-returns t c = signed_row c.requires.0
@@ -409,12 +402,12 @@ sum-combined-m-requires t c = combinable c.loop-q2.invariant.1
     c.term-right.ensures c.in-At.is
 
 pub sum-returns-then-not-is_addition : goal.sum-returns-then-not-is_addition
-sum-returns-then-not-is_addition t c =    often_ends sum' term' additions refl (express.ok sum').1 c.requires c.loop-q2.invariant.1
+sum-returns-then-not-is_addition t c = often_ends sum' term' additions refl (express.ok sum').1 c.requires c.loop-q2.invariant.1
     c.term-right.ensures
     c.in-At.is c.combined-m.ensures
     (seen c.args.terminals.now
     c.in-At.q2 additions c.token.ensures c.is_addition.ensures
-    (not-true c.is_addition.result c.if-not-is_addition.true-raw))
+    c.if-not-is_addition.true)
 
 pub sum-overflow_add-q : goal.sum-overflow_add-q
 sum-overflow_add-q t c = omega (
@@ -422,14 +415,14 @@ sum-overflow_add-q t c = omega (
   c.requires.small,
   reads_at c.term-right.ensures
       c.in-At.is,
-  )
+)
 
 pub sum-loop-q2-smaller : goal.sum-loop-q2-smaller
 sum-loop-q2-smaller t c = omega (
   arith,
   reads_at c.term-right.ensures
       c.in-At.is,
-  )
+)
 
 pub sum-loop-q2-preserved : goal.sum-loop-q2-preserved
 unfolding mem
@@ -440,8 +433,8 @@ sum-loop-q2-preserved t c = (
       c.in-At.is c.combined-m.ensures refl
       (seen c.args.terminals.now
       c.in-At.q2 additions c.token.ensures c.is_addition.ensures
-      (not-false c.is_addition.result c.if-not-is_addition.false-raw)),
-  )
+      c.if-not-is_addition.false),
+)
 
 pub term-loop-q2-init : goal.term-loop-q2-init
 term-loop-q2-init t c = (refl, before_first c.requires)
@@ -458,14 +451,14 @@ term-combined-m-requires t c = combinable c.loop-q2.invariant.1
     c.factor-right.ensures c.in-At.is
 
 pub term-returns-then-not-is_multiplication : goal.term-returns-then-not-is_multiplication
-term-returns-then-not-is_multiplication t c =    often_ends term' factor' multiplications refl (express.ok term').1
+term-returns-then-not-is_multiplication t c = often_ends term' factor' multiplications refl (express.ok term').1
     c.requires
     c.loop-q2.invariant.1
     c.factor-right.ensures
     c.in-At.is c.combined-m.ensures
     (seen c.args.terminals.now
     c.in-At.q2 multiplications c.token.ensures
-    c.is_multiplication.ensures (not-true c.is_multiplication.result c.if-not-is_multiplication.true-raw))
+    c.is_multiplication.ensures c.if-not-is_multiplication.true)
 
 pub term-overflow_add-q : goal.term-overflow_add-q
 term-overflow_add-q t c = omega (
@@ -473,14 +466,14 @@ term-overflow_add-q t c = omega (
   c.requires.small,
   reads_at c.factor-right.ensures
       c.in-At.is,
-  )
+)
 
 pub term-loop-q2-smaller : goal.term-loop-q2-smaller
 term-loop-q2-smaller t c = omega (
   arith,
   reads_at c.factor-right.ensures
       c.in-At.is,
-  )
+)
 
 pub term-loop-q2-preserved : goal.term-loop-q2-preserved
 unfolding mem
@@ -493,5 +486,5 @@ term-loop-q2-preserved t c = (
       c.in-At.is c.combined-m.ensures refl
       (seen c.args.terminals.now
       c.in-At.q2 multiplications c.token.ensures
-      c.is_multiplication.ensures (not-false c.is_multiplication.result c.if-not-is_multiplication.false-raw)),
-  )
+      c.is_multiplication.ensures c.if-not-is_multiplication.false),
+)
