@@ -1,10 +1,9 @@
 -- Atoms: the row that a token leaves. Assumes nothing.
 use mathlib.Core.Bool.{Bool, true, false, cond}
-use mathlib.Core.List.{List, [], ◌∷◌, ◌++◌}
-use mathlib.Core.Path.{◌≡◌, refl, sym, ap, ◌∙◌}
-use Prim.Native.Nat.{ℕ, suc, ◌+◌, ◌≤◌, ◌<◌}
+use mathlib.Core.List.{List, [], ◌∷◌}
+use mathlib.Core.Path.{◌≡◌, refl}
+use Prim.Native.Nat.{ℕ, ◌<◌}
 use native.Mathlib.Omega.{arith}
-use lib.ListN.{length, get_or, set}
 use Rattle.ebnf.specs.Set.{mem, subset}
 use Rattle.ebnf.proofs.Sets.{out_more}
 use Rattle.express.specs.Tokens.Terminal.{identifier, integer, binary, question, SELF}

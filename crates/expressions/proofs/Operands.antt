@@ -1,12 +1,12 @@
 -- Operands, atoms and intervals. Assumes nothing.
 use mathlib.Core.Bool.{Bool, true, false, not, ◌&&◌, cond}
-use mathlib.Core.List.{List, [], ◌∷◌, ◌++◌}
+use mathlib.Core.List.{List, [], ◌∷◌}
 use mathlib.Core.Path.{◌≡◌, refl, sym, ap, subst, ◌∙◌}
-use Prim.Native.Nat.{ℕ, suc, ◌+◌, ◌-◌, ◌≤◌, ◌<◌}
+use Prim.Native.Nat.{ℕ, ◌+◌, ◌-◌, ◌≤◌, ◌<◌}
 use native.Mathlib.Omega.{arith}
 use lib.Dec.{eqb}
 use lib.ListN.{length, get_or, set}
-use borrow.Author.Tests.{eq-eqb, ne_eqb}
+use borrow.Author.Tests.{ne_eqb}
 use Rattle.ebnf.specs.Set.{mem, disjoint}
 use Rattle.ebnf.specs.Grammar.{leaf, Ebnf, none, step, seq, alt, nt}
 use Rattle.ebnf.specs.Rows.{Rows}
@@ -23,7 +23,6 @@ use Rattle.parsing.proofs.Terminals.{is_one, not_one, inside}
 use Rattle.parsing.proofs.Steps.{onward, expect_goes, by_token}
 use Rattle.parsing.proofs.Laws.{start, finish, last, alone, apart, together, dead, refused_found, told, passed}
 use Rattle.parsing.proofs.Laws.{by_leaf, by_row, phrased, left, right, ahead_left, ahead_right, operator, reads, reads_at, compares_at}
-use borrow.Author.Rules.{rules}
 
 -- ---- atoms
 
@@ -188,14 +187,14 @@ module _ {ts : List ℕ} {p n : ℕ} (g : Ready ts p n) (s : Bool) (t : ℕ) (f 
   compared_there {b = b} {r = r} z u i =
       record {
         ahead = ahead_more r i.ahead;
-        goes = record { on = λ x. phrased i (by_leaf true (At (p + 1) (n + 1)) b (omega arith) (omega arith) g (comparison_at true z) (refl, u) (apart x)); keeps = search rules; rests = λ h. search rules };
+        goes = record { on = λ x. phrased i (by_leaf true (At (p + 1) (n + 1)) b (omega arith) (omega arith) g (comparison_at true z) (refl, u) (apart x)) };
       }
 
   pub compared_not : {a : List ℕ} → s ≡ false → Compares ts p n (Refused p) a a
   compared_not {a} z =
       record {
         ahead = tt;
-        goes = record { on = λ x. dead refl (by_leaf false (Refused p) a (omega arith) (omega arith) g (comparison_at false z) (refl, refl) (apart x)); keeps = search rules; rests = λ h. search rules };
+        goes = record { on = λ x. dead refl (by_leaf false (Refused p) a (omega arith) (omega arith) g (comparison_at false z) (refl, refl) (apart x)) };
       }
 
 -- ---- intervals

@@ -1,6 +1,5 @@
 -- What is left to compare from here on decides what all of it does (`Parts`).
 use mathlib.Core.Path.{refl, sym, ◌∙◌}
-use Prim.Native.Nat.{◌-◌}
 use Rattle.terminals.proofs.Parts.{compare_more, compare_stop, compare_over}
 use native.Mathlib.Omega.{arith}
 use Rattle.terminals.proofs.matches.Goals as goal

@@ -1,6 +1,5 @@
 -- The terminals from here on, over the column as it is, give what all of them give (`Columns`).
 use mathlib.Core.Path.{refl}
-use Prim.Native.Nat.{◌-◌}
 use Rattle.terminals.proofs.Columns.{progress_first, no_kind, no_start, no_size, one_more}
 use native.Mathlib.Omega.{arith}
 use Rattle.terminals.proofs.terminals.Goals as goal

@@ -1,0 +1,53 @@
+use Prim.Native.Nat.{◌+◌, ◌-◌, ◌*◌}
+use mathlib.Core.Path.{◌≡◌}
+use lib.ListN.{length}
+use Rattle.ebnf.specs.Grammar.{none}
+use Rattle.express.specs.Tokens.Terminal.{power}
+use Rattle.express.specs.Syntax.Grammar.{sum as sum', term as term', factor as factor', operand as operand', additions, multiplications}
+use Rattle.expressions.proofs.Operators.{Before, again}
+use Rattle.expressions.proofs.+atom_compared_expression_factor_interval_operand_signed_sum_term.Given as goal
+
+abbrev pub decreases-atom : goal.decreases-atom
+decreases-atom l = 8 * (length l.terminals.now - l.p) + 0
+
+abbrev pub decreases-compared : goal.decreases-compared
+decreases-compared l = 8 * (length l.terminals.now - l.p) + 0
+
+abbrev pub decreases-expression : goal.decreases-expression
+decreases-expression l = 8 * (length l.terminals.now - l.p) + 5
+
+abbrev pub decreases-factor : goal.decreases-factor
+decreases-factor l = 8 * (length l.terminals.now - l.p) + 2
+
+abbrev pub decreases-interval : goal.decreases-interval
+decreases-interval l = 8 * (length l.terminals.now - l.p) + 0
+
+abbrev pub decreases-operand : goal.decreases-operand
+decreases-operand l = 8 * (length l.terminals.now - l.p) + 1
+
+abbrev pub decreases-signed : goal.decreases-signed
+decreases-signed l = 8 * (length l.terminals.now - l.p) + 0
+
+abbrev pub decreases-sum : goal.decreases-sum
+decreases-sum l = 8 * (length l.terminals.now - l.p) + 4
+
+abbrev pub decreases-term : goal.decreases-term
+decreases-term l = 8 * (length l.terminals.now - l.p) + 3
+
+abbrev pub invariant-factor-loop-q2 : goal.invariant-factor-loop-q2
+invariant-factor-loop-q2 l = (length l.rows ≡ length l.initial.rows) × Before factor' operand' power none l.terminals l.p l.n l.initial.rows l.q l.m l.rows
+
+abbrev pub decreases-factor-loop-q2 : goal.decreases-factor-loop-q2
+decreases-factor-loop-q2 l = length l.terminals - l.q
+
+abbrev pub invariant-sum-loop-q2 : goal.invariant-sum-loop-q2
+invariant-sum-loop-q2 l = (length l.rows ≡ length l.initial.rows) × Before sum' term' additions (again additions term') l.terminals l.p l.n l.initial.rows l.q l.m l.rows
+
+abbrev pub decreases-sum-loop-q2 : goal.decreases-sum-loop-q2
+decreases-sum-loop-q2 l = length l.terminals - l.q
+
+abbrev pub invariant-term-loop-q2 : goal.invariant-term-loop-q2
+invariant-term-loop-q2 l = (length l.rows ≡ length l.initial.rows) × Before term' factor' multiplications (again multiplications factor') l.terminals l.p l.n l.initial.rows l.q l.m l.rows
+
+abbrev pub decreases-term-loop-q2 : goal.decreases-term-loop-q2
+decreases-term-loop-q2 l = length l.terminals - l.q
