@@ -1,8 +1,8 @@
 -- Laws of rounds: who is not on a chain that has room is new, and who is not on a full one is on that of a later round or is new.
 use mathlib.Core.Path.{◌≡◌, refl, sym, ap, ◌∙◌}
 use mathlib.Core.Bool.{Bool, true, false, cond, false≢true}
-use mathlib.Core.List.{List, [], ◌∷◌}
-use mathlib.Core.Logic.{⊎_elim}
+use mathlib.Core.List.{List}
+use mathlib.Core.Logic.{◌⊎◌, ⊎_elim}
 use Prim.Native.Nat.{ℕ, zero, suc, ◌-◌, ◌≤◌, ◌<◌}
 use native.Mathlib.Omega.{arith}
 use lib.Dec.{ltb}
@@ -21,9 +21,6 @@ use Rattle.chains.specs.declared.Met.{Met}
 use Rattle.chains.specs.declared.Met.TheVariants.{At, Full, Room}
 use Rattle.chains.specs.declared.Place.{Place}
 use Rattle.chains.specs.declared.Place.TheVariants.{Known, Free}
-use types.Run.{OneOf}
-use denote.Enum.Declared.{tag_of}
-use Rattle.chains.specs.contracts.Met.{the_type}
 use Rattle.chains.proofs.Chains.{first_once, on_first, on_is, count_le, wanted_on, wanted_alike}
 
 module _ (p : ℕ → Bool) (n : ℕ) where
@@ -42,16 +39,9 @@ module _ (p : ℕ → Bool) (n : ℕ) where
       by zero e = e
       by (suc j) e = absurd (none j (omega (arith, e, last_le p n)) (last_passes p n j e))
 
--- ---- what was met, by the tag of its variant
-
--- nothing was met
-not_met : (k : ℕ) → k ≡ 0 → OneOf (1 ∷ 2 ∷ []) k → ⊥
-not_met k q = ⊎_elim (λ e. omega arith) (λ e. omega arith)
-
-pub placed_free : (met : Met) (b : ℕ) → OneOf (1 ∷ 2 ∷ []) (tag_of the_type met) → Free b ≡ place_by met b
-placed_free (At k) b h = absurd (not_met 0 refl h)
-placed_free Full b h = refl
-placed_free Room b h = refl
+-- ---- what was met
+pub placed_free : (met : Met) (b : ℕ) → (met ≡ Full) ⊎ (met ≡ Room) → Free b ≡ place_by met b
+placed_free met b = ⊎_elim (λ e. rw e refl) (λ e. rw e refl)
 
 abbrev is_full : Met → Bool
 is_full (At k) = false
@@ -60,15 +50,6 @@ is_full Room = false
 
 pub not_at_full : (k : ℕ) → At k ≡ Full → ⊥
 not_at_full k e = false≢true (ap is_full e)
-
--- the chain is not full: the token was met, or there is room
-pub not_full : (met : Met) → OneOf (0 ∷ 2 ∷ []) (tag_of the_type met) → met ≡ Full → ⊥
-not_full (At k) h e = not_at_full k e
-not_full Full h e = one 1 refl h
-  where
-    one : (k : ℕ) → k ≡ 1 → OneOf (0 ∷ 2 ∷ []) k → ⊥
-    one k q = ⊎_elim (λ e. omega arith) (λ e. omega arith)
-not_full Room h e = false≢true (ap is_full e)
 
 -- a full chain without the spelling
 met_full : (l n : ℕ) {r : Met} → r ≡ met_by l n → r ≡ Full → (l ≡ 0) × (full ≤ n)

@@ -170,6 +170,9 @@ pub record Divides (a b : ℤ) : Type 0 where
   pub not_zero : of_z w64 b ≡ 0 → ⊥
   pub not_minus_one : of_z w64 b ≡ 18446744073709551615 → ⊥
 
+pub divides : {a b : ℤ} → SFits w64 a → SFits w64 b → (of_z w64 b ≡ 0 → ⊥) → (of_z w64 b ≡ 18446744073709551615 → ⊥) → Divides a b
+divides f s h k = record { first = f; second = s; not_zero = h; not_minus_one = k }
+
 module _ {a b : ℤ} (D : Divides a b) where
   pub some : 0 < nat_abs b
   some = not_none b D.not_zero

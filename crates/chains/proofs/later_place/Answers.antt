@@ -1,5 +1,5 @@
 -- `chains::later_place` meets its contract: by the laws of `Going`, one step for each round. Assumes nothing.
-use Rattle.chains.proofs.Rounds.{going_starts, going_on, going_settles, going_ends, not_full}
+use Rattle.chains.proofs.Rounds.{going_starts, going_on, going_settles, going_ends}
 use Rattle.chains.proofs.later_place.Goals as goal
 
 pub loop-left-init : goal.loop-left-init
@@ -15,7 +15,7 @@ pub returns-in_default : goal.returns-in_default
 returns-in_default c = let w = c.loop-left.invariant in
     let b = c.later_bucket-b.ensures in
     going_settles _ _ _ w b (record { low = b.small; along = c.in_bucket-met.ensures }) c.loop-left-test.true
-    (not_full c.in_bucket-met.result c.in_default.in_default-own.keys2) c.placed.ensures
+    c.in_default.not-Full c.placed.ensures
 
 pub loop-left-preserved : goal.loop-left-preserved
 loop-left-preserved c = let w = c.loop-left.invariant in

@@ -1,5 +1,5 @@
 -- `chains::place_from` meets its contract: the first round settles it, or is passed. Assumes nothing.
-use Rattle.chains.proofs.Rounds.{place_settles, place_goes_on, not_full}
+use Rattle.chains.proofs.Rounds.{place_settles, place_goes_on}
 use native.Mathlib.Omega.{arith}
 use Rattle.chains.proofs.place_from.Goals as goal
 
@@ -9,7 +9,7 @@ in_bucket-met-requires c = (c.requires.0, c.requires.1.small)
 pub returns-in_default : goal.returns-in_default
 returns-in_default c = let p = c.requires.1 in
     place_settles _ _ _ p (record { low = p.small; along = c.in_bucket-met.ensures })
-    (not_full c.in_bucket-met.result c.in_default.in_default-own.keys2) c.placed.ensures
+    c.in_default.not-Full c.placed.ensures
 
 pub later_place-requires : goal.later_place-requires
 later_place-requires c = let p = c.requires in

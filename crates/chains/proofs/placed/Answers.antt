@@ -9,4 +9,4 @@ pub returns-in-At : goal.returns-in-At
 returns-in-At c = sym (ap (λ (m : Met). place_by m c.args.b) c.in-At.is)
 
 pub returns-in-Full : goal.returns-in-Full
-returns-in-Full c = placed_free c.args.met c.args.b c.in-Full.in-Full-own.keys2
+returns-in-Full c = placed_free c.args.met c.args.b c.in-Full.is

@@ -1,10 +1,11 @@
 -- `graph::expand` meets its contract. Assumes nothing.
 use Rattle.graph.proofs.Mark.{going_start, going_step, going_end, expands_none, stamps_room}
-use Prim.Native.Nat.{ℕ, ◌-◌}
-use mathlib.Core.Logic.{⊎_elim, inl, inr}
+use Prim.Native.Nat.{ℕ}
+use mathlib.Core.Logic.{inl, inr}
 use mathlib.Core.Path.{sym, ◌∙◌, ap}
 use native.Mathlib.Omega.{arith}
 use lib.ListN.{set}
+use Rattle.graph.proofs.expand.Goals.{then-is_unstamped, else-is_unstamped}
 use Rattle.graph.proofs.expand.Goals as goal
 
 pub returns-then-first-u : goal.returns-then-first-u
@@ -22,15 +23,16 @@ overflow_add-t c = omega (
 )
 
 pub loop-e-preserved : goal.loop-e-preserved
-loop-e-preserved c = going_step c.loop-e.invariant c.loop-e-test.true c.index-w.result (c.index-w.ensures ∙ c.entry-target.ensures) _ _ _
-    (⊎_elim
-    (λ w. inl (
-      sym c.is_unstamped.ensures ∙ w.0.taken,
-      w.9 ∙ w.2.ensures,
-      w.10 ∙ w.6.ensures ∙ ap (λ (x : ℕ). set c.loop-e.queue c.loop-e.t x) (sym c.index-w.ensures),
-      w.11,
-    ))
-    (λ w. inr (sym c.is_unstamped.ensures ∙ w.0.left, w.1, w.2, w.3)) c.if-is_unstamped.branch)
+loop-e-preserved c = going_step c.loop-e.invariant c.loop-e-test.true c.index-w.result (c.index-w.ensures ∙ c.entry-target.ensures) c.if-is_unstamped.mark c.if-is_unstamped.queue c.if-is_unstamped.t
+    (elim c.if-is_unstamped.branch [
+      | then-is_unstamped w ↦ inl (
+        sym c.is_unstamped.ensures ∙ w.if-is_unstamped.true,
+        w.mark-is ∙ w.put32.ensures,
+        w.queue-is ∙ w.put32-then-is_unstamped.ensures ∙ ap (λ (x : ℕ). set c.loop-e.queue c.loop-e.t x) (sym c.index-w.ensures),
+        w.t-is,
+      )
+      | else-is_unstamped w ↦ inr (sym c.is_unstamped.ensures ∙ w.if-is_unstamped.false, w.mark-is, w.queue-is, w.t-is)
+    ])
 
 pub shape_of-mark : goal.shape_of-mark
 shape_of-mark c = c.loop-e.invariant.mark_long

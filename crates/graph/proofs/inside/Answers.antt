@@ -1,6 +1,5 @@
 -- `graph::inside` meets its contract. Assumes nothing.
 use Rattle.graph.proofs.Test.{tells_no, tells_yes, inside_more}
-use Prim.Native.Nat.{◌-◌}
 use mathlib.Core.Path.{refl}
 use native.Mathlib.Omega.{arith}
 use Rattle.graph.proofs.inside.Goals as goal

@@ -1,6 +1,5 @@
 -- `graph::rising` meets its contract. Assumes nothing.
 use Rattle.graph.proofs.Test.{tells_no, tells_yes, rising_more}
-use Prim.Native.Nat.{◌-◌}
 use mathlib.Core.Path.{refl}
 use native.Mathlib.Omega.{arith}
 use Rattle.graph.proofs.rising.Goals as goal

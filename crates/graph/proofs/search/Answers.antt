@@ -1,6 +1,5 @@
 -- `graph::search` meets its contract. Assumes nothing.
 use Rattle.graph.proofs.Mark.{front_start, front_step, front_end, head_low}
-use Prim.Native.Nat.{◌-◌}
 use mathlib.Core.Path.{◌∙◌}
 use native.Mathlib.Omega.{arith}
 use Rattle.graph.proofs.search.Goals as goal

@@ -1,6 +1,5 @@
 -- `graph::valid` meets its contract. Assumes nothing.
 use Rattle.graph.proofs.Test.{tells_no, tests, tells_fail, tells_pass}
-use Prim.Native.Nat.{◌-◌}
 use mathlib.Core.Path.{refl}
 use native.Mathlib.Omega.{arith}
 use Rattle.graph.proofs.valid.Goals as goal
