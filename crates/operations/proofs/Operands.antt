@@ -2,7 +2,6 @@
 -- operation on integers speaks of operands as they are read back from their bits (`own`).
 use mathlib.Core.Path.{◌≡◌, refl, sym, ◌∙◌, ap}
 use mathlib.Core.Bool.{Bool, true, false, true≢false}
-use mathlib.Core.List.{[], ◌∷◌}
 use mathlib.Core.Option.{Option, some, none}
 use Prim.Native.Nat.{ℕ, compare, Ordering}
 use lib.IntN.{ℤ}
@@ -36,7 +35,7 @@ use Rattle.operations.specs.declared.Answer.{Answer}
 use Rattle.operations.specs.declared.Answer.TheVariants.{Integer, Logical, Binary, Item, Text, Ended}
 use Rattle.operations.specs.declared.Comparison.{Comparison}
 use Rattle.operations.specs.declared.Comparison.TheVariants.{Ordered, Unordered}
-use Rattle.operations.proofs.Cases.{an_integer, a_logical, a_binary, an_item, a_string, an_end, Other, not_integer, not_logical, not_binary, not_item, not_string, not_end}
+use Rattle.operations.proofs.Cases.{not_integer, not_logical, not_binary, not_item, not_string, not_end}
 
 -- ---- `+` and arithmetic
 module _ {x y : Answer} {z w : answer.Answer} {a b : ℤ} (f : SFits w64 a) (g : SFits w64 b) (p : x ≡ Integer a) (q : y ≡ Integer b) (k : z ≡ w) where
@@ -57,24 +56,24 @@ pub sum_strings :
 sum_strings p q k h = rw (p, q) (k ∙ h)
 
 module _ {x : Answer} (y : Answer) where
-  pub sum_integer : {a : ℤ} → x ≡ Integer a → Other (an_integer ∷ []) y → indeterminate ≡ operated plus (answer_of x) (answer_of y)
-  sum_integer p h = rw (p, not_integer (an_integer ∷ []) y tt h)
+  pub sum_integer : {a : ℤ} → x ≡ Integer a → ((z : ℤ) → y ≡ Integer z → ⊥) → indeterminate ≡ operated plus (answer_of x) (answer_of y)
+  sum_integer p h = rw (p, not_integer y h)
 
-  pub sum_binary : {a : bits.Binary} → x ≡ Binary a → Other (a_binary ∷ []) y → indeterminate ≡ operated plus (answer_of x) (answer_of y)
-  sum_binary p h = rw (p, not_binary (a_binary ∷ []) y tt h)
+  pub sum_binary : {a : bits.Binary} → x ≡ Binary a → ((b : bits.Binary) → y ≡ Binary b → ⊥) → indeterminate ≡ operated plus (answer_of x) (answer_of y)
+  sum_binary p h = rw (p, not_binary y h)
 
-  pub sum_string : {a : ℕ} → x ≡ Text a → Other (a_string ∷ []) y → indeterminate ≡ operated plus (answer_of x) (answer_of y)
-  sum_string p h = rw (p, not_string (a_string ∷ []) y tt h)
+  pub sum_string : {a : ℕ} → x ≡ Text a → ((k : ℕ) → y ≡ Text k → ⊥) → indeterminate ≡ operated plus (answer_of x) (answer_of y)
+  sum_string p h = rw (p, not_string y h)
 
-  pub one_integer : (c : shape.Arithmetic) {a : ℤ} → x ≡ Integer a → Other (an_integer ∷ []) y → indeterminate ≡ operated (arithmetic c) (answer_of x) (answer_of y)
-  one_integer c p h = rw (p, not_integer (an_integer ∷ []) y tt h)
+  pub one_integer : (c : shape.Arithmetic) {a : ℤ} → x ≡ Integer a → ((z : ℤ) → y ≡ Integer z → ⊥) → indeterminate ≡ operated (arithmetic c) (answer_of x) (answer_of y)
+  one_integer c p h = rw (p, not_integer y h)
 
 module _ (x y : Answer) where
-  pub sum_neither : Other (an_integer ∷ a_binary ∷ a_string ∷ []) x → indeterminate ≡ operated plus (answer_of x) (answer_of y)
-  sum_neither h = let ks = an_integer ∷ a_binary ∷ a_string ∷ [] in rw (not_integer ks x tt h, not_binary ks x tt h, not_string ks x tt h)
+  pub sum_neither : ((z : ℤ) → x ≡ Integer z → ⊥) → ((b : bits.Binary) → x ≡ Binary b → ⊥) → ((k : ℕ) → x ≡ Text k → ⊥) → indeterminate ≡ operated plus (answer_of x) (answer_of y)
+  sum_neither h k m = rw (not_integer x h, not_binary x k, not_string x m)
 
-  pub no_integer : (c : shape.Arithmetic) → Other (an_integer ∷ []) x → indeterminate ≡ operated (arithmetic c) (answer_of x) (answer_of y)
-  no_integer c h = rw (not_integer (an_integer ∷ []) x tt h)
+  pub no_integer : (c : shape.Arithmetic) → ((z : ℤ) → x ≡ Integer z → ⊥) → indeterminate ≡ operated (arithmetic c) (answer_of x) (answer_of y)
+  no_integer c h = rw (not_integer x h)
 
 pub ruleset sums = (sum_integers, sum_binaries, sum_strings, sum_integer, sum_binary, sum_string, sum_neither, two_integers, one_integer, no_integer)
 
@@ -96,26 +95,26 @@ module _ {x y : Answer} {o : Ordering} where
   strings_ordered {m} {n} p q h = rw (p, q) (ap some (h ∙ sym (compare_zeros m n)))
 
 module _ {x : Answer} (y : Answer) where
-  pub one_ordered : {a : ℤ} → x ≡ Integer a → Other (an_integer ∷ []) y → none ≡ compared (answer_of x) (answer_of y)
-  one_ordered p h = rw (p, not_integer (an_integer ∷ []) y tt h)
+  pub one_ordered : {a : ℤ} → x ≡ Integer a → ((z : ℤ) → y ≡ Integer z → ⊥) → none ≡ compared (answer_of x) (answer_of y)
+  one_ordered p h = rw (p, not_integer y h)
 
-  pub one_logical : {l : values.Logical} → x ≡ Logical l → Other (a_logical ∷ []) y → none ≡ compared (answer_of x) (answer_of y)
-  one_logical p h = rw (p, not_logical (a_logical ∷ []) y tt h)
+  pub one_logical : {l : values.Logical} → x ≡ Logical l → ((l : values.Logical) → y ≡ Logical l → ⊥) → none ≡ compared (answer_of x) (answer_of y)
+  one_logical p h = rw (p, not_logical y h)
 
-  pub one_binary : {a : bits.Binary} → x ≡ Binary a → Other (a_binary ∷ []) y → none ≡ compared (answer_of x) (answer_of y)
-  one_binary p h = rw (p, not_binary (a_binary ∷ []) y tt h)
+  pub one_binary : {a : bits.Binary} → x ≡ Binary a → ((b : bits.Binary) → y ≡ Binary b → ⊥) → none ≡ compared (answer_of x) (answer_of y)
+  one_binary p h = rw (p, not_binary y h)
 
-  pub one_item : {m : ℕ} → x ≡ Item m → Other (an_item ∷ []) y → none ≡ compared (answer_of x) (answer_of y)
-  one_item p h = rw (p, not_item (an_item ∷ []) y tt h)
+  pub one_item : {m : ℕ} → x ≡ Item m → ((m : ℕ) → y ≡ Item m → ⊥) → none ≡ compared (answer_of x) (answer_of y)
+  one_item p h = rw (p, not_item y h)
 
-  pub one_string : {m : ℕ} → x ≡ Text m → Other (a_string ∷ []) y → none ≡ compared (answer_of x) (answer_of y)
-  one_string p h = rw (p, not_string (a_string ∷ []) y tt h)
+  pub one_string : {m : ℕ} → x ≡ Text m → ((k : ℕ) → y ≡ Text k → ⊥) → none ≡ compared (answer_of x) (answer_of y)
+  one_string p h = rw (p, not_string y h)
 
-module _ (x y : Answer) (h : Other (an_integer ∷ a_logical ∷ a_binary ∷ an_item ∷ a_string ∷ []) x) where
-  pub no_value : none ≡ compared (answer_of x) (answer_of y)
-  no_value =
-      let ks = an_integer ∷ a_logical ∷ a_binary ∷ an_item ∷ a_string ∷ [] in
-      rw (not_integer ks x tt h, not_logical ks x tt h, not_binary ks x tt h, not_item ks x tt h, not_string ks x tt h)
+pub no_value :
+    (x y : Answer) →
+    ((z : ℤ) → x ≡ Integer z → ⊥) → ((l : values.Logical) → x ≡ Logical l → ⊥) → ((b : bits.Binary) → x ≡ Binary b → ⊥) →
+    ((m : ℕ) → x ≡ Item m → ⊥) → ((k : ℕ) → x ≡ Text k → ⊥) → none ≡ compared (answer_of x) (answer_of y)
+no_value x y i l b m k = rw (not_integer x i, not_logical x l, not_binary x b, not_item x m, not_string x k)
 
 pub ruleset orders = (two_ordered, logicals_ordered, binaries_ordered, items_ordered, strings_ordered, one_ordered, one_logical, one_binary, one_item, one_string, no_value)
 
@@ -137,13 +136,13 @@ connected x y k e f h = ap logical (rw (e, f) at h)
 pub first_end : {x : Answer} (y : answer.Answer) {e : End} (o : shape.Operator) → x ≡ Ended e → end (end_number e) ≡ combined o (answer_of x) y
 first_end y o p = rw p
 
-pub second_end : (x : Answer) {y : Answer} {e : End} (o : shape.Operator) → Other (an_end ∷ []) x → y ≡ Ended e → end (end_number e) ≡ combined o (answer_of x) (answer_of y)
-second_end x o h p = rw (not_end (an_end ∷ []) x tt h, p)
+pub second_end : (x : Answer) {y : Answer} {e : End} (o : shape.Operator) → ((e : End) → x ≡ Ended e → ⊥) → y ≡ Ended e → end (end_number e) ≡ combined o (answer_of x) (answer_of y)
+second_end x o h p = rw (not_end x h, p)
 
 pub no_end :
     (x y : Answer) {z : answer.Answer} (o : shape.Operator) →
-    Other (an_end ∷ []) x → Other (an_end ∷ []) y → z ≡ operated o (answer_of x) (answer_of y) → z ≡ combined o (answer_of x) (answer_of y)
-no_end x y o h k e = rw (not_end (an_end ∷ []) x tt h, not_end (an_end ∷ []) y tt k) e
+    ((e : End) → x ≡ Ended e → ⊥) → ((e : End) → y ≡ Ended e → ⊥) → z ≡ operated o (answer_of x) (answer_of y) → z ≡ combined o (answer_of x) (answer_of y)
+no_end x y o h k e = rw (not_end x h, not_end y k) e
 
 pub ruleset ends = (first_end, second_end, no_end)
 
@@ -160,14 +159,14 @@ minus_integer f p k h = rw p (k ∙ own_one negation f h)
 pub minus_end : {x : Answer} {e : End} → x ≡ Ended e → end (end_number e) ≡ applied negative (answer_of x)
 minus_end p = rw p
 
-pub minus_other : (x : Answer) → Other (an_integer ∷ an_end ∷ []) x → indeterminate ≡ applied negative (answer_of x)
-minus_other x h = rw (not_integer (an_integer ∷ an_end ∷ []) x tt h, not_end (an_integer ∷ an_end ∷ []) x tt h)
+pub minus_other : (x : Answer) → ((z : ℤ) → x ≡ Integer z → ⊥) → ((e : End) → x ≡ Ended e → ⊥) → indeterminate ≡ applied negative (answer_of x)
+minus_other x h k = rw (not_integer x h, not_end x k)
 
 pub not_of_end : {x : Answer} {e : End} → x ≡ Ended e → end (end_number e) ≡ applied not (answer_of x)
 not_of_end p = rw p
 
-pub not_of : (x : Answer) {l m : answer.Logical} → Other (an_end ∷ []) x → m ≡ counted (answer_of x) → l ≡ NOT m → logical l ≡ applied not (answer_of x)
-not_of x h e f = rw (not_end (an_end ∷ []) x tt h) (ap logical (f ∙ ap NOT e))
+pub not_of : (x : Answer) {l m : answer.Logical} → ((e : End) → x ≡ Ended e → ⊥) → m ≡ counted (answer_of x) → l ≡ NOT m → logical l ≡ applied not (answer_of x)
+not_of x h e f = rw (not_end x h) (ap logical (f ∙ ap NOT e))
 
 pub ruleset signs = (minus_integer, minus_end, minus_other, not_of_end, not_of)
 
@@ -193,8 +192,8 @@ other_is other a e = refl
 pub held_logical : {b : Bool} {x r : Answer} {l : values.Logical} → b ≡ true → x ≡ Logical l → answer_of r ≡ boolean_answer (logical_of l) → Holds b x r
 held_logical e p h = record { is = λ d q. rw (boolean_is d (q ∙ e), p) h }
 
-pub held_other : {b : Bool} {x : Answer} → b ≡ true → Other (a_logical ∷ []) x → Holds b x x
-held_other {x = x} e h = record { is = λ d q. rw (boolean_is d (q ∙ e), not_logical (a_logical ∷ []) x tt h) }
+pub held_other : {b : Bool} {x : Answer} → b ≡ true → ((l : values.Logical) → x ≡ Logical l → ⊥) → Holds b x x
+held_other {x = x} e h = record { is = λ d q. rw (boolean_is d (q ∙ e), not_logical x h) }
 
 pub held_any : {b : Bool} {x : Answer} → b ≡ false → Holds b x x
 held_any e = record { is = λ d q. sym (other_is d _ (q ∙ e)) }

@@ -4,8 +4,5 @@ use Rattle.combinations.proofs.held.Goals as goal
 pub returns-in-Logical : goal.returns-in-Logical
 returns-in-Logical c = search holding
 
-pub returns-in_default : goal.returns-in_default
-returns-in_default c = search holding
-
 pub returns-else-boolean : goal.returns-else-boolean
 returns-else-boolean c = search holding

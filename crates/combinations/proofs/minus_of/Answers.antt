@@ -6,6 +6,3 @@ returns-in-Integer c = search signs
 
 pub returns-in-Ended : goal.returns-in-Ended
 returns-in-Ended c = search signs
-
-pub returns-in_default : goal.returns-in_default
-returns-in_default c = search signs
