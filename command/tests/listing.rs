@@ -4,6 +4,7 @@ mod common;
 
 use common::{folder, run, run_on, told};
 use compare::cases::{self, Case, PROGRAM_LENGTHS};
+use compare::program::program;
 use compare::random::{damaged, file};
 use std::fs::{self, File};
 use std::path::Path;
@@ -12,16 +13,10 @@ use std::process::{Command, Stdio};
 /// Random files in the folder.
 const FILES: u64 = 1_000;
 
-/// What the proved program writes of a file; it is built where it is not there yet.
+/// What the proved program writes of a file.
 fn proved(path: &Path) -> Vec<u8> {
-    let top = Path::new(env!("CARGO_MANIFEST_DIR")).join("..");
-    let program = top.join("target/bin/listing");
-    if !program.exists() {
-        let built = Command::new("rt").args(["check", "listing"]).current_dir(&top).output().expect("rt on the PATH");
-        assert!(built.status.success(), "{}", String::from_utf8_lossy(&built.stdout));
-    }
     let input = File::open(path).expect("a file");
-    let output = Command::new(program).stdin(input).stderr(Stdio::inherit()).output().expect("the program ends");
+    let output = Command::new(program()).stdin(input).stderr(Stdio::inherit()).output().expect("the program ends");
     output.stdout
 }
 

@@ -11,12 +11,13 @@ use std::thread;
 pub fn program() -> &'static Path {
     static PROGRAM: OnceLock<PathBuf> = OnceLock::new();
     PROGRAM.get_or_init(|| {
-        let top = Path::new(env!("CARGO_MANIFEST_DIR")).join("../..");
-        let program = top.join("target/bin/listing");
+        let folder = Path::new(env!("CARGO_MANIFEST_DIR")).join("../../crates/listing");
+        let program = folder.join("out/listing");
         if !program.exists() {
-            let built =
-                Command::new("rt").args(["check", "listing"]).current_dir(&top).output().expect("rt on the PATH");
-            assert!(built.status.success(), "{}", String::from_utf8_lossy(&built.stdout));
+            // It is run too, on nothing.
+            let run = Command::new("rt").arg("run").current_dir(&folder).stdin(Stdio::null()).output();
+            let said = run.expect("rt on the PATH").stderr;
+            assert!(program.exists(), "{}", String::from_utf8_lossy(&said));
         }
         program
     })

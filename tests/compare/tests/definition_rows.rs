@@ -26,9 +26,10 @@ fn the_rows_of_the_definitions_are_the_corpus() {
         ("string-room-rows", &["answers", "room"]),
         ("string-room-empty", &["answers", "room"]),
     ] {
+        let definition = name.replace('-', "_");
         let case = compare::cases::all().into_iter().find(|case| case.name == name).expect("in the corpus");
-        assert_eq!(text_of(&text, name).as_bytes(), case.input, "{name}: input");
-        let rows: String = tables.iter().map(|table| text_of(&text, &format!("{name}-{table}"))).collect();
+        assert_eq!(text_of(&text, &definition).as_bytes(), case.input, "{name}: input");
+        let rows: String = tables.iter().map(|table| text_of(&text, &format!("{definition}_{table}"))).collect();
         assert_eq!(Some(rows), compare::cases::rows(&case), "{name}: rows");
     }
 }

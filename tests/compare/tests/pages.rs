@@ -55,7 +55,7 @@ fn each_rule_has_its_definition_and_no_other_is_cited() {
     assert_eq!(cited.difference(&rules).collect::<Vec<_>>(), Vec::<&(char, u32)>::new(), "not in LANGUAGE.md");
 }
 
-/// The file of a module as DEFINITIONS.md cites it, `tokens/Lexis` or `ebnf/proofs/Exact`.
+/// The file of a module as DEFINITIONS.md cites it, `Tokens/Lexis` or `ebnf/proofs/Exact`.
 fn file(module: &str) -> PathBuf {
     let mut parts: Vec<&str> = module.split('/').collect();
     let below = [

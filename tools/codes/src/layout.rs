@@ -6,6 +6,9 @@ const ENTRIES_IN_LINE: usize = 16;
 /// Characters of a text.
 const CHARACTERS_IN_LINE: usize = 120;
 
+/// Characters of a line of code.
+const CHARACTERS_IN_CODE: usize = 100;
+
 /// As the inside of a byte string that goes on over the line's end.
 pub fn bytes_in_lines(bytes: &[u8]) -> String {
     let line = |part: &[u8]| part.iter().map(|byte| format!("\\x{byte:02x}")).collect::<String>();
@@ -33,9 +36,18 @@ fn joined(lines: impl Iterator<Item = String>) -> String {
     lines.map(|line| format!("    {line}")).collect::<Vec<_>>().join("\\\n")
 }
 
-/// As the entries of an array.
-pub fn one_in_line(numbers: &[usize]) -> String {
-    numbers.iter().map(|number| format!("    {number},\n")).collect()
+/// As the entries of an array, in lines that are as full as `rt fmt` has them.
+pub fn entries_in_lines(numbers: &[usize]) -> String {
+    let (mut text, mut line) = (String::new(), String::from("   "));
+    for number in numbers {
+        let entry = format!(" {number},");
+        if line.len() + entry.len() > CHARACTERS_IN_CODE {
+            text += &(line + "\n");
+            line = String::from("   ");
+        }
+        line += &entry;
+    }
+    text + &line + "\n"
 }
 
 /// As a list of the definitions.

@@ -8,7 +8,7 @@ mod list;
 pub use hash::Hash;
 pub use list::Terminals;
 
-use layout::{bytes_in_lines, numbers_in_lines, one_in_line, strings_in_lines, text_in_lines};
+use layout::{bytes_in_lines, entries_in_lines, numbers_in_lines, strings_in_lines, text_in_lines};
 
 /// The codes of an identifier and of the literals; the literals have the kinds of their tokens.
 const OPEN: [&str; 5] = ["IDENTIFIER", "INTEGER_LITERAL", "REAL_LITERAL", "STRING_LITERAL", "BINARY_LITERAL"];
@@ -33,7 +33,7 @@ pub fn outputs() -> Vec<(&'static str, String)> {
 fn codes(terminals: &Terminals) -> String {
     let mut text =
         String::from("// Numbers with names, and nothing else. The terminals stand here, the rest in modules.\n");
-    text += "// This file is written by tools/codes from its list of words and symbols.\n";
+    text += "// This file is written by tools/codes from its list of words and symbols.\n#![tactic(auto)]\n\n";
     for module in MODULES {
         text += &format!("pub mod {module};\n");
     }
@@ -111,9 +111,9 @@ pub const ENDINGS: [u32; ENDING_COUNT] = [
         text_size = text.len(),
         text = text_in_lines(&text),
         offset_count = offsets.len(),
-        offsets = one_in_line(&offsets),
+        offsets = entries_in_lines(&offsets),
         ending_count = endings.len(),
-        endings = one_in_line(&endings),
+        endings = entries_in_lines(&endings),
     )
 }
 
@@ -128,28 +128,28 @@ fn definitions(terminals: &Terminals, hash: &Hash) -> String {
     let text: String = terminals.spellings().concat();
     let mut out = String::from("-- The tables by which a word or a symbol is found.\n");
     out += "-- This file is written by tools/codes from its list of words and symbols.\n";
-    out += "use mathlib.Core.List.{List, [], _∷_, _++_}\nuse Prim.Native.Nat.{ℕ, _+_, _*_, _%_}\n";
-    out += "use Rattle·express.specs.tokens.Terminal.{bytes}\n";
+    out += "use Rattle.std.specs.Prelude.{List, [], ◌∷◌, ◌++◌, ℕ, ◌+◌, ◌*◌, ◌%◌}\n";
+    out += "use Rattle.express.specs.Tokens.Terminal.{bytes}\n";
     out += &number(
         "how many spellings there are, and the codes of the first one and of the first word",
-        "spelling-count",
+        "spelling_count",
         terminals.spellings().len(),
     );
-    out += &format!("\nabbrev pub first-code : ℕ\nfirst-code = {FIRST_CODE}\n");
-    out += &format!("\nabbrev pub first-word : ℕ\nfirst-word = {}\n", terminals.first_word());
+    out += &format!("\nabbrev pub first_code : ℕ\nfirst_code = {FIRST_CODE}\n");
+    out += &format!("\nabbrev pub first_word : ℕ\nfirst_word = {}\n", terminals.first_word());
     out += &number("the length of the longest spelling", "longest", terminals.longest());
-    out += &number("the number of slots", "slot-count", hash.slots.len());
+    out += &number("the number of slots", "slot_count", hash.slots.len());
     out += &format!(
         "\n-- from the first byte, the length, the last byte and the byte before that
 abbrev pub mixed : ℕ → ℕ → ℕ → ℕ → ℕ
-mixed first n last before = (first * {first} + n * {length} + last * {last} + before * {before}) % slot-count\n"
+mixed first n last before = (first * {first} + n * {length} + last * {last} + before * {before}) % slot_count\n"
     );
     out += &list(
         "the code of the spelling that has a hash, or 0",
         "slots",
         hash.slots.iter().map(|&code| code.into()).collect(),
     );
-    out += &number("how many bytes the spellings have", "text-size", text.len());
+    out += &number("how many bytes the spellings have", "text_size", text.len());
     out += &format!(
         "\n-- the spellings, one after the other\nabbrev pub text : List ℕ\ntext =\n{}\n",
         strings_in_lines(&text)
@@ -159,7 +159,7 @@ mixed first n last before = (first * {first} + n * {length} + last * {last} + be
         "offsets",
         terminals.offsets(),
     );
-    out += &number("a letter modulo this number is the same in both cases", "ending-count", terminals.endings().len());
+    out += &number("a letter modulo this number is the same in both cases", "ending_count", terminals.endings().len());
     out += &list(
         "by the first byte of reserved words, modulo the number of entries: their last bytes, modulo the same, as bits",
         "endings",

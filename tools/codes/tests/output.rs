@@ -10,7 +10,7 @@ fn text(path: &str) -> String {
 }
 
 fn definitions() -> String {
-    text("crates/express/specs/tokens/Terminal.antt")
+    text("crates/express/specs/Tokens/Terminal.antt")
 }
 
 /// The strings of a list of the definitions.
@@ -35,14 +35,14 @@ fn list_is_that_of_the_definitions() {
     assert_eq!(terminals.words, strings(&definitions(), "reserved"));
 }
 
-/// The definitions name the terminals of the grammar, in small letters or as the word is spelled, with `-` for `_`.
+/// The definitions name the terminals of the grammar, in small letters or as the word is spelled.
 #[test]
 fn names_of_the_definitions_have_their_codes() {
     let terminals = Terminals::listed();
     let names = terminals.symbols.iter().map(|(_, name)| name.to_lowercase()).chain(terminals.words.iter().cloned());
     let mut known = 0;
     for (i, name) in names.enumerate() {
-        let start = format!("\n{} = ", name.replace('_', "-"));
+        let start = format!("\n{name} = ");
         if let Some(from) = definitions().find(&start) {
             let code = definitions()[from + start.len()..].split(' ').next().map(str::to_string);
             assert_eq!(code, Some((FIRST_CODE + i).to_string()), "the code of `{name}`");
