@@ -1,26 +1,26 @@
 -- The rules of declarations, each from what its parts came to: where a part is refused, so is the rule. Assumes nothing.
 use mathlib.Core.Bool.{Bool, true, false, ◌&&◌, cond}
-use mathlib.Core.List.{List, [], ◌∷◌, ◌++◌}
+use mathlib.Core.List.{List}
 use mathlib.Core.Logic.{◌⊎◌, inl, inr}
 use mathlib.Core.Path.{◌≡◌, refl, sym, ap, subst, ◌∙◌}
-use Prim.Native.Nat.{ℕ, suc, ◌+◌, ◌-◌, ◌*◌, ◌/◌, ◌%◌, ◌≤◌, ◌<◌}
+use Prim.Native.Nat.{ℕ, ◌+◌, ◌-◌, ◌/◌, ◌%◌}
 use native.Mathlib.Omega.{arith}
-use lib.ListN.{length, get_or, set}
+use lib.ListN.{get_or, set}
 use Rattle.ebnf.specs.Set.{mem}
-use Rattle.ebnf.specs.Grammar.{here, node, leaf, Ebnf, none, mark, step, seq, alt, star, nt}
+use Rattle.ebnf.specs.Grammar.{here, node, Ebnf, none, mark, step, seq, star, nt}
 use Rattle.ebnf.specs.Rows.{Rows}
-use Rattle.ebnf.specs.Parse.{first, Result}
+use Rattle.ebnf.specs.Parse.{Result}
 use Rattle.ebnf.proofs.Sets.{and_split}
-use Rattle.express.specs.Tokens.Terminal.{identifier, semicolon, comma, colon, equal, becomes, CONSTANT, DERIVE, END_CONSTANT, END_ENTITY}
-use Rattle.express.specs.Tokens.Terminal.{END_SCHEMA, END_TYPE, ENTITY, ENUMERATION, OF, OPTIONAL, SCHEMA, SELECT, SUBTYPE, TYPE, WHERE}
+use Rattle.express.specs.Tokens.Terminal.{identifier, semicolon, colon, equal, becomes, CONSTANT, DERIVE, END_CONSTANT, END_ENTITY}
+use Rattle.express.specs.Tokens.Terminal.{END_SCHEMA, END_TYPE, ENUMERATION, OF, OPTIONAL, SELECT, SUBTYPE, TYPE, WHERE}
 use Rattle.express.specs.Syntax.Grammar.{Nonterminal, rules, file, schema, constants, constant, base, type_declaration, underlying, where_clause, domain_rule}
 use Rattle.express.specs.Syntax.Grammar.{entity, attributes, derived, expression, ◌·◌, ◌∣◌, tok, opt, ids, row as row_of, simple_types}
 use Rattle.express.specs.Syntax.NodeKind as kind
 use Rattle.express.proofs.Syntax.Descent.{phrase}
 use Rattle.parsing.specs.declared.Read.{Read}
 use Rattle.parsing.specs.declared.Read.TheVariants.{At, Refused}
-use Rattle.parsing.specs.Reading.{word, Expects, Ready, Sound, Reads, Reading, Continues, Steps}
-use Rattle.parsing.proofs.Terminals.{is_one, not_one, inside}
+use Rattle.parsing.specs.Reading.{word, Expects, Ready, Reads, Reading, Continues, Steps}
+use Rattle.parsing.proofs.Terminals.{not_one, inside}
 use Rattle.parsing.proofs.Laws.{start, finish, last, alone, apart, together, dead, told, named, passed}
 use Rattle.parsing.proofs.Laws.{by_row, phrased, left, right, ahead_left, ahead_right, operator, reads, rows_few, token_small}
 use Rattle.expressions.proofs.Operands.{leafs}

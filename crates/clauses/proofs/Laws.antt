@@ -1,32 +1,30 @@
 -- The laws of the readers of declarations: steps, rows with nothing below them, lists, what may be missing. Assumes nothing.
-use mathlib.Core.Bool.{Bool, true, false, not, cond}
-use mathlib.Core.List.{List, [], ◌∷◌, ◌++◌}
+use mathlib.Core.Bool.{Bool, true, false}
+use mathlib.Core.List.{List}
 use mathlib.Core.Logic.{◌⊎◌, inl, inr, ⊎_elim}
 use mathlib.Core.Path.{◌≡◌, refl, sym, ap, subst, ◌∙◌}
-use Prim.Native.Nat.{ℕ, suc, ◌+◌, ◌-◌, ◌*◌, ◌/◌, ◌%◌, ◌≤◌, ◌<◌}
+use Prim.Native.Nat.{ℕ, ◌+◌, ◌-◌, ◌/◌, ◌%◌, ◌≤◌, ◌<◌}
 use native.Mathlib.Omega.{arith}
-use lib.Dec.{eqb}
 use lib.ListN.{length, get_or, set, get_or-eq_default}
 use borrow.Author.Tests.{ne_eqb}
 use Rattle.ebnf.specs.Set.{mem, disjoint}
-use Rattle.ebnf.specs.Grammar.{node, leaf, Ebnf, none, mark, step, seq, alt, star, nt}
+use Rattle.ebnf.specs.Grammar.{Ebnf, seq, star, nt}
 use Rattle.ebnf.specs.Rows.{Rows}
 use Rattle.ebnf.specs.Parse.{first, Result}
 use Rattle.ebnf.proofs.Predictive.{Ok, ok_of}
 use Rattle.ebnf.proofs.Sets.{lt_or_le}
-use Rattle.express.specs.Tokens.Terminal.{identifier, semicolon, comma}
-use Rattle.express.specs.Syntax.Grammar.{Nonterminal, base, constant, derived, domain_rule, attributes, schema, type_declaration, entity, ◌·◌, ◌∣◌, tok, opt, ids, simple_types}
+use Rattle.express.specs.Tokens.Terminal.{identifier, comma}
+use Rattle.express.specs.Syntax.Grammar.{Nonterminal, base, constant, derived, domain_rule, attributes, schema, type_declaration, entity, ◌·◌, ◌∣◌, tok, opt, ids}
 use Rattle.express.specs.Syntax.Lookahead.{tables}
 use Rattle.express.proofs.Syntax.Descent.{phrase}
 use Rattle.parsing.specs.declared.Read.{Read}
 use Rattle.parsing.specs.declared.Read.TheVariants.{At, Refused}
-use Rattle.parsing.specs.Reading.{labelled, word, Expects, Ready, Sound, Found, Reads, Reading, Continues, Steps, Leaf}
-use Rattle.parsing.proofs.Terminals.{is_one, not_one, inside}
+use Rattle.parsing.specs.Reading.{labelled, word, Expects, Ready, Sound, Reads, Reading, Continues, Steps, Leaf}
+use Rattle.parsing.proofs.Terminals.{is_one, not_one}
 use Rattle.parsing.proofs.Laws.{start, finish, last, apart, nothing, dead, refused_found, told, by_leaf, by_row, phrased, left, right, more, stop, passed, reads, sound_of, rows_few}
 use Rattle.expressions.proofs.Operands.{leafs, leafs_last}
 use Rattle.parsing.proofs.Steps.{onward_row, one_inside, expect_ready, expect_goes, by_token, by_name}
 use Rattle.clauses.specs.Declares.{Closes, Groups, id_of, names_of, Leaves, type_label, Types, assigned_by, Heads}
-use borrow.Author.Rules.{rules}
 
 -- ---- steps
 
@@ -149,31 +147,31 @@ module _ {e : Ebnf Nonterminal} {ts : List ℕ} {p n q m : ℕ} {c₀ c : List �
 
   -- no turn more
   pub many_ends : mem (get_or ts q 0) (first tables e) ≡ false → Steps (star e) ts p n (At q m) c₀ c
-  many_ends t = record { sound = g; goes = record { on = λ v. stop o g.within t (L.on v); keeps = search rules; rests = λ h. search rules } }
+  many_ends t = record { sound = g; goes = record { on = λ v. stop o g.within t (L.on v) } }
 
 module _ {e : Ebnf Nonterminal} {ts : List ℕ} {p n : ℕ} {c₀ d : List ℕ} {r : Read} (L : Loops e ts p n r c₀ d) where
   pub loops_at : {q m : ℕ} → r ≡ At q m → Loops e ts p n (At q m) c₀ d
   loops_at h = subst (λ (z : Read). Loops e ts p n z c₀ d) h L
 
   pub many_refused : {k : ℕ} → r ≡ Refused k → Steps (star e) ts p n r c₀ d
-  many_refused h = record { sound = rw h tt; goes = record { on = λ v. dead h (L.on v); keeps = search rules; rests = λ h. search rules } }
+  many_refused h = record { sound = rw h tt; goes = record { on = λ v. dead h (L.on v) } }
 
 -- e and then f
 module _ {e f : Ebnf Nonterminal} {ts : List ℕ} {p n : ℕ} {r : Read} {a b : List ℕ} (h : Continues e ts p n r a b) where
   pub list_refused : {k : ℕ} → r ≡ Refused k → Steps (seq e f) ts p n r a b
-  list_refused z = record { sound = rw z tt; goes = record { on = λ v. dead z (h.on (apart v)); keeps = search rules; rests = λ h. search rules } }
+  list_refused z = record { sound = rw z tt; goes = record { on = λ v. dead z (h.on (apart v)) } }
 
   pub list_then : {q m : ℕ} {y : Read} {c : List ℕ} → r ≡ At q m → Steps f ts q m y b c → Steps (seq e f) ts p n y a c
-  list_then z s = record { sound = s.sound; goes = record { on = λ v. s.goes.on (told z (h.on (apart v))); keeps = search rules; rests = λ h. search rules } }
+  list_then z s = record { sound = s.sound; goes = record { on = λ v. s.goes.on (told z (h.on (apart v))) } }
 
 -- ---- what may be missing
 
 module _ {e : Ebnf Nonterminal} {ts : List ℕ} {p n : ℕ} {a : List ℕ} where
   pub opt_absent : Ready ts p n → mem (get_or ts p 0) (first tables e) ≡ false → Steps (opt e) ts p n (At p n) a a
-  opt_absent g t = record { sound = g; goes = record { on = λ v. nothing (right t v); keeps = search rules; rests = λ h. search rules } }
+  opt_absent g t = record { sound = g; goes = record { on = λ v. nothing (right t v) } }
 
   pub opt_present : {r : Read} {b : List ℕ} → mem (get_or ts p 0) (first tables e) ≡ true → Sound ts r → Continues e ts p n r a b → Steps (opt e) ts p n r a b
-  opt_present t s h = record { sound = s; goes = record { on = λ v. h.on (left t v); keeps = search rules; rests = λ h. search rules } }
+  opt_present t s h = record { sound = s; goes = record { on = λ v. h.on (left t v) } }
 
 -- a phrase that may be missing
 pub opt_reads : {x : Nonterminal} {ts : List ℕ} {p n : ℕ} {r : Read} {a b : List ℕ} → Ready ts p n → mem (get_or ts p 0) (tables.begins x) ≡ true → Reads x ts p n r a b → Steps
@@ -243,15 +241,15 @@ regroup r = record { done = r.done; found = r.found; named = r.named; is = r.is 
 
 module _ (label : ℕ) {ts : List ℕ} {p n : ℕ} (g : Ready ts p n) {opened : Read} {a : List ℕ} (x : Expects 24 ts p n opened) where
   pub ids_opened : {k : ℕ} → opened ≡ Refused k → Steps (ids (id_of label)) ts p n opened a a
-  ids_opened e = record { sound = rw e tt; goes = record { on = λ v. dead e (by_token x (omega arith) (apart v)); keeps = search rules; rests = λ h. search rules } }
+  ids_opened e = record { sound = rw e tt; goes = record { on = λ v. dead e (by_token x (omega arith) (apart v)) } }
 
   module _ {q m : ℕ} (e : opened ≡ At q m) {listed : Read} {b : List ℕ} (s : Steps (names_of label) ts q m listed a b) where
     pub ids_listed : {k : ℕ} → listed ≡ Refused k → Steps (ids (id_of label)) ts p n listed a b
-    ids_listed e₂ = record { sound = rw e₂ tt; goes = record { on = λ v. dead e₂ (s.goes.on (regroup (told e (by_token x (omega arith) (apart v))))); keeps = search rules; rests = λ h. search rules } }
+    ids_listed e₂ = record { sound = rw e₂ tt; goes = record { on = λ v. dead e₂ (s.goes.on (regroup (told e (by_token x (omega arith) (apart v))))) } }
 
     pub ids_closed : {q₂ m₂ : ℕ} {r : Read} → listed ≡ At q₂ m₂ → Expects 25 ts q₂ m₂ r → Steps (ids (id_of label)) ts p n r a b
     ids_closed {r = r} e₂ y =
         record {
           sound = expect_sound r (sound_ready listed s.sound e₂) y;
-          goes = record { on = λ v. by_token y (omega arith) (told e₂ (s.goes.on (regroup (told e (by_token x (omega arith) (apart v)))))); keeps = search rules; rests = λ h. search rules };
+          goes = record { on = λ v. by_token y (omega arith) (told e₂ (s.goes.on (regroup (told e (by_token x (omega arith) (apart v)))))) };
         }

@@ -1,5 +1,5 @@
 -- The inner contracts of the readers of declarations, in terms of the grammar.
-use Rattle.std.specs.Prelude.{Bool, not, cond, List, [], ◌∷◌, ◌≡◌, ℕ, ◌+◌, ◌*◌, ◌/◌, ◌%◌, eqb, get_or}
+use Rattle.std.specs.Prelude.{not, cond, List, [], ◌∷◌, ℕ, ◌+◌, ◌*◌, ◌/◌, ◌%◌, eqb, get_or}
 use Rattle.ebnf.specs.Set.{mem}
 use Rattle.ebnf.specs.Grammar.{here, node, leaf, Ebnf, none, mark, step, seq, star, nt}
 use Rattle.ebnf.specs.Rows.{Rows}

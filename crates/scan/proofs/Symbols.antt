@@ -1,11 +1,11 @@
 -- Symbols: `:=` and `:=:`, told from the rest by their first two bytes.
-use mathlib.Core.Path.{◌≡◌, refl, sym, subst}
+use mathlib.Core.Path.{◌≡◌, refl}
 use mathlib.Core.Bool.{Bool, true, false, cond, ◌&&◌}
 use mathlib.Core.List.{List}
 use Prim.Native.Nat.{ℕ, ◌+◌}
 use lib.Dec.{T, eqb, eqb→eq}
 use lib.ListN.{get_or}
-use Rattle.express.specs.Tokens.Lexis.{Reading, at, refused, pair, lone, size_of_symbol, end_of_symbol}
+use Rattle.express.specs.Tokens.Lexis.{at, refused, pair, lone, size_of_symbol, end_of_symbol}
 
 pair_is : (x y b c : ℕ) → pair x y b c ≡ true → (b ≡ x) × (c ≡ y)
 pair_is x y b c e = go (eqb b x) (eqb c y) (eqb→eq b x) (eqb→eq c y) e

@@ -1,4 +1,3 @@
-use borrow.Author.Rules.{rules}
 use Rattle.clauses.proofs.Laws.{sound_ready, list_refused, list_then}
 use Rattle.clauses.proofs.members.Goals as goal
 

@@ -1,6 +1,5 @@
 -- What was read when the loop began goes on to where it is.
 use borrow.Author.Rules.{rules}
-use Prim.Native.Nat.{◌-◌}
 use mathlib.Core.Path.{refl}
 use native.Mathlib.Omega.{arith}
 use Rattle.parsing.proofs.Laws.{reads_at, ready_of}

@@ -1,6 +1,5 @@
 -- The loop over tokens: what is left to read completes the rows that are written (`Progress`); a text within the limit fits 32 bits, and so do its places.
 use mathlib.Core.Path.{refl}
-use Prim.Native.Nat.{◌-◌}
 use Rattle.express.specs.Tokens.Bytes.{word_byte}
 use Rattle.express.specs.Tokens.Lexis.{lone}
 use Rattle.columns.specs.Column.{tabulated}

@@ -1,6 +1,6 @@
 use mathlib.Core.Path.{sym, ◌∙◌}
 use borrow.Author.Tests.{eq-eqb, ne_eqb}
-use Rattle.express.specs.Tokens.Lexis.{at, end_of_symbol}
+use Rattle.express.specs.Tokens.Lexis.{end_of_symbol}
 use Rattle.express.proofs.Tokens.Places.{size_is, size_inside}
 use Rattle.scan.proofs.Symbols.{assign_is}
 use native.Mathlib.Omega.{arith}

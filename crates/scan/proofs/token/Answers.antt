@@ -1,6 +1,5 @@
 -- The kind by the first byte, and the end that the reader of that kind gives (`Tokens`).
 use mathlib.Core.Path.{sym, ◌∙◌}
-use mathlib.Core.Bool.{false}
 use Rattle.scan.proofs.Tokens.{lone_token, word_token, string_token, binary_token, symbol_token}
 use native.Mathlib.Omega.{arith}
 use Rattle.scan.proofs.token.Goals as goal

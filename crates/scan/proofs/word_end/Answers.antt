@@ -1,5 +1,4 @@
 -- The run from here on is the run from the start on.
-use Prim.Native.Nat.{◌-◌}
 use mathlib.Core.Path.{refl, ◌∙◌}
 use Rattle.scan.proofs.Words.{word_ends, word_passes}
 use native.Mathlib.Omega.{arith}

@@ -1,5 +1,4 @@
 -- The run from here on is the run from the start on.
-use Prim.Native.Nat.{◌-◌}
 use mathlib.Core.Path.{refl, sym, ◌∙◌}
 use Rattle.scan.proofs.Words.{word_stops, word_more}
 use Rattle.blanks.proofs.Turns.{run_over}
