@@ -20,7 +20,7 @@ use Rattle.express.specs.Tokens.Spelling.{spelling, is_identifier, symbol_of, sy
 use Rattle.relations.proofs.Select.{and_fst, and_snd, and_both, untrue, first_is, first_of}
 use Rattle.express.proofs.Tokens.Spelling.{same_true, symbol_le, symbol_other, symbol_least, symbol_named, symbol_spelled, symbol_iff, symbols_at}
 use Rattle.index.specs.Link.{last_index_below}
-use Rattle.index.specs.Room.{done, fits, enough}
+use Rattle.index.specs.Room.{done, enough}
 use Rattle.chains.specs.Rounds.{home}
 use Rattle.chains.specs.Chains.{is_first, entries, home_at, chained, Links, ChainedBelow}
 use Rattle.chains.specs.Steps.{first_spelled, place_at, place_of, PlacedAlike, Places, PlacesWord}

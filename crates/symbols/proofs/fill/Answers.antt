@@ -1,10 +1,9 @@
 -- `symbols::fill` meets its contract: by the laws of `Filling`. Assumes nothing.
 use Rattle.symbols.proofs.Interning.{filling_starts, ready_to_enter, filling_enters, filling_passes, filling_ends, filling_same}
-use mathlib.Core.Logic.{⊎_elim}
 use mathlib.Core.Path.{sym, ◌∙◌}
 use borrow.Author.Tests.{eq-eqb, ne_eqb}
-use Prim.Native.Nat.{◌-◌}
 use native.Mathlib.Omega.{arith}
+use Rattle.symbols.proofs.fill.Goals.{then-terminal_at-eq-IDENTIFIER, else-terminal_at-eq-IDENTIFIER}
 use Rattle.symbols.proofs.fill.Goals as goal
 
 pub loop-i-init : goal.loop-i-init
@@ -26,10 +25,12 @@ pub loop-i-preserved : goal.loop-i-preserved
 loop-i-preserved c = let here = c.loop-i.invariant in
     let l = c.loop-i-test.true in
     let is = c.terminal_at.ensures in
-    ⊎_elim
-    (λ w. filling_same _ _ _ _ w.11 w.12 w.13 (filling_enters _ _ _ _ here l (eq-eqb _ _ (sym is ∙ w.0.taken)) w.4.ensures))
-    (λ w. filling_same _ _ _ _ w.2 w.3 w.4 (filling_passes _ _ _ _ here l _ (ne_eqb _ _ (λ q. w.0.left (is ∙ q))) (w.1.ensures (omega (arith, here.small, l)))))
-    c.if-terminal_at-eq-IDENTIFIER.branch
+    elim c.if-terminal_at-eq-IDENTIFIER.branch [
+      | then-terminal_at-eq-IDENTIFIER w ↦ filling_same _ _ _ _ w.symbols-is w.heads-is w.next-is
+          (filling_enters _ _ _ _ here l (eq-eqb _ _ (sym is ∙ w.if-terminal_at-eq-IDENTIFIER.true)) w.enter.ensures)
+      | else-terminal_at-eq-IDENTIFIER w ↦ filling_same _ _ _ _ w.symbols-is w.heads-is w.next-is
+          (filling_passes _ _ _ _ here l _ (ne_eqb _ _ (λ q. w.if-terminal_at-eq-IDENTIFIER.false (is ∙ q))) (w.number.ensures (omega (arith, here.small, l))))
+    ]
 
 pub shape_of-symbols : goal.shape_of-symbols
 shape_of-symbols c = c.loop-i.invariant.symbols_long
