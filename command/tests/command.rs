@@ -8,6 +8,7 @@ use std::fs::{self, File, OpenOptions};
 use std::io::{Read, Write};
 use std::os::unix::ffi::OsStrExt;
 use std::os::unix::fs::symlink;
+use std::path::Path;
 use std::process::Stdio;
 use std::sync::mpsc;
 use std::thread;
@@ -15,6 +16,11 @@ use std::time::{Duration, Instant};
 
 fn owned(stdout: &str, stderr: &str, status: i32) -> (String, String, i32) {
     (stdout.to_string(), stderr.to_string(), status)
+}
+
+/// `rt ci` refuses a repository in which links lie, also below target/.
+fn removed(folder: &Path, links: &[&str]) {
+    links.iter().for_each(|link| fs::remove_file(folder.join(link)).expect("a link"));
 }
 
 #[test]
@@ -44,6 +50,7 @@ fn a_folder_stands_for_its_schemas_and_those_below() {
     symlink(&top, top.join("c/back")).expect("a link");
     let (written, _, status) = told(&run(["check", top.to_str().expect("letters")]));
     assert_eq!((written, status), (names.map(|name| format!("{name}:\n{ACCEPTED_LISTING}")).concat(), 0));
+    removed(&top, &["c/back"]);
     let empty = folder("empty");
     let (written, said, status) = told(&run(["check", empty.to_str().expect("letters")]));
     assert_eq!((written.as_str(), status), ("", 2));
@@ -66,6 +73,7 @@ fn of_a_folder_files_alone_are_read() {
     assert_eq!(written, format!("{a}:\n{ACCEPTED_LISTING}{}:\n{ACCEPTED_LISTING}", b.display()));
     assert!(said.contains("c.exp: No such file") && !said.contains("d.exp"), "{said}");
     assert_eq!(status, 2);
+    removed(&top, &["b.exp", "c.exp"]);
 }
 
 #[test]
