@@ -11,7 +11,7 @@ use lib.ListN.{length, get_or, take, drop, length-append, length-map, length-tak
 use Rattle.express.specs.Tokens.Bytes.{lower}
 use Rattle.express.specs.Tokens.Terminal.{bytes}
 use Rattle.express.specs.Syntax.Tree.{Table, token, schema_of}
-use Rattle.express.specs.Semantics.Answer.{Logical, FALSE, UNKNOWN, TRUE, Answer, indeterminate, integer, logical, binary, item, string, end}
+use Rattle.express.specs.Semantics.Answer.{Logical, FALSE, UNKNOWN, TRUE, indeterminate, integer, logical, binary, item, string, end}
 use Rattle.express.specs.Semantics.AnswerRow.{natural, ranked}
 use Rattle.express.specs.Semantics.Bits.{bits}
 use Rattle.express.proofs.Semantics.Bits.{length_bits}

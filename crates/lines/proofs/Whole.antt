@@ -12,10 +12,9 @@ use Rattle.columns.specs.Column.{padded}
 use Rattle.columns.proofs.Laws.{getD_padded}
 use Rattle.ebnf.specs.Rows.{Row}
 use Rattle.relations.specs.Select.{span, first_from, keep}
-use Rattle.express.specs.Tokens.Terminal.{bytes}
 use Rattle.express.specs.Tokens.Spelling.{spelling}
 use Rattle.express.specs.Syntax.NodeKind.{constant, schema}
-use Rattle.express.specs.Syntax.Tree.{Table, count, kind, token, is, schema_of}
+use Rattle.express.specs.Syntax.Tree.{Table, count, token, is, schema_of}
 use Rattle.express.specs.Semantics.Answer as express
 use Rattle.express.specs.Semantics.Answer.{indeterminate, integer, logical, binary, item, string, end}
 use Rattle.express.specs.Semantics.Declared.{Declared}

@@ -1,5 +1,5 @@
 -- What a part leaves in the buffer up to its end, and what is then to come, is what was to come (`part_joins`, `first_joins`), for a part stops between two lines.
-use mathlib.Core.Path.{◌≡◌, refl, sym, ap, ◌∙◌}
+use mathlib.Core.Path.{◌≡◌, refl, sym, ap, ◌∙◌, subst}
 use mathlib.Core.List.{List, ◌++◌, append_assoc}
 use mathlib.Core.Logic.{⊎_elim}
 use Prim.Native.Nat.{ℕ, zero, suc, ◌+◌, ◌*◌, ◌-◌, ◌≤◌, ◌<◌}
@@ -38,9 +38,10 @@ module _ (t : Table) (room : List ℕ) (rs : List Answer) (constants : ℕ) wher
   joins zero c p e h = rw (← e)
   joins (suc d) c p e h = ⊎_elim
       (λ (fits : q.at ≤ length c).
-      let more : Joins d (sets c p.at line) q (part_end t room rs (length (sets c p.at line)) d q) =
-      joins d (sets c p.at line) q (omega arith) (omega (arith, fits, length-sets c p.at line)) in
-      rw (le-leb q.at (length c) fits, sets_append c p.at line later, ← length-sets c p.at line)
+      let more : Joins d (sets c p.at line) q (part_end t room rs (length c) d q) =
+      subst (λ (m : ℕ). Joins d (sets c p.at line) q (part_end t room rs m d q)) (length-sets c p.at line)
+      (joins d (sets c p.at line) q (omega arith) (omega (arith, fits, length-sets c p.at line))) in
+      rw (le-leb q.at (length c) fits, sets_append c p.at line later)
       (more ∙ ap (λ (l : List ℕ). l ++ later) (take_stored c p.at line fits) ∙ append_assoc (take p.at c) line later))
       (λ (over : length c < q.at).
       rw (lt-leb q.at (length c) over, ← e, take_sets p.at c p.at (line ++ later) (omega arith)))

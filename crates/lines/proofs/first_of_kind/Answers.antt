@@ -1,6 +1,5 @@
 -- `lines::first_of_kind` meets its contract: the first from the node on is the first from the start on. Assumes nothing.
 use mathlib.Core.Path.{refl, sym, ◌∙◌}
-use Prim.Native.Nat.{◌-◌}
 use native.Mathlib.Omega.{arith}
 use borrow.Author.Tests.{eq-eqb, ne_eqb}
 use Rattle.relations.proofs.Select.{first_step, first_end}

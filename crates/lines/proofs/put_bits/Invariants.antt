@@ -1,4 +1,3 @@
-use lib.ListN.{length}
 use Rattle.lines.proofs.Numbers.{Remaining}
 use Rattle.lines.proofs.put_bits.Given as goal
 

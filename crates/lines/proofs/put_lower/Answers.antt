@@ -1,5 +1,4 @@
 -- `lines::put_lower` meets its contract, by the laws of `Copying`. Assumes nothing.
-use Prim.Native.Nat.{◌-◌}
 use native.Mathlib.Omega.{arith}
 use Rattle.lines.proofs.Pieces.{copying_starts, copying_goes_on, lower_copied, copying_kept}
 use Rattle.lines.proofs.put_lower.Goals as goal

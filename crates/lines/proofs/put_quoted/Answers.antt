@@ -1,5 +1,4 @@
 -- `lines::put_quoted` meets its contract, by the laws of `Quoting`. Assumes nothing.
-use Prim.Native.Nat.{◌-◌}
 use native.Mathlib.Omega.{arith}
 use Rattle.lines.proofs.Strings.{quoting_starts, quoting_goes_on, quoting_ends, quoting_kept}
 use Rattle.lines.proofs.put_quoted.Goals as goal

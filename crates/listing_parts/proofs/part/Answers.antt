@@ -1,5 +1,4 @@
 -- `listing_parts::part` meets its contract, by the laws of `Going`: each turn writes the next line, or stops before it. Assumes nothing.
-use Prim.Native.Nat.{◌-◌}
 use Rattle.listing_parts.proofs.Parting.{printed_by, going_fits, going_starts, going_goes_on, going_stops, going_ends}
 use native.Mathlib.Omega.{arith}
 use Rattle.listing_parts.proofs.part.Goals as goal
