@@ -2,7 +2,7 @@
 use mathlib.Core.Bool.{Bool, true, false, ◌&&◌, cond}
 use mathlib.Core.List.{List, [], ◌∷◌, ◌++◌, map, map-append}
 use mathlib.Core.Path.{◌≡◌, refl, sym, ap, subst, ◌∙◌}
-use Prim.Native.Nat.{ℕ, suc, ◌+◌, ◌-◌, ◌*◌, ◌≤◌, ◌<◌}
+use Prim.Native.Nat.{ℕ, suc, ◌+◌, ◌-◌, ◌≤◌, ◌<◌}
 use native.Mathlib.Nat.{add-zero}
 use native.Mathlib.Numerals.{add-one}
 use native.Mathlib.Omega.{arith}
@@ -18,7 +18,7 @@ use Rattle.express.specs.Syntax.Grammar.{Nonterminal, rules}
 use Rattle.express.specs.Syntax.Lookahead.{tables}
 use Rattle.express.proofs.Syntax.Syntax.{express}
 use Rattle.express.proofs.Syntax.Descent.{phrase, phrase_placed, so}
-use Rattle.express.proofs.Syntax.Count.{Counted, phrase_counted, gain}
+use Rattle.express.proofs.Syntax.Count.{Counted, phrase_counted}
 use Rattle.columns.proofs.Laws.{sets_append, take_sets}
 use Rattle.parsing.specs.declared.Read.{Read}
 use Rattle.parsing.specs.declared.Read.TheVariants.{At, Refused}

@@ -8,14 +8,14 @@ use Prim.Native.Nat.{ℕ, zero, suc, ◌+◌, ◌-◌, ◌≤◌, ◌<◌}
 use native.Mathlib.Omega.{arith}
 use native.Mathlib.Numerals.{add-one}
 use lib.Dec.{eqb, ltb, leb}
-use lib.ListN.{length, get_or, take, drop, length-take, length-drop}
+use lib.ListN.{length, get_or, take, drop}
 use lib.Seq.{drop-cons, take_all, length-take-le}
-use borrow.Author.Tests.{eq-eqb, ne_eqb, lt-ltb, le-ltb, leb-true, leb-false, le-leb, lt-leb, eqb-true, eqb-false, ltb-true, ltb-false}
+use borrow.Author.Tests.{lt-ltb, le-ltb, leb-true, leb-false, le-leb, lt-leb, eqb-false, ltb-true}
 use Rattle.ebnf.specs.Set.{mem}
-use Rattle.ebnf.specs.Rows.{Row, Rows}
-use Rattle.ebnf.specs.Parse.{Result, at, refused, starved, bind, accepted, refused_at, verdict, parse}
+use Rattle.ebnf.specs.Rows.{Rows}
+use Rattle.ebnf.specs.Parse.{Result, at, refused, starved, bind, accepted, refused_at, verdict}
 use Rattle.columns.proofs.Laws.{tabulated_at}
-use Rattle.ebnf.specs.Depth.{next, opened, first_deep, Outcome, good, unexpected, too_deep, uncut, cut_at, outcome_to}
+use Rattle.ebnf.specs.Depth.{next, opened, first_deep, unexpected, too_deep, uncut, cut_at, outcome_to}
 use Rattle.ebnf.specs.Rows.{in_rows}
 use Rattle.ebnf.proofs.Sets.{lt_or_le}
 use Rattle.ebnf.proofs.Descent as descent

@@ -1,5 +1,5 @@
 -- The stages between the readers and the columns: the outcome of a list whose rows stand in words, and the words in columns.
-use Rattle.std.specs.Prelude.{Bool, true, false, not, cond, List, map, ◌≡◌, ℕ, ◌+◌, ◌/◌, ◌%◌, ◌≤◌, length, take, replicate, eqb, ltb, leb}
+use Rattle.std.specs.Prelude.{cond, List, map, ◌≡◌, ℕ, ◌+◌, ◌/◌, ◌%◌, ◌≤◌, length, take, replicate, eqb, ltb, leb}
 use Rattle.std.proofs.Math.Option.{Option, some, none as nowhere}
 use Rattle.std.proofs.lemmas.List.Edits.{sets}
 use Rattle.columns.specs.Column.{tabulated}

@@ -1,5 +1,5 @@
 -- What a parse answers, and what it leaves in the four node columns and in its scratch: for a list of terminals read as a text of a nonterminal.
-use Rattle.std.specs.Prelude.{Bool, ◌&&◌, cond, List, [], ◌++◌, map, ◌≡◌, ℕ, ◌≤◌, length, drop, replicate, leb}
+use Rattle.std.specs.Prelude.{Bool, ◌&&◌, cond, List, [], ◌++◌, map, ◌≡◌, ℕ, length, drop, replicate, leb}
 use Rattle.std.proofs.lemmas.List.Edits.{sets}
 use Rattle.ebnf.specs.Rows.{Row, Rows}
 use Rattle.ebnf.specs.Depth.{Outcome, good, unexpected, too_deep}

@@ -1,5 +1,4 @@
 -- What was read when the loop began goes on to where it is.
-use Prim.Native.Nat.{◌-◌}
 use mathlib.Core.Path.{refl}
 use native.Mathlib.Omega.{arith}
 use borrow.Author.Rules.{rules}

@@ -1,5 +1,4 @@
 -- The loop fills the column up to the word that it is at.
-use Prim.Native.Nat.{◌-◌}
 use mathlib.Core.Path.{refl}
 use native.Mathlib.Omega.{arith}
 use Rattle.parsing.specs.Outcome.{kind_in}

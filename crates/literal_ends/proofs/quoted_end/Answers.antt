@@ -1,7 +1,5 @@
 -- The end of the string from here on, just after a quote or not, is that of the whole (`Strings`).
 use mathlib.Core.Path.{refl, sym, ◌∙◌}
-use mathlib.Core.Bool.{false}
-use Prim.Native.Nat.{◌-◌}
 use borrow.Author.Tests.{not-true, not-false}
 use Rattle.literal_ends.proofs.Strings.{string_shut, string_doubled, string_quote, string_on, string_bad, string_end, string_open}
 use native.Mathlib.Omega.{arith}

@@ -1,5 +1,4 @@
 -- The table of steps is computed; what is found from each token on is what is found from the start.
-use Prim.Native.Nat.{◌-◌}
 use mathlib.Core.Path.{refl, sym, ◌∙◌}
 use Rattle.ebnf.specs.Set.{mem}
 use Rattle.columns.specs.Column.{tabulated}
