@@ -9,7 +9,7 @@ use native.Mathlib.Decide.{ℕ_discrete}
 use lib.Dec.{eqb}
 use lib.ListN.{length, get_or, set, length-set}
 use borrow.Author.Tests.{eqb-true, eq-eqb}
-use Rattle.graph.specs.Graph.{vertices, Graph, Tells}
+use Rattle.graph.specs.Graph.{Tells}
 use Rattle.graph.proofs.Store.{put}
 use Rattle.graph.proofs.Arcs.{arc_place, arc_below}
 use Rattle.group_rows.specs.Rows.{cell, Grouped, Inner, Arrangeable, Arranged}

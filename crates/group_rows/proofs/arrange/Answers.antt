@@ -1,6 +1,5 @@
 -- `group_rows::arrange` meets its contract: by the laws of `Arranging`. Assumes nothing.
 use Rattle.group_rows.proofs.Scan.{arranging_start, arranging_step, arranging_end}
-use Prim.Native.Nat.{◌-◌}
 use native.Mathlib.Omega.{arith}
 use Rattle.group_rows.proofs.arrange.Goals as goal
 

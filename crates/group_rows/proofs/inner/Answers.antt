@@ -3,7 +3,6 @@ use borrow.Author.Rules.{rules}
 use Rattle.group_rows.proofs.Scan.{looking_start, looking_place, looking_hit, looking_step, looking_end}
 use Rattle.graph.proofs.Test.{tells_no, tells_yes}
 use mathlib.Core.Path.{refl}
-use Prim.Native.Nat.{◌-◌}
 use native.Mathlib.Omega.{arith}
 use Rattle.group_rows.proofs.inner.Goals as goal
 

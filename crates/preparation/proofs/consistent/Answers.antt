@@ -1,5 +1,4 @@
 -- `preparation::consistent` meets its contract. Assumes nothing.
-use Prim.Native.Nat.{◌-◌}
 use native.Mathlib.Omega.{arith}
 use Rattle.preparation.proofs.Checking.{passing_starts, passing_goes_on, passing_ends, too_many, too_short, outside, too_high, fits_surely}
 use Rattle.preparation.proofs.consistent.Goals as goal

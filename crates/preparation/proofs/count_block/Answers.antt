@@ -4,7 +4,6 @@ use lib.ListN.{get_or}
 use Rattle.scopes.specs.Entries.{is_other}
 use Rattle.scopes.specs.Standing.{declares, sort_by}
 use Rattle.scopes.proofs.Passing.{one_or_none}
-use Prim.Native.Nat.{◌-◌}
 use native.Mathlib.Omega.{arith}
 use mathlib.Core.Path.{refl}
 use Rattle.preparation.proofs.count_block.Goals as goal

@@ -1,7 +1,6 @@
 -- `preparation::count_entries` meets its contract: the entries before node i are counted, block by block. Assumes nothing.
 use Rattle.preparation.proofs.Counting.{counting_starts}
 use mathlib.Core.Path.{refl}
-use Prim.Native.Nat.{◌-◌}
 use native.Mathlib.Omega.{arith}
 use Rattle.preparation.proofs.count_entries.Goals as goal
 

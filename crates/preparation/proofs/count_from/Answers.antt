@@ -4,7 +4,6 @@ use Rattle.columns.specs.Column.{tabulated}
 use Rattle.scopes.specs.Standing.{class_table}
 use mathlib.Core.Path.{refl, ◌≡◌}
 use lib.ListN.{length}
-use Prim.Native.Nat.{◌-◌}
 use native.Mathlib.Omega.{arith}
 use Rattle.preparation.proofs.count_from.Goals as goal
 

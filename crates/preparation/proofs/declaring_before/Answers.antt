@@ -1,7 +1,6 @@
 -- `preparation::declaring_before` meets its contract. Assumes nothing.
 use mathlib.Core.Path.{sym, ◌∙◌}
 use native.Mathlib.Omega.{arith}
-use Rattle.preparation.specs.Declaring.{may_declare}
 use Rattle.scopes.proofs.NoneFrom.{none_yet, none_more}
 use Rattle.preparation.proofs.declaring_before.Goals as goal
 

@@ -52,7 +52,7 @@ loop-i-smaller-then-class-ne-NOTHING c = omega (arith, c.loop-i-test.true, c.dec
 pub loop-i-preserved-then-class-ne-NOTHING : goal.loop-i-preserved-then-class-ne-NOTHING
 loop-i-preserved-then-class-ne-NOTHING c = entering_passes
     (entering_goes_on c.loop-i.invariant c.loop-i-test.true c.class-class.ensures c.passed-here.ensures c.sort_in.ensures
-    (ap (λ (x : ℕ). get_or c.args.symbols.now x 0) c.index-k.ensures) refl c.enter_node.ensures.0 c.enter_node.ensures.1)
+    (ap (λ (x : ℕ). get_or c.args.symbols.now x 0) c.index-k.ensures) refl c.enter_node.ensures.entered c.enter_node.ensures.entered_2)
     c.declaring_before-i-in-loop-i.ensures
 
 pub loop-i-smaller : goal.loop-i-smaller
@@ -68,4 +68,7 @@ pub shape_of-nodes : goal.shape_of-nodes
 shape_of-nodes c = filling_long c.loop-i.invariant.nodes_filling
 
 pub returns : goal.returns
-returns c = (filling_ends c.loop-i.invariant.keys_filling c.loop-i-test.false, filling_ends c.loop-i.invariant.nodes_filling c.loop-i-test.false)
+returns c = record {
+  filled = filling_ends c.loop-i.invariant.keys_filling c.loop-i-test.false;
+  filled_2 = filling_ends c.loop-i.invariant.nodes_filling c.loop-i-test.false;
+}

@@ -1,6 +1,5 @@
 use Rattle.scopes.specs.Standing.{table_of}
 use Rattle.preparation.proofs.Filling.{Entering}
-use Prim.Native.Nat.{◌-◌}
 use Rattle.preparation.proofs.fill.Given as goal
 
 abbrev pub invariant-loop-i : goal.invariant-loop-i

@@ -1,5 +1,4 @@
 -- `preparation::largest` meets its contract. Assumes nothing.
-use Prim.Native.Nat.{◌-◌}
 use Rattle.preparation.proofs.Checking.{largest_starts, largest_goes_on, largest_ends}
 use Rattle.preparation.proofs.largest.Goals as goal
 
