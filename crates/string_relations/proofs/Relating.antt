@@ -43,7 +43,7 @@ use Rattle.node_answers.specs.declared.operators.Reading.TheVariants.{Evaluated,
 use Rattle.node_answers.proofs.Rows.{whole_of}
 use Rattle.tree.specs.Children.{Child}
 use Rattle.string_bytes.specs.Spelling.{Spells, SpellsNodes, nodes_bytes}
-use Rattle.operations.proofs.Cases.{Other, a_string, not_string}
+use Rattle.operations.proofs.Cases.{not_string}
 use Rattle.string_relations.specs.Compared.{RelatesOperands, ComparesItem, Compared}
 use Rattle.string_relations.specs.Comparing.{SpellsNode, OrdersNodes, Operand, Relates, is_text, relates, is_relation, Compares}
 
@@ -232,8 +232,8 @@ module _ {k : ℕ} {terminals tokens sizes vks : List ℕ} {n : ℕ} where
 pub is_string : {x : code.Answer} {n : ℕ} → x ≡ variants.Text n → true ≡ is_text x
 is_string e = rw e
 
-pub is_none : (x : code.Answer) → Other (a_string ∷ []) x → false ≡ is_text x
-is_none x h = sym (text_is x ∙ by (answer_of x) (not_string (a_string ∷ []) x tt h))
+pub is_none : (x : code.Answer) → ((k : ℕ) → x ≡ variants.Text k → ⊥) → false ≡ is_text x
+is_none x h = sym (text_is x ∙ by (answer_of x) (not_string x h))
   where
     by : (a : Answer) → string_in a ≡ none → is_str a ≡ false
     by indeterminate e = refl

@@ -6,4 +6,4 @@ pub returns-in-Text : goal.returns-in-Text
 returns-in-Text c = is_string c.in-Text.is
 
 pub returns-in_default : goal.returns-in_default
-returns-in_default c = is_none c.args.x c.in_default.in_default-own.keys2
+returns-in_default c = is_none c.args.x c.in_default.not-Text
