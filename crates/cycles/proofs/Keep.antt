@@ -1,7 +1,7 @@
 -- What stays while no vertex is closed; and ways put together.
-use mathlib.Core.Path.{◌≡◌, refl, sym, subst, ◌∙◌}
+use mathlib.Core.Path.{◌≡◌, sym, subst, ◌∙◌}
 use mathlib.Core.List.{List}
-use Prim.Native.Nat.{ℕ, ◌-◌, ◌≤◌}
+use Prim.Native.Nat.{ℕ, ◌≤◌}
 use native.Mathlib.Omega.{arith}
 use Rattle.relations.specs.Reach.{Reaches, direct}
 use Rattle.relations.proofs.Reach.{reaches_trans}

@@ -7,7 +7,7 @@ use lib.ListN.{length, get_or, length-set}
 use Rattle.columns.specs.Column.{cleared}
 use Rattle.graph.specs.Graph.{vertices}
 use Rattle.graph.proofs.Store.{zeros}
-use Rattle.cycles.specs.State.{State, cell, store, state, needed}
+use Rattle.cycles.specs.State.{State, cell, store, state}
 use Rattle.cycles.specs.Component.{Finished}
 use Rattle.cycles.specs.Search.{Search, Going, Ready}
 use Rattle.cycles.specs.Step.{top, ToEnter, ToPass, ToClose, Chosen, Enterable, Closable, Closed, Countable, moved, after, entered, Storable, Stored}
@@ -15,12 +15,12 @@ use Rattle.cycles.specs.declared.Step.{Step}
 use Rattle.cycles.specs.declared.Step.TheVariants.{Done, Skip, Enter, Join, Pass, Leave, Close}
 use Rattle.cycles.specs.declared.Counts.{Counts}
 use Rattle.cycles.specs.declared.After.TheVariants.{Over, On}
-use Rattle.cycles.proofs.Cell.{Put, Puts, cell_put, state_arcs, state_closing, closed_by, entered_long, entered_puts}
+use Rattle.cycles.proofs.Cell.{Put, cell_put, state_arcs, state_closing, closed_by, entered_long, entered_puts}
 use Rattle.cycles.proofs.Entering.{search_enter, enter_room}
 use Rattle.cycles.proofs.Turn.{search_skip, search_join, search_pass, search_leave}
 use Rattle.cycles.proofs.Closing.{search_close}
 use Rattle.cycles.proofs.End.{search_start, search_end}
-use Rattle.cycles.proofs.Following.{small, open_count, path_count, bound_count, top_low}
+use Rattle.cycles.proofs.Following.{open_count, path_count, bound_count, top_low}
 
 pub record Running (first to s₀ s : List ℕ) (c : Counts) : Type 0 where
   pub going : Going first to s c

@@ -1,9 +1,9 @@
 -- What the answers on cycles, orders and components mean, and what is left in what was lent.
-use Rattle.std.specs.Prelude.{◌≡◌, ◌⊎◌, List, ℕ, ◌+◌, ◌≤◌, ◌<◌, length, get_or, take, drop, replicate}
+use Rattle.std.specs.Prelude.{◌≡◌, ◌⊎◌, List, ℕ, ◌+◌, ◌≤◌, ◌<◌, length, get_or, drop, replicate}
 use Rattle.columns.specs.Column.{cleared_before}
 use Rattle.graph.specs.Graph.{vertices, Graph, Arc, OnCycle}
-use Rattle.cycles.specs.State.{State, cell, state, needed}
-use Rattle.cycles.specs.Component.{Leads, Finished}
+use Rattle.cycles.specs.State.{State, cell, needed}
+use Rattle.cycles.specs.Component.{Leads}
 use Rattle.cycles.specs.declared.Cycle.{Cycle}
 use Rattle.cycles.specs.declared.Cycle.TheVariants.{At, Nothing, Malformed, ScratchShort}
 use Rattle.cycles.specs.declared.Dependencies.{Dependencies}

@@ -1,7 +1,7 @@
 -- The search for strongly connected components along a path of groups (Purdom and Munro; Gabow): groups of open vertices are ranges of the
 -- stack, and the search merges them when an arc leads back. So many vertices are open (the height of the stack), so many of them are on the
 -- path (its depth), they form so many groups, and so many vertices are finished.
-use Rattle.std.specs.Prelude.{◌≡◌, ◌⊎◌, List, ℕ, ◌+◌, ◌-◌, ◌≤◌, ◌<◌, length, get_or}
+use Rattle.std.specs.Prelude.{◌≡◌, ◌⊎◌, List, ℕ, ◌+◌, ◌≤◌, ◌<◌, length, get_or}
 use Rattle.graph.specs.Graph.{vertices, Graph, Arc}
 use Rattle.graph.specs.Mark.{nonzero}
 use Rattle.cycles.specs.State.{State, state, needed}

@@ -1,7 +1,7 @@
 -- One step of the search: what was found that it does next, what it writes, and how far the search is then.
 use Rattle.std.specs.Prelude.{◌≡◌, ◌⊎◌, List, ℕ, ◌+◌, ◌*◌, ◌-◌, ◌≤◌, ◌<◌, length, get_or}
 use Rattle.graph.specs.Graph.{vertices, Arc}
-use Rattle.cycles.specs.State.{State, cell, store, state}
+use Rattle.cycles.specs.State.{State, cell, store}
 use Rattle.cycles.specs.Search.{start}
 use Rattle.cycles.specs.declared.Step.{Step}
 use Rattle.cycles.specs.declared.Step.TheVariants.{Done, Skip, Enter, Join, Pass, Leave, Close}

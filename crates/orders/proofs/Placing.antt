@@ -5,11 +5,11 @@ use mathlib.Core.Bool.{Bool, true, false, false≢true, not}
 use mathlib.Core.List.{List}
 use Prim.Native.Nat.{ℕ, ◌+◌, ◌≤◌, ◌<◌}
 use native.Mathlib.Omega.{arith}
-use native.Mathlib.Decide.{ℕ_discrete, dec_lt}
+use native.Mathlib.Decide.{ℕ_discrete}
 use lib.ListN.{length, get_or, set, length-set}
 use lib.Seq.{get_or-set_same, get_or-set_other}
 use Rattle.relations.specs.Reach.{Reaches, direct, onward}
-use Rattle.graph.specs.Graph.{vertices, Arc, OnCycle}
+use Rattle.graph.specs.Graph.{vertices, Arc}
 use Rattle.graph.proofs.Arcs.{arc_source}
 use Rattle.cycles.specs.Answer.{Acyclic, Ordered, Zeros}
 use Rattle.orders.specs.Places.{Falls, Places, Copies, CopiesIf, SortsIn}

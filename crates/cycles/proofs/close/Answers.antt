@@ -1,6 +1,5 @@
 -- `cycles::close` meets its contract: by the laws of `Closes`. Assumes nothing.
 use Rattle.cycles.proofs.ClosingLoop.{closes_start, closes_room, closes_step, closes_end}
-use Prim.Native.Nat.{◌-◌}
 use native.Mathlib.Omega.{arith}
 use Rattle.cycles.proofs.close.Goals as goal
 

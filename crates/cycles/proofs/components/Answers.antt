@@ -3,7 +3,6 @@ use Rattle.graph.proofs.Test.{tells_fail, tells_pass}
 use Rattle.cycles.proofs.Use.{ready, used, groups_front}
 use lib.Seq.{length-take-le}
 use mathlib.Core.Path.{refl, sym, ◌∙◌}
-use Prim.Native.Nat.{◌-◌}
 use native.Mathlib.Omega.{arith}
 use Rattle.cycles.proofs.components.Goals as goal
 

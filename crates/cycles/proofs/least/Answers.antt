@@ -1,7 +1,6 @@
 -- `cycles::least` meets its contract: none before had one. Assumes nothing.
 use Rattle.cycles.proofs.Scan.{grouped, by_state, by_row}
 use borrow.Author.Count.{below_more}
-use Prim.Native.Nat.{◌-◌}
 use native.Mathlib.Omega.{arith}
 use Rattle.cycles.proofs.least.Goals as goal
 

@@ -1,7 +1,6 @@
 -- `cycles::next` meets its contract: the end of the path and its next arc decide, by the laws of `Following`. Assumes nothing.
 use Rattle.cycles.proofs.Following.{small, open_count, path_count, bound_count, followable, followed, read_place, read_vertex, read_next, read_leave, read_close}
 use mathlib.Core.Path.{sym, ◌∙◌}
-use Prim.Native.Nat.{◌-◌}
 use native.Mathlib.Omega.{arith}
 use Rattle.cycles.proofs.next.Goals as goal
 

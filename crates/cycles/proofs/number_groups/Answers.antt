@@ -1,6 +1,5 @@
 -- `cycles::number_groups` meets its contract: by the laws of `Numbering`. Assumes nothing.
 use Rattle.cycles.proofs.Scan.{numbering_start, numbering_step}
-use Prim.Native.Nat.{◌-◌}
 use native.Mathlib.Omega.{arith}
 use Rattle.cycles.proofs.number_groups.Goals as goal
 

@@ -21,5 +21,4 @@ pub returns-in-Close : goal.returns-in-Close
 returns-in-Close c = rw c.in-Close.is c.close.ensures
 
 pub returns-in-Done : goal.returns-in-Done
-returns-in-Done c = unwritten c.args.first.now c.args.s.now c.args.c
-    c.args.step c.in-Done.in-Done-own.keys4
+returns-in-Done c = unwritten c.args.first.now c.args.s.now c.args.c c.args.step c.in-Done.is

@@ -4,7 +4,6 @@ use Rattle.cycles.proofs.Use.{ready, replies_cycle, replies_none, used, kept_fro
 use Rattle.graph.specs.Graph.{vertices}
 use lib.Seq.{length-take-le}
 use mathlib.Core.Path.{refl, sym, ◌∙◌}
-use Prim.Native.Nat.{◌-◌}
 use native.Mathlib.Omega.{arith}
 use Rattle.cycles.proofs.topological_order.Goals as goal
 

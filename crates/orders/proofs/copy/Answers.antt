@@ -1,5 +1,4 @@
 -- `orders::copy` meets its contract. Assumes nothing.
-use Prim.Native.Nat.{◌-◌}
 use native.Mathlib.Omega.{arith}
 use Rattle.orders.proofs.Placing.{copying_start, copying_step, copying_end}
 use Rattle.orders.proofs.copy.Goals as goal

@@ -1,6 +1,5 @@
 -- `orders::is_order` meets its contract. Assumes nothing.
 use mathlib.Core.Path.{sym, ◌∙◌}
-use Prim.Native.Nat.{◌-◌}
 use native.Mathlib.Omega.{arith}
 use Rattle.orders.proofs.Placing.{never, places_start, places_step, places_end, passed}
 use Rattle.orders.proofs.is_order.Goals as goal

@@ -1,5 +1,4 @@
 -- `orders::lead_before` meets its contract. Assumes nothing.
-use Prim.Native.Nat.{◌-◌}
 use Rattle.orders.proofs.Placing.{fallen_start, fallen_step, fallen_end, never}
 use Rattle.orders.proofs.lead_before.Goals as goal
 

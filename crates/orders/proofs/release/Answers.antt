@@ -1,6 +1,5 @@
 -- `orders::release` meets its contract. Assumes nothing.
 use mathlib.Core.Path.{refl, ◌∙◌}
-use Prim.Native.Nat.{◌-◌}
 use native.Mathlib.Omega.{arith}
 use Rattle.orders.proofs.release.Goals as goal
 

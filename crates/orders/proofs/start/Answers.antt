@@ -1,6 +1,5 @@
 -- `orders::start` meets its contract. Assumes nothing.
 use mathlib.Core.Path.{refl, ◌∙◌}
-use Prim.Native.Nat.{◌-◌}
 use Rattle.orders.proofs.start.Goals as goal
 
 pub loop-v-init : goal.loop-v-init
