@@ -11,7 +11,6 @@ use lib.ListN.{length, get_or}
 use Rattle.relations.specs.Select.{span, first_from, keep, any, Ascending, cons}
 use Rattle.relations.proofs.Select.{keep_same, mem_upto, upto_mem, mem_keep, any_mem, mem_any, keep_first, first_is, ascending_from, ascending_keep, ascending_span, untrue, le_or}
 use Rattle.express.specs.Syntax.Tree.{Table, count, symbol}
-use Rattle.express.specs.Syntax.Tree as tree
 use Rattle.express.specs.Names.Fault.{sort, scope, alike}
 use Rattle.index.specs.Dictionary.{has, first_with}
 use Rattle.index.specs.declared.dictionary.Found.TheVariants.{At}

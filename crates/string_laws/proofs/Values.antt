@@ -12,7 +12,7 @@ use Rattle.express.specs.Syntax.NodeKind as node
 use Rattle.express.specs.Syntax.Tree.{Table, count, kind, size, first, last, within}
 use Rattle.express.specs.Semantics.Answer.{Answer, indeterminate}
 use Rattle.express.specs.Semantics.Declared.{declared_type}
-use Rattle.express.specs.Semantics.Shape.{constant, shape_in}
+use Rattle.express.specs.Semantics.Shape.{shape_in}
 use Rattle.express.specs.Semantics.Evaluate.{answer_in, answer_at, run_in, held, value_in, value}
 use Rattle.express.proofs.Syntax.Formed.{Formed}
 use Rattle.express.proofs.Semantics.Shapes.{constant_shape}

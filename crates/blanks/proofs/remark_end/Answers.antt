@@ -1,6 +1,5 @@
 -- The end of the remark from here on, at the depth reached, is that of the whole (`Turns`).
 use mathlib.Core.Path.{refl, sym, ◌∙◌}
-use Prim.Native.Nat.{◌-◌}
 use Rattle.blanks.proofs.Turns.{remark_over, remark_deeper, remark_out, remark_done, remark_on, remark_pass}
 use native.Mathlib.Omega.{arith}
 use Rattle.blanks.proofs.remark_end.Goals as goal

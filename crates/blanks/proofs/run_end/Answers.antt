@@ -1,5 +1,4 @@
 use mathlib.Core.Path.{refl, sym, ◌∙◌}
-use Prim.Native.Nat.{◌-◌}
 use borrow.Author.Tests.{not-true, not-false}
 use Rattle.blanks.proofs.Turns.{run_more, run_stop, run_over}
 use native.Mathlib.Omega.{arith}

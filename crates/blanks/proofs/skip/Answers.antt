@@ -1,6 +1,6 @@
 -- What is left to skip from here on is what is wanted, in enough turns (`Skipping`).
 use mathlib.Core.Path.{refl, sym, ◌∙◌, ap}
-use Prim.Native.Nat.{◌-◌, ◌+◌}
+use Prim.Native.Nat.{◌+◌}
 use lib.ListN.{get_or}
 use Rattle.express.specs.Tokens.Lexis.{in_line, pair}
 use Rattle.express.proofs.Tokens.Places.{pair_in, run_low}

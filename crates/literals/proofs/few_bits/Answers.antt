@@ -1,5 +1,4 @@
 -- `literals::few_bits` meets its contract: what is to come, after the number so far, gives the whole, and stays below the bound. Assumes nothing.
-use Prim.Native.Nat.{◌-◌}
 use Rattle.literals.proofs.Numerals.{few_starts, few_fits, few_more, few_ends}
 use native.Mathlib.Omega.{arith}
 use Rattle.literals.proofs.few_bits.Goals as goal

@@ -1,6 +1,5 @@
 -- The digits still to come, after the number so far, give the whole; once it is above the bound it stays there (`Numerals`).
 use mathlib.Core.Path.{refl, sym, ap, ◌∙◌}
-use Prim.Native.Nat.{◌-◌}
 use Rattle.literals.specs.Literal.{capped}
 use Rattle.literals.proofs.Numerals.{digit_over, digit_fits, capped_over, capped_fits, numeral_none, numeral_over, numeral_more}
 use native.Mathlib.Omega.{arith}

@@ -1,5 +1,4 @@
 use native.Mathlib.Omega.{arith}
-use Prim.Native.Nat.{◌-◌}
 use Rattle.literals.proofs.Strings.{step_fits, written_none, written_more, counted_all, written_all, inside}
 use Rattle.literals.proofs.string_bytes.Goals as goal
 

@@ -1,7 +1,6 @@
 use Rattle.literals.proofs.Strings.{step_fits, counted_plain, counted_more, counted_all, inside}
 use lib.ListN.{drop, length-take, length-drop}
 use native.Mathlib.Omega.{arith}
-use Prim.Native.Nat.{◌-◌}
 use Rattle.literals.proofs.string_length.Goals as goal
 
 pub unquoted-i-requires : goal.unquoted-i-requires

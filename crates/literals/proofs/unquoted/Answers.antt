@@ -1,5 +1,4 @@
 use Rattle.literals.proofs.Strings.{plain_none, plain_more}
-use Prim.Native.Nat.{◌-◌}
 use native.Mathlib.Omega.{arith}
 use Rattle.literals.proofs.unquoted.Goals as goal
 

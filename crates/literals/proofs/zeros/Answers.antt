@@ -1,5 +1,4 @@
 use Rattle.literals.proofs.Numerals.{zeros_none, zeros_more}
-use Prim.Native.Nat.{◌-◌}
 use native.Mathlib.Omega.{arith}
 use Rattle.literals.proofs.zeros.Goals as goal
 

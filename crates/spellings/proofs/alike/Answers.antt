@@ -2,7 +2,6 @@
 use borrow.Author.Rules.{rules}
 use Rattle.spellings.proofs.Spellings.{agree, differ_length, differ_at}
 use borrow.Author.Count.{below_more}
-use Prim.Native.Nat.{◌-◌}
 use mathlib.Core.Path.{sym, ◌∙◌}
 use native.Mathlib.Omega.{arith}
 use Rattle.spellings.proofs.alike.Goals as goal

@@ -1,6 +1,5 @@
 -- `spellings::hash` meets its contract: by the laws of `Hashing`. Assumes nothing.
 use Rattle.spellings.proofs.Spellings.{hashing_starts, hashing_goes_on, hashing_ends}
-use Prim.Native.Nat.{◌-◌}
 use native.Mathlib.Omega.{arith}
 use Rattle.spellings.proofs.hash.Goals as goal
 

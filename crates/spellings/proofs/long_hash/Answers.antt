@@ -1,6 +1,5 @@
 -- `spellings::long_hash` meets its contract: what is left to be stirred in gives the same. Assumes nothing.
 use Rattle.spellings.proofs.Spellings.{stirring_starts, stirring_goes_on, stirring_ends}
-use Prim.Native.Nat.{◌-◌}
 use Rattle.spellings.proofs.long_hash.Goals as goal
 
 pub loop-i-init : goal.loop-i-init

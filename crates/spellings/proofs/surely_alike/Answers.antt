@@ -1,6 +1,5 @@
 -- `spellings::surely_alike` meets its contract: the bytes before i agree, by the laws of `Comparing`. Assumes nothing.
 use Rattle.spellings.proofs.Blocks.{comparing_starts, comparing_goes_on, comparing_ends, alike_not, told}
-use Prim.Native.Nat.{◌-◌}
 use native.Mathlib.Omega.{arith}
 use Rattle.spellings.proofs.surely_alike.Goals as goal
 

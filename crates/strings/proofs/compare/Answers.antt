@@ -1,5 +1,4 @@
 -- `strings::compare` meets its contract: the bytes before a place are the same, until two differ or one string ends. Assumes nothing.
-use Prim.Native.Nat.{◌-◌}
 use Rattle.strings.proofs.Laws.{comparisons}
 use Rattle.strings.proofs.compare.Goals as goal
 

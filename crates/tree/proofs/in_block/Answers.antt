@@ -1,5 +1,4 @@
 -- `tree::in_block` meets its contract: what was found, or is still to come, is what the block has. Assumes nothing.
-use Prim.Native.Nat.{◌-◌}
 use borrow.Author.Tests.{eq-eqb, ne_eqb}
 use Rattle.tree.proofs.Blocks.{looking_starts, looking_found, looking_on, looking_ends}
 use native.Mathlib.Omega.{arith}

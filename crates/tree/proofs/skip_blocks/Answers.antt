@@ -1,5 +1,4 @@
 -- `tree::skip_blocks` meets its contract: a block that has none does not change what is first. Assumes nothing.
-use Prim.Native.Nat.{◌-◌}
 use Rattle.tree.proofs.Blocks.{skips_none, skips_block}
 use native.Mathlib.Omega.{arith}
 use Rattle.tree.proofs.skip_blocks.Goals as goal

@@ -2,7 +2,6 @@
 use Rattle.index.proofs.Entries.{building_starts, building_passes, building_enters, built, builds_short, builds_done}
 use mathlib.Core.Path.{◌∙◌, sym}
 use borrow.Author.Tests.{not-false}
-use Prim.Native.Nat.{◌-◌}
 use native.Mathlib.Omega.{arith}
 use Rattle.index.proofs.dictionary.build.Goals as goal
 

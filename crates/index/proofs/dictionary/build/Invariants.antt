@@ -1,5 +1,4 @@
 use Rattle.index.proofs.Entries.{Building}
-use Prim.Native.Nat.{◌-◌}
 use Rattle.index.proofs.dictionary.build.Given as goal
 
 abbrev pub invariant-loop-i : goal.invariant-loop-i

@@ -1,6 +1,5 @@
 -- `index::dictionary::walk` meets its contract: by the laws of `Walking`; links rise, so the walk ends. Assumes nothing.
 use Rattle.index.proofs.Entries.{walking_starts, walking_hits, walking_ends, walking_leaves, walking_goes_on}
-use Prim.Native.Nat.{◌-◌}
 use native.Mathlib.Omega.{arith}
 use Rattle.index.proofs.dictionary.walk.Goals as goal
 
