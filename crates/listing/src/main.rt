@@ -75,10 +75,16 @@ fn main(rt: HostRuntime) {
     let mut src = [0u8; BYTES];
     let read = read_input(&mut rt.stdin(), &mut src);
     let Input::Read(length) = read else {
-        complain(&mut rt.stderr(), b"listing: the standard input cannot be read\n");
+        complain(
+            &mut rt.stderr(),
+            b"listing: the standard input cannot be read\n",
+        );
         return;
     };
     if !list(&mut rt.stdout(), &src[..length]) {
-        complain(&mut rt.stderr(), b"listing: the standard output cannot be written\n");
+        complain(
+            &mut rt.stderr(),
+            b"listing: the standard output cannot be written\n",
+        );
     }
 }

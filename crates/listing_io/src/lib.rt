@@ -1,4 +1,4 @@
-// A reader into a lent buffer, and a listing to a writer. Of both it is assumed what std's `Read` and `Write` say.
+// What a reader gives into a lent buffer, and a listing to a writer, by what the traits `Read` and `Write` of std promise.
 #![tactic(auto)]
 
 ghost use Rattle.std.specs.Prelude.{length};
