@@ -1,6 +1,5 @@
 -- The end of the string from here on, just after a quote or not, is that of the whole (`Strings`).
 use mathlib.Core.Path.{refl, sym, ◌∙◌}
-use borrow.Author.Tests.{not-true, not-false}
 use Rattle.literal_ends.proofs.Strings.{string_shut, string_doubled, string_quote, string_on, string_bad, string_end, string_open}
 use native.Mathlib.Omega.{arith}
 use Rattle.literal_ends.proofs.quoted_end.Goals as goal
@@ -36,7 +35,7 @@ pub loop-i-preserved-then-b-eq39 : goal.loop-i-preserved-then-b-eq39
 loop-i-preserved-then-b-eq39 c = (omega arith, sym (string_quote _ _ _ c.loop-i-test.true c.if-b-eq39.true) ∙ rw c.if-quote.false at c.loop-i.invariant.1)
 
 pub returns-then-not-is_within : goal.returns-then-not-is_within
-returns-then-not-is_within c = sym (string_bad _ _ _ c.loop-i-test.true c.if-b-eq39.false (sym c.is_within.ensures ∙ not-true _ c.if-not-is_within.true-raw)) ∙ rw
+returns-then-not-is_within c = sym (string_bad _ _ _ c.loop-i-test.true c.if-b-eq39.false (sym c.is_within.ensures ∙ c.if-not-is_within.true)) ∙ rw
     c.if-quote.false at c.loop-i.invariant.1
 
 pub overflow_add-i-else-b-eq39 : goal.overflow_add-i-else-b-eq39
@@ -49,7 +48,7 @@ pub loop-i-preserved : goal.loop-i-preserved
 loop-i-preserved c = (
   omega arith,
   rw c.if-quote.false
-      (sym (string_on _ _ _ c.loop-i-test.true c.if-b-eq39.false (sym c.is_within.ensures ∙ not-false _ c.if-not-is_within.false-raw)) ∙ rw
+      (sym (string_on _ _ _ c.loop-i-test.true c.if-b-eq39.false (sym c.is_within.ensures ∙ c.if-not-is_within.false)) ∙ rw
       c.if-quote.false at c.loop-i.invariant.1),
 )
 
