@@ -12,7 +12,7 @@ use lib.ListN.{length, get_or, length-append, length-map}
 use lib.Seq.{get_or-append_seam, get_or-append-add}
 use Rattle.relations.specs.Select.{span, keep}
 use Rattle.relations.proofs.Select.{le_or, or_left, span_append, keep_append}
-use Rattle.express.specs.Syntax.Tree.{Table, count, symbol, nodes, is_declaration, is_attribute, owner}
+use Rattle.express.specs.Syntax.Tree.{Table, count, symbol, is_declaration, is_attribute, owner}
 use Rattle.express.specs.Tokens.Scanned.{Scanned}
 use Rattle.express.specs.Names.Fault.{sort}
 use Rattle.scopes.specs.Entries.{declared, members, key_of, Entry, own_entry, declares_other, declaring, entries, vertex, others_before}

@@ -2,13 +2,12 @@
 use borrow.Author.Rules.{rules}
 use native.Mathlib.Omega.{arith}
 use Rattle.ancestors.proofs.Steps.{rows_low, arc_no, arc_without, arc_as}
-use borrow.Author.Tests.{not-true, not-false}
 use mathlib.Core.Path.{sym, ◌∙◌}
 use Rattle.ancestors.proofs.arc_closed.Goals as goal
 
 pub returns-then-not-has : goal.returns-then-not-has
 returns-then-not-has c = let a = c.args in
-    arc_no a.width a.rank a.other a.rows.now (sym c.has.ensures ∙ not-true c.has.result c.if-not-has.true-raw)
+    arc_no a.width a.rank a.other a.rows.now (sym c.has.ensures ∙ c.if-not-has.true)
 
 pub overflow_mul-rank : goal.overflow_mul-rank
 overflow_mul-rank c = omega (arith, rows_low c.requires)
@@ -21,8 +20,8 @@ overflow_add-rank c = omega (arith, rows_low c.requires)
 
 pub returns-then-not-has-2 : goal.returns-then-not-has-2
 returns-then-not-has-2 c = let a = c.args in
-    let h = sym c.has.ensures ∙ not-false c.has.result c.if-not-has.false-raw in
-    arc_without a.width a.rank a.other a.rows.now h (sym c.has-2.ensures ∙ not-true c.has-2.result c.if-not-has-2.true-raw)
+    let h = sym c.has.ensures ∙ c.if-not-has.false in
+    arc_without a.width a.rank a.other a.rows.now h (sym c.has-2.ensures ∙ c.if-not-has-2.true)
 
 pub overflow_mul-rank-3 : goal.overflow_mul-rank-3
 overflow_mul-rank-3 c = omega (arith, rows_low c.requires)
@@ -35,6 +34,6 @@ contains-requires c = search (rules, rows_low c.requires)
 
 pub returns : goal.returns
 returns c = let a = c.args in
-    let h = sym c.has.ensures ∙ not-false c.has.result c.if-not-has.false-raw in
-    let p = sym c.has-2.ensures ∙ not-false c.has-2.result c.if-not-has-2.false-raw in
+    let h = sym c.has.ensures ∙ c.if-not-has.false in
+    let p = sym c.has-2.ensures ∙ c.if-not-has-2.false in
     arc_as a.width a.rank a.other a.rows.now h p c.contains.ensures

@@ -1,5 +1,4 @@
 -- `ancestors::join_arcs` meets its contract. Assumes nothing.
-use Prim.Native.Nat.{◌-◌}
 use mathlib.Core.Path.{◌∙◌}
 use Rattle.ancestors.proofs.Steps.{joining_start, joining_step, joining_end}
 use Rattle.ancestors.proofs.join_arcs.Goals as goal

@@ -1,5 +1,4 @@
 -- `ancestors::merge` meets its contract. Assumes nothing.
-use Prim.Native.Nat.{◌-◌}
 use Rattle.ancestors.proofs.Steps.{merging_start, merging_step, merging_end}
 use Rattle.ancestors.proofs.merge.Goals as goal
 

@@ -1,5 +1,6 @@
 -- `ancestors::vertices_closed` meets its contract. Assumes nothing.
-use mathlib.Core.Path.{◌∙◌}
+use mathlib.Core.Bool.{not}
+use mathlib.Core.Path.{◌∙◌, ap}
 use Rattle.ancestors.proofs.Steps.{testing_start, testing_no, testing_step, testing_pass, testing_end}
 use Rattle.ancestors.proofs.vertices_closed.Goals as goal
 
@@ -12,7 +13,7 @@ returns-then-not-arcs_closed c = let t = c.loop-v-test.true in
     let n = c.if-rank-ne0.true in
     let from = c.index-from.ensures ∙ c.at.ensures in
     let end = c.index-end.ensures ∙ c.at-then-rank-ne0.ensures in
-    testing_no c.loop-v.invariant t r n from end c.arcs_closed.ensures c.if-not-arcs_closed.true-raw
+    testing_no c.loop-v.invariant t r n from end c.arcs_closed.ensures (ap not c.if-not-arcs_closed.true)
 
 pub loop-v-preserved-else-not-arcs_closed : goal.loop-v-preserved-else-not-arcs_closed
 loop-v-preserved-else-not-arcs_closed c = let t = c.loop-v-test.true in
@@ -20,7 +21,7 @@ loop-v-preserved-else-not-arcs_closed c = let t = c.loop-v-test.true in
     let n = c.if-rank-ne0.true in
     let from = c.index-from.ensures ∙ c.at.ensures in
     let end = c.index-end.ensures ∙ c.at-then-rank-ne0.ensures in
-    testing_step c.loop-v.invariant t r n from end c.arcs_closed.ensures c.if-not-arcs_closed.false-raw
+    testing_step c.loop-v.invariant t r n from end c.arcs_closed.ensures (ap not c.if-not-arcs_closed.false)
 
 pub loop-v-preserved : goal.loop-v-preserved
 loop-v-preserved c = testing_pass c.loop-v.invariant c.loop-v-test.true c.rank_of-rank.ensures.0 c.if-rank-ne0.false

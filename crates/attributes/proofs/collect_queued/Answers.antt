@@ -1,6 +1,5 @@
 -- `attributes::collect_queued` meets its contract. Assumes nothing.
 use mathlib.Core.Path.{◌∙◌}
-use Prim.Native.Nat.{◌-◌}
 use Rattle.attributes.proofs.Collecting.{collecting_starts, collecting_ends, collecting_goes}
 use Rattle.attributes.proofs.collect_queued.Goals as goal
 

@@ -1,5 +1,4 @@
 -- `cycles::components` meets its contract: the first entries of the column and of scratch are lent on. Assumes nothing.
-use Rattle.graph.proofs.Test.{tells_fail, tells_pass}
 use Rattle.cycles.proofs.Use.{ready, used, groups_front}
 use lib.Seq.{length-take-le}
 use mathlib.Core.Path.{refl, sym, ◌∙◌}
@@ -7,19 +6,19 @@ use native.Mathlib.Omega.{arith}
 use Rattle.cycles.proofs.components.Goals as goal
 
 pub returns-then-not-valid : goal.returns-then-not-valid
-returns-then-not-valid c = record { no = λ g. tells_fail c.valid.ensures c.if-not-valid.true-raw g; kept = refl }
+returns-then-not-valid c = record { no = λ g. c.valid.ensures.no c.if-not-valid.true g; kept = refl }
 
 pub overflow_sub-n : goal.overflow_sub-n
-overflow_sub-n c = let g = tells_pass c.valid.ensures c.if-not-valid.false-raw in omega (arith, g.some)
+overflow_sub-n c = let g = c.valid.ensures.yes c.if-not-valid.false in omega (arith, g.some)
 
 pub returns-then-column-n : goal.returns-then-column-n
-returns-then-column-n c = record { graph = tells_pass c.valid.ensures c.if-not-valid.false-raw; needs = refl; short = c.if-column-n.true; kept = refl }
+returns-then-column-n c = record { graph = c.valid.ensures.yes c.if-not-valid.false; needs = refl; short = c.if-column-n.true; kept = refl }
 
 pub overflow_mul-needed : goal.overflow_mul-needed
-overflow_mul-needed c = let g = tells_pass c.valid.ensures c.if-not-valid.false-raw in omega (arith, g.small)
+overflow_mul-needed c = let g = c.valid.ensures.yes c.if-not-valid.false in omega (arith, g.small)
 
 pub returns-then-scratch-needed : goal.returns-then-scratch-needed
-returns-then-scratch-needed c = record { graph = tells_pass c.valid.ensures c.if-not-valid.false-raw; needs = refl; short = c.if-scratch-needed.true; kept = refl }
+returns-then-scratch-needed c = record { graph = c.valid.ensures.yes c.if-not-valid.false; needs = refl; short = c.if-scratch-needed.true; kept = refl }
 
 pub slice_bounds-groups_in-end : goal.slice_bounds-groups_in-end
 slice_bounds-groups_in-end c = c.if-column-n.false
@@ -35,8 +34,7 @@ slice_bounds-groups_in-end-4 c = sym (length-take-le _ c.args.scratch.now c.if-s
 
 pub groups_in-requires : goal.groups_in-requires
 groups_in-requires c = (
-  ready c.args.scratch.now (tells_pass
-      c.valid.ensures c.if-not-valid.false-raw) c.if-scratch-needed.false,
+  ready c.args.scratch.now (c.valid.ensures.yes c.if-not-valid.false) c.if-scratch-needed.false,
   length-take-le _ c.args.column.now
       c.if-column-n.false,
 )
@@ -44,8 +42,7 @@ groups_in-requires c = (
 pub returns : goal.returns
 returns c = record {
   used =
-      used (tells_pass c.valid.ensures
-      c.if-not-valid.false-raw)
+      used (c.valid.ensures.yes c.if-not-valid.false)
       c.if-scratch-needed.false c.groups_in.ensures.zeros
       c.args.column.now
       c.groups_in.new.group c.if-column-n.false
@@ -54,8 +51,6 @@ returns c = record {
       groups_front c.groups_in.new.group _ (c.groups_in.auto.group ∙
       length-take-le _
       c.args.column.now
-      c.if-column-n.false) (tells_pass
-      c.valid.ensures
-      c.if-not-valid.false-raw)
+      c.if-column-n.false) (c.valid.ensures.yes c.if-not-valid.false)
       c.groups_in.ensures.groups;
 }

@@ -1,5 +1,4 @@
 -- `cycles::topological_order` meets its contract: the first entries of the column and of scratch are lent on. Assumes nothing.
-use Rattle.graph.proofs.Test.{tells_fail, tells_pass}
 use Rattle.cycles.proofs.Use.{ready, replies_cycle, replies_none, used, kept_front, ordered_front}
 use Rattle.graph.specs.Graph.{vertices}
 use lib.Seq.{length-take-le}
@@ -8,19 +7,19 @@ use native.Mathlib.Omega.{arith}
 use Rattle.cycles.proofs.topological_order.Goals as goal
 
 pub returns-then-not-valid : goal.returns-then-not-valid
-returns-then-not-valid c = record { no = λ g. tells_fail c.valid.ensures c.if-not-valid.true-raw g; kept = refl }
+returns-then-not-valid c = record { no = λ g. c.valid.ensures.no c.if-not-valid.true g; kept = refl }
 
 pub overflow_sub-n : goal.overflow_sub-n
-overflow_sub-n c = let g = tells_pass c.valid.ensures c.if-not-valid.false-raw in omega (arith, g.some)
+overflow_sub-n c = let g = c.valid.ensures.yes c.if-not-valid.false in omega (arith, g.some)
 
 pub returns-then-column-n : goal.returns-then-column-n
-returns-then-column-n c = record { graph = tells_pass c.valid.ensures c.if-not-valid.false-raw; needs = refl; short = c.if-column-n.true; kept = refl }
+returns-then-column-n c = record { graph = c.valid.ensures.yes c.if-not-valid.false; needs = refl; short = c.if-column-n.true; kept = refl }
 
 pub overflow_mul-needed : goal.overflow_mul-needed
-overflow_mul-needed c = let g = tells_pass c.valid.ensures c.if-not-valid.false-raw in omega (arith, g.small)
+overflow_mul-needed c = let g = c.valid.ensures.yes c.if-not-valid.false in omega (arith, g.small)
 
 pub returns-then-scratch-needed : goal.returns-then-scratch-needed
-returns-then-scratch-needed c = record { graph = tells_pass c.valid.ensures c.if-not-valid.false-raw; needs = refl; short = c.if-scratch-needed.true; kept = refl }
+returns-then-scratch-needed c = record { graph = c.valid.ensures.yes c.if-not-valid.false; needs = refl; short = c.if-scratch-needed.true; kept = refl }
 
 pub slice_bounds-order_in-end : goal.slice_bounds-order_in-end
 slice_bounds-order_in-end c = c.if-column-n.false
@@ -36,8 +35,7 @@ slice_bounds-order_in-end-4 c = sym (length-take-le _ c.args.scratch.now c.if-sc
 
 pub order_in-v-requires : goal.order_in-v-requires
 order_in-v-requires c = (
-  ready c.args.scratch.now (tells_pass
-      c.valid.ensures c.if-not-valid.false-raw) c.if-scratch-needed.false,
+  ready c.args.scratch.now (c.valid.ensures.yes c.if-not-valid.false) c.if-scratch-needed.false,
   length-take-le _ c.args.column.now
       c.if-column-n.false,
 )
@@ -45,8 +43,7 @@ order_in-v-requires c = (
 pub returns-then-v-n : goal.returns-then-v-n
 returns-then-v-n c = record {
   used =
-      used (tells_pass c.valid.ensures
-      c.if-not-valid.false-raw)
+      used (c.valid.ensures.yes c.if-not-valid.false)
       c.if-scratch-needed.false c.order_in-v.ensures.zeros
       c.args.column.now c.order_in-v.new.order c.if-column-n.false c.order_in-v.auto.order;
   replies = replies_cycle (c.order_in-v.ensures.found.cycle c.if-v-n.true);
@@ -59,8 +56,7 @@ returns-then-v-n c = record {
 pub returns : goal.returns
 returns c = record {
   used =
-      used (tells_pass c.valid.ensures
-      c.if-not-valid.false-raw)
+      used (c.valid.ensures.yes c.if-not-valid.false)
       c.if-scratch-needed.false c.order_in-v.ensures.zeros
       c.args.column.now c.order_in-v.new.order c.if-column-n.false c.order_in-v.auto.order;
   replies = replies_none (c.order_in-v.ensures.found.none c.if-v-n.false);

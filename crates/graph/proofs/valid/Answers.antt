@@ -1,5 +1,5 @@
 -- `graph::valid` meets its contract. Assumes nothing.
-use Rattle.graph.proofs.Test.{tells_no, tests, tells_fail, tells_pass}
+use Rattle.graph.proofs.Test.{tells_no, tests}
 use mathlib.Core.Path.{refl}
 use native.Mathlib.Omega.{arith}
 use Rattle.graph.proofs.valid.Goals as goal
@@ -11,7 +11,7 @@ pub returns-then-n-gt-MOST : goal.returns-then-n-gt-MOST
 returns-then-n-gt-MOST c = tells_no refl (λ g. omega (arith, g.small, c.if-n-gt-MOST.true))
 
 pub returns-then-not-rising : goal.returns-then-not-rising
-returns-then-not-rising c = tells_no refl (λ g. tells_fail c.rising.ensures c.if-not-rising.true-raw g.rise)
+returns-then-not-rising c = tells_no refl (λ g. c.rising.ensures.no c.if-not-rising.true g.rise)
 
 pub returns-then-to-end : goal.returns-then-to-end
 returns-then-to-end c = tells_no refl (λ g. omega (arith, g.end, c.index-end.ensures, c.if-to-end.true))
@@ -21,7 +21,7 @@ returns c = tests (record {
   some = omega (arith, c.if-first-eq0.false);
   count = refl;
   small = omega (arith, c.if-n-gt-MOST.false);
-  rise = tells_pass c.rising.ensures c.if-not-rising.false-raw;
+  rise = c.rising.ensures.yes c.if-not-rising.false;
   from_is = c.index.ensures;
   end_is = c.index-end.ensures;
   fits = omega (arith, c.if-to-end.false);

@@ -1,5 +1,6 @@
 -- `orders::is_order` meets its contract. Assumes nothing.
-use mathlib.Core.Path.{sym, ◌∙◌}
+use mathlib.Core.Bool.{not}
+use mathlib.Core.Path.{sym, ◌∙◌, ap}
 use native.Mathlib.Omega.{arith}
 use Rattle.orders.proofs.Placing.{never, places_start, places_step, places_end, passed}
 use Rattle.orders.proofs.is_order.Goals as goal
@@ -48,7 +49,7 @@ loop-v-smaller c = omega (arith, c.loop-v-test.true)
 pub loop-v-preserved : goal.loop-v-preserved
 loop-v-preserved c = (
   places_step c.loop-v.invariant.0 c.at-p.ensures.0 c.at-w.ensures.0 c.if-n-p.false c.if-n-w.false (sym c.at.ensures.0 ∙ c.if-at-v.false) (sym c.at-in-loop-v.ensures.0 ∙ c.if-at-v-2.false)
-      (rw (← c.at-in-loop-v-2.ensures.0, ← c.at-in-loop-v-3.ensures.0) (c.lead_before.ensures (passed _ c.if-not-lead_before.false-raw))),
+      (rw (← c.at-in-loop-v-2.ensures.0, ← c.at-in-loop-v-3.ensures.0) (c.lead_before.ensures (passed _ (ap not c.if-not-lead_before.false)))),
   omega (arith, c.loop-v-test.true),
 )
 

@@ -2,7 +2,6 @@
 use mathlib.Core.Path.{refl, sym}
 use lib.Seq.{length-take-le}
 use native.Mathlib.Omega.{arith}
-use Rattle.graph.proofs.Test.{tells_pass}
 use Rattle.orders.proofs.Sorting.{sorts}
 use mathlib.Core.Logic.{inl}
 use Rattle.orders.proofs.sort.Goals as goal
@@ -11,10 +10,10 @@ pub returns-then-not-valid : goal.returns-then-not-valid
 returns-then-not-valid c = (refl, inl refl)
 
 pub overflow_sub-n : goal.overflow_sub-n
-overflow_sub-n c = let g = tells_pass c.valid.ensures c.if-not-valid.false-raw in omega (arith, g.some)
+overflow_sub-n c = let g = c.valid.ensures.yes c.if-not-valid.false in omega (arith, g.some)
 
 pub overflow_mul-needed : goal.overflow_mul-needed
-overflow_mul-needed c = let g = tells_pass c.valid.ensures c.if-not-valid.false-raw in omega (arith, g.small)
+overflow_mul-needed c = let g = c.valid.ensures.yes c.if-not-valid.false in omega (arith, g.small)
 
 pub returns-then-column-n : goal.returns-then-column-n
 returns-then-column-n c = (refl, inl refl)
@@ -35,11 +34,11 @@ pub slice_bounds-sort_in-end-4 : goal.slice_bounds-sort_in-end-4
 slice_bounds-sort_in-end-4 c = sym (length-take-le _ c.args.scratch.now c.if-scratch-needed.false)
 
 pub sort_in-requires : goal.sort_in-requires
-sort_in-requires c = let g = tells_pass c.valid.ensures c.if-not-valid.false-raw in omega (
+sort_in-requires c = let g = c.valid.ensures.yes c.if-not-valid.false in omega (
   arith,
   g.small,
   length-take-le _ c.args.column.now c.if-column-n.false,
 )
 
 pub returns : goal.returns
-returns c = sorts (tells_pass c.valid.ensures c.if-not-valid.false-raw) c.args.column.now c.args.scratch.now _ _ c.if-column-n.false c.if-scratch-needed.false c.sort_in.auto.order c.sort_in.result c.sort_in.ensures
+returns c = sorts (c.valid.ensures.yes c.if-not-valid.false) c.args.column.now c.args.scratch.now _ _ c.if-column-n.false c.if-scratch-needed.false c.sort_in.auto.order c.sort_in.result c.sort_in.ensures

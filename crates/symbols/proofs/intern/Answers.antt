@@ -1,15 +1,14 @@
 -- `symbols::intern` meets its contract: room, empty chains, and `fill`. Assumes nothing.
+use mathlib.Core.Bool.{not}
 use Rattle.symbols.proofs.Interning.{interns_short, interns_done, ready_to_fill}
-use borrow.Author.Tests.{not-false}
-use mathlib.Core.Path.{◌∙◌, sym}
+use mathlib.Core.Path.{◌∙◌, sym, ap}
 use Rattle.symbols.proofs.intern.Goals as goal
 
 pub returns-then-not-room : goal.returns-then-not-room
-returns-then-not-room c = interns_short c.room.ensures c.if-not-room.true-raw
+returns-then-not-room c = interns_short c.room.ensures (ap not c.if-not-room.true)
 
 pub fill-requires : goal.fill-requires
-fill-requires c = ready_to_fill c.args.heads.now (sym c.room.ensures ∙ not-false _
-    c.if-not-room.false-raw) c.clear32.ensures
+fill-requires c = ready_to_fill c.args.heads.now (sym c.room.ensures ∙ c.if-not-room.false) c.clear32.ensures
 
 pub shape_of-symbols : goal.shape_of-symbols
 shape_of-symbols c = c.fill.auto.symbols
@@ -23,5 +22,5 @@ shape_of-next c = c.fill.auto.next
 
 pub returns : goal.returns
 returns c = interns_done c.room.ensures
-    c.if-not-room.false-raw
+    (ap not c.if-not-room.false)
     c.fill.ensures
