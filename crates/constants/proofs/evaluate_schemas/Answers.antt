@@ -12,21 +12,17 @@ use borrow.Author.Rules.{rules}
 use native.Mathlib.Omega.{arith}
 use Rattle.constants.proofs.evaluate_schemas.Goals as goal
 
--- the parts of the order, where they are lent
-parts : (c : goal.After-has_parts-are_parted) → c.has_parts-are_parted.result ≡ true → grouped c.args.kinds.now c.args.order.now ≡ true
-parts c = grouped_parts c.args.kinds.now c.args.order.now (c.next_of_kind-n.result + 1) c.has_parts-are_parted.ensures
-
 low : (c : goal.After-shorter-c) → c.loop-n.from ≤ c.part_end-to.result
 low c = to_from c.loop-n.invariant.filling.begun c.loop-n.n c.has_parts-are_parted.result (omega (
   arith,
   c.loop-n.invariant.filling.ahead,
-)) c.next_part-next.ensures c.args.kinds.now (parts c) c.part_end-to.ensures
+)) c.next_part-next.ensures c.args.kinds.now (grouped_parts c.args.kinds.now c.args.order.now (c.next_of_kind-n.result + 1) c.has_parts-are_parted.ensures) c.part_end-to.ensures
 
 high : (c : goal.After-shorter-c) → c.part_end-to.result ≤ length c.args.order.now
 high c = to_upto c.loop-n.invariant.filling.begun c.loop-n.n c.has_parts-are_parted.result (omega (
   arith,
   c.loop-n.invariant.filling.ahead,
-)) c.next_part-next.ensures c.args.kinds.now (parts c) c.part_end-to.ensures
+)) c.next_part-next.ensures c.args.kinds.now (grouped_parts c.args.kinds.now c.args.order.now (c.next_of_kind-n.result + 1) c.has_parts-are_parted.ensures) c.part_end-to.ensures
 
 pub overflow_add-n : goal.overflow_add-n
 overflow_add-n c = omega (
@@ -79,7 +75,7 @@ loop-n-smaller c = let h = next_beyond _ _ _ c.next_of_kind-n-in-loop-n.ensures 
 
 pub loop-n-preserved : goal.loop-n-preserved
 loop-n-preserved c = filling_next (filling_schema c.loop-n.invariant.filling c.loop-n-test.true (c.loop-n.invariant.stands c.loop-n-test.true) c.shorter-a.ensures c.shorter-b.ensures c.shorter-c.ensures c.index_at-at.ensures
-    c.has_parts-are_parted.result c.next_part-next.ensures (parts c) c.part_end-to.ensures _ _ _ c.evaluate_schema.ensures (search rules)
+    c.has_parts-are_parted.result c.next_part-next.ensures (grouped_parts c.args.kinds.now c.args.order.now (c.next_of_kind-n.result + 1) c.has_parts-are_parted.ensures) c.part_end-to.ensures _ _ _ c.evaluate_schema.ensures (search rules)
     (search rules) (search rules) (search rules) (search rules) (search rules) (search rules) (search rules) (search rules) (search rules)) c.next_of_kind-n-in-loop-n.ensures
 
 pub shape_of-answer_kinds : goal.shape_of-answer_kinds
