@@ -14,43 +14,43 @@ pub slice_bounds-name_framed-end : goal.slice_bounds-name_framed-end
 slice_bounds-name_framed-end c = starts_fit c.read_file-read.ensures c.read_file-read.auto.token_starts
 
 pub slice_bounds-name_framed-end-2 : goal.slice_bounds-name_framed-end-2
-slice_bounds-name_framed-end-2 c = sym (length-take-le _ _ (slice_reshare_prefix_name_framed c))
+slice_bounds-name_framed-end-2 c = sym (length-take-le _ _ (starts_fit c.read_file-read.ensures c.read_file-read.auto.token_starts))
 
 pub slice_bounds-name_framed-end-3 : goal.slice_bounds-name_framed-end-3
 slice_bounds-name_framed-end-3 c = lengths_fit c.read_file-read.ensures c.read_file-read.auto.token_lengths
 
 pub slice_bounds-name_framed-end-4 : goal.slice_bounds-name_framed-end-4
-slice_bounds-name_framed-end-4 c = sym (length-take-le _ _ (slice_reshare_prefix_name_framed_2 c))
+slice_bounds-name_framed-end-4 c = sym (length-take-le _ _ (lengths_fit c.read_file-read.ensures c.read_file-read.auto.token_lengths))
 
 pub slice_bounds-terminals-end : goal.slice_bounds-terminals-end
 slice_bounds-terminals-end c = terminals_fit c.read_file-read.ensures c.read_file-read.auto.terminals
 
 pub slice_bounds-name_framed-end-5 : goal.slice_bounds-name_framed-end-5
-slice_bounds-name_framed-end-5 c = sym (length-take-le _ _ (array_share_prefix_terminals c))
+slice_bounds-name_framed-end-5 c = sym (length-take-le _ _ (terminals_fit c.read_file-read.ensures c.read_file-read.auto.terminals))
 
 pub slice_bounds-name_framed-end-6 : goal.slice_bounds-name_framed-end-6
 slice_bounds-name_framed-end-6 c = kinds_fit c.read_file-read.ensures c.read_file-read.auto.node_kinds
 
 pub slice_bounds-name_framed-end-7 : goal.slice_bounds-name_framed-end-7
-slice_bounds-name_framed-end-7 c = sym (length-take-le _ _ (slice_reshare_prefix_name_framed_3 c))
+slice_bounds-name_framed-end-7 c = sym (length-take-le _ _ (kinds_fit c.read_file-read.ensures c.read_file-read.auto.node_kinds))
 
 pub slice_bounds-name_framed-end-8 : goal.slice_bounds-name_framed-end-8
 slice_bounds-name_framed-end-8 c = tokens_fit c.read_file-read.ensures c.read_file-read.auto.node_tokens
 
 pub slice_bounds-name_framed-end-9 : goal.slice_bounds-name_framed-end-9
-slice_bounds-name_framed-end-9 c = sym (length-take-le _ _ (slice_reshare_prefix_name_framed_4 c))
+slice_bounds-name_framed-end-9 c = sym (length-take-le _ _ (tokens_fit c.read_file-read.ensures c.read_file-read.auto.node_tokens))
 
 pub slice_bounds-name_framed-end-10 : goal.slice_bounds-name_framed-end-10
 slice_bounds-name_framed-end-10 c = sizes_fit c.read_file-read.ensures c.read_file-read.auto.node_sizes
 
 pub slice_bounds-name_framed-end-11 : goal.slice_bounds-name_framed-end-11
-slice_bounds-name_framed-end-11 c = sym (length-take-le _ _ (slice_reshare_prefix_name_framed_5 c))
+slice_bounds-name_framed-end-11 c = sym (length-take-le _ _ (sizes_fit c.read_file-read.ensures c.read_file-read.auto.node_sizes))
 
 pub slice_bounds-name_framed-end-12 : goal.slice_bounds-name_framed-end-12
 slice_bounds-name_framed-end-12 c = bindings_fit c.read_file-read.ensures c.read_file-read.auto.roles
 
 pub slice_bounds-name_framed-end-13 : goal.slice_bounds-name_framed-end-13
-slice_bounds-name_framed-end-13 c = sym (length-take-le _ _ (slice_relend_prefix_name_framed c))
+slice_bounds-name_framed-end-13 c = sym (length-take-le _ _ (bindings_fit c.read_file-read.ensures c.read_file-read.auto.roles))
 
 pub slice_bounds-name_framed-end-14 : goal.slice_bounds-name_framed-end-14
 slice_bounds-name_framed-end-14 c = counted _
@@ -62,45 +62,47 @@ pub slice_bounds-answer_framed-end : goal.slice_bounds-answer_framed-end
 slice_bounds-answer_framed-end c = starts_fit c.read_file-read.ensures c.read_file-read.auto.token_starts
 
 pub slice_bounds-answer_framed-end-2 : goal.slice_bounds-answer_framed-end-2
-slice_bounds-answer_framed-end-2 c = sym (length-take-le _ _ (slice_reshare_prefix_answer_framed c))
+slice_bounds-answer_framed-end-2 c = sym (length-take-le _ _ (starts_fit c.read_file-read.ensures c.read_file-read.auto.token_starts))
 
 pub slice_bounds-answer_framed-end-3 : goal.slice_bounds-answer_framed-end-3
 slice_bounds-answer_framed-end-3 c = lengths_fit c.read_file-read.ensures c.read_file-read.auto.token_lengths
 
 pub slice_bounds-answer_framed-end-4 : goal.slice_bounds-answer_framed-end-4
-slice_bounds-answer_framed-end-4 c = sym (length-take-le _ _ (slice_reshare_prefix_answer_framed_2 c))
+slice_bounds-answer_framed-end-4 c = sym (length-take-le _ _ (lengths_fit c.read_file-read.ensures c.read_file-read.auto.token_lengths))
 
 pub slice_bounds-terminals-end-2 : goal.slice_bounds-terminals-end-2
 slice_bounds-terminals-end-2 c = terminals_fit c.read_file-read.ensures c.read_file-read.auto.terminals
 
 pub slice_bounds-answer_framed-end-5 : goal.slice_bounds-answer_framed-end-5
-slice_bounds-answer_framed-end-5 c = sym (length-take-le _ _ (array_share_prefix_terminals_2 c))
+slice_bounds-answer_framed-end-5 c = sym (length-take-le _ _ (terminals_fit c.read_file-read.ensures c.read_file-read.auto.terminals))
 
 pub slice_bounds-answer_framed-end-6 : goal.slice_bounds-answer_framed-end-6
 slice_bounds-answer_framed-end-6 c = kinds_fit c.read_file-read.ensures c.read_file-read.auto.node_kinds
 
 pub slice_bounds-answer_framed-end-7 : goal.slice_bounds-answer_framed-end-7
-slice_bounds-answer_framed-end-7 c = sym (length-take-le _ _ (slice_reshare_prefix_answer_framed_3 c))
+slice_bounds-answer_framed-end-7 c = sym (length-take-le _ _ (kinds_fit c.read_file-read.ensures c.read_file-read.auto.node_kinds))
 
 pub slice_bounds-answer_framed-end-8 : goal.slice_bounds-answer_framed-end-8
 slice_bounds-answer_framed-end-8 c = tokens_fit c.read_file-read.ensures c.read_file-read.auto.node_tokens
 
 pub slice_bounds-answer_framed-end-9 : goal.slice_bounds-answer_framed-end-9
-slice_bounds-answer_framed-end-9 c = sym (length-take-le _ _ (slice_reshare_prefix_answer_framed_4 c))
+slice_bounds-answer_framed-end-9 c = sym (length-take-le _ _ (tokens_fit c.read_file-read.ensures c.read_file-read.auto.node_tokens))
 
 pub slice_bounds-answer_framed-end-10 : goal.slice_bounds-answer_framed-end-10
 slice_bounds-answer_framed-end-10 c = sizes_fit c.read_file-read.ensures c.read_file-read.auto.node_sizes
 
 pub slice_bounds-answer_framed-end-11 : goal.slice_bounds-answer_framed-end-11
-slice_bounds-answer_framed-end-11 c = sym (length-take-le _ _ (slice_reshare_prefix_answer_framed_5 c))
+slice_bounds-answer_framed-end-11 c = sym (length-take-le _ _ (sizes_fit c.read_file-read.ensures c.read_file-read.auto.node_sizes))
 
 pub slice_bounds-answer_framed-end-12 : goal.slice_bounds-answer_framed-end-12
 slice_bounds-answer_framed-end-12 c = bindings_fit c.read_file-read.ensures
     (joined_length c.read_file-read.result.nodes c.name_framed-named.new.bindings c.read_file-read.new.roles c.name_framed-named.auto.bindings
-    (slice_relend_prefix_name_framed c) ∙ c.read_file-read.auto.roles)
+    (bindings_fit c.read_file-read.ensures c.read_file-read.auto.roles) ∙ c.read_file-read.auto.roles)
 
 pub slice_bounds-answer_framed-end-13 : goal.slice_bounds-answer_framed-end-13
-slice_bounds-answer_framed-end-13 c = sym (length-take-le _ _ (slice_reshare_prefix_answer_framed_6 c))
+slice_bounds-answer_framed-end-13 c = sym (length-take-le _ _ (bindings_fit c.read_file-read.ensures
+    (joined_length c.read_file-read.result.nodes c.name_framed-named.new.bindings c.read_file-read.new.roles c.name_framed-named.auto.bindings
+    (bindings_fit c.read_file-read.ensures c.read_file-read.auto.roles) ∙ c.read_file-read.auto.roles)))
 
 pub slice_bounds-answer_framed-end-14 : goal.slice_bounds-answer_framed-end-14
 slice_bounds-answer_framed-end-14 c = counted _ ∙ sym c.name_framed-named.auto.types
@@ -128,7 +130,7 @@ shape_of-node_sizes c = c.read_file-read.auto.node_sizes
 
 pub shape_of-node_bindings : goal.shape_of-node_bindings
 shape_of-node_bindings c = joined_length c.read_file-read.result.nodes c.name_framed-named.new.bindings c.read_file-read.new.roles c.name_framed-named.auto.bindings
-    (slice_relend_prefix_name_framed c) ∙ c.read_file-read.auto.roles
+    (bindings_fit c.read_file-read.ensures c.read_file-read.auto.roles) ∙ c.read_file-read.auto.roles
 
 pub shape_of-answer_kinds : goal.shape_of-answer_kinds
 shape_of-answer_kinds c = c.answer_framed-last.auto.answer_kinds
@@ -143,19 +145,20 @@ pub shape_of-room : goal.shape_of-room
 shape_of-room c = c.answer_framed-last.auto.room
 
 pub returns : goal.returns
-returns c = runs_within c.read_file-read.ensures c.shorter.ensures c.shorter-answers.ensures c.name_framed-named.ensures (joined_front c.read_file-read.result.nodes c.name_framed-named.new.bindings c.read_file-read.new.roles c.name_framed-named.auto.bindings (slice_relend_prefix_name_framed c)) c.answer_framed-last.ensures
+returns c = runs_within c.read_file-read.ensures c.shorter.ensures c.shorter-answers.ensures c.name_framed-named.ensures (joined_front c.read_file-read.result.nodes c.name_framed-named.new.bindings c.read_file-read.new.roles c.name_framed-named.auto.bindings (bindings_fit c.read_file-read.ensures c.read_file-read.auto.roles)) c.answer_framed-last.ensures
     (record {
-      token_kinds = same_length c;
-      token_starts = same_length_2 c;
-      token_lengths = same_length_3 c;
-      node_kinds = same_length_4 c;
-      node_tokens = same_length_5 c;
-      node_sizes = same_length_6 c;
-      node_bindings = same_length_7 c;
-      answer_kinds = same_length_8 c;
-      answer_numbers = same_length_9 c;
-      answer_lengths = same_length_10 c;
-      room = same_length_11 c;
+      token_kinds = c.read_file-read.auto.token_kinds;
+      token_starts = c.read_file-read.auto.token_starts;
+      token_lengths = c.read_file-read.auto.token_lengths;
+      node_kinds = c.read_file-read.auto.node_kinds;
+      node_tokens = c.read_file-read.auto.node_tokens;
+      node_sizes = c.read_file-read.auto.node_sizes;
+      node_bindings = joined_length c.read_file-read.result.nodes c.name_framed-named.new.bindings c.read_file-read.new.roles c.name_framed-named.auto.bindings
+    (bindings_fit c.read_file-read.ensures c.read_file-read.auto.roles) ∙ c.read_file-read.auto.roles;
+      answer_kinds = c.answer_framed-last.auto.answer_kinds;
+      answer_numbers = c.answer_framed-last.auto.answer_numbers;
+      answer_lengths = c.answer_framed-last.auto.answer_lengths;
+      room = c.answer_framed-last.auto.room;
     })
     c.name_framed-named.auto.types c.name_framed-named.auto.constants middle_bytes (filled middle_bytes
     16384 (lit≤ tt)) (filled_fifth middle_bytes 3276
