@@ -1,0 +1,13 @@
+-- `record_checker::check_records` meets its contract: a file of so many bytes has no more tokens. Assumes nothing.
+use native.Mathlib.Omega.{arith}
+use Rattle.record_demands.proofs.Theorem.{by_bytes, of_any}
+use Rattle.record_checker.proofs.check_records.Goals as goal
+
+pub returns-then-src-le-SMALL : goal.returns-then-src-le-SMALL
+returns-then-src-le-SMALL c = by_bytes (omega arith) c.records_small.ensures
+
+pub returns-then-src-le-MIDDLE : goal.returns-then-src-le-MIDDLE
+returns-then-src-le-MIDDLE c = by_bytes (omega arith) c.records_middle.ensures
+
+pub returns : goal.returns
+returns c = of_any c.records_large.ensures
