@@ -1,5 +1,5 @@
 -- What is found of a name: its fault (N11, N12), its binding (N18), and the constant that it names (N17).
-use Rattle.std.specs.Prelude.{◌≡◌, Bool, true, cond, ◌||◌, List, ℕ, ◌+◌, ◌-◌, ◌<◌, eqb, get_or}
+use Rattle.std.specs.Prelude.{◌≡◌, Bool, true, cond, ◌||◌, List, ℕ, ◌+◌, ◌<◌, eqb, get_or}
 use Rattle.express.specs.Syntax.NodeKind.{enumeration_item, constant, attribute_name, derived_attribute}
 use Rattle.express.specs.Syntax.Tree.{Table, count}
 use Rattle.express.specs.Names.Scope.{Meaning, one, meaning, declarations, qualified_meant, items_of, binding_of}

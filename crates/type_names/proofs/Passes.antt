@@ -12,7 +12,7 @@ use lib.ListN.{length, get_or, set, length-set}
 use lib.Seq.{get_or-set_same, get_or-set_other}
 use Rattle.relations.specs.Select.{span}
 use Rattle.relations.proofs.Select.{le_or, span_append, span_mem}
-use Rattle.express.specs.Syntax.Tree.{Table, count, nodes}
+use Rattle.express.specs.Syntax.Tree.{Table, count}
 use Rattle.express.specs.Names.Fault.{Fault, fine}
 use Rattle.express.specs.Names.Names.{Stage, sooner, least}
 use Rattle.express.proofs.Semantics.Backward.{least_step, least_end}

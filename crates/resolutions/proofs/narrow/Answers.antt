@@ -1,6 +1,5 @@
 -- `resolutions::narrow` meets its contract: the roles before i are copied if they are bytes, which their bits tell. Assumes nothing.
 use Rattle.resolutions.proofs.Copying.{gathering_starts, gathering_goes_on, gathered, not_narrowed}
-use Prim.Native.Nat.{◌-◌}
 use native.Mathlib.Omega.{arith}
 use Rattle.resolutions.proofs.narrow.Goals as goal
 

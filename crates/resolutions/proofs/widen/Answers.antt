@@ -1,6 +1,5 @@
 -- `resolutions::widen` meets its contract, by the laws of `Copying`. Assumes nothing.
 use Rattle.resolutions.proofs.Copying.{copying_starts, copying_goes_on, copying_ends}
-use Prim.Native.Nat.{◌-◌}
 use native.Mathlib.Omega.{arith}
 use Rattle.resolutions.proofs.widen.Goals as goal
 

@@ -1,7 +1,7 @@
 use Rattle.type_names.proofs.Passes.{PassingRange}
 use Rattle.type_names.specs.Binding.{RangeAsked}
 use Rattle.type_names.specs.TypeName.{type_names}
-use Prim.Native.Nat.{◌-◌, ◌≤◌}
+use Prim.Native.Nat.{◌≤◌}
 use lib.ListN.{length}
 use Rattle.type_names.proofs.bind_range.Given as goal
 
