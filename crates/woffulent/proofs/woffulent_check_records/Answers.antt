@@ -1,0 +1,7 @@
+-- `woffulent::woffulent_check_records` meets its contract: what the call promises, of the report in its places. Assumes nothing.
+use mathlib.Core.Path.{sym, subst}
+use Rattle.demands.specs.Checks.{Checks}
+use Rattle.woffulent.proofs.woffulent_check_records.Goals as goal
+
+pub returns : goal.returns
+returns c = subst (Checks _ _ _) (sym c.put_report.ensures) c.check_records-report.ensures
