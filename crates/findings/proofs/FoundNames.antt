@@ -1,15 +1,15 @@
 -- What is found of names, from what they mean.
 use mathlib.Core.Path.{◌≡◌, refl, sym, ap, ap₂, ◌∙◌}
-use mathlib.Core.Bool.{Bool, true, false, cond, not, ◌&&◌, ◌||◌}
+use mathlib.Core.Bool.{Bool, true, false, cond}
 use mathlib.Core.List.{List}
 use Prim.Native.Nat.{ℕ, ◌+◌, ◌-◌, ◌<◌}
 use native.Mathlib.Omega.{arith}
-use borrow.Author.Tests.{eqb-true, eqb-false, ne_eqb, eq-eqb}
+use borrow.Author.Tests.{ne_eqb, eq-eqb}
 use lib.Dec.{eqb}
-use lib.ListN.{length, get_or}
+use lib.ListN.{get_or}
 use Rattle.express.specs.Syntax.NodeKind as node
 use Rattle.express.specs.Syntax.Tree.{Table, count, kind, is, size, first}
-use Rattle.express.specs.Names.Scope.{Meaning, none, one, several, meaning, declarations, items_of, item_meant, qualified_meant, binding_of}
+use Rattle.express.specs.Names.Scope.{Meaning, none, one, several, meaning, declarations, items_of, item_meant, binding_of}
 use Rattle.express.specs.Names.Fault as express
 use Rattle.express.specs.Names.Fault.{Fault, judged, is_value, is_enumeration, or_later}
 use Rattle.express.proofs.Names.Meaning.{meaning_one, spelled_ascending, items_of_iff}
@@ -23,8 +23,7 @@ use Rattle.scopes.proofs.Passing.{vertex_small}
 use Rattle.scopes.proofs.Ranges.{declared_meant, column_node, node_below, node_number}
 use Rattle.faults.specs.Meaning.{fault_of}
 use Rattle.faults.specs.declared.Fault as code
-use Rattle.meanings.specs.Use.{use_meaning, Sorted, StandsFor}
-use Rattle.meanings.specs.Finding.{value_kind, limit, Made, OneMore, TargetOf, FoundName, NodeFinding, DeclarationFinding, UseFinding}
+use Rattle.meanings.specs.Finding.{value_kind, limit, Made, OneMore, TargetOf, NodeFinding, DeclarationFinding, UseFinding}
 use Rattle.meanings.specs.Finding.{TellsEnumeration, ItemFinding, TypeFinding, QualifiedFinding}
 use Rattle.meanings.specs.declared.Use.{Use}
 use Rattle.meanings.specs.declared.Use.TheVariants.{Nothing, Several, Node, Declaration}

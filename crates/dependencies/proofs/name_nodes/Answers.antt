@@ -1,6 +1,5 @@
 -- `dependencies::name_nodes` meets its contract: the first k entries are named. Assumes nothing.
 use Rattle.dependencies.proofs.Naming.{naming_starts, naming_goes_on, naming_ends, naming_long}
-use Prim.Native.Nat.{◌-◌}
 use native.Mathlib.Omega.{arith}
 use Rattle.dependencies.proofs.name_nodes.Goals as goal
 
