@@ -4,23 +4,23 @@ use Rattle.reading.proofs.Framing.{by_number}
 use Rattle.reading.proofs.read_framed.Goals as goal
 
 pub shape_of-terminals-then-token_kinds-le-SOME : goal.shape_of-terminals-then-token_kinds-le-SOME
-shape_of-terminals-then-token_kinds-le-SOME c = c.read_Some.auto.1.1.1.1.1.0
+shape_of-terminals-then-token_kinds-le-SOME c = c.read_some.auto.terminals
 
 pub shape_of-kinds-then-token_kinds-le-SOME : goal.shape_of-kinds-then-token_kinds-le-SOME
-shape_of-kinds-then-token_kinds-le-SOME c = c.read_Some.auto.1.1.1.1.1.1.0
+shape_of-kinds-then-token_kinds-le-SOME c = c.read_some.auto.kinds
 
 pub shape_of-tokens-then-token_kinds-le-SOME : goal.shape_of-tokens-then-token_kinds-le-SOME
-shape_of-tokens-then-token_kinds-le-SOME c = c.read_Some.auto.1.1.1.1.1.1.1.0
+shape_of-tokens-then-token_kinds-le-SOME c = c.read_some.auto.tokens
 
 pub shape_of-sizes-then-token_kinds-le-SOME : goal.shape_of-sizes-then-token_kinds-le-SOME
-shape_of-sizes-then-token_kinds-le-SOME c = c.read_Some.auto.1.1.1.1.1.1.1.1.0
+shape_of-sizes-then-token_kinds-le-SOME c = c.read_some.auto.sizes
 
 pub shape_of-roles-then-token_kinds-le-SOME : goal.shape_of-roles-then-token_kinds-le-SOME
-shape_of-roles-then-token_kinds-le-SOME c = c.read_Some.auto.1.1.1.1.1.1.1.1.1.0
+shape_of-roles-then-token_kinds-le-SOME c = c.read_some.auto.roles
 
 pub returns-then-token_kinds-le-SOME : goal.returns-then-token_kinds-le-SOME
 returns-then-token_kinds-le-SOME c = by_number some_rows c.if-token_kinds-le-SOME.true
-    c.read_Some.ensures
+    c.read_some.ensures
 
 pub shape_of-terminals-then-token_kinds-le-MANY : goal.shape_of-terminals-then-token_kinds-le-MANY
 shape_of-terminals-then-token_kinds-le-MANY c = c.read_many.auto.terminals

@@ -8,23 +8,20 @@ pub slice_bounds-read_short-end : goal.slice_bounds-read_short-end
 slice_bounds-read_short-end c = kinds_fit c.scan_tokens-scanned.ensures _ c.count.ensures c.shorter-tokens.ensures c.scan_tokens-scanned.auto.kinds
 
 pub slice_bounds-read_short-end-2 : goal.slice_bounds-read_short-end-2
-slice_bounds-read_short-end-2 c = sym (length-take-le _ _ (slice_reshare_prefix_read_short c))
+slice_bounds-read_short-end-2 c = sym (length-take-le _ _ (kinds_fit c.scan_tokens-scanned.ensures _ c.count.ensures c.shorter-tokens.ensures c.scan_tokens-scanned.auto.kinds))
 
 pub slice_bounds-read_short-end-3 : goal.slice_bounds-read_short-end-3
 slice_bounds-read_short-end-3 c = starts_fit c.scan_tokens-scanned.ensures _ c.count.ensures
     c.shorter-tokens.ensures c.scan_tokens-scanned.auto.starts
 
 pub slice_bounds-read_short-end-4 : goal.slice_bounds-read_short-end-4
-slice_bounds-read_short-end-4 c = sym (length-take-le _ _ (slice_reshare_prefix_read_short_2 c))
+slice_bounds-read_short-end-4 c = sym (length-take-le _ _ (starts_fit c.scan_tokens-scanned.ensures _ c.count.ensures c.shorter-tokens.ensures c.scan_tokens-scanned.auto.starts))
 
 pub slice_bounds-read_short-end-5 : goal.slice_bounds-read_short-end-5
 slice_bounds-read_short-end-5 c = lengths_fit c.scan_tokens-scanned.ensures _ c.count.ensures c.shorter-tokens.ensures c.scan_tokens-scanned.auto.lengths
 
 pub slice_bounds-read_short-end-6 : goal.slice_bounds-read_short-end-6
-slice_bounds-read_short-end-6 c = sym (length-take-le _ _ (slice_reshare_prefix_read_short_3 c))
-
-pub slice_bounds-fit_constants-end-2 : goal.slice_bounds-fit_constants-end-2
-slice_bounds-fit_constants-end-2 c = sym (length-take-le _ _ (slice_reshare_prefix_fit_constants c))
+slice_bounds-read_short-end-6 c = sym (length-take-le _ _ (lengths_fit c.scan_tokens-scanned.ensures _ c.count.ensures c.shorter-tokens.ensures c.scan_tokens-scanned.auto.lengths))
 
 pub shape_of-token_kinds : goal.shape_of-token_kinds
 shape_of-token_kinds c = c.scan_tokens-scanned.auto.kinds
