@@ -154,7 +154,7 @@ returns c = runs_within c.read_file-read.ensures c.shorter.ensures c.shorter-ans
       node_tokens = c.read_file-read.auto.node_tokens;
       node_sizes = c.read_file-read.auto.node_sizes;
       node_bindings = joined_length c.read_file-read.result.nodes c.name_framed-named.new.bindings c.read_file-read.new.roles c.name_framed-named.auto.bindings
-    (bindings_fit c.read_file-read.ensures c.read_file-read.auto.roles) ∙ c.read_file-read.auto.roles;
+          (bindings_fit c.read_file-read.ensures c.read_file-read.auto.roles) ∙ c.read_file-read.auto.roles;
       answer_kinds = c.answer_framed-last.auto.answer_kinds;
       answer_numbers = c.answer_framed-last.auto.answer_numbers;
       answer_lengths = c.answer_framed-last.auto.answer_lengths;
