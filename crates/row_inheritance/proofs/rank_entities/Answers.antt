@@ -1,5 +1,4 @@
 -- `row_inheritance::rank_entities` meets its contract. Assumes nothing.
-use Prim.Native.Nat.{◌-◌}
 use Rattle.row_inheritance.proofs.Ranking.{ranking_starts, ranking_few, ranking_ends, ranking_more, ranking_none}
 use native.Mathlib.Omega.{arith}
 use Rattle.row_inheritance.proofs.rank_entities.Goals as goal

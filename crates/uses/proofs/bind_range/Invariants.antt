@@ -1,6 +1,6 @@
 use Rattle.type_names.proofs.Passes.{PassingRange}
 use Rattle.uses.specs.Binding.{uses, RangeAsked}
-use Prim.Native.Nat.{◌-◌, ◌≤◌}
+use Prim.Native.Nat.{◌≤◌}
 use lib.ListN.{length}
 use Rattle.uses.proofs.bind_range.Given as goal
 

@@ -1,4 +1,3 @@
-use Prim.Native.Nat.{◌-◌}
 use Rattle.scopes.specs.NoneFrom.{NoneFrom}
 use Rattle.uses.specs.Binding.{may_find_at}
 use Rattle.uses.proofs.found_before.Given as goal
