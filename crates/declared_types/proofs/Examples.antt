@@ -10,7 +10,7 @@ use lib.ListN.{replicate}
 use Rattle.relations.specs.Select.{span, keep}
 use Rattle.relations.specs.Reach.{Reaches, Joins}
 use Rattle.relations.specs.Sorted.{Arranged}
-use Rattle.relations.proofs.Select.{mem_upto, upto_mem, keep_mem, mem_keep}
+use Rattle.relations.proofs.Select.{mem_upto, keep_mem, mem_keep}
 use Rattle.relations.proofs.Topological.{acyclic_arranged}
 use Rattle.express.specs.Syntax.NodeKind as node
 use Rattle.express.specs.Syntax.Tree.{Table, count, symbol, is_name_in, is_declaration, nodes, schema_of}

@@ -20,7 +20,6 @@ use Rattle.express.specs.Names.Names.{WellNamed}
 use Rattle.express.specs.Semantics.Declared.{Declared, enumeration, other, declaration, bound, simple, renames, denoted}
 use Rattle.express.specs.Semantics.DeclaredColumn.{declared_number, DeclaredColumn}
 use Rattle.express.proofs.Syntax.FormedRows.{formed_rows}
-use Rattle.express.proofs.Syntax.KindSets as set
 use Rattle.express.proofs.Semantics.Denotes.{denoted_step, bound_is, bound_name, type_below, renaming_edge, base_known}
 use Rattle.declared_types.specs.Storing.{last_node, enumeration_number, base_number, type_number}
 use Rattle.declared_types.specs.Storing.{constant_stored, constants_stored}

@@ -1,6 +1,6 @@
 -- An expression that is read by itself meets what its typing against a file asks: nothing is declared in it.
 use mathlib.Core.Path.{◌≡◌, refl, sym, ◌∙◌}
-use mathlib.Core.Bool.{true, false, false≢true, not}
+use mathlib.Core.Bool.{false, false≢true, not}
 use mathlib.Core.List.{List}
 use Prim.Native.Nat.{ℕ, suc}
 use borrow.Author.Tests.{eqb-true}

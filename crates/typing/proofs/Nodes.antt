@@ -1,7 +1,7 @@
 -- What is found at a node, by what its row and the columns hold.
 use mathlib.Core.Path.{◌≡◌, refl, sym, ap, ◌∙◌}
 use mathlib.Core.Logic.{⊎_elim}
-use mathlib.Core.Bool.{Bool, true, false, cond, not, ◌&&◌}
+use mathlib.Core.Bool.{Bool, true, false, cond, ◌&&◌}
 use mathlib.Core.Option.{Option, none, some}
 use mathlib.Core.List.{List}
 use Prim.Native.Nat.{ℕ, zero, suc, ◌-◌, ◌≤◌, ◌<◌}
@@ -11,7 +11,7 @@ use lib.Dec.{eqb}
 use lib.ListN.{get_or, get_or-eq_default, get_or-map}
 use Rattle.express.specs.Tokens.Lexis.{integer_value, binary_bits, string_value}
 use Rattle.express.specs.Syntax.NodeKind as node
-use Rattle.express.specs.Syntax.Tree.{Table, count, kind, terminal, owner, last, left, middle, low, is}
+use Rattle.express.specs.Syntax.Tree.{Table, count, kind, terminal, owner, last, left, middle, low}
 use Rattle.express.specs.Semantics.Declared.{Declared, other, declaration, bound, simple, denoted_in, denoted, declared_type}
 use Rattle.express.specs.Semantics.DeclaredColumn.{declared_number}
 use Rattle.express.specs.Semantics.Shape.{Operator, plus, arithmetic, relation, connective, Sign, positive, negative, unevaluated}

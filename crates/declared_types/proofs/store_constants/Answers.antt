@@ -1,5 +1,4 @@
 -- `declared_types::store_constants` meets its contract: what is left to store, from entry i of the order on, gives what is wanted. Assumes nothing.
-use Prim.Native.Nat.{◌-◌}
 use Rattle.declared_types.specs.Storing.{constants_stored}
 use Rattle.declared_types.proofs.Passing.{along_starts, along_read, along_ends}
 use Rattle.declared_types.proofs.store_constants.Goals as goal

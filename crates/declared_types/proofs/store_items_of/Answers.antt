@@ -1,5 +1,4 @@
 -- `declared_types::store_items_of` meets its contract: what is left to store, from node i on, gives what is wanted. Assumes nothing.
-use Prim.Native.Nat.{◌-◌}
 use Rattle.declared_types.proofs.Passing.{up_starts, up_ends, item_goes_on, items_of_type, items_of_other, items_of_none}
 use native.Mathlib.Omega.{arith}
 use Rattle.declared_types.proofs.store_items_of.Goals as goal

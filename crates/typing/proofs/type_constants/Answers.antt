@@ -1,6 +1,5 @@
 -- `typing::type_constants` meets its contract: what is left to type comes to the same at every constant. Assumes nothing.
 use mathlib.Core.Path.{◌∙◌}
-use Prim.Native.Nat.{◌-◌}
 use native.Mathlib.Omega.{arith}
 use Rattle.tree.proofs.Next.{next_beyond}
 use Rattle.typing.proofs.Constants.{passing_starts, passing_ends, passing_next, passing_constant, passing_stops}

@@ -1,5 +1,4 @@
 -- `typing::type_expression` meets its contract: what is left to type comes to the same at every turn. Assumes nothing.
-use Prim.Native.Nat.{◌-◌}
 use native.Mathlib.Omega.{arith}
 use Rattle.typing.proofs.Walking.{going_starts, going_on, going_stops, going_ends}
 use Rattle.typing.proofs.type_expression.Goals as goal
