@@ -1,4 +1,3 @@
-use borrow.Author.Tests.{ne_eqb}
 use mathlib.Core.Path.{sym, ap}
 use Rattle.test_exports.specs.Places.{relation_at}
 use Rattle.test_exports.proofs.logicals.relation.Goals as goal
@@ -23,15 +22,3 @@ returns-in-5 c = sym (ap relation_at c.in-5.is)
 
 pub returns-in-6 : goal.returns-in-6
 returns-in-6 c = sym (ap relation_at c.in-6.is)
-
-pub returns-in_default : goal.returns-in_default
-returns-in_default c = let n = c.args.n in let r = c.in_default.in_default-own.rest in
-    rw (
-      ne_eqb n 0 r.0.0.0.0.0.0.1,
-      ne_eqb n 1 r.0.0.0.0.0.1,
-      ne_eqb n 2 r.0.0.0.0.1,
-      ne_eqb n 3 r.0.0.0.1,
-      ne_eqb n 4 r.0.0.1,
-      ne_eqb n 5 r.0.1,
-      ne_eqb n 6 r.1,
-    )

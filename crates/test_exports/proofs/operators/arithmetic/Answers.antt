@@ -1,4 +1,3 @@
-use borrow.Author.Tests.{ne_eqb}
 use Rattle.test_exports.proofs.operators.arithmetic.Goals as goal
 
 pub returns-in-0 : goal.returns-in-0
@@ -12,6 +11,3 @@ returns-in-2 c = rw c.in-2.is
 
 pub returns-in-3 : goal.returns-in-3
 returns-in-3 c = rw c.in-3.is
-
-pub returns-in_default : goal.returns-in_default
-returns-in_default c = let n = c.args.n in let r = c.in_default.in_default-own.rest in rw (ne_eqb n 0 r.0.0.0.1, ne_eqb n 1 r.0.0.1, ne_eqb n 2 r.0.1, ne_eqb n 3 r.1)
