@@ -11,18 +11,17 @@ use Rattle.express.specs.Syntax.Tree.{Table}
 use Rattle.express.specs.Tokens.Spelling.{symbol_of, symbols_of}
 use Rattle.relations.specs.Select.{span}
 use Rattle.relations.proofs.Select.{and_fst, and_snd}
-use Rattle.index.specs.Room.{done, enough}
+use Rattle.index.specs.Room.{done}
 use Rattle.symbols.specs.Interning.{Interns}
 use Rattle.index.specs.declared.Outcome.{Outcome}
 use Rattle.index.specs.declared.Outcome.TheVariants as outcome
 use Rattle.symbols.proofs.Interning.{interned}
-use Rattle.scopes.specs.Entries.{entries}
 use Rattle.scopes.specs.Standing.{table_of}
 use Rattle.scopes.specs.Preparation.{Prepares, Refused, Answers}
 use Rattle.scopes.specs.declared.dictionary.Preparation.{Preparation}
 use Rattle.scopes.specs.declared.dictionary.Preparation.TheVariants.{Done, Unfit}
 use Rattle.scopes.proofs.Tables.{columns_of, same_entries, prepared_for}
-use Rattle.name_binding.specs.Prepared.{FilePrepared, PreparesFile}
+use Rattle.name_binding.specs.Prepared.{PreparesFile}
 
 pub length_span : (i d : ℕ) → length (span i d) ≡ d
 unfolding span

@@ -5,7 +5,6 @@ use Prim.Native.Nat.{ℕ, ◌+◌, ◌*◌, ◌≤◌}
 use native.Mathlib.Omega.{arith}
 use lib.ListN.{length, take}
 use lib.Seq.{length-take-le}
-use Rattle.express.specs.Syntax.Tree.{Table}
 use Rattle.dependencies.specs.Target.{led_to_from, type_target, constant_target}
 use Rattle.dependencies.specs.Graph.{Room}
 use Rattle.bounds.proofs.Bounds.{type_arcs_few, constant_arcs_few}

@@ -6,8 +6,7 @@ use mathlib.Core.List.{List, [], map}
 use Prim.Native.Nat.{ℕ, zero, suc, ◌+◌, ◌*◌, ◌≤◌, ◌<◌, min}
 use native.Mathlib.Omega.{arith}
 use native.Mathlib.Decide.{ℕ_discrete}
-use borrow.Author.Tests.{eq-eqb, ne_eqb, eqb-true, not-true, not-false}
-use lib.Dec.{eqb}
+use borrow.Author.Tests.{eq-eqb, ne_eqb, not-true, not-false}
 use lib.ListN.{length, get_or, take, length-map, length-take}
 use lib.Seq.{sets, length-sets, take_all, get_or-take, ext_get_or, length-take-le}
 use Rattle.columns.proofs.Laws.{take_rows}
@@ -20,19 +19,15 @@ use Rattle.express.specs.Syntax.Tree.{Table, count}
 use Rattle.express.specs.Syntax.Tree as tree
 use Rattle.express.specs.Names.Scope.{binding, bindings}
 use Rattle.express.specs.Names.Fault as express
-use Rattle.express.specs.Names.Names.{names}
-use Rattle.index.specs.Room.{enough}
 use Rattle.scopes.specs.Entries.{Entry, entries, radix}
 use Rattle.scopes.specs.Standing.{table_of, Counted, Counting}
-use Rattle.scopes.specs.Range.{vertex_count}
-use Rattle.scopes.specs.Preparation.{Decides, Prepared}
+use Rattle.scopes.specs.Preparation.{Decides}
 use Rattle.scopes.specs.declared.Counts.{Counts}
 use Rattle.scopes.specs.declared.dictionary.Preparation.{Preparation}
 use Rattle.scopes.specs.declared.dictionary.Preparation.TheVariants as preparation
 use Rattle.preparation.proofs.Preparing.{entries_total, total_small}
-use Rattle.scopes.proofs.Tables.{columns_of, same_entries, counted_for}
+use Rattle.scopes.proofs.Tables.{columns_of, counted_for}
 use Rattle.faults.specs.declared.Fault.{Fault}
-use Rattle.faults.specs.Meaning.{fault_of}
 use Rattle.type_names.specs.TypeName.{FileColumns}
 use Rattle.name_binding.proofs.Preparing.{as_many, length_span}
 use Rattle.name_binding.specs.Prepared.{FilePrepared, PreparesFile}

@@ -11,7 +11,7 @@ use Rattle.express.specs.Names.Fault.{fault, constant_edges}
 use Rattle.express.specs.Names.Names.{names}
 use Rattle.index.specs.Room.{enough}
 use Rattle.scopes.specs.Entries.{entries}
-use Rattle.scopes.specs.Preparation.{Consistent, Room, Prepared}
+use Rattle.scopes.specs.Preparation.{Consistent, Room}
 use Rattle.scopes.specs.Range.{vertex_count, declared_nodes}
 use Rattle.faults.specs.declared.Fault.{Fault}
 use Rattle.type_names.specs.TypeName.{FileColumns}

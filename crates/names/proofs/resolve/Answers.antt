@@ -1,5 +1,6 @@
 -- `names::resolve` meets its contract: the roles are narrowed, or there is no room. Assumes nothing.
-use mathlib.Core.Path.{refl}
+use mathlib.Core.Path.{refl, ap}
+use mathlib.Core.Bool.{not}
 use Rattle.names.proofs.Resolving.{roles_fit, wide_resolved, narrow_resolved}
 use Rattle.name_stages.proofs.Staged.{part_long}
 use Rattle.names.proofs.resolve.Goals as goal
@@ -11,13 +12,13 @@ pub shape_of-roles-then-not-narrow : goal.shape_of-roles-then-not-narrow
 shape_of-roles-then-not-narrow c = c.narrow.auto.bytes
 
 pub returns-then-not-narrow : goal.returns-then-not-narrow
-returns-then-not-narrow c = wide_resolved c.narrow.ensures c.if-not-narrow.true-raw
+returns-then-not-narrow c = wide_resolved c.narrow.ensures (ap not c.if-not-narrow.true)
 
 pub slice_bounds-resolve_roles-end : goal.slice_bounds-resolve_roles-end
-slice_bounds-resolve_roles-end c = roles_fit c.args.roles.now c.narrow.ensures c.if-not-narrow.false-raw c.narrow.auto.bytes
+slice_bounds-resolve_roles-end c = roles_fit c.args.roles.now c.narrow.ensures (ap not c.if-not-narrow.false) c.narrow.auto.bytes
 
 pub slice_bounds-resolve_roles-end-2 : goal.slice_bounds-resolve_roles-end-2
-slice_bounds-resolve_roles-end-2 c = part_long _ _ (roles_fit c.args.roles.now c.narrow.ensures c.if-not-narrow.false-raw c.narrow.auto.bytes)
+slice_bounds-resolve_roles-end-2 c = part_long _ _ (roles_fit c.args.roles.now c.narrow.ensures (ap not c.if-not-narrow.false) c.narrow.auto.bytes)
 
 pub shape_of-bindings : goal.shape_of-bindings
 shape_of-bindings c = c.resolve_roles.auto.bindings
@@ -56,4 +57,4 @@ pub shape_of-scratch : goal.shape_of-scratch
 shape_of-scratch c = c.resolve_roles.auto.scratch
 
 pub returns : goal.returns
-returns c = narrow_resolved c.narrow.ensures c.if-not-narrow.false-raw c.resolve_roles.ensures
+returns c = narrow_resolved c.narrow.ensures (ap not c.if-not-narrow.false) c.resolve_roles.ensures

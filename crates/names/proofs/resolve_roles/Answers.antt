@@ -1,6 +1,7 @@
 -- `names::resolve_roles` meets its contract, by the laws of `Resolving`. Assumes nothing.
 use Rattle.names.proofs.Resolving.{fits_done, fits_room, keys_fit, nodes_fit, sum_small, symbols_within, symbols_cut, unfit_resolved, file_resolved}
-use mathlib.Core.Path.{◌∙◌}
+use mathlib.Core.Path.{ap, ◌∙◌}
+use mathlib.Core.Bool.{not}
 use native.Mathlib.Omega.{arith}
 use Rattle.names.proofs.resolve_roles.Goals as goal
 
@@ -23,26 +24,26 @@ pub shape_of-scratch-then-not-fits : goal.shape_of-scratch-then-not-fits
 shape_of-scratch-then-not-fits c = c.prepare-prepared.auto.links
 
 pub returns-then-not-fits : goal.returns-then-not-fits
-returns-then-not-fits c = unfit_resolved c.prepare-prepared.ensures c.count_entries-counts.ensures c.prepare-prepared.auto.links c.room-enough.ensures c.fits.ensures c.if-not-fits.true-raw
+returns-then-not-fits c = unfit_resolved c.prepare-prepared.ensures c.count_entries-counts.ensures c.prepare-prepared.auto.links c.room-enough.ensures c.fits.ensures (ap not c.if-not-fits.true)
 
 pub slice_bounds-bind_prepared-end : goal.slice_bounds-bind_prepared-end
-slice_bounds-bind_prepared-end c = symbols_within c.prepare-prepared.ensures c.count_entries-counts.ensures (fits_done _ c.fits.ensures c.if-not-fits.false-raw)
+slice_bounds-bind_prepared-end c = symbols_within c.prepare-prepared.ensures c.count_entries-counts.ensures (fits_done _ c.fits.ensures (ap not c.if-not-fits.false))
 
 pub slice_bounds-bind_prepared-end-2 : goal.slice_bounds-bind_prepared-end-2
-slice_bounds-bind_prepared-end-2 c = symbols_cut c.prepare-prepared.ensures c.count_entries-counts.ensures (fits_done _ c.fits.ensures c.if-not-fits.false-raw)
+slice_bounds-bind_prepared-end-2 c = symbols_cut c.prepare-prepared.ensures c.count_entries-counts.ensures (fits_done _ c.fits.ensures (ap not c.if-not-fits.false))
 
 pub overflow_add-counts : goal.overflow_add-counts
 overflow_add-counts c = omega (
   arith,
-  sum_small c.prepare-prepared.ensures c.count_entries-counts.ensures (fits_done _ c.fits.ensures c.if-not-fits.false-raw),
+  sum_small c.prepare-prepared.ensures c.count_entries-counts.ensures (fits_done _ c.fits.ensures (ap not c.if-not-fits.false)),
 )
 
 pub bind_prepared-fault-requires : goal.bind_prepared-fault-requires
 bind_prepared-fault-requires c = (
   fits_room c.prepare-prepared.result c.room-enough.ensures c.fits.ensures
-      c.if-not-fits.false-raw,
-  keys_fit c.prepare-prepared.ensures c.count_entries-counts.ensures (fits_done _ c.fits.ensures c.if-not-fits.false-raw),
-  nodes_fit c.prepare-prepared.ensures c.count_entries-counts.ensures (fits_done _ c.fits.ensures c.if-not-fits.false-raw),
+      (ap not c.if-not-fits.false),
+  keys_fit c.prepare-prepared.ensures c.count_entries-counts.ensures (fits_done _ c.fits.ensures (ap not c.if-not-fits.false)),
+  nodes_fit c.prepare-prepared.ensures c.count_entries-counts.ensures (fits_done _ c.fits.ensures (ap not c.if-not-fits.false)),
 )
 
 pub shape_of-bindings : goal.shape_of-bindings
@@ -79,4 +80,4 @@ pub shape_of-scratch : goal.shape_of-scratch
 shape_of-scratch c = c.bind_prepared-fault.auto.scratch ∙ c.prepare-prepared.auto.links
 
 pub returns : goal.returns
-returns c = file_resolved _ c.prepare-prepared.ensures c.count_entries-counts.ensures c.fits.ensures c.if-not-fits.false-raw c.bind_prepared-fault.ensures c.bind_prepared-fault.auto.bound c.finish.ensures
+returns c = file_resolved _ c.prepare-prepared.ensures c.count_entries-counts.ensures c.fits.ensures (ap not c.if-not-fits.false) c.bind_prepared-fault.ensures c.bind_prepared-fault.auto.bound c.finish.ensures
