@@ -16,7 +16,7 @@ use Rattle.express.specs.Syntax.NodeKind as node
 use Rattle.express.specs.Syntax.Tree.{Table, count, kind, first, last}
 use Rattle.express.specs.Names.Scope as scope
 use Rattle.express.specs.Names.Fault.{constant_edges}
-use Rattle.express.specs.Semantics.Answer.{Answer, string}
+use Rattle.express.specs.Semantics.Answer.{Answer}
 use Rattle.express.specs.Semantics.AnswerRow.{row_at, bytes_of}
 use Rattle.express.specs.Semantics.AnswerRow as answer_row
 use Rattle.express.specs.Semantics.Declared.{Declared, STRING, declared_type}

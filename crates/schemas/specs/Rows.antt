@@ -8,7 +8,7 @@ use Rattle.relations.specs.Sorted.{Arranged}
 use Rattle.express.specs.Syntax.NodeKind as node
 use Rattle.express.specs.Syntax.Grammar.{file}
 use Rattle.express.specs.Syntax.Syntax.{Read}
-use Rattle.express.specs.Syntax.Tree.{Table, count, kind, first, last, is, nodes, is_declaration, schema_of}
+use Rattle.express.specs.Syntax.Tree.{Table, count, kind, first, last, nodes, is_declaration, schema_of}
 use Rattle.express.specs.Tokens.Scanned.{Scanned}
 use Rattle.express.specs.Names.Scope as scope
 use Rattle.express.specs.Names.Fault.{constant_edges}

@@ -3,7 +3,7 @@ use Rattle.std.specs.Prelude.{◌≡◌, true, List, ℕ, ℤ}
 use Rattle.express.specs.Syntax.NodeKind as node
 use Rattle.express.specs.Syntax.Tree.{Table, terminal, last, left, low, middle, lower, upper}
 use Rattle.express.specs.Semantics.Answer.{Answer}
-use Rattle.express.specs.Semantics.Shape.{relation, operator_of, bound_of}
+use Rattle.express.specs.Semantics.Shape.{operator_of, bound_of}
 use Rattle.express.specs.Semantics.Operate.{between}
 use Rattle.operations.specs.declared.Answer as operations
 use Rattle.node_answers.specs.Answers.{Gives}

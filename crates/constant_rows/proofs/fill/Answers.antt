@@ -1,7 +1,6 @@
 -- `constant_rows::fill` meets its contract: the entries that were passed hold the number. Assumes nothing.
 use mathlib.Core.Path.{refl}
 use mathlib.Core.Logic.{inl, inr}
-use Prim.Native.Nat.{◌-◌}
 use Rattle.constant_rows.proofs.Numbering.{filling_starts, filling_next, filling_ends}
 use native.Mathlib.Omega.{arith}
 use Rattle.constant_rows.proofs.fill.Goals as goal

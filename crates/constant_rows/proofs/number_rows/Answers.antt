@@ -1,7 +1,6 @@
 -- `constant_rows::number_rows` meets its contract: up to the next constant all nodes have one row. Assumes nothing.
 use borrow.Author.Rules.{rules}
 use mathlib.Core.Path.{refl}
-use Prim.Native.Nat.{◌-◌}
 use Rattle.constant_rows.proofs.Numbering.{numbering_starts, numbering_run, numbering_ends}
 use Rattle.tree.proofs.Next.{next_beyond}
 use native.Mathlib.Omega.{arith}

@@ -1,6 +1,5 @@
 -- `evaluate::evaluate_expression` meets its contract: what is left to evaluate comes to the same at every turn. Assumes nothing.
 use borrow.Author.Rules.{rules}
-use Prim.Native.Nat.{◌-◌}
 use native.Mathlib.Omega.{arith}
 use Rattle.evaluate.proofs.Walking.{going_starts, going_on, going_ends}
 use Rattle.evaluate.proofs.evaluate_expression.Goals as goal

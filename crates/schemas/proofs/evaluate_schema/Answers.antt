@@ -1,7 +1,6 @@
 -- `schemas::evaluate_schema` meets its contract: what each constant names has passed before it. Assumes nothing.
 use borrow.Author.Rules.{rules}
 use Rattle.schemas.proofs.Passing.{passing_starts, passing_other, passing_due, passing_ends}
-use Prim.Native.Nat.{◌-◌}
 use native.Mathlib.Omega.{arith}
 use Rattle.schemas.proofs.evaluate_schema.Goals as goal
 

@@ -1,7 +1,6 @@
 -- `schemas::measure_constants` meets its contract: what each string names has passed before it. Assumes nothing.
 use borrow.Author.Rules.{rules}
 use Rattle.schemas.proofs.Measuring.{measuring_starts, measuring_other, measuring_due, measuring_ends}
-use Prim.Native.Nat.{◌-◌}
 use mathlib.Core.Path.{refl}
 use native.Mathlib.Omega.{arith}
 use Rattle.schemas.proofs.measure_constants.Goals as goal

@@ -1,5 +1,4 @@
 -- `string_bytes::copy_bytes` meets its contract: byte by byte, as many as there are. Assumes nothing.
-use Prim.Native.Nat.{◌-◌}
 use Rattle.string_bytes.proofs.Writing.{copied_none, copied_more, copied_all}
 use Rattle.string_bytes.proofs.copy_bytes.Goals as goal
 

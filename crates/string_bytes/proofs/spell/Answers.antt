@@ -1,7 +1,6 @@
 -- `string_bytes::spell` meets its contract: what is left to spell comes to the same at every turn. Assumes nothing.
 use borrow.Author.Rules.{rules}
 use Rattle.string_bytes.proofs.Walking.{going_starts, going_on, going_ends, going_long, going_inside}
-use Prim.Native.Nat.{◌-◌}
 use native.Mathlib.Omega.{arith}
 use Rattle.string_bytes.proofs.spell.Goals as goal
 

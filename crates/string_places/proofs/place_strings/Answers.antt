@@ -1,6 +1,5 @@
 -- `string_places::place_strings` meets its contract: the rows before i are placed. Assumes nothing.
 use mathlib.Core.Path.{◌∙◌}
-use Prim.Native.Nat.{◌-◌}
 use Rattle.string_places.proofs.Placing.{placing_starts, placing_string, placing_other, placing_ends}
 use native.Mathlib.Omega.{arith}
 use Rattle.string_places.proofs.place_strings.Goals as goal

@@ -1,6 +1,6 @@
 -- `constant_rows::parts::first_behind` meets its contract: the first from a place on is the first from the start on. Assumes nothing.
 use mathlib.Core.Path.{refl, sym, ◌∙◌, subst}
-use Prim.Native.Nat.{◌-◌, ℕ, ◌≤◌, ◌<◌}
+use Prim.Native.Nat.{ℕ, ◌≤◌, ◌<◌}
 use borrow.Author.Tests.{lt-ltb, le-ltb}
 use Rattle.relations.proofs.Select.{first_step, first_end}
 use native.Mathlib.Omega.{arith}

@@ -1,5 +1,4 @@
 -- `constant_rows::parts::is_ascending` meets its contract: what is left of the order decides. Assumes nothing.
-use Prim.Native.Nat.{◌-◌}
 use Rattle.constant_rows.proofs.Grouping.{rising_starts, rising_ends, rising_falls, rising_out, rising_on}
 use native.Mathlib.Omega.{arith}
 use Rattle.constant_rows.proofs.parts.is_ascending.Goals as goal

@@ -1,5 +1,4 @@
 -- `constant_rows::parts::is_grouped` meets its contract: schema after schema. Assumes nothing.
-use Prim.Native.Nat.{◌-◌}
 use Rattle.constant_rows.proofs.Grouping.{grouping_starts, grouping_ends, grouping_behind, grouping_out, grouping_here, grouping_next}
 use Rattle.tree.proofs.Next.{next_beyond}
 use native.Mathlib.Omega.{arith}
