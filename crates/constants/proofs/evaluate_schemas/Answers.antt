@@ -1,10 +1,7 @@
 -- `constants::evaluate_schemas` meets its contract: the schemas that have ended are filled. Assumes nothing.
 use lib.ListN.{length}
-use Prim.Native.Nat.{◌-◌, ◌+◌, ◌≤◌}
-use mathlib.Core.Path.{◌≡◌}
-use mathlib.Core.Bool.{true}
+use Prim.Native.Nat.{◌+◌, ◌≤◌}
 use Rattle.tree.proofs.Next.{next_beyond}
-use Rattle.constant_rows.specs.Parts.{grouped}
 use Rattle.constant_rows.proofs.Grouping.{grouped_parts}
 use Rattle.constants.proofs.Schemas.{filling_starts, filling_next, filling_schema, filling_ends, schema_among}
 use Rattle.constants.proofs.Parted.{to_from, to_upto}

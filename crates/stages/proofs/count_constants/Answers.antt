@@ -1,6 +1,5 @@
 -- `stages::count_constants` meets its contract: the nodes are counted from the first on. Assumes nothing.
 use native.Mathlib.Omega.{arith}
-use Prim.Native.Nat.{◌-◌}
 use Rattle.stages.proofs.Counting.{counting_starts, counting_constant, counting_other, counting_ends}
 use Rattle.stages.proofs.count_constants.Goals as goal
 
