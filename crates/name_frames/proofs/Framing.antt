@@ -7,7 +7,6 @@ use lib.ListN.{length, replicate, length-replicate}
 use Rattle.express.specs.Tokens.Lexis.{most}
 use Rattle.bounds.proofs.Bounds.{entries_few}
 use Rattle.bounds.proofs.Roles.{roles_small}
-use Rattle.names.specs.Resolution.{FileRead}
 use Rattle.stages.specs.declared.Stage.{Stage}
 use Rattle.pipeline.specs.NameStage.{NamesFile}
 use Rattle.name_frames.specs.NameFrame.{NamesWithin}

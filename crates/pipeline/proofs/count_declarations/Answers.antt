@@ -1,6 +1,5 @@
 -- `pipeline::count_declarations` meets its contract: the nodes are counted from the first on. Assumes nothing.
 use native.Mathlib.Omega.{arith}
-use Prim.Native.Nat.{◌-◌}
 use Rattle.pipeline.proofs.Binding.{counting_starts, counting_declaration, counting_other, counting_ends}
 use Rattle.pipeline.proofs.count_declarations.Goals as goal
 
