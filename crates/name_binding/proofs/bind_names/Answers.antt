@@ -23,4 +23,6 @@ pub shape_of-scratch : goal.shape_of-scratch
 shape_of-scratch c = c.bind_expressions-used.auto.scratch ∙ c.arrange-cyclic.auto.scratch ∙ c.inherit_all.auto.table
 
 pub returns : goal.returns
-returns c = names_bound c.bind_declarations-declared.ensures c.bind_declarations-declared.auto.bound c.bind_declarations-declared.auto.first c.bind_declarations-declared.auto.to c.inherit_all.ensures c.inherit_all.auto.bound c.inherit_all.auto.table c.inherit_all.auto.mark c.inherit_all.auto.queue c.arrange-cyclic.ensures c.bind_expressions-used.ensures c.or_later.ensures c.or_later-2.ensures
+returns c = names_bound c.bind_declarations-declared.ensures c.bind_declarations-declared.auto.bound c.bind_declarations-declared.auto.first
+    c.bind_declarations-declared.auto.to c.inherit_all.ensures c.inherit_all.auto.bound c.inherit_all.auto.table c.inherit_all.auto.mark
+    c.inherit_all.auto.queue c.arrange-cyclic.ensures c.bind_expressions-used.ensures c.or_later.ensures c.or_later-2.ensures

@@ -27,4 +27,6 @@ pub slice_bounds-build-end-2 : goal.slice_bounds-build-end-2
 slice_bounds-build-end-2 c = let ok = c.consistent.ensures.yes c.if-not-consistent.false in prefix_long c.args.keys.now c.args.nodes.now c.args.heads.now c.args.next.now (c.count_entries-counts.ensures.is ok.few _ _) (c.room.ensures.yes c.if-not-room.false) c.fill.ensures.filled
 
 pub returns : goal.returns
-returns c = let ok = c.consistent.ensures.yes c.if-not-consistent.false in prepares c.args.keys.now c.args.nodes.now c.args.heads.now c.args.next.now (c.count_entries-counts.ensures.is ok.few _ _) (c.room.ensures.yes c.if-not-room.false) c.fill.ensures.filled ok c.fill.ensures.filled_2 c.build.ensures
+returns c = let ok = c.consistent.ensures.yes c.if-not-consistent.false in prepares c.args.keys.now c.args.nodes.now c.args.heads.now c.args.next.now
+    (c.count_entries-counts.ensures.is ok.few _ _) (c.room.ensures.yes c.if-not-room.false) c.fill.ensures.filled ok c.fill.ensures.filled_2
+    c.build.ensures

@@ -83,8 +83,10 @@ pub shape_of-table : goal.shape_of-table
 shape_of-table c = c.chain_attributes-chained.auto.table ∙ c.clear_heads.auto.table ∙ c.rank_declarations-entities.auto.table ∙ c.order_declarations.auto.table
 
 pub returns : goal.returns
-returns c = by_rows c.requires refl (c.rank_declarations-entities.auto.table ∙ c.order_declarations.auto.table) c.rank_declarations-entities.ensures c.relate_entities-width.ensures (some_width c.if-width-eq0.false) c.clear_heads.ensures c.clear_heads.auto.table c.chain_attributes-chained.ensures (omega (
-  arith,
-  c.if-pairs-chained.false,
-  c.chain_attributes-chained.auto.pairs,
-)) c.store_declarations.ensures
+returns c = by_rows c.requires refl (c.rank_declarations-entities.auto.table ∙ c.order_declarations.auto.table) c.rank_declarations-entities.ensures
+    c.relate_entities-width.ensures (some_width c.if-width-eq0.false) c.clear_heads.ensures c.clear_heads.auto.table
+    c.chain_attributes-chained.ensures (omega (
+      arith,
+      c.if-pairs-chained.false,
+      c.chain_attributes-chained.auto.pairs,
+    )) c.store_declarations.ensures

@@ -145,7 +145,9 @@ pub shape_of-room : goal.shape_of-room
 shape_of-room c = c.answer_framed-last.auto.room
 
 pub returns : goal.returns
-returns c = runs_within c.read_file-read.ensures c.shorter.ensures c.shorter-answers.ensures c.name_framed-named.ensures (joined_front c.read_file-read.result.nodes c.name_framed-named.new.bindings c.read_file-read.new.roles c.name_framed-named.auto.bindings (bindings_fit c.read_file-read.ensures c.read_file-read.auto.roles)) c.answer_framed-last.ensures
+returns c = runs_within c.read_file-read.ensures c.shorter.ensures c.shorter-answers.ensures c.name_framed-named.ensures
+    (joined_front c.read_file-read.result.nodes c.name_framed-named.new.bindings c.read_file-read.new.roles c.name_framed-named.auto.bindings (bindings_fit c.read_file-read.ensures c.read_file-read.auto.roles))
+    c.answer_framed-last.ensures
     (record {
       token_kinds = c.read_file-read.auto.token_kinds;
       token_starts = c.read_file-read.auto.token_starts;

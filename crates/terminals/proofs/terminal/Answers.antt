@@ -26,7 +26,9 @@ pub symbol-requires : goal.symbol-requires
 symbol-requires c = (omega (arith, clipped c.args.s.now c.args.start c.args.size c.saturating_sub.result c.shorter-n.result c.saturating_sub.ensures c.shorter-n.ensures), c.requires.0, c.requires.1, c.requires.2)
 
 pub returns-then-kind-eq-SYMBOL : goal.returns-then-kind-eq-SYMBOL
-returns-then-kind-eq-SYMBOL c = c.symbol.ensures ∙ ap symbol_terminal (bytes_are c.args.s.now c.args.start c.args.size c.saturating_sub.result c.shorter-n.result c.saturating_sub.ensures c.shorter-n.ensures) ∙ sym (of_symbol _ (take c.args.size (drop c.args.start c.args.s.now)) c.if-kind-eq-WORD.false c.if-kind-eq-SYMBOL.true)
+returns-then-kind-eq-SYMBOL c = c.symbol.ensures ∙ ap symbol_terminal
+    (bytes_are c.args.s.now c.args.start c.args.size c.saturating_sub.result c.shorter-n.result c.saturating_sub.ensures c.shorter-n.ensures) ∙ sym
+    (of_symbol _ (take c.args.size (drop c.args.start c.args.s.now)) c.if-kind-eq-WORD.false c.if-kind-eq-SYMBOL.true)
 
 pub returns-then-kind-lt-INTEGER : goal.returns-then-kind-lt-INTEGER
 returns-then-kind-lt-INTEGER c = sym (of_none _ (take c.args.size (drop c.args.start c.args.s.now)) c.if-kind-eq-WORD.false c.if-kind-eq-SYMBOL.false c.if-kind-lt-INTEGER.true)
