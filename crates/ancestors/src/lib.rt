@@ -3,24 +3,30 @@
 // Rows are joined arc by arc in an order that is lent, of which nothing is asked: afterwards it is tested that no arc would add a bit.
 #![tactic(auto)]
 
-ghost use Rattle.std.specs.Prelude.{◌≡◌, ◌-◌, ◌≤◌, ◌<◌, length, get_or};
+ghost use Rattle.std.specs.Prelude.{◌≡◌, ◌-◌, ◌≤◌, ◌<◌, length};
 ghost use Rattle.ancestors.specs.Rows.{word_count, width_limit, offset_limit, merged, contained, arc_joined, arc_closed, arcs_joined, arcs_closed, vertices_joined, vertices_closed};
 ghost use Rattle.ancestors.specs.Related.{Relates};
 
 use bit_rows::{WORD, has, set};
-use columns::{index, put32};
-use scopes::at;
+use columns::{get_or, index, put};
+
+// A graph, the ranks of its vertices, and the words of a row.
+#[derive(Clone, Copy)]
+struct Graph<'a> {
+    first: &'a [u32],
+    to: &'a [u32],
+    ranks: &'a [u32],
+    width: usize,
+}
 
 // Adds the bits of so many words to as many others.
 fn merge(rows: &mut [u32], into: usize, from: usize, width: usize)
     requires { (into ≤ offset_limit) × (from ≤ offset_limit) × (width ≤ width_limit) }
     ensures { rows.new ≡ merged rows.old into from width }
 {
-    let mut k = 0;
-    while k < width {
-        let word = at(rows, into + k) | at(rows, from + k);
-        put32(rows, into + k, word);
-        k += 1;
+    for k in 0..width {
+        let word = get_or(rows, into + k, 0) | get_or(rows, from + k, 0);
+        put(rows, into + k, word);
     }
 }
 
@@ -29,22 +35,14 @@ fn contains(rows: &[u32], into: usize, from: usize, width: usize) -> bool
     requires { (into ≤ offset_limit) × (from ≤ offset_limit) × (width ≤ width_limit) }
     ensures { result ≡ contained rows.now into from width }
 {
-    let mut k = width;
-    while 0 < k {
-        k -= 1;
-        let word = at(rows, into + k);
-        if word | at(rows, from + k) != word {
+    // Form kept: a loop and not `.all`: (c) the search did not read what the two look-ups in a closure over a range answer.
+    for k in (0..width).rev() {
+        let word = get_or(rows, into + k, 0);
+        if word | get_or(rows, from + k, 0) != word {
             return false;
         }
     }
     true
-}
-
-// The rank of a vertex; past the end of the column 0.
-fn rank_of(ranks: &[u32], v: usize) -> usize
-    ensures { (result ≡ get_or ranks.now v 0) × (result < word_count) }
-{
-    index(at(ranks, v))
 }
 
 // An arc from one rank to another: the one reaches the other, and all that this reaches.
@@ -62,53 +60,29 @@ fn arc_closed(width: usize, rank: usize, other: usize, rows: &[u32]) -> bool
     requires { (width ≤ width_limit) × (rank < word_count) × (other < word_count) }
     ensures { result ≡ arc_closed width rank other rows.now }
 {
-    if !has(rows, other) {
-        return false;
-    }
-    if !has(rows, rank * width * WORD + other) {
-        return false;
-    }
-    contains(rows, rank * width, other * width, width)
+    has(rows, other)
+        && has(rows, rank * width * WORD + other)
+        && contains(rows, rank * width, other * width, width)
 }
 
 // The arcs from one place up to another, all of one rank.
-fn join_arcs(
-    to: &[u32],
-    ranks: &[u32],
-    from: usize,
-    end: usize,
-    width: usize,
-    rank: usize,
-    rows: &mut [u32],
-)
-    requires { (width ≤ width_limit) × (rank < word_count) }
-    ensures { rows.new ≡ arcs_joined to.now ranks.now width rank from (end - from) rows.old }
+fn join_arcs(graph: Graph, from: usize, end: usize, rank: usize, rows: &mut [u32])
+    requires { (graph.width ≤ width_limit) × (rank < word_count) }
+    ensures { rows.new ≡ arcs_joined graph.entry.to.now graph.entry.ranks.now graph.entry.width rank from (end - from) rows.old }
 {
-    let mut e = from;
-    while e < end {
-        let other = rank_of(ranks, index(at(to, e)));
-        join_arc(width, rank, other, rows);
-        e += 1;
+    for e in from..end {
+        let other = index(get_or(graph.ranks, index(get_or(graph.to, e, 0)), 0));
+        join_arc(graph.width, rank, other, rows);
     }
 }
 
-fn arcs_closed(
-    to: &[u32],
-    ranks: &[u32],
-    from: usize,
-    end: usize,
-    width: usize,
-    rank: usize,
-    rows: &[u32],
-) -> bool
-    requires { (width ≤ width_limit) × (rank < word_count) }
-    ensures { result ≡ arcs_closed to.now ranks.now width rank from (end - from) rows.now }
+fn arcs_closed(graph: Graph, from: usize, end: usize, rank: usize, rows: &[u32]) -> bool
+    requires { (graph.width ≤ width_limit) × (rank < word_count) }
+    ensures { result ≡ arcs_closed graph.entry.to.now graph.entry.ranks.now graph.entry.width rank from (end - from) rows.now }
 {
-    let mut e = end;
-    while from < e {
-        e -= 1;
-        let other = rank_of(ranks, index(at(to, e)));
-        if !arc_closed(width, rank, other, rows) {
+    for e in (from..end).rev() {
+        let other = index(get_or(graph.ranks, index(get_or(graph.to, e, 0)), 0));
+        if !arc_closed(graph.width, rank, other, rows) {
             return false;
         }
     }
@@ -116,49 +90,34 @@ fn arcs_closed(
 }
 
 // The arcs of the vertices in a column, in their order; those without a rank are passed over.
-fn join_vertices(
-    first: &[u32],
-    to: &[u32],
-    ranks: &[u32],
-    order: &[u32],
-    width: usize,
-    rows: &mut [u32],
-)
-    requires { width ≤ width_limit }
-    ensures { rows.new ≡ vertices_joined first.now to.now ranks.now order.now width (length order.now) rows.old }
+fn join_vertices(graph: Graph, order: &[u32], rows: &mut [u32])
+    requires { graph.width ≤ width_limit }
+    ensures { rows.new ≡ vertices_joined graph.entry.first.now graph.entry.to.now graph.entry.ranks.now order.now graph.entry.width (length order.now)
+        rows.old }
 {
-    let mut p = 0;
-    while p < order.len() {
-        let v = index(at(order, p));
-        let rank = rank_of(ranks, v);
+    for vertex in order {
+        let v = index(*vertex);
+        let rank = index(get_or(graph.ranks, v, 0));
         if rank != 0 {
-            join_arcs(
-                to,
-                ranks,
-                index(at(first, v)),
-                index(at(first, v + 1)),
-                width,
-                rank,
-                rows,
-            );
+            let from = index(get_or(graph.first, v, 0));
+            let end = index(get_or(graph.first, v + 1, 0));
+            join_arcs(graph, from, end, rank, rows);
         }
-        p += 1;
     }
 }
 
 // Would no arc of a vertex with a rank add anything?
-fn vertices_closed(first: &[u32], to: &[u32], ranks: &[u32], width: usize, rows: &[u32]) -> bool
-    requires { width ≤ width_limit }
-    ensures { result ≡ vertices_closed first.now to.now ranks.now width (length ranks.now) rows.now }
+fn vertices_closed(graph: Graph, rows: &[u32]) -> bool
+    requires { graph.width ≤ width_limit }
+    ensures { result ≡ vertices_closed graph.entry.first.now graph.entry.to.now graph.entry.ranks.now graph.entry.width (length graph.entry.ranks.now)
+        rows.now }
 {
-    let mut v = ranks.len();
-    while 0 < v {
-        v -= 1;
-        let rank = rank_of(ranks, v);
+    for v in (0..graph.ranks.len()).rev() {
+        let rank = index(get_or(graph.ranks, v, 0));
         if rank != 0 {
-            let from = index(at(first, v));
-            let end = index(at(first, v + 1));
-            if !arcs_closed(to, ranks, from, end, width, rank, rows) {
+            let from = index(get_or(graph.first, v, 0));
+            let end = index(get_or(graph.first, v + 1, 0));
+            if !arcs_closed(graph, from, end, rank, rows) {
                 return false;
             }
         }
@@ -184,7 +143,13 @@ pub fn relate(
     if WIDEST < width {
         return false;
     }
-    columns::clear32(rows, 0);
-    join_vertices(first, to, ranks, order, width, rows);
-    vertices_closed(first, to, ranks, width, rows)
+    columns::clear(rows, 0, 0);
+    let graph = Graph {
+        first,
+        to,
+        ranks,
+        width,
+    };
+    join_vertices(graph, order, rows);
+    vertices_closed(graph, rows)
 }

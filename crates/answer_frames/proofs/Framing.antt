@@ -9,7 +9,7 @@ use Rattle.express.specs.Tokens.Lexis.{most}
 use Rattle.express.specs.Syntax.Tree.{Table, count}
 use Rattle.scopes.specs.Range.{vertex_count}
 use Rattle.constants.specs.Constants.{Room}
-use Rattle.stages.specs.declared.Stage.{Stage}
+use Rattle.stages.specs.Line.{Stage}
 use Rattle.answer_stages.specs.AnswerStage.{BoundColumns}
 use Rattle.pipeline.specs.Binding.{AnswersNamed}
 use Rattle.answer_frames.specs.AnswerFrame.{NamedFile, AnswersWithin}

@@ -1,5 +1,5 @@
 -- The answers of a file, with what is computed for each node in arrays of their own (replies 14, 15 and 20, the answer columns and the room).
-use Rattle.std.specs.Prelude.{◌≡◌, List, ℕ, ◌≤◌, ℤ, length, take}
+use Rattle.std.specs.Prelude.{◌≡◌, List, ℕ, ◌≤◌, ℤ, length, take, Ok, Err}
 use Rattle.relations.specs.Reach.{Joins}
 use Rattle.relations.specs.Sorted.{Arranged}
 use Rattle.express.specs.Tokens.Scanned.{Scanned}
@@ -13,8 +13,8 @@ use Rattle.express.specs.Names.Names.{WellNamed}
 use Rattle.express.specs.Semantics.Kind as kind
 use Rattle.scopes.specs.Range.{vertex_count, declared_nodes}
 use Rattle.constants.specs.Constants.{Holds}
-use Rattle.stages.specs.declared.Stage.{Stage}
-use Rattle.stages.specs.declared.Stage.TheVariants.{Done, Refused}
+use Rattle.stages.specs.declared.Refusal.{Refusal}
+use Rattle.stages.specs.Line.{Stage}
 use Rattle.answer_stages.specs.AnswerStage.{Answered}
 
 -- a file whose names are right (R17) and bound (N18): its columns, its declarations in order by types (N7) and by constants (N17) at the fronts of two, and room for its answers
@@ -40,8 +40,8 @@ pub record NamedFile (bytes starts lengths terminals kinds tokens sizes bindings
 -- `answer_named`, of every such file with at most so many nodes
 pub record AnswersWithin (nodes_most : ℕ) (before : Stage) (bytes starts lengths terminals kinds tokens sizes bindings types constants answer_kinds : List ℕ) (answer_numbers : List ℤ)
     (answer_lengths room : List ℕ) (r : Stage) (answer_kinds' : List ℕ) (answer_numbers' : List ℤ) (answer_lengths' room' : List ℕ) : Type 0 where
-  pub passed_on : (k p : ℕ) → before ≡ Refused k p → r ≡ Refused k p
+  pub passed_on : (f : Refusal) → before ≡ Err f → r ≡ Err f
   pub is :
       (t : Table) → NamedFile bytes starts lengths terminals kinds tokens sizes bindings types constants answer_kinds answer_numbers answer_lengths t → count t ≤ nodes_most →
-      (n : ℕ) → before ≡ Done n →
+      (n : ℕ) → before ≡ Ok n →
       Answered t bindings n r answer_kinds answer_numbers answer_lengths room answer_kinds' answer_numbers' answer_lengths' room'

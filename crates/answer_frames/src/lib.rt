@@ -1,23 +1,19 @@
 // The answers of a file, with what is computed for each node in arrays of the call, in one of four sizes, and gone after it.
 #![tactic(auto)]
 
+ghost use Rattle.std.specs.Prelude.{◌≤◌};
 ghost use Rattle.express.specs.Tokens.Lexis.{most};
-ghost use Rattle.reading.specs.FileReading.{few_rows, some_rows, many_rows};
 ghost use Rattle.answer_frames.specs.AnswerFrame.{AnswersWithin};
 
-use pipeline::answer_named;
+use pipeline::{File, answer_named};
 use reading::{FEW, LARGE, MANY, SOME};
 use stages::Stage;
 
-fn answer_few(
+// The answers with arrays for ROWS nodes. Each size is a function of its own, so that its arrays are in no frame of a caller.
+#[inline(never)]
+fn answer_within<const ROWS: usize>(
     before: Stage,
-    src: &[u8],
-    starts: &[u32],
-    lengths: &[u32],
-    terminals: &[u8],
-    kinds: &[u8],
-    tokens: &[u32],
-    sizes: &[u32],
+    file: &File,
     bindings: &[u32],
     types: &[u32],
     constants: &[u32],
@@ -26,178 +22,21 @@ fn answer_few(
     answer_lengths: &mut [u8],
     room: &mut [u8],
 ) -> Stage
-    ensures { AnswersWithin few_rows before src.now starts.now lengths.now terminals.now kinds.now
-        tokens.now sizes.now bindings.now types.now constants.now
+    requires { ROWS ≤ most }
+    ensures { AnswersWithin ROWS before file.now.src.now file.now.starts.now file.now.lengths.now
+        file.now.terminals.now file.now.kinds.now file.now.tokens.now file.now.sizes.now
+        bindings.now types.now constants.now
         answer_kinds.old answer_numbers.old answer_lengths.old room.old result
         answer_kinds.new answer_numbers.new answer_lengths.new room.new }
 {
-    let mut declared = [0u32; FEW];
-    let mut row_of = [0u32; FEW];
-    let mut value_kinds = [0u8; FEW];
-    let mut value_numbers = [0i64; FEW];
-    let mut value_lengths = [0u8; FEW];
+    let mut declared = [0u32; ROWS];
+    let mut row_of = [0u32; ROWS];
+    let mut value_kinds = [0u8; ROWS];
+    let mut value_numbers = [0i64; ROWS];
+    let mut value_lengths = [0u8; ROWS];
     answer_named(
         before,
-        src,
-        starts,
-        lengths,
-        terminals,
-        kinds,
-        tokens,
-        sizes,
-        bindings,
-        types,
-        constants,
-        &mut declared,
-        &mut row_of,
-        answer_kinds,
-        answer_numbers,
-        answer_lengths,
-        &mut value_kinds,
-        &mut value_numbers,
-        &mut value_lengths,
-        room,
-    )
-}
-
-fn answer_some(
-    before: Stage,
-    src: &[u8],
-    starts: &[u32],
-    lengths: &[u32],
-    terminals: &[u8],
-    kinds: &[u8],
-    tokens: &[u32],
-    sizes: &[u32],
-    bindings: &[u32],
-    types: &[u32],
-    constants: &[u32],
-    answer_kinds: &mut [u8],
-    answer_numbers: &mut [i64],
-    answer_lengths: &mut [u8],
-    room: &mut [u8],
-) -> Stage
-    ensures { AnswersWithin some_rows before src.now starts.now lengths.now terminals.now kinds.now
-        tokens.now sizes.now bindings.now types.now constants.now
-        answer_kinds.old answer_numbers.old answer_lengths.old room.old result
-        answer_kinds.new answer_numbers.new answer_lengths.new room.new }
-{
-    let mut declared = [0u32; SOME];
-    let mut row_of = [0u32; SOME];
-    let mut value_kinds = [0u8; SOME];
-    let mut value_numbers = [0i64; SOME];
-    let mut value_lengths = [0u8; SOME];
-    answer_named(
-        before,
-        src,
-        starts,
-        lengths,
-        terminals,
-        kinds,
-        tokens,
-        sizes,
-        bindings,
-        types,
-        constants,
-        &mut declared,
-        &mut row_of,
-        answer_kinds,
-        answer_numbers,
-        answer_lengths,
-        &mut value_kinds,
-        &mut value_numbers,
-        &mut value_lengths,
-        room,
-    )
-}
-
-fn answer_many(
-    before: Stage,
-    src: &[u8],
-    starts: &[u32],
-    lengths: &[u32],
-    terminals: &[u8],
-    kinds: &[u8],
-    tokens: &[u32],
-    sizes: &[u32],
-    bindings: &[u32],
-    types: &[u32],
-    constants: &[u32],
-    answer_kinds: &mut [u8],
-    answer_numbers: &mut [i64],
-    answer_lengths: &mut [u8],
-    room: &mut [u8],
-) -> Stage
-    ensures { AnswersWithin many_rows before src.now starts.now lengths.now terminals.now kinds.now
-        tokens.now sizes.now bindings.now types.now constants.now
-        answer_kinds.old answer_numbers.old answer_lengths.old room.old result
-        answer_kinds.new answer_numbers.new answer_lengths.new room.new }
-{
-    let mut declared = [0u32; MANY];
-    let mut row_of = [0u32; MANY];
-    let mut value_kinds = [0u8; MANY];
-    let mut value_numbers = [0i64; MANY];
-    let mut value_lengths = [0u8; MANY];
-    answer_named(
-        before,
-        src,
-        starts,
-        lengths,
-        terminals,
-        kinds,
-        tokens,
-        sizes,
-        bindings,
-        types,
-        constants,
-        &mut declared,
-        &mut row_of,
-        answer_kinds,
-        answer_numbers,
-        answer_lengths,
-        &mut value_kinds,
-        &mut value_numbers,
-        &mut value_lengths,
-        room,
-    )
-}
-
-fn answer_large(
-    before: Stage,
-    src: &[u8],
-    starts: &[u32],
-    lengths: &[u32],
-    terminals: &[u8],
-    kinds: &[u8],
-    tokens: &[u32],
-    sizes: &[u32],
-    bindings: &[u32],
-    types: &[u32],
-    constants: &[u32],
-    answer_kinds: &mut [u8],
-    answer_numbers: &mut [i64],
-    answer_lengths: &mut [u8],
-    room: &mut [u8],
-) -> Stage
-    ensures { AnswersWithin most before src.now starts.now lengths.now terminals.now kinds.now
-        tokens.now sizes.now bindings.now types.now constants.now
-        answer_kinds.old answer_numbers.old answer_lengths.old room.old result
-        answer_kinds.new answer_numbers.new answer_lengths.new room.new }
-{
-    let mut declared = [0u32; LARGE];
-    let mut row_of = [0u32; LARGE];
-    let mut value_kinds = [0u8; LARGE];
-    let mut value_numbers = [0i64; LARGE];
-    let mut value_lengths = [0u8; LARGE];
-    answer_named(
-        before,
-        src,
-        starts,
-        lengths,
-        terminals,
-        kinds,
-        tokens,
-        sizes,
+        file,
         bindings,
         types,
         constants,
@@ -214,15 +53,9 @@ fn answer_large(
 }
 
 // The arrays by the number of nodes, so that a small file clears little.
-pub fn answer_framed(
+fn answer_framed(
     before: Stage,
-    src: &[u8],
-    starts: &[u32],
-    lengths: &[u32],
-    terminals: &[u8],
-    kinds: &[u8],
-    tokens: &[u32],
-    sizes: &[u32],
+    file: &File,
     bindings: &[u32],
     types: &[u32],
     constants: &[u32],
@@ -231,21 +64,16 @@ pub fn answer_framed(
     answer_lengths: &mut [u8],
     room: &mut [u8],
 ) -> Stage
-    ensures { AnswersWithin most before src.now starts.now lengths.now terminals.now kinds.now
-        tokens.now sizes.now bindings.now types.now constants.now
+    ensures { AnswersWithin most before file.now.src.now file.now.starts.now file.now.lengths.now
+        file.now.terminals.now file.now.kinds.now file.now.tokens.now file.now.sizes.now
+        bindings.now types.now constants.now
         answer_kinds.old answer_numbers.old answer_lengths.old room.old result
         answer_kinds.new answer_numbers.new answer_lengths.new room.new }
 {
-    if kinds.len() <= SOME {
-        return answer_some(
+    if file.kinds.len() <= SOME {
+        return answer_within::<SOME>(
             before,
-            src,
-            starts,
-            lengths,
-            terminals,
-            kinds,
-            tokens,
-            sizes,
+            file,
             bindings,
             types,
             constants,
@@ -255,16 +83,10 @@ pub fn answer_framed(
             room,
         );
     }
-    if kinds.len() <= MANY {
-        return answer_many(
+    if file.kinds.len() <= MANY {
+        return answer_within::<MANY>(
             before,
-            src,
-            starts,
-            lengths,
-            terminals,
-            kinds,
-            tokens,
-            sizes,
+            file,
             bindings,
             types,
             constants,
@@ -274,15 +96,9 @@ pub fn answer_framed(
             room,
         );
     }
-    answer_large(
+    answer_within::<LARGE>(
         before,
-        src,
-        starts,
-        lengths,
-        terminals,
-        kinds,
-        tokens,
-        sizes,
+        file,
         bindings,
         types,
         constants,
@@ -293,16 +109,10 @@ pub fn answer_framed(
     )
 }
 
-// For short files: with a frame that has none of the large arrays, for the whole of a frame is touched page by page where it is entered.
-pub fn answer_short(
+// For short files the smallest arrays where there are few nodes, for the whole of a frame is touched page by page where it is entered.
+pub fn answer_sized<const SHORT: bool>(
     before: Stage,
-    src: &[u8],
-    starts: &[u32],
-    lengths: &[u32],
-    terminals: &[u8],
-    kinds: &[u8],
-    tokens: &[u32],
-    sizes: &[u32],
+    file: &File,
     bindings: &[u32],
     types: &[u32],
     constants: &[u32],
@@ -311,21 +121,16 @@ pub fn answer_short(
     answer_lengths: &mut [u8],
     room: &mut [u8],
 ) -> Stage
-    ensures { AnswersWithin most before src.now starts.now lengths.now terminals.now kinds.now
-        tokens.now sizes.now bindings.now types.now constants.now
+    ensures { AnswersWithin most before file.now.src.now file.now.starts.now file.now.lengths.now
+        file.now.terminals.now file.now.kinds.now file.now.tokens.now file.now.sizes.now
+        bindings.now types.now constants.now
         answer_kinds.old answer_numbers.old answer_lengths.old room.old result
         answer_kinds.new answer_numbers.new answer_lengths.new room.new }
 {
-    if kinds.len() <= FEW {
-        return answer_few(
+    if SHORT && file.kinds.len() <= FEW {
+        return answer_within::<FEW>(
             before,
-            src,
-            starts,
-            lengths,
-            terminals,
-            kinds,
-            tokens,
-            sizes,
+            file,
             bindings,
             types,
             constants,
@@ -337,13 +142,7 @@ pub fn answer_short(
     }
     answer_framed(
         before,
-        src,
-        starts,
-        lengths,
-        terminals,
-        kinds,
-        tokens,
-        sizes,
+        file,
         bindings,
         types,
         constants,

@@ -15,9 +15,6 @@ use operations::Answer;
 use values::End;
 use values::logical::Logical;
 
-// One more than the greatest node.
-const NODES: u64 = 4294967296;
-
 // Ranks of logicals; any other is that of TRUE.
 const FALSE: u64 = codes::answers::FALSE as u64;
 
@@ -67,7 +64,7 @@ pub fn row_of(a: Answer) -> Row
         },
         Answer::Logical(l) => Row {
             kind: codes::answers::LOGICAL,
-            number: l.rank() as i64,
+            number: u8::from(l) as i64,
             length: 0,
         },
         Answer::Binary(b) => binary_row(b),
@@ -82,7 +79,7 @@ pub fn row_of(a: Answer) -> Row
             length: n,
         },
         Answer::Ended(e) => Row {
-            kind: e.number(),
+            kind: u8::from(e),
             number: 0,
             length: 0,
         },
@@ -92,22 +89,17 @@ pub fn row_of(a: Answer) -> Row
 fn natural(z: i64) -> u64
     ensures { result ≡ natural z }
 {
-    if z < 0 {
-        return 0;
-    }
-    z as u64
+    u64::try_from(z).unwrap_or(0)
 }
 
 fn ranked(n: u64) -> Logical
     ensures { logical_of result ≡ ranked n }
 {
-    if n == FALSE {
-        return Logical::FALSE;
+    match n {
+        FALSE => Logical::False,
+        UNKNOWN => Logical::Unknown,
+        _ => Logical::True,
     }
-    if n == UNKNOWN {
-        return Logical::UNKNOWN;
-    }
-    Logical::TRUE
 }
 
 fn binary(n: u64, length: u8) -> Answer
@@ -122,22 +114,13 @@ fn binary(n: u64, length: u8) -> Answer
 fn item(n: u64) -> Answer
     ensures { answer_of result ≡ stored (item n) }
 {
-    if n < NODES {
-        return Answer::Item(n as u32);
-    }
-    Answer::Indeterminate
+    u32::try_from(n).map_or(Answer::Indeterminate, Answer::Item)
 }
 
 fn end(kind: u8) -> Answer
     ensures { answer_of result ≡ stored (end kind) }
 {
-    match kind {
-        codes::ends::OUTSIDE => Answer::Ended(End::OutOfRange),
-        codes::ends::ZERO_DIVISOR => Answer::Ended(End::ZeroDivisor),
-        codes::ends::NEGATIVE_POWER => Answer::Ended(End::NegativePower),
-        codes::ends::UNKNOWN_BOOLEAN => Answer::Ended(End::UnknownBoolean),
-        _ => Answer::Indeterminate,
-    }
+    End::try_from(kind).map_or(Answer::Indeterminate, Answer::Ended)
 }
 
 // The answer that a row stands for, a string by its length; `?` for a row of no answer.

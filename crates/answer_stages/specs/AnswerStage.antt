@@ -1,5 +1,5 @@
 -- From names that are bound to answers: the stage of kinds and, where it is done, the evaluation and the room for strings. What the code of them leaves.
-use Rattle.std.specs.Prelude.{◌≡◌, List, ℕ, ◌≤◌, ℤ, length}
+use Rattle.std.specs.Prelude.{◌≡◌, List, ℕ, ◌≤◌, ℤ, length, Ok, Err}
 use Rattle.columns.specs.Column.{padded}
 use Rattle.relations.specs.Select.{keep}
 use Rattle.relations.specs.Reach.{Joins}
@@ -11,9 +11,8 @@ use Rattle.express.specs.Names.Fault.{constant_edges}
 use Rattle.express.specs.Semantics.AnswerRow.{room_of}
 use Rattle.express.specs.Semantics.Kind.{constants, typing}
 use Rattle.constants.specs.Constants.{file_answers, Room, Holds, WrittenRows, EvaluatesConstants}
-use Rattle.stages.specs.declared.Stage.{Stage}
-use Rattle.stages.specs.declared.Stage.TheVariants.{Done, Refused}
-use Rattle.stages.specs.Line.{then_stage, of_kinds, of_room, room_needed}
+use Rattle.stages.specs.declared.Refusal.{Refusal}
+use Rattle.stages.specs.Line.{Stage, then_stage, of_kinds, of_room, room_needed}
 use Rattle.answer_stages.specs.KindStage.{NamedColumns}
 
 -- `of_room`: the bytes needed against those of the room, whose number fits into 32 bits where it is short
@@ -24,16 +23,16 @@ pub record FitsRoom (needed room n : ℕ) (r : Stage) : Type 0 where
 -- the answers, and their strings with zeros behind
 pub record Answered (t : Table) (bindings : List ℕ) (n : ℕ) (r : Stage) (aks : List ℕ) (azs : List ℤ) (als room aks' : List ℕ) (azs' : List ℤ) (als' room' : List ℕ) : Type 0 where
   pub is : r ≡ then_stage (of_kinds t (typing t bindings) n) (of_room (room_needed t) (length room))
-  pub rows : (m : ℕ) → r ≡ Done m → WrittenRows aks azs als (file_answers t) aks' azs' als'
-  pub strings : (m : ℕ) → r ≡ Done m → room' ≡ padded 0 (length room) (room_of (file_answers t))
+  pub rows : (m : ℕ) → r ≡ Ok m → WrittenRows aks azs als (file_answers t) aks' azs' als'
+  pub strings : (m : ℕ) → r ≡ Ok m → room' ≡ padded 0 (length room) (room_of (file_answers t))
 
 module _ (bytes starts lengths terminals kinds tokens sizes bindings : List ℕ) where
   -- `evaluate_file`: the evaluation, if the stages before it are done, and whether the room has the bytes that it needs
   pub record EvaluatesFile (before : Stage) (declared order was aks : List ℕ) (azs : List ℤ) (als vks : List ℕ) (vzs : List ℤ) (vls room : List ℕ) (r : Stage)
       (row_of' aks' : List ℕ) (azs' : List ℤ) (als' room' : List ℕ) : Type 0 where
-    pub passed_on : (k p : ℕ) → before ≡ Refused k p → r ≡ Refused k p
+    pub passed_on : (f : Refusal) → before ≡ Err f → r ≡ Err f
     pub is :
-        (n : ℕ) → before ≡ Done n →
+        (n : ℕ) → before ≡ Ok n →
         (needed : ℕ) × FitsRoom needed (length room) n r
         × EvaluatesConstants bytes starts lengths terminals kinds tokens sizes bindings declared order was aks azs als vks vzs vls room row_of' aks' azs' als' room' needed
 
@@ -52,7 +51,7 @@ module _ (bytes starts lengths terminals kinds tokens sizes bindings : List ℕ)
   -- `answer_file`
   pub record AnswersFile (before : Stage) (type_order constant_order declared row_of aks : List ℕ) (azs : List ℤ) (als vks : List ℕ) (vzs : List ℤ) (vls room : List ℕ) (r : Stage)
       (aks' : List ℕ) (azs' : List ℤ) (als' room' : List ℕ) : Type 0 where
-    pub passed_on : (k p : ℕ) → before ≡ Refused k p → r ≡ Refused k p
+    pub passed_on : (f : Refusal) → before ≡ Err f → r ≡ Err f
     pub is :
-        (t : Table) → BoundColumns t type_order constant_order declared row_of aks azs als vks vzs vls → (n : ℕ) → before ≡ Done n →
+        (t : Table) → BoundColumns t type_order constant_order declared row_of aks azs als vks vzs vls → (n : ℕ) → before ≡ Ok n →
         Answered t bindings n r aks azs als room aks' azs' als' room'

@@ -5,21 +5,24 @@ ghost use Rattle.std.specs.Prelude.{◌≡◌};
 ghost use Rattle.answer_stages.specs.AnswerStage.{FitsRoom, EvaluatesFile, AnswersFile};
 ghost use Rattle.answer_stages.specs.KindStage.{of_typing, TypesFile};
 
+use columns::get_or;
 use constants::evaluate_constants;
 use declared_types::declared_types;
-use scopes::at;
-use stages::Stage;
-use typing::{Typing, type_constants};
+use stages::{Refusal, Stage};
+use typing::{IllTyped, type_constants};
 
 // What a typing comes to, of a file with n constants.
-fn of_typing(typing: Typing, starts: &[u32], tokens: &[u32], n: usize) -> Stage
+fn of_typing(typing: Result<(), IllTyped>, starts: &[u32], tokens: &[u32], n: usize) -> Stage
     ensures { result ≡ of_typing starts.now tokens.now typing n }
 {
     match typing {
-        Typing::Typed => Stage::Done(n),
-        Typing::Fault(f, node) => {
-            let token = columns::index(at(tokens, node));
-            Stage::Refused(f, at(starts, token))
+        Ok(()) => Ok(n),
+        Err(fault) => {
+            let token = columns::index(get_or(tokens, fault.node, 0));
+            Err(Refusal {
+                reply: fault.reply,
+                number: get_or(starts, token, 0),
+            })
         }
     }
 }
@@ -40,16 +43,10 @@ pub fn type_file(
     ensures { TypesFile before starts.now terminals.now kinds.now tokens.now sizes.now
         bindings.now order.now declared.old scratch.old result declared.new }
 {
-    match before {
-        Stage::Done(n) => {
-            declared_types(terminals, kinds, tokens, sizes, bindings, order, declared);
-            let typing = type_constants(
-                terminals, kinds, tokens, sizes, bindings, declared, scratch,
-            );
-            of_typing(typing, starts, tokens, n)
-        }
-        Stage::Refused(k, p) => Stage::Refused(k, p),
-    }
+    let n = before?;
+    declared_types(terminals, kinds, tokens, sizes, bindings, order, declared);
+    let typing = type_constants(terminals, kinds, tokens, sizes, bindings, declared, scratch);
+    of_typing(typing, starts, tokens, n)
 }
 
 // What the bytes needed come to in a room of so many, of a file with n constants: reply 20.
@@ -57,9 +54,12 @@ fn of_room(needed: usize, room: usize, n: usize) -> Stage
     ensures { FitsRoom needed room n result }
 {
     if needed <= room {
-        return Stage::Done(n);
+        return Ok(n);
     }
-    Stage::Refused(codes::replies::ROOM_SHORT, columns::number(room))
+    Err(Refusal {
+        reply: codes::replies::ROOM_SHORT,
+        number: columns::number(room),
+    })
 }
 
 // The answers of the constants, where all stages are done.
@@ -90,32 +90,28 @@ fn evaluate_file(
         value_kinds.old value_numbers.old value_lengths.old room.old result
         row_of.new answer_kinds.new answer_numbers.new answer_lengths.new room.new }
 {
-    match before {
-        Stage::Done(n) => {
-            let needed = evaluate_constants(
-                src,
-                starts,
-                lengths,
-                terminals,
-                kinds,
-                tokens,
-                sizes,
-                bindings,
-                declared,
-                order,
-                row_of,
-                answer_kinds,
-                answer_numbers,
-                answer_lengths,
-                value_kinds,
-                value_numbers,
-                value_lengths,
-                room,
-            );
-            of_room(needed, room.len(), n)
-        }
-        Stage::Refused(k, p) => Stage::Refused(k, p),
-    }
+    let n = before?;
+    let needed = evaluate_constants(
+        src,
+        starts,
+        lengths,
+        terminals,
+        kinds,
+        tokens,
+        sizes,
+        bindings,
+        declared,
+        order,
+        row_of,
+        answer_kinds,
+        answer_numbers,
+        answer_lengths,
+        value_kinds,
+        value_numbers,
+        value_lengths,
+        room,
+    );
+    of_room(needed, room.len(), n)
 }
 
 // From names to answers: replies 14, 15 and 20, the answer columns and the room. One column serves the typing, and then the rows by node.

@@ -7,10 +7,9 @@ ghost use Rattle.std.specs.Prelude.{◌≡◌, cond, ◌+◌, ◌<◌, set};
 ghost use Rattle.symbol_tables.specs.Entry.{node_limit};
 ghost use Rattle.attribute_chains.specs.Chains.{link_count, with_one, entered_pairs, FindsAmong, EntersEntries};
 
-use attributes::{is_attribute, symbol_of};
+use attributes::{Entries, is_attribute, symbol_of};
 use bit_rows::has;
-use columns::{index, number, put32, shorter};
-use scopes::{at, at8, at64};
+use columns::{get_or, index, number, put};
 
 // Links and ranks are below this number.
 pub const LINKS: usize = 65536;
@@ -23,33 +22,31 @@ fn more(code: u32, node: u32) -> u32
     ensures { node < node_limit → result ≡ with_one code node }
 {
     if code == 0 {
-        return number(index(node) + 1);
+        number(index(node) + 1)
+    } else {
+        symbol_tables::SEVERAL
     }
-    symbol_tables::SEVERAL
 }
 
 // One of two numbers, with no jump: whether an attribute counts cannot be foretold.
 fn chosen(test: bool, yes: u32, no: u32) -> u32
     ensures { result ≡ cond test yes no }
 {
-    if test {
-        return yes;
-    }
-    no
+    if test { yes } else { no }
 }
 
 // The code of the attributes on a chain whose bits are set, from an offset on.
 pub fn found(rows: &[u32], pairs: &[u32], base: usize, head: u32) -> u32
     ensures { FindsAmong rows.now pairs.now base head result }
 {
-    let offset = shorter(base, FARTHEST);
+    let offset = base.min(FARTHEST);
     let mut code = 0;
     let mut link = index(head);
     while 0 < link {
-        let pair = index(at(pairs, 2 * link - 1));
-        let counted = more(code, at(pairs, 2 * link - 2));
+        let pair = index(get_or(pairs, 2 * link - 1, 0));
+        let counted = more(code, get_or(pairs, 2 * link - 2, 0));
         code = chosen(has(rows, offset + pair / LINKS), counted, code);
-        link = shorter(pair % LINKS, link - 1);
+        link = (pair % LINKS).min(link - 1);
     }
     code
 }
@@ -61,17 +58,15 @@ fn enter(heads: &mut [u32], pairs: &mut [u32], count: usize, rank: u32, symbol: 
 {
     let s = index(symbol);
     let c = count % LINKS;
-    let link = index(at(heads, s)) % LINKS;
-    put32(pairs, 2 * c, number(node));
-    put32(pairs, 2 * c + 1, number(index(rank) % LINKS * LINKS + link));
-    put32(heads, s, number(c + 1));
+    let link = index(get_or(heads, s, 0)) % LINKS;
+    put(pairs, 2 * c, number(node));
+    put(pairs, 2 * c + 1, number(index(rank) % LINKS * LINKS + link));
+    put(heads, s, number(c + 1));
 }
 
 // The attributes among the entries from lo up to hi, all of one owner's rank, chained before those that are; so many are chained then.
 pub fn enter_entries(
-    kinds: &[u8],
-    entry_keys: &[u64],
-    entry_nodes: &[u32],
+    entries: Entries,
     lo: usize,
     hi: usize,
     rank: u32,
@@ -79,23 +74,15 @@ pub fn enter_entries(
     heads: &mut [u32],
     pairs: &mut [u32],
 ) -> usize
-    ensures { EntersEntries kinds.now entry_keys.now entry_nodes.now lo hi rank before heads.old pairs.old
+    ensures { EntersEntries entries.entry.kinds.now entries.entry.keys.now entries.entry.nodes.now lo hi rank before heads.old pairs.old
         result heads.new pairs.new }
 {
     let mut count = before % LINKS;
-    let mut e = hi;
-    while lo < e {
-        e -= 1;
-        let node = index(at(entry_nodes, e));
-        if is_attribute(at8(kinds, node)) {
-            enter(
-                heads,
-                pairs,
-                count,
-                rank,
-                symbol_of(at64(entry_keys, e)),
-                node,
-            );
+    for e in (lo..hi).rev() {
+        let node = index(get_or(entries.nodes, e, 0));
+        if is_attribute(get_or(entries.kinds, node, 0)) {
+            let symbol = symbol_of(get_or(entries.keys, e, 0));
+            enter(heads, pairs, count, rank, symbol, node);
             count = (count + 1) % LINKS;
         }
     }

@@ -2,7 +2,7 @@
 use mathlib.Core.Path.{◌≡◌, refl, sym, ap, ◌∙◌}
 use mathlib.Core.Logic.{by_cases}
 use mathlib.Core.List.{List}
-use Prim.Native.Nat.{ℕ, ◌+◌, ◌-◌, ◌≤◌, ◌<◌}
+use Prim.Native.Nat.{ℕ, ◌+◌, ◌-◌, ◌≤◌, ◌<◌, min}
 use native.Mathlib.Omega.{arith}
 use native.Mathlib.Decide.{ℕ_discrete, dec_lt}
 use lib.ListN.{length, get_or, set, length-set, get_or-eq_default}
@@ -109,12 +109,18 @@ module _ {nodes : List ℕ} {low hi from : ℕ} where
   backing_starts = record { upto = omega arith; down = λ l. l; behind = λ i a b. absurd (omega arith) }
 
   module _ {e : ℕ} (s : Backing nodes low hi from e) where
-    pub backing_ends : e ≤ low → Back nodes low hi from e
-    backing_ends l = record { upto = s.upto; down = s.down; before = λ h. absurd (omega arith); behind = s.behind }
+    pub backing_ends : {r : ℕ} → e ≤ low → r ≡ min low hi → Back nodes low hi from r
+    backing_ends l m =
+        record {
+          upto = omega (arith, m);
+          down = λ k. omega (arith, m);
+          before = λ h. absurd (omega (arith, m));
+          behind = λ i a b. s.behind i (omega (arith, m, s.down (omega (arith, m)))) b;
+        }
 
     module _ {x y : ℕ} (l : low < e) (p : x ≡ y) (q : y ≡ get_or nodes (e - 1) 0) where
-      pub backing_stops : x < from → Back nodes low hi from e
-      backing_stops h = record { upto = s.upto; down = s.down; before = λ k. omega (arith, h, p, q); behind = s.behind }
+      pub backing_stops : {r : ℕ} → x < from → r ≡ e → Back nodes low hi from r
+      backing_stops h z = rw z (record { upto = s.upto; down = s.down; before = λ k. omega (arith, h, p, q); behind = s.behind })
 
       pub backing_goes : from ≤ x → Backing nodes low hi from (e - 1)
       backing_goes h =

@@ -9,6 +9,7 @@ use lib.Pow.{pow_mono}
 use mir.Syntax.{w64}
 use mir.Val.{SFits, to_z}
 use mir.Facts.{to_z_pos}
+use Rattle.std.specs.Prelude.{Result, Ok, Err}
 use Rattle.express.specs.Semantics.AnswerRow.{row, row_of}
 use Rattle.express.specs.Semantics.Bits.{join}
 use Rattle.express.proofs.Semantics.Bits.{length_bits, number_mod}
@@ -16,11 +17,9 @@ use Rattle.values.specs.Meaning.{end_number}
 use Rattle.values.specs.declared.End.{End}
 use Rattle.bits.specs.Meaning.{Joins, Canonical, binary_answer}
 use Rattle.bits.specs.declared.Binary.{Binary}
-use Rattle.bits.specs.declared.Joined.{Joined}
-use Rattle.bits.specs.declared.Joined.TheVariants as joined
 
-module _ {xs ys : List Bool} {r : Joined} {b : Binary} (J : Joins xs ys r) (e : r ≡ joined.Whole b) where
-  canonical : Canonical (joined.Whole b)
+module _ {xs ys : List Bool} {r : Result Binary End} {b : Binary} (J : Joins xs ys r) (e : r ≡ Ok b) where
+  canonical : Canonical (Ok b)
   canonical = rw e at J.canonical
 
   small : b.number < 2 ^ 63
@@ -32,9 +31,9 @@ module _ {xs ys : List Bool} {r : Joined} {b : Binary} (J : Joins xs ys r) (e : 
   pub join_row : row 3 (to_z w64 b.number) b.length ≡ row_of (join xs ys)
   join_row =
       let n = number_mod b.length b.number ∙ mod-eq_of_lt canonical.0 in
-      let whole : row 3 (to_z w64 b.number) b.length ≡ row_of (binary_answer (joined.Whole b)) =
+      let whole : row 3 (to_z w64 b.number) b.length ≡ row_of (binary_answer (Ok b)) =
       rw (to_z_pos w64 small, n, length_bits b.length b.number) in
       whole ∙ ap row_of (ap binary_answer (sym e) ∙ J.is)
 
-pub join_ended : {xs ys : List Bool} {r : Joined} {e : End} {n : ℕ} → Joins xs ys r → n ≡ end_number e → r ≡ joined.Ended e → row n (pos 0) 0 ≡ row_of (join xs ys)
+pub join_ended : {xs ys : List Bool} {r : Result Binary End} {e : End} {n : ℕ} → Joins xs ys r → n ≡ end_number e → r ≡ Err e → row n (pos 0) 0 ≡ row_of (join xs ys)
 join_ended J h p = ap (λ (k : ℕ). row k (pos 0) 0) h ∙ ap row_of (ap binary_answer (sym p) ∙ J.is)

@@ -14,13 +14,18 @@ use mir.Syntax.{w64}
 use mir.Val.{Fits}
 use Rattle.relations.specs.Order.{then, compare_lists}
 use Rattle.relations.proofs.Order.{by_lengths}
+use Rattle.std.specs.Prelude.{Option, None, Some, SomeIff, Ok, Err}
+use Rattle.std.specs.Option.{unwrap_or}
+use Rattle.std.specs.Ordering.{nat_cmp, ordering_then}
 use Rattle.express.specs.Semantics.Bits.{bit, number, bits, join, compare_bit, compare_bits}
 use Rattle.express.proofs.Semantics.Bits.{length_bits, number_mod, number_lt, bits_mod, bits_append}
 use Rattle.express.proofs.Semantics.Order.{compare_lt, compare_gt, compare_eq}
+use Rattle.std.specs.declared.cmp.Ordering as order
+use Rattle.values.specs.Meaning.{ordering_of}
 use Rattle.values.specs.declared.End.TheVariants.{OutOfRange}
+use Rattle.values.proofs.Orders.{number_order, then_order}
 use Rattle.bits.specs.Meaning.{bits_of, Joins}
 use Rattle.bits.specs.declared.Binary.{Binary}
-use Rattle.bits.specs.declared.Joined.TheVariants.{Whole, Ended}
 
 -- ---- shifts of every width
 under : (n k : ℕ) → Fits w64 n → 64 ≤ k → n < 2 ^ k
@@ -32,6 +37,11 @@ module _ (n k : ℕ) (f : Fits w64 n) (h : 64 ≤ k) where
 
   pub all_low : n ≡ n % 2 ^ k
   all_low = sym (mod-eq_of_lt (under n k f h))
+
+-- what `checked_shr` gives, and 0 past the last bit
+pub shifted_or : (n k : ℕ) (o : Option ℕ) {r : ℕ} → Fits w64 n → SomeIff o (k < 64) (n / 2 ^ k) → r ≡ unwrap_or o 0 → r ≡ n / 2 ^ k
+shifted_or n k None f h e = e ∙ none_high n k f (omega (arith, h))
+shifted_or n k (Some x) f h e = e ∙ h.1
 
 module _ (k : ℕ) (h : k < 64) where
   one_shifted : 1 * 2 ^ k % 2 ^ 64 ≡ 2 ^ k
@@ -48,7 +58,7 @@ length_both : (a b : Binary) → length (bits_of a ++ bits_of b) ≡ a.length + 
 length_both a b =
     length-append (bits_of a) (bits_of b) ∙ rw (length_bits a.length a.number, length_bits b.length b.number)
 
-pub too_long : (a b : Binary) → 63 < a.length + b.length → Joins (bits_of a) (bits_of b) (Ended OutOfRange)
+pub too_long : (a b : Binary) → 63 < a.length + b.length → Joins (bits_of a) (bits_of b) (Err OutOfRange)
 unfolding join
 too_long a b h = record { is = rw (length_both a b, lt-leb (a.length + b.length) 63 h); canonical = tt }
 
@@ -79,7 +89,7 @@ module _ (a b : Binary) {m n : ℕ} (e : m ≡ a.number % 2 ^ a.length) (f : n �
       sym (bits_mod b.length b.length k (omega arith)) ∙ ap (bits b.length) (low m b.length n_lt ∙ f) ∙ bits_mod b.length b.length b.number (omega arith) in
       bits_append a.length b.length k ∙ rw (x, y)
 
-  pub joined : a.length + b.length ≤ 63 → Joins (bits_of a) (bits_of b) (Whole (record { number = m * 2 ^ b.length % 2 ^ 64 + n; length = a.length + b.length }))
+  pub joined : a.length + b.length ≤ 63 → Joins (bits_of a) (bits_of b) (Ok (record { number = m * 2 ^ b.length % 2 ^ 64 + n; length = a.length + b.length }))
   unfolding join
   joined k = rw shifted (record { is = rw (length_both a b, le-leb (a.length + b.length) 63 k, both); canonical = (sum_lt, k) })
 
@@ -141,17 +151,11 @@ module _ (a b : Binary) {l m n : ℕ} (S : l ≡ min a.length b.length) (e : m �
       compare_first l (bits_of a) (bits_of b) (rw (length_bits a.length a.number) (omega arith)) (rw (length_bits b.length b.number) (omega arith))
       ∙ ap (λ (o : Ordering). then o (compare_bits (drop l (bits_of a)) (drop l (bits_of b)))) k
 
-  pub less : m < n → Ordering.lt ≡ compare_bits (bits_of a) (bits_of b)
-  less h = sym (by_numbers (compare_lt m n h))
-
-  pub more : n < m → Ordering.gt ≡ compare_bits (bits_of a) (bits_of b)
-  more h = sym (by_numbers (compare_gt m n h))
-
-  pub by_rest : {o : Ordering} → n ≤ m → m ≤ n → o ≡ compare a.length b.length → o ≡ compare_bits (bits_of a) (bits_of b)
-  by_rest g h k =
+  pub compared :
+      {o p q : order.Ordering} → p ≡ nat_cmp m n → q ≡ nat_cmp a.length b.length → o ≡ ordering_then p q → ordering_of o ≡ compare_bits (bits_of a) (bits_of b)
+  compared g h k =
       let r : compare_bits (drop l (bits_of a)) (drop l (bits_of b)) ≡ compare a.length b.length =
       by_lengths compare_bit l (bits_of a) (bits_of b) (rw (length_bits a.length a.number, length_bits b.length b.number) S)
       ∙ rw (length_bits a.length a.number, length_bits b.length b.number) in
-      k ∙ sym (by_numbers (compare_eq m n (omega arith)) ∙ r)
-
-pub ruleset comparisons = (less, more, by_rest)
+      rw (k, g, h) (then_order (nat_cmp m n) (nat_cmp a.length b.length)
+      ∙ rw (number_order m n, number_order a.length b.length) (sym (by_numbers {o = compare m n} refl ∙ ap (then (compare m n)) r)))

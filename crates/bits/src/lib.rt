@@ -1,14 +1,14 @@
 // Binaries: joining and comparing.
 #![tactic(auto)]
 
-ghost use Rattle.std.specs.Prelude.{◌≡◌, min, ◌≤◌, ◌/◌, ◌%◌, ◌^◌, take};
+ghost use Rattle.std.specs.Prelude.{◌≡◌, ◌≤◌, ◌/◌, ◌%◌, ◌^◌, take};
 ghost use Rattle.express.specs.Semantics.AnswerRow.{row, row_of};
 ghost use Rattle.express.specs.Semantics.Bits.{join, number, compare_bits};
 ghost use Rattle.values.specs.Meaning.{ordering_of};
 ghost use Rattle.bits.specs.Meaning.{bits_of, Joins};
 
+use std::cmp::Ordering;
 use values::End;
-use values::order::Order;
 
 // The most bits of a binary.
 pub const MOST: u64 = codes::limits::BITS as u64;
@@ -24,21 +24,11 @@ pub struct Binary {
     pub length: u8,
 }
 
-// What joining gives: a binary, or the end that it comes to.
-#[derive(Clone, Copy)]
-pub enum Joined {
-    Whole(Binary),
-    Ended(End),
-}
-
 // n without its last k bits.
 fn high(n: u64, k: u8) -> u64
     ensures { result ≡ n / 2 ^ k }
 {
-    if WORD <= k {
-        return 0;
-    }
-    n >> (k as u64)
+    n.checked_shr(k as u32).unwrap_or(0)
 }
 
 // The last k bits of n.
@@ -52,15 +42,15 @@ pub fn low(n: u64, k: u8) -> u64
 }
 
 // The bits of a, then those of b.
-pub fn join(a: Binary, b: Binary) -> Joined
+pub fn join(a: Binary, b: Binary) -> Result<Binary, End>
     ensures { Joins (bits_of a) (bits_of b) result }
 {
     if MOST < (a.length as u64) + (b.length as u64) {
-        return Joined::Ended(End::OutOfRange);
+        return Err(End::OutOfRange);
     }
     let m = low(a.number, a.length);
     let n = low(b.number, b.length);
-    Joined::Whole(Binary {
+    Ok(Binary {
         number: (m << (b.length as u64)) + n,
         length: a.length + b.length,
     })
@@ -70,17 +60,16 @@ pub fn join(a: Binary, b: Binary) -> Joined
 pub fn join_row(a: Binary, b: Binary, number: &mut i64, length: &mut u8) -> u8
     ensures { row result number.new length.new ≡ row_of (join (bits_of a) (bits_of b)) }
 {
-    let joined = join(a, b);
-    match joined {
-        Joined::Whole(binary) => {
+    match join(a, b) {
+        Ok(binary) => {
             *number = binary.number as i64;
             *length = binary.length;
             codes::answers::BINARY
         }
-        Joined::Ended(e) => {
+        Err(e) => {
             *number = 0;
             *length = 0;
-            e.number()
+            u8::from(e)
         }
     }
 }
@@ -93,25 +82,12 @@ fn first(a: Binary, l: u8) -> u64
     low(high(a.number, a.length - l), l)
 }
 
-// The smaller of two lengths.
-fn shorter(l: u8, k: u8) -> u8
-    ensures { result ≡ min l k }
-{
-    if l < k { l } else { k }
-}
-
 // From the left as far as both go; then the shorter is less.
-pub fn compare(a: Binary, b: Binary) -> Order
+pub fn compare(a: Binary, b: Binary) -> Ordering
     ensures { ordering_of result ≡ compare_bits (bits_of a) (bits_of b) }
 {
-    let l = shorter(a.length, b.length);
+    let l = a.length.min(b.length);
     let m = first(a, l);
     let n = first(b, l);
-    if m < n {
-        return Order::Less;
-    }
-    if n < m {
-        return Order::More;
-    }
-    Order::of(a.length as u64, b.length as u64)
+    m.cmp(&n).then(a.length.cmp(&b.length))
 }

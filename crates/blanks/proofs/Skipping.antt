@@ -10,8 +10,8 @@ use Rattle.express.specs.Tokens.Bytes.{within, space}
 use Rattle.express.specs.Tokens.Lexis.{Reading, at, run, opens, dashes, in_line, end_of_remark, reading_then, skipped_in, skipped}
 use Rattle.express.proofs.Tokens.Places.{past, inside_at, remark_low}
 use Rattle.blanks.specs.Step.{reading}
-use Rattle.blanks.specs.declared.Step.{Step}
-use Rattle.blanks.specs.declared.Step.TheVariants.{At, Refused}
+use Rattle.std.specs.Prelude.{Result, Ok, Err}
+use Rattle.blanks.specs.declared.Refusal.{Refusal}
 
 -- a byte is a space by what it is compared with
 pub is_blank : (b : ℕ) → b ≡ 32 → space b ≡ true
@@ -64,16 +64,16 @@ module _ (s : List ℕ) (i : ℕ) (want : Reading) (h : i < length s) (left : Le
           stops : (f : ℕ) → skipped_in (suc f) s i ≡ at i
           stops f = rw (← c_is, n, m, o)
 
-      module _ (o : opens b c ≡ true) (r : Step) (is : reading r ≡ end_of_remark i 1 (i + 2) (drop (i + 2) s)) where
+      module _ (o : opens b c ≡ true) (r : Result ℕ Refusal) (is : reading r ≡ end_of_remark i 1 (i + 2) (drop (i + 2) s)) where
         turn : (f : ℕ) → skipped_in (suc f) s i ≡ reading_then (reading r) (λ q. skipped_in f s q)
         unfolding skipped_in
         turn f = rw (← c_is, n, m, o, is)
 
-        pub left_refused : (k p : ℕ) → r ≡ Refused k p → reading r ≡ want
-        left_refused k p e = ap reading e ∙ sym (ap (λ (x : Step). reading_then (reading x) (λ q. skipped_in left.turns s q)) e) ∙ sym (turn left.turns) ∙ left.is
+        pub left_refused : (k : Refusal) → r ≡ Err k → reading (Err k) ≡ want
+        left_refused k e = sym (ap (λ (x : Result ℕ Refusal). reading_then (reading x) (λ q. skipped_in left.turns s q)) e) ∙ sym (turn left.turns) ∙ left.is
 
-        pub left_remark : (q : ℕ) → r ≡ At q → i < q → Left s q want
-        left_remark q e l = go_on q l (λ f. turn f ∙ ap (λ (x : Step). reading_then (reading x) (λ q. skipped_in f s q)) e)
+        pub left_remark : (q : ℕ) → r ≡ Ok q → i < q → Left s q want
+        left_remark q e l = go_on q l (λ f. turn f ∙ ap (λ (x : Result ℕ Refusal). reading_then (reading x) (λ q. skipped_in f s q)) e)
 
 -- a byte above `-` opens nothing
 pub left_past : (s : List ℕ) (i : ℕ) (want : Reading) → i < length s → Left s i want → 45 < get_or s i 0 → at i ≡ want
@@ -92,5 +92,5 @@ left_over s i want h left = sym (over left.turns) ∙ left.is
     over f = rw (past s i h)
 
 -- a remark ends past its start
-pub remark_passes : (s : List ℕ) (i : ℕ) (r : Step) (q : ℕ) → reading r ≡ end_of_remark i 1 (i + 2) (drop (i + 2) s) → r ≡ At q → i < q
+pub remark_passes : (s : List ℕ) (i : ℕ) (r : Result ℕ Refusal) (q : ℕ) → reading r ≡ end_of_remark i 1 (i + 2) (drop (i + 2) s) → r ≡ Ok q → i < q
 remark_passes s i r q is e = omega (arith, (inside_at (sym is ∙ ap reading e) (remark_low i 1 (i + 2) s)).0)

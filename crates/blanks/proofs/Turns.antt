@@ -2,7 +2,7 @@
 use mathlib.Core.Path.{◌≡◌, refl, sym, ap, ◌∙◌}
 use mathlib.Core.Bool.{Bool, true, false, ◌||◌}
 use mathlib.Core.List.{List, [], ◌∷◌}
-use Prim.Native.Nat.{ℕ, ◌+◌, ◌<◌, ◌-◌, ◌≤◌}
+use Prim.Native.Nat.{ℕ, ◌+◌, ◌<◌, ◌-◌, ◌≤◌, max}
 use native.Mathlib.Numerals.{add-one}
 use native.Mathlib.Omega.{arith}
 use native.Mathlib.Decide.{dec_lt}
@@ -26,6 +26,10 @@ at_two s i h =
 
 -- ---- runs
 
+pub run_over : (f : ℕ → Bool) (s : List ℕ) (i : ℕ) → length s ≤ i → run f s i ≡ i
+unfolding end_of_run
+run_over f s i h = rw (at_nil s i h)
+
 module _ (f : ℕ → Bool) (s : List ℕ) (i : ℕ) where
   pub run_more : i < length s → f (get_or s i 0) ≡ true → run f s i ≡ run f s (i + 1)
   unfolding end_of_run
@@ -35,9 +39,13 @@ module _ (f : ℕ → Bool) (s : List ℕ) (i : ℕ) where
   unfolding end_of_run
   run_stop h e = rw (at_cons s i h, e)
 
-  pub run_over : length s ≤ i → run f s i ≡ i
-  unfolding end_of_run
-  run_over h = rw (at_nil s i h)
+  -- where a loop over the places from j on ends
+  pub run_ends : (j : ℕ) {r : ℕ} → length s ≤ i → (j ≤ length s → i ≤ length s) → run f s i ≡ run f s j → r ≡ max j (length s) → r ≡ run f s j
+  run_ends j {r} h le e q = by (dec_lt j (length s))
+    where
+      by : Dec (j < length s) → r ≡ run f s j
+      by (yes l) = let m : r ≡ i = omega (arith, q) in m ∙ sym (run_over f s i h) ∙ e
+      by (no n) = let m : r ≡ j = omega (arith, q) in m ∙ sym (run_over f s j (omega arith))
 
 -- ---- remarks
 

@@ -4,58 +4,66 @@
 ghost use Rattle.std.specs.Prelude.{◌≡◌, ◌+◌, ◌≤◌, length, drop, get_or};
 ghost use Rattle.express.specs.Tokens.Bytes.{within};
 ghost use Rattle.express.specs.Tokens.Lexis.{pair, either, run, end_of_remark, skipped};
-ghost use Rattle.blanks.specs.Step.{reading, member};
+ghost use Rattle.blanks.specs.Step.{reading, reply_of, place_of, member};
 
-// What a step comes to: the place behind what was read, or a refusal, its reply and its place.
-#[derive(Clone, Copy)]
-pub enum Step {
-    At(usize),
-    Refused(u8, usize),
+// Why a text is refused, and where; or how many tokens it has, where the columns are too short for them.
+#[derive(Clone, Copy, Debug, PartialEq, Eq)]
+pub enum Refusal {
+    NoToken(usize),
+    TooLarge(usize),
+    TooLong(usize),
+    TokensShort(usize),
+}
+
+impl Refusal {
+    pub fn reply(self) -> u8
+        ensures { result ≡ reply_of self }
+    {
+        match self {
+            Refusal::NoToken(_) => codes::replies::NO_TOKEN,
+            Refusal::TooLarge(_) => codes::replies::TOO_LARGE,
+            Refusal::TooLong(_) => codes::replies::TOO_LONG,
+            Refusal::TokensShort(_) => codes::replies::TOKENS_SHORT,
+        }
+    }
+
+    pub fn place(self) -> usize
+        ensures { result ≡ place_of self }
+    {
+        match self {
+            Refusal::NoToken(p)
+            | Refusal::TooLarge(p)
+            | Refusal::TooLong(p)
+            | Refusal::TokensShort(p) => p,
+        }
+    }
 }
 
 // The classes of bytes that a run is made of.
-#[derive(Clone, Copy)]
+// Form kept: (a) a closure's call needs a `requires`, which no function has that other crates call (docs/DECISIONS.md), here `run_end`.
+#[derive(Clone, Copy, Debug, PartialEq, Eq)]
 pub enum Class {
     Digit,
     Bit,
     Line,
 }
 
-// The byte at a place, and 0 past the end.
-pub fn byte(s: &[u8], i: usize) -> u8
-    ensures { result ≡ get_or s.now i 0 }
-{
-    if i < s.len() {
-        return s[i];
-    }
-    0
-}
-
 pub fn is_within(lo: u8, hi: u8, b: u8) -> bool
     ensures { result ≡ within lo hi b }
 {
-    if b < lo {
-        return false;
-    }
-    b <= hi
+    lo <= b && b <= hi
 }
 
 pub fn is_either(x: u8, y: u8, b: u8) -> bool
     ensures { result ≡ either x y b }
 {
-    if b == x {
-        return true;
-    }
-    b == y
+    b == x || b == y
 }
 
 pub fn is_pair(x: u8, y: u8, b: u8, c: u8) -> bool
     ensures { result ≡ pair x y b c }
 {
-    if b != x {
-        return false;
-    }
-    c == y
+    b == x && c == y
 }
 
 fn is_member(class: Class, b: u8) -> bool
@@ -72,19 +80,16 @@ fn is_member(class: Class, b: u8) -> bool
 pub fn run_end(s: &[u8], at: usize, class: Class) -> usize
     ensures { result ≡ run (member class) s.now at }
 {
-    let mut i = at;
-    while i < s.len() {
-        let b = s[i];
-        if !is_member(class, b) {
+    for i in at..s.len() {
+        if !is_member(class, s[i]) {
             return i;
         }
-        i += 1;
     }
-    i
+    at.max(s.len())
 }
 
 // The end of the remark that opens at a place.
-fn remark_end(s: &[u8], from: usize) -> Step
+fn remark_end(s: &[u8], from: usize) -> Result<usize, Refusal>
     requires { from + 2 ≤ length s.now }
     ensures { reading result ≡ end_of_remark from 1 (from + 2) (drop (from + 2) s.now) }
 {
@@ -99,7 +104,7 @@ fn remark_end(s: &[u8], from: usize) -> Step
                 i += 2;
             } else if is_pair(b'*', b')', b, c) {
                 if depth == 1 {
-                    return Step::At(i + 2);
+                    return Ok(i + 2);
                 }
                 depth -= 1;
                 i += 2;
@@ -110,11 +115,11 @@ fn remark_end(s: &[u8], from: usize) -> Step
             i += 1;
         }
     }
-    Step::Refused(codes::replies::NO_TOKEN, from)
+    Err(Refusal::NoToken(from))
 }
 
 // The first place from `at` on that is no space and in no remark.
-pub fn skip(s: &[u8], at: usize) -> Step
+pub fn skip(s: &[u8], at: usize) -> Result<usize, Refusal>
     ensures { reading result ≡ skipped s.now at }
 {
     let mut i = at;
@@ -123,23 +128,19 @@ pub fn skip(s: &[u8], at: usize) -> Step
         if b == b' ' {
             i += 1;
         } else if b > b'-' {
-            return Step::At(i);
+            return Ok(i);
         } else if is_within(b'\t', b'\r', b) {
             i += 1;
         } else {
-            let c = byte(s, i + 1);
+            let c = columns::get_or(s, i + 1, 0);
             if is_pair(b'-', b'-', b, c) {
                 i = run_end(s, i + 2, Class::Line);
             } else if is_pair(b'(', b'*', b, c) {
-                let step = remark_end(s, i);
-                let Step::At(q) = step else {
-                    return step;
-                };
-                i = q;
+                i = remark_end(s, i)?;
             } else {
-                return Step::At(i);
+                return Ok(i);
             }
         }
     }
-    Step::At(i)
+    Ok(i)
 }

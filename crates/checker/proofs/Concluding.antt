@@ -5,6 +5,7 @@ use Prim.Native.Nat.{ℕ, ◌≤◌}
 use native.Mathlib.Omega.{arith}
 use lib.IntN.{pos}
 use lib.ListN.{length, take, replicate, length-map}
+use Rattle.std.specs.Prelude.{Ok, Err}
 use Rattle.columns.specs.Column.{cleared, padded}
 use Rattle.columns.proofs.Laws.{clear_all, clear_front, clear_over}
 use Rattle.express.specs.Tokens.Lexis.{most, lexed}
@@ -13,9 +14,7 @@ use Rattle.express.specs.Semantics.Kind.{constants}
 use Rattle.express.specs.Whole.Reply.{Accepted, report, Tables, column, outcome, tables_after}
 use Rattle.express.specs.Whole.Reply as express
 use Rattle.constants.specs.Constants.{file_answers}
-use Rattle.stages.specs.declared.Stage.{Stage}
-use Rattle.stages.specs.declared.Stage.TheVariants.{Done, Refused}
-use Rattle.stages.specs.Line.{count_of, kept_of, reported, table_of, accepted_with, outcome_by, token_stage, node_stage, room_stage}
+use Rattle.stages.specs.Line.{Stage, count_of, kept_of, reported, table_of, accepted_with, outcome_by, token_stage, node_stage, room_stage}
 use Rattle.stages.proofs.Bounds.{tokens_few}
 use Rattle.stages.proofs.Straight.{straight, token_done, node_done, constant_done, name_done, kind_done, room_done, nodes_few, constants_few}
 use Rattle.demands.specs.Checks.{Checks}
@@ -29,12 +28,12 @@ use Rattle.running.specs.Run.{token_rows, node_rows, answer_rows, Ran}
 
 module _ (s : List ℕ) (tr nr ar room : ℕ) where
   tokens_small : (x : Stage) → token_stage s tr ≡ x → count_of x ≤ most
-  tokens_small (Done n) e = let D = token_done s tr n e in omega (arith, D.is, tokens_few s)
-  tokens_small (Refused k p) e = omega arith
+  tokens_small (Ok n) e = let D = token_done s tr n e in omega (arith, D.is, tokens_few s)
+  tokens_small (Err f) e = omega arith
 
   nodes_small : (x : Stage) → node_stage s tr nr ≡ x → count_of x ≤ most
-  nodes_small (Done n) e = let N = node_done s tr nr n e in omega (arith, N.is, nodes_few N)
-  nodes_small (Refused k p) e = omega arith
+  nodes_small (Ok n) e = let N = node_done s tr nr n e in omega (arith, N.is, nodes_few N)
+  nodes_small (Err f) e = omega arith
 
   -- what is counted where all stages are done
   record Counts (n : ℕ) : Type 0 where
@@ -43,7 +42,7 @@ module _ (s : List ℕ) (tr nr ar room : ℕ) where
     answer_count : n ≡ length (constants (table_of s))
     small : n ≤ most
 
-  counts : (n : ℕ) → room_stage s tr nr ar room ≡ Done n → Counts n
+  counts : (n : ℕ) → room_stage s tr nr ar room ≡ Ok n → Counts n
   counts n e =
       let C = constant_done s tr nr ar n (name_done s tr nr ar n (kind_done s tr nr ar n (room_done s tr nr ar room n e))).constants_done in
       let N = C.of_nodes in
@@ -55,36 +54,36 @@ module _ (s : List ℕ) (tr nr ar room : ℕ) where
       }
 
   last_small : (x : Stage) → room_stage s tr nr ar room ≡ x → count_of x ≤ most
-  last_small (Done n) e = (counts n e).small
-  last_small (Refused k p) e = omega arith
+  last_small (Ok n) e = (counts n e).small
+  last_small (Err f) e = omega arith
 
   -- the report is that of the outcome
   same_report : (x : Stage) → room_stage s tr nr ar room ≡ x → reported (count_of (token_stage s tr)) (count_of (node_stage s tr nr)) x ≡ report (outcome_by s x)
-  same_report (Done n) e =
+  same_report (Ok n) e =
       let c = counts n e in
       let a : n ≡ length (file_answers (table_of s)) = c.answer_count ∙ sym (length-map (constants (table_of s)) _) in
       rw (c.token_count, c.node_count, a)
-  same_report (Refused k p) e = refl
+  same_report (Err f) e = refl
 
 -- ---- columns
 
 module _ {A : Type 0} (z : A) (values : Accepted → List A) (s : List ℕ) where
   -- a column whose front is the values, cleared behind them, or all of it after a refusal
   counted_column : (last : Stage) (c c' : List A) (n : ℕ) → length c ≡ n → c' ≡ cleared z (count_of last) c →
-      ((i : ℕ) → last ≡ Done i → take i c ≡ values (accepted_with s)) → c' ≡ column z values (outcome_by s last) n
-  counted_column (Done i) c c' n l e f = e ∙ clear_front z i c (values (accepted_with s)) (f i refl) ∙ ap (λ (k : ℕ). padded z k (values (accepted_with s))) l
-  counted_column (Refused k p) c c' n l e f = e ∙ clear_all z c ∙ ap (λ (k : ℕ). replicate k z) l
+      ((i : ℕ) → last ≡ Ok i → take i c ≡ values (accepted_with s)) → c' ≡ column z values (outcome_by s last) n
+  counted_column (Ok i) c c' n l e f = e ∙ clear_front z i c (values (accepted_with s)) (f i refl) ∙ ap (λ (k : ℕ). padded z k (values (accepted_with s))) l
+  counted_column (Err w) c c' n l e f = e ∙ clear_all z c ∙ ap (λ (k : ℕ). replicate k z) l
 
   kept_column : (last : Stage) (entries : ℕ) (c c' : List A) (n : ℕ) → length c ≡ n → c' ≡ cleared z (kept_of last entries) c →
-      ((i : ℕ) → last ≡ Done i → take entries c ≡ values (accepted_with s)) → c' ≡ column z values (outcome_by s last) n
-  kept_column (Done i) entries c c' n l e f = e ∙ clear_front z entries c (values (accepted_with s)) (f i refl) ∙ ap (λ (k : ℕ). padded z k (values (accepted_with s))) l
-  kept_column (Refused k p) entries c c' n l e f = e ∙ clear_all z c ∙ ap (λ (k : ℕ). replicate k z) l
+      ((i : ℕ) → last ≡ Ok i → take entries c ≡ values (accepted_with s)) → c' ≡ column z values (outcome_by s last) n
+  kept_column (Ok i) entries c c' n l e f = e ∙ clear_front z entries c (values (accepted_with s)) (f i refl) ∙ ap (λ (k : ℕ). padded z k (values (accepted_with s))) l
+  kept_column (Err w) entries c c' n l e f = e ∙ clear_all z c ∙ ap (λ (k : ℕ). replicate k z) l
 
 -- the room, which holds all of it where the last stage is done
 room_column : (s : List ℕ) (last : Stage) (c c' : List ℕ) (n : ℕ) → length c ≡ n → c' ≡ cleared 0 (kept_of last (length c)) c →
-    ((i : ℕ) → last ≡ Done i → c ≡ padded 0 n (express.answer_room (accepted_with s))) → c' ≡ column 0 express.answer_room (outcome_by s last) n
-room_column s (Done i) c c' n l e f = e ∙ clear_over 0 c (length c) (omega arith) ∙ f i refl
-room_column s (Refused k p) c c' n l e f = e ∙ clear_all 0 c ∙ ap (λ (k : ℕ). replicate k 0) l
+    ((i : ℕ) → last ≡ Ok i → c ≡ padded 0 n (express.answer_room (accepted_with s))) → c' ≡ column 0 express.answer_room (outcome_by s last) n
+room_column s (Ok i) c c' n l e f = e ∙ clear_over 0 c (length c) (omega arith) ∙ f i refl
+room_column s (Err w) c c' n l e f = e ∙ clear_all 0 c ∙ ap (λ (k : ℕ). replicate k 0) l
 
 -- ---- the contract
 

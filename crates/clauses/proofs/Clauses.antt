@@ -17,9 +17,7 @@ use Rattle.express.specs.Syntax.Grammar.{Nonterminal, rules, file, schema, const
 use Rattle.express.specs.Syntax.Grammar.{entity, attributes, derived, expression, ◌·◌, ◌∣◌, tok, opt, ids, row as row_of, simple_types}
 use Rattle.express.specs.Syntax.NodeKind as kind
 use Rattle.express.proofs.Syntax.Descent.{phrase}
-use Rattle.parsing.specs.declared.Read.{Read}
-use Rattle.parsing.specs.declared.Read.TheVariants.{At, Refused}
-use Rattle.parsing.specs.Reading.{word, Expects, Ready, Reads, Reading, Continues, Steps}
+use Rattle.parsing.specs.Reading.{Read, At, Refused, word, Expects, Ready, Reads, Reading, Continues, Steps}
 use Rattle.parsing.proofs.Terminals.{not_one, inside}
 use Rattle.parsing.proofs.Laws.{start, finish, last, alone, apart, together, dead, told, named, passed}
 use Rattle.parsing.proofs.Laws.{by_row, phrased, left, right, ahead_left, ahead_right, operator, reads, rows_few, token_small}

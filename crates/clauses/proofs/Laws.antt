@@ -3,6 +3,7 @@ use mathlib.Core.Bool.{Bool, true, false}
 use mathlib.Core.List.{List}
 use mathlib.Core.Logic.{◌⊎◌, inl, inr, ⊎_elim}
 use mathlib.Core.Path.{◌≡◌, refl, sym, ap, subst, ◌∙◌}
+use Rattle.std.specs.Prelude.{Ok as Success, Err}
 use Prim.Native.Nat.{ℕ, ◌+◌, ◌-◌, ◌/◌, ◌%◌, ◌≤◌, ◌<◌}
 use native.Mathlib.Omega.{arith}
 use lib.ListN.{length, get_or, set, get_or-eq_default}
@@ -17,11 +18,9 @@ use Rattle.express.specs.Tokens.Terminal.{identifier, comma}
 use Rattle.express.specs.Syntax.Grammar.{Nonterminal, base, constant, derived, domain_rule, attributes, schema, type_declaration, entity, ◌·◌, ◌∣◌, tok, opt, ids}
 use Rattle.express.specs.Syntax.Lookahead.{tables}
 use Rattle.express.proofs.Syntax.Descent.{phrase}
-use Rattle.parsing.specs.declared.Read.{Read}
-use Rattle.parsing.specs.declared.Read.TheVariants.{At, Refused}
-use Rattle.parsing.specs.Reading.{labelled, word, Expects, Ready, Sound, Reads, Reading, Continues, Steps, Leaf}
+use Rattle.parsing.specs.Reading.{Read, At, Refused, labelled, word, Expects, Ready, Sound, Reads, Reading, Continues, Steps, Leaf}
 use Rattle.parsing.proofs.Terminals.{is_one, not_one}
-use Rattle.parsing.proofs.Laws.{start, finish, last, apart, nothing, dead, refused_found, told, by_leaf, by_row, phrased, left, right, more, stop, passed, reads, sound_of, rows_few}
+use Rattle.parsing.proofs.Laws.{same_token, start, finish, last, apart, nothing, dead, refused_found, told, by_leaf, by_row, phrased, left, right, more, stop, passed, reads, sound_of, rows_few}
 use Rattle.expressions.proofs.Operands.{leafs, leafs_last}
 use Rattle.parsing.proofs.Steps.{onward_row, one_inside, expect_ready, expect_goes, by_token, by_name}
 use Rattle.clauses.specs.Declares.{Closes, Groups, id_of, names_of, Leaves, type_label, Types, assigned_by, Heads}
@@ -36,8 +35,8 @@ pub refused_sound : (ts : List ℕ) {k : ℕ} (r : Read) → r ≡ Refused k →
 refused_sound ts r e = rw e tt
 
 pub expect_sound : {code : ℕ} {ts : List ℕ} {p n : ℕ} (r : Read) → Ready ts p n → Expects code ts p n r → Sound ts r
-expect_sound (At q m) g h = expect_ready h g refl
-expect_sound (Refused k) g h = tt
+expect_sound (Success next) g h = expect_ready h g refl
+expect_sound (Err e) g h = tt
 
 module _ {x : Nonterminal} {ts : List ℕ} {p n : ℕ} {r : Read} {a b : List ℕ} (h : Reads x ts p n r a b) where
   pub reads_goes : Continues (nt x) ts p n r a b
@@ -85,7 +84,7 @@ module _ {label : ℕ} {ts : List ℕ} {p n : ℕ} {r : Read} {a b : List ℕ} w
   leaf_onward {q} {m} h e = go (mem (get_or ts p 0) identifier) h.leaf
     where
       go : (t : Bool) → Leaf t label p n r a b → p < q
-      go true k = let z : q ≡ p + 1 = cc (k.0, e) in omega arith
+      go true k = let z : q ≡ p + 1 = same_token (sym e ∙ k.0) in omega arith
       go false k = let z : ◌≡◌ {A = ℕ} 0 1 = cc (k.0, e) in absurd (omega arith)
 
 module _ {label : ℕ} {ts : List ℕ} {p n : ℕ} {a : List ℕ} (t : ℕ) (f : t ≡ get_or ts p 0) where

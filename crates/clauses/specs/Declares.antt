@@ -7,9 +7,7 @@ use Rattle.ebnf.specs.Parse.{Result}
 use Rattle.express.specs.Tokens.Terminal.{identifier, semicolon, comma, DERIVE, TYPE}
 use Rattle.express.specs.Syntax.Grammar.{Nonterminal, base, constant, derived, attributes, where_clause, type_declaration, entity, ◌·◌, tok, opt, simple_types}
 use Rattle.express.specs.Syntax.NodeKind as kind
-use Rattle.parsing.specs.declared.Read.{Read}
-use Rattle.parsing.specs.declared.Read.TheVariants.{At}
-use Rattle.parsing.specs.Reading.{Sound, Found, Reading, Leaf}
+use Rattle.parsing.specs.Reading.{Read, At, Sound, Found, Reading, Leaf}
 
 -- the end of a rule, at token p and row n: `;` and a row over all of it
 pub record Closes (first label name : ℕ) (ts : List ℕ) (p n : ℕ) (r : Read) (a b : List ℕ) : Type 0 where

@@ -1,7 +1,7 @@
 // Lent columns: a number stored as far as it fits, zeros from an index on, and the cast of an index.
 #![tactic(auto)]
 
-ghost use Rattle.std.specs.Prelude.{◌≡◌, min, ◌-◌, ◌≤◌, ◌<◌, pos, set};
+ghost use Rattle.std.specs.Prelude.{◌≡◌, ◌≤◌, ◌<◌, get_or, set};
 ghost use Rattle.columns.specs.Column.{cleared};
 
 // A 32-bit number as an index.
@@ -25,36 +25,8 @@ pub fn byte_index(b: u8) -> usize
     b as usize
 }
 
-// The smaller of two lengths; a table has the entries of its shortest column (R9).
-pub fn shorter(a: usize, b: usize) -> usize
-    ensures { result ≡ min a b }
-{
-    if a < b {
-        return a;
-    }
-    b
-}
-
-// What is left of n when k are taken away, and 0 where there are fewer.
-pub fn saturating_sub(n: usize, k: usize) -> usize
-    ensures { result ≡ n - k }
-{
-    if n < k {
-        return 0;
-    }
-    n - k
-}
-
-// Stores a number at an index; past the column's end nothing changes.
-pub fn put8(column: &mut [u8], at: usize, byte: u8)
-    ensures { column.new ≡ set column.old at byte }
-{
-    if at < column.len() {
-        column[at] = byte;
-    }
-}
-
-pub fn put32(column: &mut [u32], at: usize, value: u32)
+// Stores a value at an index; past the column's end nothing changes.
+pub fn put<T: Copy>(column: &mut [T], at: usize, value: T)
     ensures { column.new ≡ set column.old at value }
 {
     if at < column.len() {
@@ -62,51 +34,18 @@ pub fn put32(column: &mut [u32], at: usize, value: u32)
     }
 }
 
-pub fn put64(column: &mut [i64], at: usize, value: i64)
-    ensures { column.new ≡ set column.old at value }
+// The value at an index; past the column's end the one given.
+pub fn get_or<T: Copy>(column: &[T], at: usize, default: T) -> T
+    ensures { result ≡ get_or column.now at default }
 {
-    if at < column.len() {
-        column[at] = value;
-    }
+    column.get(at).copied().unwrap_or(default)
 }
 
-// Zeros from an index on.
-pub fn clear8(column: &mut [u8], from: usize)
-    ensures { column.new ≡ cleared 0 from column.old }
+// One value from an index on.
+pub fn clear<T: Copy>(column: &mut [T], from: usize, zero: T)
+    ensures { column.new ≡ cleared zero from column.old }
 {
-    let mut i = from;
-    while i < column.len() {
-        column[i] = 0;
-        i += 1;
-    }
-}
-
-pub fn clear32(column: &mut [u32], from: usize)
-    ensures { column.new ≡ cleared 0 from column.old }
-{
-    let mut i = from;
-    while i < column.len() {
-        column[i] = 0;
-        i += 1;
-    }
-}
-
-pub fn clear64(column: &mut [i64], from: usize)
-    ensures { column.new ≡ cleared (pos 0) from column.old }
-{
-    let mut at = from;
-    while at < column.len() {
-        column[at] = 0;
-        at += 1;
-    }
-}
-
-pub fn clear_u64(column: &mut [u64], from: usize)
-    ensures { column.new ≡ cleared 0 from column.old }
-{
-    let mut i = from;
-    while i < column.len() {
-        column[i] = 0;
-        i += 1;
+    for i in from..column.len() {
+        column[i] = zero;
     }
 }

@@ -9,7 +9,7 @@ ghost use Rattle.values.specs.Meaning.{logical_of, relation_of};
 ghost use Rattle.operations.specs.Meaning.{answer_of, operator_of, sign_of, Holds};
 
 use operations::{
-    Answer, Connective, Operator, Sign, calculated, connected, counted, from_outcome, related, sum,
+    Answer, Connective, Operator, Sign, calculated, connected, counted, related, sum,
 };
 use values::End;
 use values::logical::Logical;
@@ -31,13 +31,11 @@ fn operated(o: Operator, x: Answer, y: Answer) -> Answer
 pub fn combined(o: Operator, x: Answer, y: Answer) -> Answer
     ensures { answer_of result ≡ combined (operator_of o) (answer_of x) (answer_of y) }
 {
-    if let Answer::Ended(e) = x {
-        return Answer::Ended(e);
+    match (x, y) {
+        (Answer::Ended(e), _) => Answer::Ended(e),
+        (_, Answer::Ended(e)) => Answer::Ended(e),
+        _ => operated(o, x, y),
     }
-    if let Answer::Ended(f) = y {
-        return Answer::Ended(f);
-    }
-    operated(o, x, y)
 }
 
 // The sign `-`.
@@ -45,7 +43,7 @@ fn minus_of(x: Answer) -> Answer
     ensures { answer_of result ≡ applied negative (answer_of x) }
 {
     match x {
-        Answer::Integer(a) => from_outcome(integers::negate(a)),
+        Answer::Integer(a) => integers::negate(a).map_or_else(Answer::Ended, Answer::Integer),
         Answer::Ended(e) => Answer::Ended(e),
         _ => Answer::Indeterminate,
     }
@@ -86,9 +84,8 @@ fn in_boolean(l: Logical) -> Answer
     ensures { answer_of result ≡ boolean_answer (logical_of l) }
 {
     match l {
-        Logical::False => Answer::Logical(l),
         Logical::Unknown => Answer::Ended(End::UnknownBoolean),
-        Logical::True => Answer::Logical(l),
+        Logical::False | Logical::True => Answer::Logical(l),
     }
 }
 
@@ -96,10 +93,8 @@ fn in_boolean(l: Logical) -> Answer
 pub fn held(boolean: bool, x: Answer) -> Answer
     ensures { Holds boolean x result }
 {
-    if boolean {
-        if let Answer::Logical(l) = x {
-            return in_boolean(l);
-        }
+    match x {
+        Answer::Logical(l) if boolean => in_boolean(l),
+        _ => x,
     }
-    x
 }

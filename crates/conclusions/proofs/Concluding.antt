@@ -4,8 +4,7 @@ use Prim.Native.Nat.{ℕ}
 use lib.ListN.{length}
 use Rattle.columns.specs.Column.{cleared}
 use Rattle.express.specs.Whole.Reply.{Tables}
-use Rattle.stages.specs.declared.Stage.{Stage}
-use Rattle.stages.specs.Line.{count_of, kept_of}
+use Rattle.stages.specs.Line.{Stage, count_of, kept_of}
 use Rattle.reports.specs.declared.Report.{Report}
 use Rattle.reports.specs.Reporting.{Reports, ClearsTokens, ClearsNodes, ClearsAnswers}
 use Rattle.conclusions.specs.Conclusion.{Concludes}

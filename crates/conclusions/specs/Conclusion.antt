@@ -2,8 +2,7 @@
 use Rattle.std.specs.Prelude.{◌≡◌, ℕ, length}
 use Rattle.columns.specs.Column.{cleared}
 use Rattle.express.specs.Whole.Reply.{Tables}
-use Rattle.stages.specs.declared.Stage.{Stage}
-use Rattle.stages.specs.Line.{count_of, kept_of}
+use Rattle.stages.specs.Line.{Stage, count_of, kept_of}
 use Rattle.reports.specs.declared.Report.{Report}
 use Rattle.reports.specs.Reporting.{Reports, ClearsTokens, ClearsNodes, ClearsAnswers}
 

@@ -4,7 +4,7 @@
 ghost use Rattle.demands.specs.Checks.{tables_of};
 ghost use Rattle.conclusions.specs.Conclusion.{Concludes};
 
-use columns::clear8;
+use columns::clear;
 use reports::{Report, clear_answers, clear_nodes, clear_tokens, kept, summary};
 use stages::{Stage, count};
 
@@ -42,6 +42,6 @@ pub fn conclude(
         kept(last, nodes),
     );
     clear_answers(answer_kinds, answer_numbers, answer_lengths, count(last));
-    clear8(room, kept(last, room.len()));
+    clear(room, kept(last, room.len()), 0);
     summary(tokens, nodes, last)
 }

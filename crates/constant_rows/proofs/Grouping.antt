@@ -5,7 +5,7 @@ use mathlib.Core.Bool.{Bool, true, false, false≢true}
 use mathlib.Core.List.{List, [], ◌∷◌, map}
 use Prim.Native.Nat.{ℕ, zero, suc, ◌+◌, ◌-◌, ◌≤◌, ◌<◌}
 use native.Mathlib.Omega.{arith}
-use borrow.Author.Tests.{leb-true, le-leb, lt-leb, le-ltb, lt-ltb}
+use borrow.Author.Tests.{leb-true, le-leb, lt-leb, lt-ltb}
 use lib.Dec.{eqb, leb, ltb}
 use lib.ListN.{length, get_or, drop, drop_of_length-le}
 use lib.Seq.{drop-cons}
@@ -151,9 +151,6 @@ pub record Rising (n : ℕ) (order : List ℕ) (i last : ℕ) : Type 0 where
   pub is : never_falls n last (drop i order) ≡ never_falls n 0 order
 
 module _ {n : ℕ} {order : List ℕ} where
-  pub rising_starts : Rising n order 0 0
-  rising_starts = record { is = refl }
-
   pub rising_ends : {i last : ℕ} → Rising n order i last → length order ≤ i → true ≡ never_falls n 0 order
   unfolding never_falls
   rising_ends R l = rw (drop_of_length-le order l) at R.is
@@ -193,9 +190,6 @@ module _ (kinds : List ℕ) where
 
 -- ---- whether the schemas have parts, by the first from a node on
 module _ (kinds order : List ℕ) (i : ℕ) {s : ℕ} (s_is : s ≡ schema_in kinds i) where
-  pub parts_none : length kinds ≤ s → false ≡ parts kinds order i
-  parts_none l = rw (le-ltb (schema_in kinds i) (length kinds) (omega (arith, s_is)))
-
   pub parts_grouped : s < length kinds → {b : Bool} → b ≡ grouped kinds order → b ≡ parts kinds order i
   parts_grouped l e = e ∙ rw (lt-ltb (schema_in kinds i) (length kinds) (omega (arith, s_is)))
 

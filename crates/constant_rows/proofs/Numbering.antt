@@ -1,15 +1,13 @@
 -- The rows of the constants: how many stand before a node, node after node.
 use mathlib.Core.Path.{◌≡◌, refl, sym, ap, subst, ◌∙◌}
-use mathlib.Core.Logic.{◌⊎◌, inl, inr, ⊎_elim}
+use mathlib.Core.Logic.{◌⊎◌, inl, inr}
 use mathlib.Core.Bool.{Bool, true, false}
 use mathlib.Core.List.{List}
 use Prim.Native.Nat.{ℕ, min, ◌+◌, ◌-◌, ◌≤◌, ◌<◌}
-use native.Mathlib.Decide.{ℕ_discrete}
 use native.Mathlib.Omega.{arith}
 use borrow.Author.Tests.{eqb-true, eq-eqb, ne_eqb}
 use lib.Dec.{eqb}
-use lib.ListN.{length, get_or, set, length-append, length-set}
-use lib.Seq.{get_or-set_same, get_or-set_other}
+use lib.ListN.{length, get_or, length-append}
 use Rattle.relations.specs.Select.{span, first_from, keep}
 use Rattle.relations.proofs.Select.{le_or, First, first_is, span_mem, span_append, keep_append, keep_nothing, placed}
 use Rattle.express.specs.Syntax.NodeKind as node
@@ -76,36 +74,6 @@ pub record Filling (v lo : ℕ) (was column : List ℕ) (i : ℕ) : Type 0 where
   pub len : length column ≡ length was
   pub inside : (m : ℕ) → lo ≤ m → m < i → get_or column m 0 ≡ v
   pub outside : (m : ℕ) → (m < lo) ⊎ (i ≤ m) → get_or column m 0 ≡ get_or was m 0
-
-module _ {v lo : ℕ} {was : List ℕ} where
-  pub filling_starts : Filling v lo was was lo
-  filling_starts = record { len = refl; inside = λ m a b. absurd (omega arith); outside = λ m o. refl }
-
-  module _ {column : List ℕ} {i : ℕ} (F : Filling v lo was column i) where
-    pub filling_next : lo ≤ i → i < length column → {after : List ℕ} → after ≡ set column i v → Filling v lo was after (i + 1)
-    filling_next g l {after} e =
-        record {
-          len = ap length e ∙ length-set column i v ∙ F.len;
-          inside = λ m a b. by m a b (ℕ_discrete m i);
-          outside = λ m o.
-              let n : m ≡ i → ⊥ = λ q. ⊎_elim (λ (x : m < lo). omega arith) (λ (x : i + 1 ≤ m). omega arith) o in
-              rw e (get_or-set_other column i m v 0 n ∙ F.outside m (⊎_elim (λ (x : m < lo). inl x) (λ (x : i + 1 ≤ m). inr (omega arith)) o));
-        }
-      where
-        by : (m : ℕ) → lo ≤ m → m < i + 1 → Dec (m ≡ i) → get_or after m 0 ≡ v
-        by m a b (yes q) = rw (e, q) (get_or-set_same column i v 0 l)
-        by m a b (no q) = rw e (get_or-set_other column i m v 0 q ∙ F.inside m a (omega arith))
-
-    -- past the end of a column nothing changes
-    pub filling_ends : {to end : ℕ} → end ≡ min to (length was) → end ≤ i → (i ≤ end) ⊎ (i ≡ lo) → Fills v lo to was column
-    filling_ends {to} {end} e l o =
-        record {
-          inside = λ m a b k. F.inside m a (omega arith);
-          outside = λ m c.
-              ⊎_elim (λ (x : m < lo). F.outside m (inl x))
-              (λ (x : to ≤ m). F.outside m
-              (⊎_elim (λ (y : i ≤ end). inr (omega arith)) (λ (y : i ≡ lo). ⊎_elim (λ (z : i ≤ m). inr z) (λ (z : m < i). inl (omega arith)) (le_or i m)) o)) c;
-        }
 
 -- THE LOOP'S INVARIANT
 pub record Numbering (kinds was column : List ℕ) (n rows : ℕ) : Type 0 where

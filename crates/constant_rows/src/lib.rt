@@ -11,11 +11,9 @@ use tree::next_of_kind;
 fn fill(column: &mut [u32], from: usize, to: usize, value: u32)
     ensures { Fills value from to column.old column.new }
 {
-    let end = columns::shorter(to, column.len());
-    let mut i = from;
-    while i < end {
+    let end = to.min(column.len());
+    for i in from..end {
         column[i] = value;
-        i += 1;
     }
 }
 
@@ -27,7 +25,7 @@ pub fn number_rows(kinds: &[u8], row_of: &mut [u32])
     let mut rows: usize = 0;
     while n < kinds.len() {
         let constant = next_of_kind(kinds, codes::nodes::CONSTANT, n);
-        let end = columns::shorter(constant, kinds.len() - 1) + 1;
+        let end = constant.min(kinds.len() - 1) + 1;
         fill(row_of, n, end, columns::number(rows));
         rows += 1;
         n = end;

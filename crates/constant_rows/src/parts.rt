@@ -34,18 +34,13 @@ fn is_grouped(kinds: &[u8], order: &[u32]) -> bool
 fn is_ascending(kinds: &[u8], order: &[u32]) -> bool
     ensures { result ≡ never_falls (length kinds.now) 0 order.now }
 {
-    let mut i: usize = 0;
     let mut last: usize = 0;
-    while i < order.len() {
-        let d = columns::index(order[i]);
-        if d < last {
-            return false;
-        }
-        if d > kinds.len() {
+    for declaration in order {
+        let d = columns::index(*declaration);
+        if d < last || d > kinds.len() {
             return false;
         }
         last = d;
-        i += 1;
     }
     true
 }
@@ -55,27 +50,20 @@ fn is_ascending(kinds: &[u8], order: &[u32]) -> bool
 pub fn has_parts(kinds: &[u8], order: &[u32], behind: usize) -> bool
     ensures { result ≡ parts kinds.now order.now behind }
 {
-    if next_of_kind(kinds, codes::nodes::SCHEMA, behind) >= kinds.len() {
-        return false;
-    }
-    if is_ascending(kinds, order) {
-        return true;
-    }
-    is_grouped(kinds, order)
+    next_of_kind(kinds, codes::nodes::SCHEMA, behind) < kinds.len()
+        && (is_ascending(kinds, order) || is_grouped(kinds, order))
 }
 
 // The first place from one on at which a declaration stands that is behind a node.
 fn first_behind(order: &[u32], from: usize, node: usize) -> usize
     ensures { result ≡ first_from (λ i. ltb node (get_or order.now i 0)) from (length order.now - from) }
 {
-    let mut i = from;
-    while i < order.len() {
+    for i in from..order.len() {
         if columns::index(order[i]) > node {
             return i;
         }
-        i += 1;
     }
-    i
+    from.max(order.len())
 }
 
 // Where the part of the next schema starts: where the first declaration behind this schema stands. Without parts all schemas have the whole order.
@@ -83,17 +71,15 @@ pub fn next_part(has_parts: bool, order: &[u32], from: usize, schema: usize) -> 
     ensures { result ≡ cond has_parts (first_from (λ i. ltb schema (get_or order.now i 0)) from (length order.now - from)) from }
 {
     if has_parts {
-        return first_behind(order, from, schema);
+        first_behind(order, from, schema)
+    } else {
+        from
     }
-    from
 }
 
 // Where the part of a schema ends: where the next one's starts, or with the order.
 pub fn part_end(has_parts: bool, next: usize, whole: usize) -> usize
     ensures { result ≡ cond has_parts next whole }
 {
-    if has_parts {
-        return next;
-    }
-    whole
+    if has_parts { next } else { whole }
 }

@@ -6,20 +6,14 @@ ghost use Rattle.constants.specs.Constants.{PlacesConstants, FillsSchemas, Evalu
 use constant_rows::number_rows;
 use constant_rows::parts::{has_parts, next_part, part_end};
 use schemas::{evaluate_schema, measure_constants};
+use string_bytes::Expression;
 use string_places::place_strings;
 use tree::{index_at, next_of_kind};
 
 // Each schema in the order of the text, into the answer columns from the row on where the schema before it ended. Its constants are looked for in its
 // part of the order, or in all of it.
 fn evaluate_schemas(
-    src: &[u8],
-    starts: &[u32],
-    lengths: &[u32],
-    terminals: &[u8],
-    kinds: &[u8],
-    tokens: &[u32],
-    sizes: &[u32],
-    bindings: &[u32],
+    file: &Expression,
     declared: &[u32],
     order: &[u32],
     row_of: &[u32],
@@ -31,32 +25,25 @@ fn evaluate_schemas(
     value_lengths: &mut [u8],
     room: &mut [u8],
 )
-    ensures { FillsSchemas src.now starts.now lengths.now terminals.now kinds.now
-        tokens.now sizes.now bindings.now declared.now order.now row_of.now
+    ensures { FillsSchemas file.now.src.now file.now.starts.now file.now.lengths.now file.now.terminals.now file.now.kinds.now
+        file.now.tokens.now file.now.sizes.now file.now.bindings.now declared.now order.now row_of.now
         answer_kinds.old answer_numbers.old answer_lengths.old
         value_kinds.old value_numbers.old value_lengths.old room.old
         answer_kinds.new answer_numbers.new answer_lengths.new room.new }
 {
-    let mut n = next_of_kind(kinds, codes::nodes::SCHEMA, 0);
-    let are_parted = has_parts(kinds, order, n + 1);
+    let mut n = next_of_kind(file.kinds, codes::nodes::SCHEMA, 0);
+    let are_parted = has_parts(file.kinds, order, n + 1);
     let mut lo: usize = 0;
     let mut at: usize = 0;
     let mut from: usize = 0;
-    while n < kinds.len() {
+    while n < file.kinds.len() {
         let next = next_part(are_parted, order, from, n);
         let to = part_end(are_parted, next, order.len());
-        let a = columns::shorter(at, answer_kinds.len());
-        let b = columns::shorter(at, answer_numbers.len());
-        let c = columns::shorter(at, answer_lengths.len());
+        let a = at.min(answer_kinds.len());
+        let b = at.min(answer_numbers.len());
+        let c = at.min(answer_lengths.len());
         evaluate_schema(
-            src,
-            starts,
-            lengths,
-            terminals,
-            kinds,
-            tokens,
-            sizes,
-            bindings,
+            file,
             declared,
             &order[from..to],
             row_of,
@@ -74,20 +61,13 @@ fn evaluate_schemas(
         at = index_at(row_of, n);
         lo = n + 1;
         from = next;
-        n = next_of_kind(kinds, codes::nodes::SCHEMA, lo);
+        n = next_of_kind(file.kinds, codes::nodes::SCHEMA, lo);
     }
 }
 
 // THE STARTS OF THE STRINGS of a file: its constants of type STRING are measured, and each placed where those before it end; how many bytes they take.
 fn place_constants(
-    src: &[u8],
-    starts: &[u32],
-    lengths: &[u32],
-    terminals: &[u8],
-    kinds: &[u8],
-    tokens: &[u32],
-    sizes: &[u32],
-    bindings: &[u32],
+    file: &Expression,
     declared: &[u32],
     order: &[u32],
     row_of: &[u32],
@@ -98,21 +78,14 @@ fn place_constants(
     value_numbers: &mut [i64],
     value_lengths: &mut [u8],
 ) -> usize
-    ensures { PlacesConstants src.now starts.now lengths.now terminals.now kinds.now
-        tokens.now sizes.now bindings.now declared.now order.now row_of.now
+    ensures { PlacesConstants file.now.src.now file.now.starts.now file.now.lengths.now file.now.terminals.now file.now.kinds.now
+        file.now.tokens.now file.now.sizes.now file.now.bindings.now declared.now order.now row_of.now
         answer_kinds.old answer_numbers.old answer_lengths.old
         value_kinds.old value_numbers.old value_lengths.old
         answer_kinds.new answer_numbers.new answer_lengths.new result }
 {
     measure_constants(
-        src,
-        starts,
-        lengths,
-        terminals,
-        kinds,
-        tokens,
-        sizes,
-        bindings,
+        file,
         declared,
         order,
         row_of,
@@ -123,10 +96,7 @@ fn place_constants(
         value_numbers,
         value_lengths,
     );
-    let rows = columns::shorter(
-        index_at(row_of, tree::last(kinds.len())),
-        answer_kinds.len(),
-    );
+    let rows = index_at(row_of, tree::last(file.kinds.len())).min(answer_kinds.len());
     place_strings(answer_kinds, answer_numbers, answer_lengths, rows)
 }
 
@@ -158,8 +128,7 @@ pub fn evaluate_constants(
         value_kinds.old value_numbers.old value_lengths.old room.old
         row_of.new answer_kinds.new answer_numbers.new answer_lengths.new room.new result }
 {
-    number_rows(kinds, row_of);
-    let needed = place_constants(
+    let file = Expression {
         src,
         starts,
         lengths,
@@ -168,6 +137,10 @@ pub fn evaluate_constants(
         tokens,
         sizes,
         bindings,
+    };
+    number_rows(kinds, row_of);
+    let needed = place_constants(
+        &file,
         declared,
         order,
         row_of,
@@ -181,16 +154,9 @@ pub fn evaluate_constants(
     if needed > room.len() {
         return needed;
     }
-    columns::clear8(room, needed);
+    columns::clear(room, needed, 0);
     evaluate_schemas(
-        src,
-        starts,
-        lengths,
-        terminals,
-        kinds,
-        tokens,
-        sizes,
-        bindings,
+        &file,
         declared,
         order,
         row_of,

@@ -6,6 +6,7 @@ use Prim.Native.Nat.{ℕ, ◌-◌, ◌≤◌, ◌<◌}
 use native.Mathlib.Omega.{arith}
 use native.Mathlib.Decide.{ℕ_discrete, dec_lt}
 use lib.ListN.{get_or}
+use Rattle.std.specs.Prelude.{Option, Some, None}
 use Rattle.relations.specs.Reach.{Reaches, direct, onward}
 use Rattle.graph.specs.Graph.{vertices, Graph, Arc, OnCycle}
 use Rattle.graph.proofs.Nonzero.{nonzero_none, nonzero_all}
@@ -14,7 +15,7 @@ use Rattle.cycles.specs.State.{State}
 use Rattle.cycles.specs.Component.{Leads, stays, goes, Finished}
 use Rattle.cycles.specs.Search.{Search}
 use Rattle.cycles.specs.Step.{ToStop}
-use Rattle.cycles.specs.Answer.{Inner, Smallest, Least, Acyclic, Found, Placed, Groups}
+use Rattle.cycles.specs.Answer.{Inner, Smallest, Found, Placed, Groups}
 use Rattle.cycles.proofs.Keep.{reaches_leads}
 
 pub search_start : {first to : List ℕ} {σ : State} {n : ℕ} → Graph first to → n ≡ vertices first → ((k : ℕ) → σ.group k ≡ 0) → Search first to σ n 0 0 0 0 0
@@ -106,17 +107,12 @@ module _ {first to : List ℕ} {σ : State} (g : Graph first to) (G : Finished f
   cycle_inner (direct a) = arc_inner a (omega arith)
   cycle_inner (onward a r) = arc_inner a (reaches_falls r)
 
-  pub least_found : {r : ℕ} → Smallest (Inner first to σ) (vertices first) r → r < vertices first → Least first to r
-  least_found s l = record { low = l; on = inner_cycle (s.has l); before = λ u k c. s.before u k (cycle_inner c) }
+  pub found : (r : Option ℕ) → Smallest (Inner first to σ) (vertices first) r → Found first to r
+  found (Some v) s = record { low = s.low; on = inner_cycle s.has; before = λ u k c. s.before u k (cycle_inner c) }
+  found None s = λ v c. s v (reaches_source c) (cycle_inner c)
 
-  pub none_found : {r : ℕ} → Smallest (Inner first to σ) (vertices first) r → vertices first ≤ r → Acyclic first to
-  none_found s l v c = s.before v (omega (arith, reaches_source c)) (cycle_inner c)
-
-  pub found : {r : ℕ} → Smallest (Inner first to σ) (vertices first) r → Found first to r
-  found s = record { within = s.within; cycle = least_found s; none = none_found s }
-
-  pub placed : {r : ℕ} → Smallest (Inner first to σ) (vertices first) r → vertices first ≤ r → Placed first to σ
-  placed {r} s l =
+  pub placed : Smallest (Inner first to σ) (vertices first) None → Placed first to σ
+  placed s =
       let C = G.components in
       record {
         low = λ v h. C.place_low v h (G.closed v h);
@@ -127,7 +123,7 @@ module _ {first to : List ℕ} {σ : State} (g : Graph first to) (G : Finished f
             let k : v < vertices first = omega (arith, arc_source a) in
             let o : w < vertices first = omega (arith, arc_target g a) in
             let h : σ.group w < σ.group v =
-            by_cases (dec_lt (σ.group w) (σ.group v)) (λ z. z) (λ z. absurd (s.before v (omega arith) (arc_inner a (omega (arith, z))))) in
+            by_cases (dec_lt (σ.group w) (σ.group v)) (λ z. z) (λ z. absurd (s v k (arc_inner a (omega (arith, z))))) in
             omega (arith, C.ranges v w k o (G.closed v k) (G.closed w o) h, C.starts v k (G.closed v k));
       }
 

@@ -14,7 +14,7 @@ use Rattle.cycles.specs.Step.{top, ToEnter, ToPass, ToClose, Chosen, Enterable, 
 use Rattle.cycles.specs.declared.Step.{Step}
 use Rattle.cycles.specs.declared.Step.TheVariants.{Done, Skip, Enter, Join, Pass, Leave, Close}
 use Rattle.cycles.specs.declared.Counts.{Counts}
-use Rattle.cycles.specs.declared.After.TheVariants.{Over, On}
+use Rattle.std.specs.Prelude.{Some, None}
 use Rattle.cycles.proofs.Cell.{Put, cell_put, state_arcs, state_closing, closed_by, entered_long, entered_puts}
 use Rattle.cycles.proofs.Entering.{search_enter, enter_room}
 use Rattle.cycles.proofs.Turn.{search_skip, search_join, search_pass, search_leave}
@@ -54,10 +54,10 @@ running_start {first} {to} {s} {s₁} r q e =
       long = refl;
     }
 
-on_over : {t : Counts} → On t ≡ Over → ⊥
+on_over : {t : Counts} → Some t ≡ None → ⊥
 on_over q = let z : ◌≡◌ {A = ℕ} 0 1 = cc in omega arith
 
-on_moved : (r : Step) (c t : Counts) → after r c ≡ On t → t ≡ moved r c
+on_moved : (r : Step) (c t : Counts) → after r c ≡ Some t → t ≡ moved r c
 on_moved Done c t q = absurd (on_over (sym q))
 on_moved Skip c t q = cc
 on_moved (Enter w) c t q = cc
@@ -188,7 +188,7 @@ module _ {first to s : List ℕ} {c : Counts} (G : Going first to s c) where
     turned (Close from) h w = going_close h w
 
     pub running_end :
-        (r : Step) → Chosen first to (state s) c.root c.depth c.groups r → after r c ≡ Over → Stored first s s' r c → Finished first to (state s')
+        (r : Step) → Chosen first to (state s) c.root c.depth c.groups r → after r c ≡ None → Stored first s s' r c → Finished first to (state s')
     running_end Done h q w = rw w (search_end S h)
     running_end Skip h q w = absurd (on_over q)
     running_end (Enter x) h q w = absurd (on_over q)
@@ -200,7 +200,7 @@ module _ {first to s : List ℕ} {c : Counts} (G : Going first to s c) where
     fewer :
         (r : Step) (t : Counts) → ((i : ℕ) → get_or first i 0 < 4294967296)
         → Chosen first to (state s) c.root c.depth c.groups r
-        → after r c ≡ On t
+        → after r c ≡ Some t
         → Stored first s s' r c
         → left first (state s') (moved r c) < left first (state s) c
     fewer Done t k h q w = absurd (on_over (sym q))
@@ -213,7 +213,7 @@ module _ {first to s : List ℕ} {c : Counts} (G : Going first to s c) where
         fall _ _ _ _ (close_fewer (vertices first) c.height c.finished c.depth c.groups c.root from (close_upto h) h.some (close_some h))
 
 module _ {first to s₀ s : List ℕ} {c : Counts} (R : Running first to s₀ s c) (s' : List ℕ) (r : Step) {t : Counts}
-    (h : Chosen first to (state s) c.root c.depth c.groups r) (q : after r c ≡ On t) (w : Stored first s s' r c) where
+    (h : Chosen first to (state s) c.root c.depth c.groups r) (q : after r c ≡ Some t) (w : Stored first s s' r c) where
   pub running_on : length s' ≡ length s → Running first to s₀ s' t
   running_on e = record { going = rw (on_moved r c t q) (turned R.going s' r h w); long = e ∙ R.long }
 

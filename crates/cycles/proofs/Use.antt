@@ -5,6 +5,7 @@ use mathlib.Core.Logic.{inl, inr}
 use mathlib.Core.List.{List, [], ◌++◌}
 use Prim.Native.Nat.{ℕ, ◌≤◌, ◌<◌}
 use native.Mathlib.Omega.{arith}
+use Rattle.std.specs.Prelude.{Option, Some, None, Ok}
 use lib.ListN.{length, get_or, take, drop, take-append-drop, get_or-append}
 use lib.Seq.{length-take-le, drop_at}
 use Rattle.columns.proofs.Laws.{clear_before}
@@ -13,7 +14,7 @@ use Rattle.graph.proofs.Arcs.{arc_source, arc_target}
 use Rattle.cycles.specs.State.{state, needed}
 use Rattle.cycles.specs.Component.{Finished}
 use Rattle.cycles.specs.Search.{Ready}
-use Rattle.cycles.specs.Answer.{Least, Acyclic, Replies, cycle_at, no_cycle, lent, Used, Zeros, Ordered, Groups, Numbered}
+use Rattle.cycles.specs.Answer.{Least, Acyclic, Replies, cycle_at, no_cycle, Lent, lent, Used, Zeros, Ordered, Groups, Numbered, Found, OrderIf, CycleAnswers, OrderAnswers}
 
 pub ready_after : {first to s s' : List ℕ} → Ready first to s → length s' ≡ length s → Ready first to s'
 ready_after r e = record { graph = r.graph; room = e ∙ r.room }
@@ -91,3 +92,14 @@ module _ {first to : List ℕ} (front rest : List ℕ) (e : length front ≡ ver
             let h : w < vertices first = omega (arith, arc_target g a) in
             rw (front_at front rest e v l, front_at front rest e w h) (o.falls v w a);
       }
+
+-- ---- the answers, by what was found
+module _ {first to : List ℕ} {was is : Lent} where
+  pub replied : (r : Option ℕ) → Found first to r → Used first to 0 was is → CycleAnswers first to was is (Ok r)
+  replied (Some v) f u = record { used = u; replies = replies_cycle f }
+  replied None f u = record { used = u; replies = replies_none f }
+
+  pub order_replied : {order order' : List ℕ} (r : Option ℕ) → Found first to r → Used first to (vertices first) was is → OrderIf first to order order' r
+      → (order' ≡ order → is.column ≡ was.column) → (Ordered first to order' → Ordered first to is.column) → OrderAnswers first to was is (Ok r)
+  order_replied (Some v) f u o k h = record { used = u; replies = replies_cycle f; kept = k o }
+  order_replied None f u o k h = record { used = u; replies = replies_none f; ordered = h o }

@@ -1,15 +1,11 @@
 -- What the answers on cycles, orders and components mean, and what is left in what was lent.
-use Rattle.std.specs.Prelude.{◌≡◌, ◌⊎◌, List, ℕ, ◌+◌, ◌≤◌, ◌<◌, length, get_or, drop, replicate}
+use Rattle.std.specs.Prelude.{◌≡◌, ◌⊎◌, List, ℕ, ◌+◌, ◌≤◌, ◌<◌, length, get_or, drop, replicate, Option, Some, None, Result, Ok, Err}
 use Rattle.columns.specs.Column.{cleared_before}
 use Rattle.graph.specs.Graph.{vertices, Graph, Arc, OnCycle}
 use Rattle.cycles.specs.State.{State, cell, needed}
 use Rattle.cycles.specs.Component.{Leads}
-use Rattle.cycles.specs.declared.Cycle.{Cycle}
-use Rattle.cycles.specs.declared.Cycle.TheVariants.{At, Nothing, Malformed, ScratchShort}
-use Rattle.cycles.specs.declared.Dependencies.{Dependencies}
-use Rattle.cycles.specs.declared.Dependencies.TheVariants as dependencies
-use Rattle.cycles.specs.declared.Grouping.{Grouping}
-use Rattle.cycles.specs.declared.Grouping.TheVariants as grouping
+use Rattle.cycles.specs.declared.GraphError.{GraphError}
+use Rattle.cycles.specs.declared.GraphError.TheVariants.{Malformed, ColumnShort, ScratchShort}
 
 -- ---- the reply
 
@@ -81,11 +77,12 @@ pub record Replied (first to : List ℕ) (r : Reply) (was is : Lent) : Type 0 wh
   pub used : Used first to 0 was is
   pub replies : Replies first to r
 
-abbrev pub CycleAnswers : List ℕ → List ℕ → Lent → Lent → Cycle → Type 0
-CycleAnswers first to was is (At v) = Replied first to (cycle_at v) was is
-CycleAnswers first to was is Nothing = Replied first to no_cycle was is
-CycleAnswers first to was is Malformed = NoGraph first to was is
-CycleAnswers first to was is (ScratchShort k) = ScratchLacks first to k was is
+abbrev pub CycleAnswers : List ℕ → List ℕ → Lent → Lent → Result (Option ℕ) GraphError → Type 0
+CycleAnswers first to was is (Ok (Some v)) = Replied first to (cycle_at v) was is
+CycleAnswers first to was is (Ok None) = Replied first to no_cycle was is
+CycleAnswers first to was is (Err Malformed) = NoGraph first to was is
+CycleAnswers first to was is (Err (ColumnShort k)) = ⊥
+CycleAnswers first to was is (Err (ScratchShort k)) = ScratchLacks first to k was is
 
 -- ---- the answers of `topological_order`
 
@@ -107,12 +104,12 @@ pub record NoOrder (first to : List ℕ) (r : Reply) (was is : Lent) : Type 0 wh
   pub replies : Replies first to r
   pub kept : is.column ≡ was.column
 
-abbrev pub OrderAnswers : List ℕ → List ℕ → Lent → Lent → Dependencies → Type 0
-OrderAnswers first to was is dependencies.Acyclic = InOrder first to no_cycle was is
-OrderAnswers first to was is (dependencies.Cyclic v) = NoOrder first to (cycle_at v) was is
-OrderAnswers first to was is dependencies.Malformed = NoGraph first to was is
-OrderAnswers first to was is (dependencies.ColumnShort k) = ColumnLacks first to k was is
-OrderAnswers first to was is (dependencies.ScratchShort k) = ScratchLacks first to k was is
+abbrev pub OrderAnswers : List ℕ → List ℕ → Lent → Lent → Result (Option ℕ) GraphError → Type 0
+OrderAnswers first to was is (Ok None) = InOrder first to no_cycle was is
+OrderAnswers first to was is (Ok (Some v)) = NoOrder first to (cycle_at v) was is
+OrderAnswers first to was is (Err Malformed) = NoGraph first to was is
+OrderAnswers first to was is (Err (ColumnShort k)) = ColumnLacks first to k was is
+OrderAnswers first to was is (Err (ScratchShort k)) = ScratchLacks first to k was is
 
 -- ---- the answers of `components`
 
@@ -127,11 +124,11 @@ pub record InGroups (first to : List ℕ) (was is : Lent) : Type 0 where
   pub used : Used first to (vertices first) was is
   pub groups : Groups first to is.column
 
-abbrev pub GroupAnswers : List ℕ → List ℕ → Lent → Lent → Grouping → Type 0
-GroupAnswers first to was is grouping.Grouped = InGroups first to was is
-GroupAnswers first to was is grouping.Malformed = NoGraph first to was is
-GroupAnswers first to was is (grouping.ColumnShort k) = ColumnLacks first to k was is
-GroupAnswers first to was is (grouping.ScratchShort k) = ScratchLacks first to k was is
+abbrev pub GroupAnswers : List ℕ → List ℕ → Lent → Lent → Result Unit GraphError → Type 0
+GroupAnswers first to was is (Ok _) = InGroups first to was is
+GroupAnswers first to was is (Err Malformed) = NoGraph first to was is
+GroupAnswers first to was is (Err (ColumnShort k)) = ColumnLacks first to k was is
+GroupAnswers first to was is (Err (ScratchShort k)) = ScratchLacks first to k was is
 
 -- ---- what the inner functions give, on scratch as long as it is needed
 
@@ -142,30 +139,38 @@ pub record Inner (first to : List ℕ) (x : State) (v : ℕ) : Type 0 where
   pub upto : place < get_or first (v + 1) 0
   pub same : x.group (get_or to place 0) ≡ x.group v
 
--- the smallest number below n with a property, or n
-pub record Smallest (P : ℕ → Type 0) (n r : ℕ) : Type 0 where
-  pub within : r ≤ n
-  pub before : (k : ℕ) → k < r → P k → ⊥
-  pub has : r < n → P r
+-- v is the smallest number below n with a property
+pub record SmallestAt (P : ℕ → Type 0) (n v : ℕ) : Type 0 where
+  pub low : v < n
+  pub before : (k : ℕ) → k < v → P k → ⊥
+  pub has : P v
 
--- r is the smallest vertex on a cycle, or the number of vertices where there is none
-pub record Found (first to : List ℕ) (r : ℕ) : Type 0 where
-  pub within : r ≤ vertices first
-  pub cycle : r < vertices first → Least first to r
-  pub none : vertices first ≤ r → Acyclic first to
+-- the smallest number below n with a property, where one has it
+abbrev pub Smallest : (ℕ → Type 0) → ℕ → Option ℕ → Type 0
+Smallest P n (Some v) = SmallestAt P n v
+Smallest P n None = (k : ℕ) → k < n → P k → ⊥
+
+-- the smallest vertex on a cycle, where there is one
+abbrev pub Found : List ℕ → List ℕ → Option ℕ → Type 0
+Found first to (Some v) = Least first to v
+Found first to None = Acyclic first to
+
+-- where there is no cycle, an order; else the column is as it was
+abbrev pub OrderIf : List ℕ → List ℕ → List ℕ → List ℕ → Option ℕ → Type 0
+OrderIf first to order order' (Some v) = order' ≡ order
+OrderIf first to order order' None = Ordered first to order'
 
 -- zeros
 abbrev pub Zeros : List ℕ → List ℕ → Type 0
 Zeros s s' = s' ≡ replicate (length s) 0
 
-pub record FoundIn (first to s s' : List ℕ) (r : ℕ) : Type 0 where
+pub record FoundIn (first to s s' : List ℕ) (r : Option ℕ) : Type 0 where
   pub found : Found first to r
   pub zeros : Zeros s s'
 
-pub record OrderedIn (first to order s order' s' : List ℕ) (r : ℕ) : Type 0 where
+pub record OrderedIn (first to order s order' s' : List ℕ) (r : Option ℕ) : Type 0 where
   pub found : Found first to r
-  pub kept : r < vertices first → order' ≡ order
-  pub ordered : vertices first ≤ r → Ordered first to order'
+  pub ordered : OrderIf first to order order' r
   pub zeros : Zeros s s'
 
 pub record GroupedIn (first to s group' s' : List ℕ) : Type 0 where

@@ -1,5 +1,6 @@
 -- What the search keeps in scratch: six numbers for each index.
-use Rattle.std.specs.Prelude.{List, ℕ, ◌+◌, ◌*◌, get_or, set}
+use Rattle.std.specs.Prelude.{List, ℕ, ◌+◌, ◌*◌, set}
+pub use Rattle.group_rows.specs.Rows.{cell}
 
 -- Of a vertex: its group (0: it is new, 1: it is open, 2 and more: it is closed), its place (of an open vertex in the stack, of a closed one
 -- among the closed), and its next arc. By index: the open vertices, in the order in which they were entered (the stack); the places of those
@@ -11,10 +12,6 @@ pub record State : Type 0 where
   pub stack : ℕ → ℕ
   pub path : ℕ → ℕ
   pub bound : ℕ → ℕ
-
--- the k-th of the six numbers of an index
-abbrev pub cell : List ℕ → ℕ → ℕ → ℕ
-cell s k i = get_or s (6 * i + k) 0
 
 -- scratch with that number stored
 abbrev pub store : List ℕ → ℕ → ℕ → ℕ → List ℕ

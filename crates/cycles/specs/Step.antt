@@ -1,13 +1,11 @@
 -- One step of the search: what was found that it does next, what it writes, and how far the search is then.
-use Rattle.std.specs.Prelude.{◌≡◌, ◌⊎◌, List, ℕ, ◌+◌, ◌*◌, ◌-◌, ◌≤◌, ◌<◌, length, get_or}
+use Rattle.std.specs.Prelude.{◌≡◌, ◌⊎◌, List, ℕ, ◌+◌, ◌*◌, ◌-◌, ◌≤◌, ◌<◌, length, get_or, Option, Some, None}
 use Rattle.graph.specs.Graph.{vertices, Arc}
 use Rattle.cycles.specs.State.{State, cell, store}
 use Rattle.cycles.specs.Search.{start}
 use Rattle.cycles.specs.declared.Step.{Step}
 use Rattle.cycles.specs.declared.Step.TheVariants.{Done, Skip, Enter, Join, Pass, Leave, Close}
 use Rattle.cycles.specs.declared.Counts.{Counts}
-use Rattle.cycles.specs.declared.After.{After}
-use Rattle.cycles.specs.declared.After.TheVariants.{Over, On}
 
 -- the vertex at the end of the path
 abbrev pub top : State → ℕ → ℕ
@@ -170,11 +168,11 @@ moved (Close from) c =
     record { root = c.root; height = from; depth = c.depth - 1; groups = c.groups - 1; finished = c.finished + (c.height - from) }
 
 -- the search goes on, but where it is done
-abbrev pub after : Step → Counts → After
-after Done c = Over
-after Skip c = On (moved Skip c)
-after (Enter w) c = On (moved (Enter w) c)
-after Join c = On (moved Join c)
-after (Pass v e) c = On (moved (Pass v e) c)
-after Leave c = On (moved Leave c)
-after (Close from) c = On (moved (Close from) c)
+abbrev pub after : Step → Counts → Option Counts
+after Done c = None
+after Skip c = Some (moved Skip c)
+after (Enter w) c = Some (moved (Enter w) c)
+after Join c = Some (moved Join c)
+after (Pass v e) c = Some (moved (Pass v e) c)
+after Leave c = Some (moved Leave c)
+after (Close from) c = Some (moved (Close from) c)

@@ -9,17 +9,11 @@ ghost use Rattle.cycles.specs.Search.{Ready, Going};
 ghost use Rattle.cycles.specs.Step.{Chosen, Followable, Followed, Enterable, entered, Closable, Closed, Countable, after, Storable, Stored};
 ghost use Rattle.cycles.specs.Answer.{lent, CycleAnswers, OrderAnswers, GroupAnswers, Inner, Smallest, FoundIn, OrderedIn, GroupedIn, Numbered};
 
-use columns::{clear32, index, number};
-use group_rows::{arrange, inner};
+use columns::{clear, index, number};
+use group_rows::{GROUP, PLACE, WIDTH, arrange, inner};
 
 // Scratch has six numbers for each index: of a vertex its group, its place and its next arc; and by index the stack of open
 // vertices, the path of the search, and the bounds of the groups along it.
-const WIDTH: usize = 6;
-
-const GROUP: usize = 0;
-
-const PLACE: usize = 1;
-
 const NEXT_ARC: usize = 2;
 
 const STACK: usize = 3;
@@ -57,41 +51,16 @@ struct Counts {
     finished: usize,
 }
 
-// The search is over, or goes on.
-#[derive(Clone, Copy)]
-enum After {
-    Over,
-    On(Counts),
-}
-
-// The smallest vertex on a cycle. Scratch that is too short is told the entries that it needs.
-#[derive(Clone, Copy)]
-pub enum Cycle {
-    At(usize),
-    Nothing,
-    Malformed,
-    ScratchShort(usize),
-}
-
-// Whether there is an order, or else the smallest vertex on a cycle.
-#[derive(Clone, Copy)]
-pub enum Dependencies {
-    Acyclic,
-    Cyclic(usize),
-    Malformed,
-    ColumnShort(usize),
-    ScratchShort(usize),
-}
-
-#[derive(Clone, Copy)]
-pub enum Grouping {
-    Grouped,
+// Why nothing is answered: the two columns are no graph, or what was lent is too short and needs so many entries.
+#[derive(Clone, Copy, Debug, PartialEq, Eq)]
+pub enum GraphError {
     Malformed,
     ColumnShort(usize),
     ScratchShort(usize),
 }
 
 // One of the six numbers of an index.
+// Form kept: (a) a function that other crates call has no `requires` (docs/DECISIONS.md), so `group_rows` has one of its own.
 fn get(s: &[u32], column: usize, i: usize) -> usize
     requires { 6 * i + column < length s.now }
     ensures { result ≡ cell s.now column i }
@@ -175,49 +144,46 @@ fn close(s: &mut [u32], from: usize, height: usize, finished: usize)
     requires { Closable s.old from height finished }
     ensures { Closed s.old s.new from height finished }
 {
-    let mut i = from;
-    while i < height {
+    for i in from..height {
         let v = get(s, STACK, i);
         put(s, GROUP, v, finished + CLOSED);
         put(s, PLACE, v, finished + (i - from));
-        i += 1;
     }
 }
 
-// The counts after a step.
-fn counted(step: Step, c: Counts) -> After
+// The counts after a step, where the search goes on.
+fn counted(step: Step, c: Counts) -> Option<Counts>
     requires { Countable step c }
     ensures { result ≡ after step c }
 {
-    let mut t = c;
     match step {
-        Step::Done => After::Over,
-        Step::Skip => {
-            t.root += 1;
-            After::On(t)
-        }
-        Step::Enter(_) => {
-            t.height += 1;
-            t.depth += 1;
-            t.groups += 1;
-            After::On(t)
-        }
-        Step::Join => {
-            t.groups -= 1;
-            After::On(t)
-        }
-        Step::Pass(_, _) => After::On(t),
-        Step::Leave => {
-            t.depth -= 1;
-            After::On(t)
-        }
-        Step::Close(from) => {
-            t.finished += t.height - from;
-            t.height = from;
-            t.depth -= 1;
-            t.groups -= 1;
-            After::On(t)
-        }
+        Step::Done => None,
+        Step::Skip => Some(Counts {
+            root: c.root + 1,
+            ..c
+        }),
+        Step::Enter(_) => Some(Counts {
+            height: c.height + 1,
+            depth: c.depth + 1,
+            groups: c.groups + 1,
+            ..c
+        }),
+        Step::Join => Some(Counts {
+            groups: c.groups - 1,
+            ..c
+        }),
+        Step::Pass(_, _) => Some(c),
+        Step::Leave => Some(Counts {
+            depth: c.depth - 1,
+            ..c
+        }),
+        Step::Close(from) => Some(Counts {
+            height: from,
+            depth: c.depth - 1,
+            groups: c.groups - 1,
+            finished: c.finished + (c.height - from),
+            ..c
+        }),
     }
 }
 
@@ -245,7 +211,7 @@ fn search(first: &[u32], to: &[u32], s: &mut [u32])
     requires { Ready first.now to.now s.old }
     ensures { Finished first.now to.now (state s.new) }
 {
-    clear32(s, 0);
+    clear(s, 0, 0);
     let mut c = Counts {
         root: 0,
         height: 0,
@@ -256,27 +222,24 @@ fn search(first: &[u32], to: &[u32], s: &mut [u32])
     loop {
         let step = next(first, to, s, c);
         store(first, s, step, c);
-        let After::On(then) = counted(step, c) else {
+        let Some(then) = counted(step, c) else {
             return;
         };
         c = then;
     }
 }
 
-// The smallest vertex with an arc into its own group; the number of vertices where none has one.
-fn least(first: &[u32], to: &[u32], s: &[u32]) -> usize
+// The smallest vertex with an arc into its own group.
+fn least(first: &[u32], to: &[u32], s: &[u32]) -> Option<usize>
     requires { Ready first.now to.now s.now }
     ensures { Smallest (Inner first.now to.now (state s.now)) (vertices first.now) result }
 {
-    let n = first.len() - 1;
-    let mut v = 0;
-    while v < n {
+    for v in 0..first.len() - 1 {
         if inner(first, to, s, v) {
-            return v;
+            return Some(v);
         }
-        v += 1;
     }
-    n
+    None
 }
 
 // Puts down the group of each vertex: the number of closed groups starts at 0.
@@ -284,39 +247,34 @@ fn number_groups(group: &mut [u32], s: &[u32], n: usize)
     requires { Numbered group.old s.now n }
     ensures { (v : ℕ) → v < n → get_or group.new v 0 ≡ cell s.now 0 v - 2 }
 {
-    let mut v = 0;
-    while v < n {
+    for v in 0..n {
         group[v] = number(get(s, GROUP, v) - CLOSED);
-        v += 1;
     }
 }
 
-// The smallest vertex on a cycle, or the number of vertices; scratch is left with zeros.
-fn cycle_in(first: &[u32], to: &[u32], s: &mut [u32]) -> usize
+// The smallest vertex on a cycle; scratch is left with zeros.
+fn cycle_in(first: &[u32], to: &[u32], s: &mut [u32]) -> Option<usize>
     requires { Ready first.now to.now s.old }
     ensures { FoundIn first.now to.now s.old s.new result }
 {
     search(first, to, s);
-    let v = least(first, to, s);
-    clear32(s, 0);
-    v
+    let cycle = least(first, to, s);
+    clear(s, 0, 0);
+    cycle
 }
 
 // The same, and the order, where there is no cycle.
-fn order_in(first: &[u32], to: &[u32], order: &mut [u32], s: &mut [u32]) -> usize
+fn order_in(first: &[u32], to: &[u32], order: &mut [u32], s: &mut [u32]) -> Option<usize>
     requires { Ready first.now to.now s.old × (length order.old ≡ vertices first.now) }
     ensures { OrderedIn first.now to.now order.old s.old order.new s.new result }
 {
     search(first, to, s);
-    let n = first.len() - 1;
-    let v = least(first, to, s);
-    if v < n {
-        clear32(s, 0);
-        return v;
+    let cycle = least(first, to, s);
+    if cycle.is_none() {
+        arrange(order, s, first.len() - 1);
     }
-    arrange(order, s, n);
-    clear32(s, 0);
-    n
+    clear(s, 0, 0);
+    cycle
 }
 
 // The group of each vertex; scratch is left with zeros.
@@ -326,70 +284,71 @@ fn groups_in(first: &[u32], to: &[u32], group: &mut [u32], s: &mut [u32])
 {
     search(first, to, s);
     number_groups(group, s, first.len() - 1);
-    clear32(s, 0);
+    clear(s, 0, 0);
 }
 
 // The smallest vertex that lies on a cycle.
-pub fn least_on_cycle(first: &[u32], to: &[u32], scratch: &mut [u32]) -> Cycle
+pub fn least_on_cycle(
+    first: &[u32],
+    to: &[u32],
+    scratch: &mut [u32],
+) -> Result<Option<usize>, GraphError>
     ensures { CycleAnswers first.now to.now (lent [] scratch.old) (lent [] scratch.new) result }
 {
     if !graph::valid(first, to) {
-        return Cycle::Malformed;
+        return Err(GraphError::Malformed);
     }
     let n = first.len() - 1;
     let needed = WIDTH * n;
     if scratch.len() < needed {
-        return Cycle::ScratchShort(needed);
+        return Err(GraphError::ScratchShort(needed));
     }
-    let v = cycle_in(first, to, &mut scratch[..needed]);
-    if v < n {
-        return Cycle::At(v);
-    }
-    Cycle::Nothing
+    Ok(cycle_in(first, to, &mut scratch[..needed]))
 }
 
-// The vertices in an order in which each stands after all that it depends on, or the smallest vertex on a cycle.
+// The vertices in an order in which each stands after all that it depends on; or the smallest vertex on a cycle.
 pub fn topological_order(
     first: &[u32],
     to: &[u32],
     column: &mut [u32],
     scratch: &mut [u32],
-) -> Dependencies
+) -> Result<Option<usize>, GraphError>
     ensures { OrderAnswers first.now to.now (lent column.old scratch.old) (lent column.new scratch.new) result }
 {
     if !graph::valid(first, to) {
-        return Dependencies::Malformed;
+        return Err(GraphError::Malformed);
     }
     let n = first.len() - 1;
     if column.len() < n {
-        return Dependencies::ColumnShort(n);
+        return Err(GraphError::ColumnShort(n));
     }
     let needed = WIDTH * n;
     if scratch.len() < needed {
-        return Dependencies::ScratchShort(needed);
+        return Err(GraphError::ScratchShort(needed));
     }
-    let v = order_in(first, to, &mut column[..n], &mut scratch[..needed]);
-    if v < n {
-        return Dependencies::Cyclic(v);
-    }
-    Dependencies::Acyclic
+    Ok(order_in(first, to, &mut column[..n], &mut scratch[..needed]))
 }
 
 // The strongly connected component of each vertex, as the number of a group.
-pub fn components(first: &[u32], to: &[u32], column: &mut [u32], scratch: &mut [u32]) -> Grouping
+pub fn components(
+    first: &[u32],
+    to: &[u32],
+    column: &mut [u32],
+    scratch: &mut [u32],
+) -> Result<(), GraphError>
     ensures { GroupAnswers first.now to.now (lent column.old scratch.old) (lent column.new scratch.new) result }
 {
     if !graph::valid(first, to) {
-        return Grouping::Malformed;
+        return Err(GraphError::Malformed);
     }
     let n = first.len() - 1;
     if column.len() < n {
-        return Grouping::ColumnShort(n);
+        return Err(GraphError::ColumnShort(n));
     }
     let needed = WIDTH * n;
     if scratch.len() < needed {
-        return Grouping::ScratchShort(needed);
+        return Err(GraphError::ScratchShort(needed));
     }
     groups_in(first, to, &mut column[..n], &mut scratch[..needed]);
-    Grouping::Grouped
+    Ok(())
 }

@@ -10,28 +10,21 @@ ghost use Rattle.parsing.specs.Outcome.{Judging, Parses};
 
 use clauses::schema_at;
 use codes::labels;
+use columns::get_or;
 use layout::lay_out;
 use nesting::{end_of, first_deep, judged};
-use parsing::{Judgement, Parsed, Read, put_row, token};
+use parsing::{Failure, Judgement, MOST, Parsed, Position, Read, put_row};
 
 // One or more schemas.
-fn schemas(terminals: &[u8], rows: &mut [u64], p: usize, n: usize) -> Read
-    requires { Ready terminals.now p n }
-    ensures { Steps (nt schema · star (nt schema)) terminals.now p n result rows.old rows.new }
+fn schemas(terminals: &[u8], rows: &mut [u64], from: Position) -> Read
+    requires { Ready terminals.now from.token from.row }
+    ensures { Steps (nt schema · star (nt schema)) terminals.now from.token from.row result rows.old rows.new }
 {
-    let first = schema_at(terminals, rows, p, n);
-    let Read::At(mut q, mut m) = first else {
-        return first;
-    };
-    while token(terminals, q) == codes::SCHEMA {
-        let next = schema_at(terminals, rows, q, m);
-        let Read::At(q2, m2) = next else {
-            return next;
-        };
-        q = q2;
-        m = m2;
+    let mut at = schema_at(terminals, rows, from)?;
+    while get_or(terminals, at.token, codes::NONE) == codes::SCHEMA {
+        at = schema_at(terminals, rows, at)?;
     }
-    Read::At(q, m)
+    Ok(at)
 }
 
 // schema { schema }
@@ -39,12 +32,12 @@ fn file(terminals: &[u8], rows: &mut [u64]) -> Read
     requires { Ready terminals.now 0 0 }
     ensures { Reads file terminals.now 0 0 result rows.old rows.new }
 {
-    let all = schemas(terminals, rows, 0, 0);
-    let Read::At(q, m) = all else {
-        return all;
-    };
-    put_row(rows, m, 0, labels::FILE, 0);
-    Read::At(q, m + 1)
+    let all = schemas(terminals, rows, Position { token: 0, row: 0 })?;
+    put_row(rows, all.row, 0, labels::FILE, 0);
+    Ok(Position {
+        row: all.row + 1,
+        ..all
+    })
 }
 
 // A whole file, its rows in words.
@@ -88,11 +81,11 @@ pub fn parse(
         scratch.new kinds.new tokens.new sizes.new roles.new }
 {
     let n = terminals.len();
-    if n > parsing::MOST {
-        return Parsed::Long;
+    if n > MOST {
+        return Err(Failure::Long);
     }
     if scratch.len() < n {
-        return Parsed::Scratch(n);
+        return Err(Failure::Scratch(n));
     }
     parse_in(terminals, &mut scratch[..n], kinds, tokens, sizes, roles)
 }

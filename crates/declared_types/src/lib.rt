@@ -10,42 +10,23 @@ ghost use Rattle.declared_types.specs.Storing.{type_items_stored, type_stored, c
 ghost use Rattle.declared_types.specs.Promise.{Declares};
 
 use codes::types;
-use columns::{index, put32, saturating_sub};
-use tree::{at8, at32};
+use columns::{get_or, index, put};
+use kind_rules::simple;
 
 // The number of the enumeration whose type is a node.
+#[tactic(auto, unfolding(crate::specs::Storing::enumeration_number))]
 fn enumeration(node: usize) -> u32
     ensures { result ≡ enumeration_number node }
 {
-    if types::LAST_NODE < node {
-        return types::OTHER;
+    if node <= types::LAST_NODE {
+        columns::number(node) + types::FIRST_ENUMERATION
+    } else {
+        types::OTHER
     }
-    columns::number(node) + types::FIRST_ENUMERATION
-}
-
-// The number of a simple type, by its word.
-fn simple_type(word: u8) -> u32
-    ensures { result ≡ declared_number (simple word) }
-{
-    if word == codes::INTEGER {
-        return types::INTEGER;
-    }
-    if word == codes::BOOLEAN {
-        return types::BOOLEAN;
-    }
-    if word == codes::LOGICAL {
-        return types::LOGICAL;
-    }
-    if word == codes::BINARY {
-        return types::BINARY;
-    }
-    if word == codes::STRING {
-        return types::STRING;
-    }
-    types::OTHER
 }
 
 // The number of what a node is or names; those of the types that names are bound to stand in the column.
+#[tactic(auto, unfolding(crate::specs::Storing::base_number))]
 fn base(
     terminals: &[u8],
     kinds: &[u8],
@@ -58,17 +39,14 @@ fn base(
         (table_of terminals.now kinds.now tokens.now [])
         bindings.now column.now node }
 {
-    if at8(kinds, node) == codes::nodes::SIMPLE_TYPE {
-        return simple_type(at8(terminals, index(at32(tokens, node))));
+    if get_or(kinds, node, 0) == codes::nodes::SIMPLE_TYPE {
+        return simple(get_or(terminals, index(get_or(tokens, node, 0)), 0));
     }
-    let binding = index(at32(bindings, node));
-    if binding == 0 {
-        return types::OTHER;
+    let binding = index(get_or(bindings, node, 0));
+    if binding != 0 && get_or(kinds, binding - 1, 0) == codes::nodes::TYPE {
+        return get_or(column, binding - 1, 0);
     }
-    if at8(kinds, binding - 1) != codes::nodes::TYPE {
-        return types::OTHER;
-    }
-    at32(column, binding - 1)
+    types::OTHER
 }
 
 // The first node of a subtree (G30).
@@ -76,7 +54,7 @@ fn first_node(sizes: &[u32], node: u32) -> usize
     ensures { result ≡ node + 1 - get_or sizes.now node 0 }
 {
     let n = index(node);
-    saturating_sub(n + 1, index(at32(sizes, n)))
+    (n + 1).saturating_sub(index(get_or(sizes, n, 0)))
 }
 
 // Does a type rename what its first node is or names? That stands two tokens after the type's name, the names of a select
@@ -84,10 +62,11 @@ fn first_node(sizes: &[u32], node: u32) -> usize
 fn renames(tokens: &[u32], node: u32, first: usize) -> bool
     ensures { result ≡ eqb (get_or tokens.now first 0) (get_or tokens.now node 0 + 2) }
 {
-    index(at32(tokens, first)) == index(at32(tokens, index(node))) + 2
+    index(get_or(tokens, first, 0)) == index(get_or(tokens, index(node), 0)) + 2
 }
 
 // The number of a type, by its first node: an item, what it renames, or the first name of a select list.
+#[tactic(auto, unfolding(crate::specs::Storing::type_number, crate::specs::Storing::base_number))]
 fn underlying(
     terminals: &[u8],
     kinds: &[u8],
@@ -102,32 +81,30 @@ fn underlying(
         bindings.now column.now node }
 {
     let first = first_node(sizes, node);
-    let lists_items = at8(kinds, first) == codes::nodes::ITEM;
-    if lists_items {
+    if get_or(kinds, first, 0) == codes::nodes::ITEM {
         return enumeration(index(node));
     }
-    if !renames(tokens, node, first) {
-        return types::OTHER;
+    if renames(tokens, node, first) {
+        return base(terminals, kinds, tokens, bindings, column, first);
     }
-    base(terminals, kinds, tokens, bindings, column, first)
+    types::OTHER
 }
 
 // The type of a constant stands before its expression, the last of its nodes but itself.
 fn type_node(sizes: &[u32], constant: usize) -> usize
     ensures { result ≡ (constant - 1) - get_or sizes.now (constant - 1) 0 }
 {
-    let last = saturating_sub(constant, 1);
-    saturating_sub(last, index(at32(sizes, last)))
+    let last = constant.saturating_sub(1);
+    last.saturating_sub(index(get_or(sizes, last, 0)))
 }
 
 fn store_item(kind: u8, column: &mut [u32], i: usize, owner: usize)
     ensures { column.new ≡ cond (eqb kind enumeration_item)
         (set column.old i (enumeration_number owner)) column.old }
 {
-    if kind != codes::nodes::ITEM {
-        return;
+    if kind == codes::nodes::ITEM {
+        put(column, i, enumeration(owner));
     }
-    put32(column, i, enumeration(owner));
 }
 
 // The items of a type whose first node is one: all of its nodes that are some.
@@ -135,16 +112,15 @@ fn store_items_of(kinds: &[u8], sizes: &[u32], column: &mut [u32], node: u32)
     ensures { column.new ≡ type_items_stored (table_of [] kinds.now [] sizes.now) column.old node }
 {
     let d = index(node);
-    if at8(kinds, d) != codes::nodes::TYPE {
+    if get_or(kinds, d, 0) != codes::nodes::TYPE {
         return;
     }
-    let mut i = first_node(sizes, node);
-    if at8(kinds, i) != codes::nodes::ITEM {
+    let first = first_node(sizes, node);
+    if get_or(kinds, first, 0) != codes::nodes::ITEM {
         return;
     }
-    while i < d {
-        store_item(at8(kinds, i), column, i, d);
-        i += 1;
+    for i in first..d {
+        store_item(get_or(kinds, i, 0), column, i, d);
     }
 }
 
@@ -162,14 +138,15 @@ fn store_type(
         (table_of terminals.now kinds.now tokens.now sizes.now)
         bindings.now column.old node }
 {
-    if at8(kinds, index(node)) != codes::nodes::TYPE {
+    if get_or(kinds, index(node), 0) != codes::nodes::TYPE {
         return;
     }
     store_items_of(kinds, sizes, column, node);
     let number = underlying(terminals, kinds, tokens, sizes, bindings, column, node);
-    put32(column, index(node), number);
+    put(column, index(node), number);
 }
 
+#[tactic(auto, unfolding(crate::specs::Storing::constant_stored, crate::specs::Storing::base_number))]
 fn store_constant(
     terminals: &[u8],
     kinds: &[u8],
@@ -183,7 +160,7 @@ fn store_constant(
         (table_of terminals.now kinds.now tokens.now sizes.now)
         bindings.now column.old i }
 {
-    if at8(kinds, i) != codes::nodes::CONSTANT {
+    if get_or(kinds, i, 0) != codes::nodes::CONSTANT {
         return;
     }
     let number = base(
@@ -194,7 +171,7 @@ fn store_constant(
         column,
         type_node(sizes, i),
     );
-    put32(column, i, number);
+    put(column, i, number);
 }
 
 // The types, each after those that it renames, and their items.
@@ -211,10 +188,8 @@ fn store_types(
         (table_of terminals.now kinds.now tokens.now sizes.now)
         bindings.now order.now column.old }
 {
-    let mut i = 0;
-    while i < order.len() {
-        store_type(terminals, kinds, tokens, sizes, bindings, column, order[i]);
-        i += 1;
+    for node in order {
+        store_type(terminals, kinds, tokens, sizes, bindings, column, *node);
     }
 }
 
@@ -231,11 +206,16 @@ fn store_constants(
         (table_of terminals.now kinds.now tokens.now sizes.now)
         bindings.now order.now column.old }
 {
-    let mut i = 0;
-    while i < order.len() {
-        let constant = index(order[i]);
-        store_constant(terminals, kinds, tokens, sizes, bindings, column, constant);
-        i += 1;
+    for constant in order {
+        store_constant(
+            terminals,
+            kinds,
+            tokens,
+            sizes,
+            bindings,
+            column,
+            index(*constant),
+        );
     }
 }
 

@@ -1,5 +1,5 @@
 -- The declarations of a file in an order in which each stands after all that it has edges to, or the first that lies on a cycle.
-use Rattle.std.specs.Prelude.{◌≡◌, Bool, true, List, ◌++◌, map, ℕ, ◌≤◌, ◌<◌, length, get_or, take, drop}
+use Rattle.std.specs.Prelude.{◌≡◌, Bool, true, List, ◌++◌, map, ℕ, ◌≤◌, ◌<◌, length, get_or, take, drop, Option}
 use Rattle.columns.specs.Column.{cleared_before}
 use Rattle.relations.specs.Reach.{Edge, Joins}
 use Rattle.relations.specs.Sorted.{Arranged}
@@ -33,15 +33,15 @@ pub record Asked (t : Table) (target : ℕ → ℕ) (p : ℕ → Bool) (es : Lis
   pub scratch_room : needed (vertex_count t) ≤ length scratch
 
 -- N8, N17: the reply, and where there is no cycle the order; where there is one, the column is as it was.
-pub record Answer (t : Table) (p : ℕ → Bool) (es : List Edge) (order scratch : List ℕ) (r : Fault) (order' scratch' : List ℕ) : Type 0 where
+pub record Answer (t : Table) (p : ℕ → Bool) (es : List Edge) (order scratch : List ℕ) (r : Option Fault) (order' scratch' : List ℕ) : Type 0 where
   pub reply : fault_of r ≡ least (cyclic t p es) (nodes t)
-  pub arranged : r.number ≡ 0 → Arranged (Joins es) (declared_nodes t) (take (vertex_count t) order')
-  pub kept : (r.number ≡ 0 → ⊥) → order' ≡ order
+  pub arranged : (fault_of r).number ≡ 0 → Arranged (Joins es) (declared_nodes t) (take (vertex_count t) order')
+  pub kept : ((fault_of r).number ≡ 0 → ⊥) → order' ≡ order
   pub order_rest : drop (vertex_count t) order' ≡ drop (vertex_count t) order
   pub scratch_is : scratch' ≡ cleared_before 0 (needed (vertex_count t)) scratch
 
 -- `arrange`, whatever the columns hold
-pub record Arranges (tokens starts nodes first to order scratch : List ℕ) (r : Fault) (order' scratch' : List ℕ) : Type 0 where
+pub record Arranges (tokens starts nodes first to order scratch : List ℕ) (r : Option Fault) (order' scratch' : List ℕ) : Type 0 where
   pub order_long : length order' ≡ length order
   pub scratch_long : length scratch' ≡ length scratch
   pub is :

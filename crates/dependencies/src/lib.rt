@@ -6,10 +6,8 @@ ghost use Rattle.std.specs.Prelude.{◌≡◌};
 ghost use Rattle.dependencies.specs.Graph.{Added};
 ghost use Rattle.dependencies.specs.Arrangement.{named, Arranges};
 
-use columns::{index, put32, saturating_sub};
-use cycles::Dependencies;
-use faults::Fault;
-use scopes::at;
+use columns::{get_or, index, put};
+use faults::{Fault, Reply};
 
 // One arc more, before those that are stored: to one less than the target; none for 0.
 pub fn add_arc(to: &mut [u32], arcs: usize, target: u32) -> usize
@@ -18,8 +16,8 @@ pub fn add_arc(to: &mut [u32], arcs: usize, target: u32) -> usize
     if target == 0 {
         return arcs;
     }
-    let at = saturating_sub(arcs, 1);
-    put32(to, at, target - 1);
+    let at = arcs.saturating_sub(1);
+    put(to, at, target - 1);
     at
 }
 
@@ -27,11 +25,9 @@ pub fn add_arc(to: &mut [u32], arcs: usize, target: u32) -> usize
 fn name_nodes(nodes: &[u32], order: &mut [u32], vertices: usize)
     ensures { order.new ≡ named nodes.now vertices order.old }
 {
-    let mut k = 0;
-    while k < vertices {
-        let v = index(at(order, k));
-        put32(order, k, at(nodes, v));
-        k += 1;
+    for k in 0..vertices {
+        let v = index(get_or(order, k, 0));
+        put(order, k, get_or(nodes, v, 0));
     }
 }
 
@@ -45,23 +41,20 @@ pub fn arrange(
     to: &[u32],
     order: &mut [u32],
     scratch: &mut [u32],
-) -> Fault
+) -> Option<Fault>
     ensures { Arranges tokens.now starts.now nodes.now first.now to.now order.old
         scratch.old result order.new scratch.new }
 {
-    let answer = orders::order(first, to, order, scratch);
-    match answer {
-        Dependencies::Acyclic => {
-            name_nodes(nodes, order, saturating_sub(first.len(), 1));
-            faults::fine()
+    match orders::order(first, to, order, scratch) {
+        Ok(None) => {
+            name_nodes(nodes, order, first.len().saturating_sub(1));
+            None
         }
-        Dependencies::Cyclic(v) => {
-            let node = index(at(nodes, v));
-            let token = index(at(tokens, node));
-            faults::fault_at(codes::replies::CYCLE, at(starts, token))
+        Ok(Some(v)) => {
+            let node = index(get_or(nodes, v, 0));
+            let token = index(get_or(tokens, node, 0));
+            faults::fault_at(Reply::Cycle, get_or(starts, token, 0))
         }
-        Dependencies::Malformed => faults::fine(),
-        Dependencies::ColumnShort(_) => faults::fine(),
-        Dependencies::ScratchShort(_) => faults::fine(),
+        Err(_) => None,
     }
 }

@@ -1,4 +1,5 @@
 -- Stage 9 by entries and by nodes: the faults are the same.
+use Rattle.std.specs.Prelude.{Option}
 use mathlib.Core.Path.{◌≡◌, refl, sym, ap, ◌∙◌}
 use mathlib.Core.Logic.{◌⊎◌, ◌≢◌, inl, inr, ⊎_elim}
 use mathlib.Core.Bool.{Bool, true, false, cond, not, ◌&&◌, false≢true}
@@ -18,8 +19,7 @@ use Rattle.express.specs.Names.Names.{Stage, Passes, sooner, least}
 use Rattle.express.proofs.Semantics.Backward.{least_step, least_end}
 use Rattle.express.proofs.Names.Names.{Untied, passes_iff, least_is, least_skip, least_only}
 use Rattle.index.specs.Dictionary.{has, first_with, Continues, Indexed}
-use Rattle.index.specs.declared.dictionary.Found.{Found}
-use Rattle.index.specs.declared.dictionary.Found.TheVariants.{At, Nothing}
+use Rattle.std.specs.Prelude.{Option, Some, None}
 use Rattle.scopes.specs.Entries.{own_key, entry_number}
 use Rattle.scopes.specs.Preparation.{Prepared}
 use Rattle.scopes.specs.LookUp.{numbers}
@@ -195,8 +195,8 @@ module _ {t : Table} {keys nodes heads next : List ℕ} (P : Prepared t keys nod
       F : First (has keys (get_or keys e 0)) (e + 1) (length keys - (e + 1)) f
       F = first_is (has keys (get_or keys e 0)) (e + 1) (length keys - (e + 1))
 
-      by : (c : Bool) → ltb f (length keys) ≡ c → (repetition_fault t.tokens t.starts nodes (cond c (At f) Nothing)).number ≢ 0 →
-          Has (repeated t) (tree.nodes t) (repetition_fault t.tokens t.starts nodes (cond c (At f) Nothing))
+      by : (c : Bool) → ltb f (length keys) ≡ c → (repetition_fault t.tokens t.starts nodes (cond c (Some f) None)).number ≢ 0 →
+          Has (repeated t) (tree.nodes t) (repetition_fault t.tokens t.starts nodes (cond c (Some f) None))
       by true q h =
           let u = ltb-true f (length keys) q in
           let passes = F.passes (omega (arith, u, F.from)) in
@@ -241,7 +241,7 @@ module _ {t : Table} {keys nodes heads next : List ℕ} (P : Prepared t keys nod
           ⊎_elim
           (λ (h : j ≤ f).
           let e : f ≡ j = omega arith in
-          let own : first_with keys key 0 ≡ At j = rw (e, lt-ltb j (length keys) low) in
+          let own : first_with keys key 0 ≡ Some j = rw (e, lt-ltb j (length keys) low) in
           absurd (false≢true (sym (first_own P n l z own) ∙ a)))
           (λ h. h) (le_or j f)
 
@@ -254,7 +254,7 @@ module _ {t : Table} {keys nodes heads next : List ℕ} (P : Prepared t keys nod
       same : get_or keys L.at 0 ≡ key
       same = eqb-true _ _ (and_snd (not (eqb key 0)) (eqb (get_or keys L.at 0) key) L.passes)
 
-      next_is : first_with keys key (L.at + 1) ≡ At j
+      next_is : first_with keys key (L.at + 1) ≡ Some j
       next_is =
           rw
           (first_of p (length keys) (L.at + 1) j (omega (arith, L.before)) low (has_key P n l z) (λ i g k. L.none i (omega arith) k), lt-ltb j (length keys) low)
@@ -267,8 +267,8 @@ module _ {t : Table} {keys nodes heads next : List ℕ} (P : Prepared t keys nod
   stage_is = same_least S (repeated t) (span 0 (length keys)) (tree.nodes t) untied to back
 
 -- ---- in the code
-module _ {tokens starts keys nodes next : List ℕ} {e : ℕ} {q : Found} {r : code.Fault} (C : Continues keys next e q) where
-  pub found_repetition : {found : Found} → q ≡ found → fault_of r ≡ repetition_fault tokens starts nodes found → Repetition tokens starts keys nodes next e r
+module _ {tokens starts keys nodes next : List ℕ} {e : ℕ} {q : Option ℕ} {r : Option code.Fault} (C : Continues keys next e q) where
+  pub found_repetition : {found : Option ℕ} → q ≡ found → fault_of r ≡ repetition_fault tokens starts nodes found → Repetition tokens starts keys nodes next e r
   found_repetition f g = record { is = λ h I. g ∙ ap (repetition_fault tokens starts nodes) (sym f ∙ C.is h I) }
 
 -- the least fault of the entries from e on
@@ -276,19 +276,19 @@ module _ (tokens starts keys nodes next : List ℕ) where
   abbrev stage : Stage
   stage = entry_fault tokens starts keys nodes
 
-  pub record LeastFrom (e : ℕ) (r : code.Fault) : Type 0 where
+  pub record LeastFrom (e : ℕ) (r : Option code.Fault) : Type 0 where
     pub upto : e ≤ length keys
     pub is : (heads : List ℕ) → Indexed keys heads next → fault_of r ≡ least stage (span e (length keys - e))
 
-  pub least_starts : {r : code.Fault} → fault_of r ≡ fine → LeastFrom (length keys) r
+  pub least_starts : {r : Option code.Fault} → fault_of r ≡ fine → LeastFrom (length keys) r
   least_starts e = record { upto = omega arith; is = λ h I. e ∙ sym (least_end (length keys) stage) }
 
-  module _ {e : ℕ} {r : code.Fault} (z : 0 < e) (L : LeastFrom e r) where
+  module _ {e : ℕ} {r : Option code.Fault} (z : 0 < e) (L : LeastFrom e r) where
     back_one : e - 1 + 1 ≡ e
     back_one = omega arith
 
     pub least_more :
-        {f r' : code.Fault} → Repetition tokens starts keys nodes next (e - 1) f → fault_of r' ≡ sooner (fault_of f) (fault_of r) → LeastFrom (e - 1) r'
+        {f r' : Option code.Fault} → Repetition tokens starts keys nodes next (e - 1) f → fault_of r' ≡ sooner (fault_of f) (fault_of r) → LeastFrom (e - 1) r'
     least_more {f} R q =
         record {
           upto = omega (arith, L.upto);
@@ -300,7 +300,7 @@ module _ (tokens starts keys nodes next : List ℕ) where
               ∙ sym (least_step (length keys) stage (e - 1) (omega (arith, L.upto)));
         }
 
-  pub least_all : {r : code.Fault} → LeastFrom 0 r → Duplicates tokens starts keys nodes next r
+  pub least_all : {r : Option code.Fault} → LeastFrom 0 r → Duplicates tokens starts keys nodes next r
   least_all {r} L = record { is = by }
     where
       by : (t : Table) (heads : List ℕ) → Prepared t keys nodes heads next → tokens ≡ t.tokens → starts ≡ t.starts → fault_of r ≡ least (repeated t) (tree.nodes t)

@@ -3,10 +3,8 @@
 
 ghost use Rattle.duplicates.specs.Duplicates.{Repetition, Duplicates};
 
-use columns::index;
-use faults::Fault;
-use index::dictionary::Found;
-use scopes::at;
+use columns::{get_or, index};
+use faults::{Fault, Reply};
 
 // The fault of the entry after e that has its key, if there is one.
 fn repetition(
@@ -16,15 +14,15 @@ fn repetition(
     nodes: &[u32],
     next: &[u32],
     e: usize,
-) -> Fault
+) -> Option<Fault>
     ensures { Repetition tokens.now starts.now keys.now nodes.now next.now e result }
 {
     let later = index::dictionary::next_of(keys, next, e);
-    let Found::At(j) = later else {
-        return faults::fine();
+    let Some(j) = later else {
+        return None;
     };
-    let token = index(at(tokens, index(at(nodes, j))));
-    faults::fault_at(codes::replies::REPEATED, at(starts, token))
+    let token = index(get_or(tokens, index(get_or(nodes, j, 0)), 0));
+    faults::fault_at(Reply::Repeated, get_or(starts, token, 0))
 }
 
 // The fault with the smallest place.
@@ -34,13 +32,11 @@ pub fn least_duplicate(
     keys: &[u64],
     nodes: &[u32],
     next: &[u32],
-) -> Fault
+) -> Option<Fault>
     ensures { Duplicates tokens.now starts.now keys.now nodes.now next.now result }
 {
-    let mut least = faults::fine();
-    let mut e = keys.len();
-    while 0 < e {
-        e -= 1;
+    let mut least = None;
+    for e in (0..keys.len()).rev() {
         least = faults::sooner(repetition(tokens, starts, keys, nodes, next, e), least);
     }
     least

@@ -2,9 +2,8 @@
 use mathlib.Core.Path.{◌≡◌, refl, sym, ap, subst, ◌∙◌}
 use mathlib.Core.Bool.{Bool, true, false, cond, ◌||◌}
 use mathlib.Core.List.{List}
-use Prim.Native.Nat.{ℕ, ◌-◌, ◌<◌}
+use Prim.Native.Nat.{ℕ, ◌-◌}
 use native.Mathlib.Decide.{ℕ_discrete}
-use borrow.Author.Tests.{lt-ltb}
 use lib.Dec.{eqb}
 use lib.IntN.{ℤ}
 use lib.ListN.{get_or}
@@ -18,7 +17,6 @@ use Rattle.express.specs.Semantics.Evaluate.{answer_in, answer_at}
 use Rattle.operations.specs.Meaning.{answer_of, sized}
 use Rattle.operations.specs.declared.Answer as code
 use Rattle.operations.specs.declared.Answer.TheVariants.{Indeterminate}
-use Rattle.operations.specs.declared.Answer.TheVariants as variants
 use Rattle.answer_rows.specs.Stored.{stored}
 use Rattle.node_answers.specs.Answers.{answers_in, Gives, Stores, Keeps}
 use Rattle.node_answers.specs.NodeAnswer.{Answered}
@@ -37,12 +35,6 @@ bound_kind x M K t h = rw (h, ← M) (sym K)
 keeps_same :
     {x y : Answer} {i : ℕ} {ks : List ℕ} {zs : List ℤ} {ls ks' : List ℕ} {zs' : List ℤ} {ls' : List ℕ} → x ≡ y → Keeps x i ks zs ls ks' zs' ls' → Keeps y i ks zs ls ks' zs' ls'
 keeps_same {x} {y} {i} {ks} {zs} {ls} {ks'} {zs'} {ls'} q K = subst (λ (a : Answer). Keeps a i ks zs ls ks' zs' ls') q K
-
-pub an_item : {k d : ℕ} → k ≡ node.enumeration_item → d < 4294967296 → Item k d (variants.Item d)
-an_item {k} {d} h l = record { is_item = λ i. record { is = refl; whole = lt-ltb d 4294967296 l }; is_none = λ i. absurd (i h) }
-
-pub no_item : {k d : ℕ} → (k ≡ node.enumeration_item → ⊥) → Item k d Indeterminate
-no_item h = record { is_item = λ i. absurd (h i); is_none = λ i. nothing }
 
 module _ {x : ℕ} {file_kinds row_of : List ℕ} {at : ℕ} {aks : List ℕ} {azs : List ℤ} {als ks : List ℕ} {zs : List ℤ} {ls ks' : List ℕ} {zs' : List ℤ} {ls' : List ℕ} {n : ℕ} where
   pub named_unbound : x ≡ 0 → Stores (stored (answer_of Indeterminate)) n ks zs ls ks' zs' ls' → Named x file_kinds row_of at aks azs als ks zs ls ks' zs' ls' n

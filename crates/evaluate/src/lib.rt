@@ -8,9 +8,9 @@ ghost use Rattle.evaluate.specs.Evaluation.{Named, Item, EvaluatesNode, Evaluate
 
 use node_answers::{answered, put_answer};
 use operations::Answer;
-use string_bytes::is_name;
-use string_relations::{compared, compares};
-use tree::{at8, at32, index_at};
+use string_bytes::{Expression, Known, is_name};
+use string_relations::{Values, compared, compares};
+use tree::index_at;
 
 // Copies row i of some columns to row n of others; past the end of the former stands the row of `?`.
 fn copy_row(
@@ -27,7 +27,7 @@ fn copy_row(
         value_kinds.old value_numbers.old value_lengths.old
         value_kinds.new value_numbers.new value_lengths.new }
 {
-    let rows = columns::shorter(kinds.len(), columns::shorter(numbers.len(), lengths.len()));
+    let rows = kinds.len().min(numbers.len().min(lengths.len()));
     if i >= rows {
         put_answer(
             value_kinds,
@@ -38,9 +38,9 @@ fn copy_row(
         );
         return;
     }
-    columns::put8(value_kinds, n, kinds[i]);
-    columns::put64(value_numbers, n, numbers[i]);
-    columns::put8(value_lengths, n, lengths[i]);
+    columns::put(value_kinds, n, kinds[i]);
+    columns::put(value_numbers, n, numbers[i]);
+    columns::put(value_lengths, n, lengths[i]);
 }
 
 // An item by its node; no other declaration but a constant has an answer.
@@ -48,27 +48,23 @@ fn item(kind: u8, d: u32) -> Answer
     ensures { Item kind d result }
 {
     if kind == codes::nodes::ITEM {
-        return Answer::Item(d);
+        Answer::Item(d)
+    } else {
+        Answer::Indeterminate
     }
-    Answer::Indeterminate
 }
 
 // Keeps the answer of a name, by what it is bound to: that of a constant is copied from its row.
 fn store_named(
     binding: u32,
-    file_kinds: &[u8],
-    row_of: &[u32],
-    at: usize,
-    answer_kinds: &[u8],
-    answer_numbers: &[i64],
-    answer_lengths: &[u8],
+    known: &Known,
     value_kinds: &mut [u8],
     value_numbers: &mut [i64],
     value_lengths: &mut [u8],
     n: usize,
 )
-    ensures { Named binding file_kinds.now row_of.now at
-        answer_kinds.now answer_numbers.now answer_lengths.now
+    ensures { Named binding known.now.file_kinds.now known.now.row_of.now known.now.first_row
+        known.now.kinds.now known.now.numbers.now known.now.lengths.now
         value_kinds.old value_numbers.old value_lengths.old
         value_kinds.new value_numbers.new value_lengths.new n }
 {
@@ -83,13 +79,13 @@ fn store_named(
         return;
     }
     let d = binding - 1;
-    let kind = at8(file_kinds, columns::index(d));
+    let kind = columns::get_or(known.file_kinds, columns::index(d), 0);
     if kind == codes::nodes::CONSTANT {
-        let row = columns::saturating_sub(index_at(row_of, columns::index(d)), at);
+        let row = index_at(known.row_of, columns::index(d)).saturating_sub(known.first_row);
         copy_row(
-            answer_kinds,
-            answer_numbers,
-            answer_lengths,
+            known.kinds,
+            known.numbers,
+            known.lengths,
             row,
             value_kinds,
             value_numbers,
@@ -103,43 +99,27 @@ fn store_named(
 
 // Keeps the answer of a node for its parent.
 fn evaluate_node(
-    src: &[u8],
-    starts: &[u32],
-    lengths: &[u32],
-    terminals: &[u8],
-    kinds: &[u8],
-    tokens: &[u32],
-    sizes: &[u32],
-    bindings: &[u32],
-    file_kinds: &[u8],
+    expression: &Expression,
     declared: &[u32],
-    row_of: &[u32],
-    at: usize,
-    answer_kinds: &[u8],
-    answer_numbers: &[i64],
-    answer_lengths: &[u8],
-    room: &[u8],
+    known: &Known,
     value_kinds: &mut [u8],
     value_numbers: &mut [i64],
     value_lengths: &mut [u8],
     n: usize,
 )
-    ensures { EvaluatesNode src.now starts.now lengths.now terminals.now kinds.now
-        tokens.now sizes.now bindings.now
-        file_kinds.now declared.now row_of.now at answer_kinds.now answer_numbers.now answer_lengths.now room.now
+    ensures { EvaluatesNode expression.now.src.now expression.now.starts.now expression.now.lengths.now
+        expression.now.terminals.now expression.now.kinds.now expression.now.tokens.now expression.now.sizes.now
+        expression.now.bindings.now
+        known.now.file_kinds.now declared.now known.now.row_of.now known.now.first_row
+        known.now.kinds.now known.now.numbers.now known.now.lengths.now known.now.room.now
         value_kinds.old value_numbers.old value_lengths.old
         value_kinds.new value_numbers.new value_lengths.new n }
 {
-    let kind = at8(kinds, n);
+    let kind = columns::get_or(expression.kinds, n, 0);
     if is_name(kind) {
         store_named(
-            at32(bindings, n),
-            file_kinds,
-            row_of,
-            at,
-            answer_kinds,
-            answer_numbers,
-            answer_lengths,
+            columns::get_or(expression.bindings, n, 0),
+            known,
             value_kinds,
             value_numbers,
             value_lengths,
@@ -147,103 +127,60 @@ fn evaluate_node(
         );
         return;
     }
-    if compares(kind, terminals, tokens, sizes, value_kinds, n) {
-        let answer = compared(
+    let values = Values {
+        kinds: value_kinds,
+        numbers: value_numbers,
+        lengths: value_lengths,
+    };
+    let answer = if compares(kind, expression, &values, n) {
+        compared(kind, expression, known, &values, n)
+    } else {
+        answered(
+            expression.src,
+            expression.starts,
+            expression.lengths,
+            expression.terminals,
+            expression.tokens,
+            expression.sizes,
+            declared,
+            value_kinds,
+            value_numbers,
+            value_lengths,
             kind,
-            src,
-            starts,
-            lengths,
-            terminals,
-            kinds,
-            tokens,
-            sizes,
-            bindings,
-            file_kinds,
-            row_of,
-            at,
-            answer_kinds,
-            answer_numbers,
-            answer_lengths,
-            room,
-            value_kinds,
-            value_numbers,
-            value_lengths,
             n,
-        );
-        put_answer(value_kinds, value_numbers, value_lengths, n, answer);
-        return;
-    }
-    let answer = answered(
-        src,
-        starts,
-        lengths,
-        terminals,
-        tokens,
-        sizes,
-        declared,
-        value_kinds,
-        value_numbers,
-        value_lengths,
-        kind,
-        n,
-    );
+        )
+    };
     put_answer(value_kinds, value_numbers, value_lengths, n, answer);
 }
 
 // Evaluates the nodes from lo up to hi, hi itself not, of an expression against a file; the answer of each is kept for its parent.
 pub fn evaluate_expression(
-    src: &[u8],
-    starts: &[u32],
-    lengths: &[u32],
-    terminals: &[u8],
-    kinds: &[u8],
-    tokens: &[u32],
-    sizes: &[u32],
-    bindings: &[u32],
+    expression: &Expression,
+    declared: &[u32],
+    known: &Known,
     lo: usize,
     hi: usize,
-    file_kinds: &[u8],
-    declared: &[u32],
-    row_of: &[u32],
-    at: usize,
-    answer_kinds: &[u8],
-    answer_numbers: &[i64],
-    answer_lengths: &[u8],
-    room: &[u8],
     value_kinds: &mut [u8],
     value_numbers: &mut [i64],
     value_lengths: &mut [u8],
 )
-    ensures { EvaluatesNodes src.now starts.now lengths.now terminals.now kinds.now
-        tokens.now sizes.now bindings.now lo hi
-        file_kinds.now declared.now row_of.now at answer_kinds.now answer_numbers.now answer_lengths.now room.now
+    ensures { EvaluatesNodes expression.now.src.now expression.now.starts.now expression.now.lengths.now
+        expression.now.terminals.now expression.now.kinds.now expression.now.tokens.now expression.now.sizes.now
+        expression.now.bindings.now lo hi
+        known.now.file_kinds.now declared.now known.now.row_of.now known.now.first_row
+        known.now.kinds.now known.now.numbers.now known.now.lengths.now known.now.room.now
         value_kinds.old value_numbers.old value_lengths.old
         value_kinds.new value_numbers.new value_lengths.new }
 {
-    let mut n = lo;
-    while n < hi {
+    for n in lo..hi {
         evaluate_node(
-            src,
-            starts,
-            lengths,
-            terminals,
-            kinds,
-            tokens,
-            sizes,
-            bindings,
-            file_kinds,
+            expression,
             declared,
-            row_of,
-            at,
-            answer_kinds,
-            answer_numbers,
-            answer_lengths,
-            room,
+            known,
             value_kinds,
             value_numbers,
             value_lengths,
             n,
         );
-        n += 1;
     }
 }

@@ -2,6 +2,7 @@
 use mathlib.Core.Bool.{Bool, true, false, not, ◌&&◌, cond}
 use mathlib.Core.List.{List, [], ◌∷◌}
 use mathlib.Core.Path.{◌≡◌, refl, sym, ap, subst, ◌∙◌}
+use Rattle.std.specs.Prelude.{Ok, Err}
 use Prim.Native.Nat.{ℕ, ◌+◌, ◌-◌, ◌≤◌, ◌<◌}
 use native.Mathlib.Omega.{arith}
 use lib.Dec.{eqb}
@@ -16,9 +17,7 @@ use Rattle.express.specs.Tokens.Terminal.{identifier, dot, lbrace, rbrace, rpare
 use Rattle.express.specs.Syntax.Grammar.{Nonterminal, expression, sum, operand, atom, interval, signs, comparisons, ◌·◌, ◌∣◌, tok, named, leaves, row as row_of}
 use Rattle.express.specs.Syntax.NodeKind as kind
 use Rattle.express.proofs.Syntax.Descent.{phrase}
-use Rattle.parsing.specs.declared.Read.{Read}
-use Rattle.parsing.specs.declared.Read.TheVariants.{At, Refused}
-use Rattle.parsing.specs.Reading.{word, labelled, atom_label, Expects, Ready, Ahead, Found, Reads, Reading, Compares, Leaf}
+use Rattle.parsing.specs.Reading.{Read, At, Refused, word, labelled, atom_label, Expects, Ready, Ahead, Found, Reads, Reading, Compares, Leaf}
 use Rattle.parsing.proofs.Terminals.{is_one, not_one, inside}
 use Rattle.parsing.proofs.Steps.{onward, expect_goes, by_token}
 use Rattle.parsing.proofs.Laws.{start, finish, last, alone, apart, together, dead, refused_found, told, passed}
@@ -145,10 +144,8 @@ module _ {ts : List ℕ} {p n : ℕ} (g : Ready ts p n) (h : (mem (get_or ts p 0
       reads operand g.within (finish (by_leaf t r b (omega arith) (omega arith) item_ready e l (ahead_left h (last (start operand p g.within)))))
 
   module _ (t : ℕ) (f : t ≡ get_or ts (p + 2) 0) where
-    pub item_row : {a b : List ℕ} → t ≡ 1 → b ≡ set a n (word kind.qualified_item (p + 2) (n + 1 - n)) → Reads operand ts p n (At (p + 3) (n + 1)) a b
-    item_row k u =
-        let e : p + 3 ≡ p + 2 + 1 = omega arith in
-        rw e (item_by true (At (p + 2 + 1) (n + 1)) (is_one (get_or ts (p + 2) 0) 1 (sym f ∙ k)) (refl, u))
+    pub item_row : {a b : List ℕ} → t ≡ 1 → b ≡ set a n (word kind.qualified_item (p + 2) (n + 1 - n)) → Reads operand ts p n (At (p + 2 + 1) (n + 1)) a b
+    item_row k u = (item_by true (At (p + 2 + 1) (n + 1)) (is_one (get_or ts (p + 2) 0) 1 (sym f ∙ k)) (refl, u))
 
     pub item_none : {a : List ℕ} → (t ≡ 1 → ⊥) → Reads operand ts p n (Refused (p + 2)) a a
     item_none k = item_by false (Refused (p + 2)) (not_one (get_or ts (p + 2) 0) 1 (λ z. k (f ∙ z))) (refl, refl)
@@ -180,8 +177,8 @@ module _ {ts : List ℕ} {p n : ℕ} (g : Ready ts p n) (s : Bool) (t : ℕ) (f 
   comparison_inside z = inside ts comparisons p refl (comparison_at true z)
 
   ahead_more : (r : Read) → Ahead ts (p + 1) (n + 1) r → Ahead ts p n r
-  ahead_more (At q m) h = (omega arith, h.1, omega arith, omega arith)
-  ahead_more (Refused k) h = tt
+  ahead_more (Ok next) h = (omega arith, h.1, omega arith, omega arith)
+  ahead_more (Err e) h = tt
 
   pub compared_there : {a b c : List ℕ} {r : Read} → s ≡ true → b ≡ set a n (word kind.interval_operator p (n + 1 - n)) → Reads sum ts (p + 1) (n + 1) r b c → Compares ts p n r a c
   compared_there {b = b} {r = r} z u i =

@@ -18,9 +18,7 @@ use Rattle.express.specs.Syntax.Grammar.{Nonterminal, rules, opt, row as row_of}
 use Rattle.express.specs.Syntax.NodeKind as kind
 use Rattle.express.specs.Syntax.Lookahead.{tables}
 use Rattle.express.proofs.Syntax.Descent.{phrase, next_operand}
-use Rattle.parsing.specs.declared.Read.{Read}
-use Rattle.parsing.specs.declared.Read.TheVariants.{At, Refused}
-use Rattle.parsing.specs.Reading.{word, Ready, Reads, Reading, Combines}
+use Rattle.parsing.specs.Reading.{Read, At, Refused, word, Ready, Reads, Reading, Combines}
 use Rattle.parsing.proofs.Terminals.{inside}
 use Rattle.parsing.proofs.Laws.{start, finish, last, apart, nothing, refused_found, told, by_row, phrased, left, right, more, stop, operator, reads, reads_at}
 

@@ -1,201 +1,194 @@
 // Expressions by recursive descent: terminals to rows of nodes.
 #![tactic(auto)]
 
-ghost use Rattle.std.specs.Prelude.{true, ◌&&◌, ◌≡◌, ◌+◌, ◌≤◌, get_or};
+ghost use Rattle.std.specs.Prelude.{true, ◌&&◌, ◌≡◌, ◌+◌, ◌≤◌, ◌<◌, get_or, MatchOption};
 ghost use Rattle.ebnf.specs.Set.{mem};
 ghost use Rattle.express.specs.Tokens.Terminal.{identifier, dot, lbrace};
 ghost use Rattle.express.specs.Syntax.Grammar.{expression, sum, term, factor, operand, atom, interval, relations, additions, multiplications, signs, comparisons};
 ghost use Rattle.parsing.specs.Reading.{atom_label, Ready, Reads, ReadsAnywhere, Compares, Combines};
 
 use codes::labels;
-use parsing::{NO_LABEL, Read, expect, is_place, put_row, token};
+use columns::get_or;
+use parsing::{Position, Read, Unexpected, expect, is_place, put_row};
 
+#[tactic(auto, unfolding(ebnf::specs::Set::mem))]
 fn is_relation(c: u8) -> bool
     ensures { result ≡ mem c relations }
 {
-    match c {
+    matches!(
+        c,
         codes::EQUAL
-        | codes::LESS
-        | codes::LESS_EQUAL
-        | codes::GREATER_EQUAL
-        | codes::INSTANCE_EQUAL => true,
-        codes::GREATER | codes::UNEQUAL | codes::INSTANCE_UNEQUAL => true,
-        _ => false,
-    }
+            | codes::LESS
+            | codes::LESS_EQUAL
+            | codes::GREATER
+            | codes::GREATER_EQUAL
+            | codes::UNEQUAL
+            | codes::INSTANCE_EQUAL
+            | codes::INSTANCE_UNEQUAL
+    )
 }
 
+#[tactic(auto, unfolding(ebnf::specs::Set::mem))]
 fn is_addition(c: u8) -> bool
     ensures { result ≡ mem c additions }
 {
-    match c {
-        codes::PLUS | codes::OR | codes::XOR => true,
-        codes::MINUS => true,
-        _ => false,
-    }
+    matches!(c, codes::PLUS | codes::MINUS | codes::OR | codes::XOR)
 }
 
+#[tactic(auto, unfolding(ebnf::specs::Set::mem))]
 fn is_multiplication(c: u8) -> bool
     ensures { result ≡ mem c multiplications }
 {
-    match c {
-        codes::TIMES | codes::SLASH | codes::AND | codes::DIV | codes::MOD => true,
-        _ => false,
-    }
+    matches!(
+        c,
+        codes::TIMES | codes::SLASH | codes::AND | codes::DIV | codes::MOD
+    )
 }
 
+#[tactic(auto, unfolding(ebnf::specs::Set::mem))]
 fn is_sign(c: u8) -> bool
     ensures { result ≡ mem c signs }
 {
-    match c {
-        codes::PLUS | codes::NOT => true,
-        codes::MINUS => true,
-        _ => false,
-    }
+    matches!(c, codes::PLUS | codes::MINUS | codes::NOT)
 }
 
+#[tactic(auto, unfolding(ebnf::specs::Set::mem))]
 fn is_comparison(c: u8) -> bool
     ensures { result ≡ mem c comparisons }
 {
-    match c {
-        codes::LESS | codes::LESS_EQUAL => true,
-        _ => false,
-    }
+    matches!(c, codes::LESS | codes::LESS_EQUAL)
 }
 
-// Kind and role of the row of an atom; 0 where none begins.
-fn atom_label(c: u8) -> u64
-    ensures { result ≡ atom_label c }
+// Kind and role of the row of an atom; none where none begins.
+#[tactic(auto, unfolding(ebnf::specs::Set::mem))]
+fn atom_label(c: u8) -> Option<u64>
+    ensures { MatchOption result (atom_label c ≡ 0) (λ label. (label ≡ atom_label c) × (0 < label)) }
 {
     match c {
-        codes::INTEGER_LITERAL => labels::INTEGER,
-        codes::BINARY_LITERAL => labels::BINARY,
-        codes::FALSE | codes::TRUE | codes::UNKNOWN => labels::LOGICAL,
-        codes::QUESTION => labels::INDETERMINATE,
-        codes::REAL_LITERAL | codes::CONST_E | codes::PI => labels::OTHER,
-        codes::STRING_LITERAL => labels::OTHER,
-        codes::IDENTIFIER => labels::NAME_IN_EXPRESSION,
-        codes::SELF => labels::SELF_REFERENCE,
-        _ => NO_LABEL,
+        codes::INTEGER_LITERAL => Some(labels::INTEGER),
+        codes::BINARY_LITERAL => Some(labels::BINARY),
+        codes::FALSE | codes::TRUE | codes::UNKNOWN => Some(labels::LOGICAL),
+        codes::QUESTION => Some(labels::INDETERMINATE),
+        codes::REAL_LITERAL | codes::STRING_LITERAL | codes::CONST_E | codes::PI => Some(
+            labels::OTHER,
+        ),
+        codes::IDENTIFIER => Some(labels::NAME_IN_EXPRESSION),
+        codes::SELF => Some(labels::SELF_REFERENCE),
+        _ => None,
     }
 }
 
 // expression = sum [ relation sum ]
 #[cycle(atom_compared_expression_factor_interval_operand_signed_sum_term)]
-fn expression(terminals: &[u8], rows: &mut [u64], p: usize, n: usize) -> Read
-    requires { Ready terminals.now p n }
-    ensures { Reads expression terminals.now p n result rows.old rows.new }
+fn expression(terminals: &[u8], rows: &mut [u64], from: Position) -> Read
+    requires { Ready terminals.now from.token from.row }
+    ensures { Reads expression terminals.now from.token from.row result rows.old rows.new }
 {
-    let left = sum(terminals, rows, p, n);
-    let Read::At(q, m) = left else {
-        return left;
-    };
-    if !is_relation(token(terminals, q)) {
-        return Read::At(q, m);
+    let left = sum(terminals, rows, from)?;
+    if !is_relation(get_or(terminals, left.token, codes::NONE)) {
+        return Ok(left);
     }
-    let right = sum(terminals, rows, q + 1, m);
-    let Read::At(q2, m2) = right else {
-        return right;
+    let operand = Position {
+        token: left.token + 1,
+        ..left
     };
-    put_row(rows, m2, n, labels::TWO_OPERAND, q);
-    Read::At(q2, m2 + 1)
+    let right = sum(terminals, rows, operand)?;
+    put_row(rows, right.row, from.row, labels::TWO_OPERAND, left.token);
+    Ok(Position {
+        row: right.row + 1,
+        ..right
+    })
 }
 
-// The row over two operands and the operator between them, which stands before the second, at q; a first operand, at p, has none. The number of
-// rows then.
-fn combined(rows: &mut [u64], p: usize, q: usize, n: usize, m: usize) -> usize
-    requires { (p ≤ q) × (m ≤ 65536) }
-    ensures { Combines p q n m result rows.old rows.new }
+// The row over two operands and the operator between them, which stands before the second, at q; a first operand, where all begins, has none. The
+// number of rows then.
+fn combined(rows: &mut [u64], from: Position, q: usize, m: usize) -> usize
+    requires { (from.token ≤ q) × (m ≤ 65536) }
+    ensures { Combines from.token q from.row m result rows.old rows.new }
 {
-    if q == p {
+    if q == from.token {
         return m;
     }
-    put_row(rows, m, n, labels::TWO_OPERAND, q - 1);
+    put_row(rows, m, from.row, labels::TWO_OPERAND, q - 1);
     m + 1
 }
 
 // sum = term { ( '+' | '-' | OR | XOR ) term }
 #[cycle(atom_compared_expression_factor_interval_operand_signed_sum_term)]
-fn sum(terminals: &[u8], rows: &mut [u64], p: usize, n: usize) -> Read
-    requires { Ready terminals.now p n }
-    ensures { Reads sum terminals.now p n result rows.old rows.new }
+fn sum(terminals: &[u8], rows: &mut [u64], from: Position) -> Read
+    requires { Ready terminals.now from.token from.row }
+    ensures { Reads sum terminals.now from.token from.row result rows.old rows.new }
 {
-    let mut q = p;
-    let mut m = n;
+    let mut at = from;
     loop {
-        let right = term(terminals, rows, q, m);
-        let Read::At(q2, m2) = right else {
-            return right;
-        };
-        m = combined(rows, p, q, n, m2);
-        if !is_addition(token(terminals, q2)) {
-            return Read::At(q2, m);
+        let right = term(terminals, rows, at)?;
+        let row = combined(rows, from, at.token, right.row);
+        if !is_addition(get_or(terminals, right.token, codes::NONE)) {
+            return Ok(Position { row, ..right });
         }
-        q = q2 + 1;
+        at = Position {
+            token: right.token + 1,
+            row,
+        };
     }
 }
 
 // term = factor { ( '*' | '/' | DIV | MOD | AND ) factor }
 #[cycle(atom_compared_expression_factor_interval_operand_signed_sum_term)]
-fn term(terminals: &[u8], rows: &mut [u64], p: usize, n: usize) -> Read
-    requires { Ready terminals.now p n }
-    ensures { Reads term terminals.now p n result rows.old rows.new }
+fn term(terminals: &[u8], rows: &mut [u64], from: Position) -> Read
+    requires { Ready terminals.now from.token from.row }
+    ensures { Reads term terminals.now from.token from.row result rows.old rows.new }
 {
-    let mut q = p;
-    let mut m = n;
+    let mut at = from;
     loop {
-        let right = factor(terminals, rows, q, m);
-        let Read::At(q2, m2) = right else {
-            return right;
-        };
-        m = combined(rows, p, q, n, m2);
-        if !is_multiplication(token(terminals, q2)) {
-            return Read::At(q2, m);
+        let right = factor(terminals, rows, at)?;
+        let row = combined(rows, from, at.token, right.row);
+        if !is_multiplication(get_or(terminals, right.token, codes::NONE)) {
+            return Ok(Position { row, ..right });
         }
-        q = q2 + 1;
+        at = Position {
+            token: right.token + 1,
+            row,
+        };
     }
 }
 
 // factor = operand [ '**' operand ], in a loop of at most two turns: with one call of `operand` the compiler takes all below `sum` as one function.
 #[cycle(atom_compared_expression_factor_interval_operand_signed_sum_term)]
-fn factor(terminals: &[u8], rows: &mut [u64], p: usize, n: usize) -> Read
-    requires { Ready terminals.now p n }
-    ensures { Reads factor terminals.now p n result rows.old rows.new }
+fn factor(terminals: &[u8], rows: &mut [u64], from: Position) -> Read
+    requires { Ready terminals.now from.token from.row }
+    ensures { Reads factor terminals.now from.token from.row result rows.old rows.new }
 {
-    let mut q = p;
-    let mut m = n;
+    let mut at = from;
     loop {
-        let right = operand(terminals, rows, q, m);
-        let Read::At(q2, m2) = right else {
-            return right;
+        let right = operand(terminals, rows, at)?;
+        let row = combined(rows, from, at.token, right.row);
+        if at.token > from.token || get_or(terminals, right.token, codes::NONE) != codes::POWER {
+            return Ok(Position { row, ..right });
+        }
+        at = Position {
+            token: right.token + 1,
+            row,
         };
-        m = combined(rows, p, q, n, m2);
-        if q > p {
-            return Read::At(q2, m);
-        }
-        if token(terminals, q2) != codes::POWER {
-            return Read::At(q2, m);
-        }
-        q = q2 + 1;
     }
 }
 
 // operand = id '.' id | interval | [ '+' | '-' | NOT ] atom
 #[cycle(atom_compared_expression_factor_interval_operand_signed_sum_term)]
-fn operand(terminals: &[u8], rows: &mut [u64], p: usize, n: usize) -> Read
-    requires { Ready terminals.now p n }
-    ensures { Reads operand terminals.now p n result rows.old rows.new }
+fn operand(terminals: &[u8], rows: &mut [u64], from: Position) -> Read
+    requires { Ready terminals.now from.token from.row }
+    ensures { Reads operand terminals.now from.token from.row result rows.old rows.new }
 {
-    let c = token(terminals, p);
-    if is_qualified(terminals, p) {
-        return qualified(terminals, rows, p, n);
+    let c = get_or(terminals, from.token, codes::NONE);
+    if is_qualified(terminals, from.token) {
+        qualified(terminals, rows, from)
+    } else if c == codes::LBRACE {
+        interval(terminals, rows, from)
+    } else if is_sign(c) {
+        signed(terminals, rows, from)
+    } else {
+        atom(terminals, rows, from)
     }
-    if c == codes::LBRACE {
-        return interval(terminals, rows, p, n);
-    }
-    if is_sign(c) {
-        return signed(terminals, rows, p, n);
-    }
-    atom(terminals, rows, p, n)
 }
 
 // id '.' stands here.
@@ -203,105 +196,120 @@ fn is_qualified(terminals: &[u8], p: usize) -> bool
     requires { p ≤ 65536 }
     ensures { result ≡ (mem (get_or terminals.now p 0) identifier && mem (get_or terminals.now (p + 1) 0) dot) }
 {
-    if token(terminals, p) == codes::IDENTIFIER {
-        return token(terminals, p + 1) == codes::DOT;
-    }
-    false
+    get_or(terminals, p, codes::NONE) == codes::IDENTIFIER
+        && get_or(terminals, p + 1, codes::NONE) == codes::DOT
 }
 
 // id '.' id, of which the id and the dot are there
-fn qualified(terminals: &[u8], rows: &mut [u64], p: usize, n: usize) -> Read
-    requires { (Ready terminals.now p n) × ((mem (get_or terminals.now p 0) identifier && mem (get_or terminals.now (p + 1) 0) dot) ≡ true) }
-    ensures { Reads operand terminals.now p n result rows.old rows.new }
+fn qualified(terminals: &[u8], rows: &mut [u64], from: Position) -> Read
+    requires { (Ready terminals.now from.token from.row) × ((mem (get_or terminals.now from.token 0) identifier && mem (get_or terminals.now (from.token + 1) 0) dot) ≡ true) }
+    ensures { Reads operand terminals.now from.token from.row result rows.old rows.new }
 {
-    if token(terminals, p + 2) == codes::IDENTIFIER {
-        put_row(rows, n, n, labels::QUALIFIED_ITEM, p + 2);
-        return Read::At(p + 3, n + 1);
+    let item = from.token + 2;
+    if get_or(terminals, item, codes::NONE) != codes::IDENTIFIER {
+        return Err(Unexpected { token: item });
     }
-    Read::Refused(p + 2)
+    put_row(rows, from.row, from.row, labels::QUALIFIED_ITEM, item);
+    Ok(Position {
+        token: item + 1,
+        row: from.row + 1,
+    })
 }
 
 // a sign, which is there, and an atom: no power and no type.item
 #[cycle(atom_compared_expression_factor_interval_operand_signed_sum_term)]
-fn signed(terminals: &[u8], rows: &mut [u64], p: usize, n: usize) -> Read
-    requires { (Ready terminals.now p n) × (mem (get_or terminals.now p 0) signs ≡ true) }
-    ensures { Reads operand terminals.now p n result rows.old rows.new }
+fn signed(terminals: &[u8], rows: &mut [u64], from: Position) -> Read
+    requires { (Ready terminals.now from.token from.row) × (mem (get_or terminals.now from.token 0) signs ≡ true) }
+    ensures { Reads operand terminals.now from.token from.row result rows.old rows.new }
 {
-    let inner = atom(terminals, rows, p + 1, n);
-    let Read::At(q, m) = inner else {
-        return inner;
+    let operand = Position {
+        token: from.token + 1,
+        ..from
     };
-    put_row(rows, m, n, labels::UNARY, p);
-    Read::At(q, m + 1)
+    let inner = atom(terminals, rows, operand)?;
+    put_row(rows, inner.row, from.row, labels::UNARY, from.token);
+    Ok(Position {
+        row: inner.row + 1,
+        ..inner
+    })
 }
 
 // atom = '(' expression ')' | a literal, a name or SELF
 #[cycle(atom_compared_expression_factor_interval_operand_signed_sum_term)]
-fn atom(terminals: &[u8], rows: &mut [u64], p: usize, n: usize) -> Read
-    requires { Ready terminals.now p n }
-    ensures { Reads atom terminals.now p n result rows.old rows.new }
+fn atom(terminals: &[u8], rows: &mut [u64], from: Position) -> Read
+    requires { Ready terminals.now from.token from.row }
+    ensures { Reads atom terminals.now from.token from.row result rows.old rows.new }
 {
-    let c = token(terminals, p);
+    let c = get_or(terminals, from.token, codes::NONE);
     if c == codes::LPAREN {
-        let inner = expression(terminals, rows, p + 1, n);
-        let Read::At(q, m) = inner else {
-            return inner;
+        let opened = Position {
+            token: from.token + 1,
+            ..from
         };
-        return expect(terminals, q, m, codes::RPAREN);
+        let inner = expression(terminals, rows, opened)?;
+        return expect(terminals, inner, codes::RPAREN);
     }
-    let label = atom_label(c);
-    if label == NO_LABEL {
-        return Read::Refused(p);
-    }
-    put_row(rows, n, n, label, p);
-    Read::At(p + 1, n + 1)
+    let Some(label) = atom_label(c) else {
+        return Err(Unexpected { token: from.token });
+    };
+    put_row(rows, from.row, from.row, label, from.token);
+    Ok(Position {
+        token: from.token + 1,
+        row: from.row + 1,
+    })
 }
 
 // interval = '{' sum cmp sum cmp sum '}', of which the brace is there
 #[cycle(atom_compared_expression_factor_interval_operand_signed_sum_term)]
-fn interval(terminals: &[u8], rows: &mut [u64], p: usize, n: usize) -> Read
-    requires { (Ready terminals.now p n) × (mem (get_or terminals.now p 0) lbrace ≡ true) }
-    ensures { Reads interval terminals.now p n result rows.old rows.new }
+fn interval(terminals: &[u8], rows: &mut [u64], from: Position) -> Read
+    requires { (Ready terminals.now from.token from.row) × (mem (get_or terminals.now from.token 0) lbrace ≡ true) }
+    ensures { Reads interval terminals.now from.token from.row result rows.old rows.new }
 {
-    let low = sum(terminals, rows, p + 1, n);
-    let Read::At(q, m) = low else {
-        return low;
+    let opened = Position {
+        token: from.token + 1,
+        ..from
     };
-    let item = compared(terminals, rows, q, m);
-    let Read::At(q2, m2) = item else {
-        return item;
-    };
-    let high = compared(terminals, rows, q2, m2);
-    let Read::At(q3, m3) = high else {
-        return high;
-    };
-    let end = expect(terminals, q3, m3, codes::RBRACE);
-    let Read::At(q4, m4) = end else {
-        return end;
-    };
-    put_row(rows, m4, n, labels::INTERVAL, p);
-    Read::At(q4, m4 + 1)
+    let low = sum(terminals, rows, opened)?;
+    let item = compared(terminals, rows, low)?;
+    let high = compared(terminals, rows, item)?;
+    let end = expect(terminals, high, codes::RBRACE)?;
+    put_row(rows, end.row, from.row, labels::INTERVAL, from.token);
+    Ok(Position {
+        row: end.row + 1,
+        ..end
+    })
 }
 
 // cmp sum
 #[cycle(atom_compared_expression_factor_interval_operand_signed_sum_term)]
-fn compared(terminals: &[u8], rows: &mut [u64], p: usize, n: usize) -> Read
-    requires { Ready terminals.now p n }
-    ensures { Compares terminals.now p n result rows.old rows.new }
+fn compared(terminals: &[u8], rows: &mut [u64], from: Position) -> Read
+    requires { Ready terminals.now from.token from.row }
+    ensures { Compares terminals.now from.token from.row result rows.old rows.new }
 {
-    if is_comparison(token(terminals, p)) {
-        put_row(rows, n, n, labels::INTERVAL_OPERATOR, p);
-        return sum(terminals, rows, p + 1, n + 1);
+    if !is_comparison(get_or(terminals, from.token, codes::NONE)) {
+        return Err(Unexpected { token: from.token });
     }
-    Read::Refused(p)
+    put_row(
+        rows,
+        from.row,
+        from.row,
+        labels::INTERVAL_OPERATOR,
+        from.token,
+    );
+    let operand = Position {
+        token: from.token + 1,
+        row: from.row + 1,
+    };
+    sum(terminals, rows, operand)
 }
 
 // An expression from a place on; where that is no place, nothing is read.
-pub fn expression_at(terminals: &[u8], rows: &mut [u64], p: usize, n: usize) -> Read
-    ensures { ReadsAnywhere expression terminals.now p n result rows.old rows.new }
+pub fn expression_at(terminals: &[u8], rows: &mut [u64], from: Position) -> Read
+    ensures { ReadsAnywhere expression terminals.now from.token from.row result rows.old rows.new }
 {
-    if is_place(terminals, p, n) {
-        return expression(terminals, rows, p, n);
+    if is_place(terminals, from) {
+        expression(terminals, rows, from)
+    } else {
+        Err(Unexpected { token: from.token })
     }
-    Read::Refused(p)
 }

@@ -6,73 +6,83 @@ ghost use Rattle.express.specs.Names.Fault as express;
 ghost use Rattle.express.specs.Names.Names as stages;
 ghost use Rattle.express.specs.Names.Scope.{one};
 ghost use Rattle.scopes.specs.LookUp.{entry_meant};
-ghost use Rattle.faults.specs.Meaning.{fault_of};
+ghost use Rattle.faults.specs.Meaning.{number_of, fault_of};
 
 use scopes::look_ups::Meaning;
 
-// A reply and a place; reply 0 is no fault.
-#[derive(Clone, Copy)]
+// Declared twice; not found; found, but of the wrong sort; of two meanings; or on a cycle.
+#[derive(Clone, Copy, Debug, PartialEq, Eq)]
+pub enum Reply {
+    Repeated,
+    NotFound,
+    WrongSort,
+    Ambiguous,
+    Cycle,
+}
+
+impl Reply {
+    // The number by which the checker answers it.
+    pub fn number(self) -> u8
+        ensures { result ≡ number_of self }
+    {
+        match self {
+            Reply::Repeated => codes::replies::REPEATED,
+            Reply::NotFound => codes::replies::NOT_FOUND,
+            Reply::WrongSort => codes::replies::WRONG_SORT,
+            Reply::Ambiguous => codes::replies::AMBIGUOUS,
+            Reply::Cycle => codes::replies::CYCLE,
+        }
+    }
+}
+
+#[derive(Clone, Copy, Debug, PartialEq, Eq)]
 pub struct Fault {
-    pub number: u8,
+    pub reply: Reply,
     pub place: u32,
 }
 
-// No fault.
-pub fn fine() -> Fault
-    ensures { fault_of result ≡ express.fine }
+pub fn fault_at(reply: Reply, place: u32) -> Option<Fault>
+    ensures { fault_of result ≡ express.fault (number_of reply) place }
 {
-    fault_at(codes::replies::ACCEPTED, 0)
-}
-
-pub fn fault_at(number: u8, place: u32) -> Fault
-    ensures { fault_of result ≡ express.fault number place }
-{
-    Fault { number, place }
+    Some(Fault { reply, place })
 }
 
 // Of two faults of one stage the one with the smaller place.
-pub fn sooner(a: Fault, b: Fault) -> Fault
+pub fn sooner(a: Option<Fault>, b: Option<Fault>) -> Option<Fault>
     ensures { fault_of result ≡ stages.sooner (fault_of a) (fault_of b) }
 {
-    if a.number == codes::replies::ACCEPTED {
-        return b;
+    match (a, b) {
+        (None, _) => b,
+        (_, None) => a,
+        (Some(x), Some(y)) => { if x.place <= y.place { a } else { b } }
     }
-    if b.number == codes::replies::ACCEPTED {
-        return a;
-    }
-    if a.place <= b.place {
-        return a;
-    }
-    b
 }
 
 // A fault of a later stage only where there is none of an earlier one.
-pub fn or_later(a: Fault, later: Fault) -> Fault
+pub fn or_later(a: Option<Fault>, later: Option<Fault>) -> Option<Fault>
     ensures { fault_of result ≡ express.or_later (fault_of a) (fault_of later) }
 {
-    if a.number == codes::replies::ACCEPTED {
-        return later;
-    }
-    a
+    a.or(later)
 }
 
 // Of something that is found at a place: it is right, or of the wrong sort.
-pub fn wrong_sort(right: bool, place: u32) -> Fault
+pub fn wrong_sort(right: bool, place: u32) -> Option<Fault>
     ensures { fault_of result ≡ express.judged (λ _. right) (one 0) place }
 {
     if right {
-        return fine();
+        None
+    } else {
+        fault_at(Reply::WrongSort, place)
     }
-    fault_at(codes::replies::WRONG_SORT, place)
 }
 
 // Of a name at a place by its meaning: not found, two meanings, or one that is right or of the wrong sort.
-pub fn judged(meaning: Meaning, right: bool, place: u32) -> Fault
+pub fn judged(meaning: Meaning, right: bool, place: u32) -> Option<Fault>
     ensures { fault_of result ≡ express.judged (λ _. right) (entry_meant meaning) place }
 {
     match meaning {
-        Meaning::Nothing => fault_at(codes::replies::NOT_FOUND, place),
+        Meaning::Nothing => fault_at(Reply::NotFound, place),
         Meaning::One(_) => wrong_sort(right, place),
-        Meaning::Several => fault_at(codes::replies::AMBIGUOUS, place),
+        Meaning::Several => fault_at(Reply::Ambiguous, place),
     }
 }

@@ -1,4 +1,5 @@
 -- What is found of names, from what they mean.
+use Rattle.std.specs.Prelude.{Option}
 use mathlib.Core.Path.{◌≡◌, refl, sym, ap, ap₂, ◌∙◌}
 use mathlib.Core.Bool.{Bool, true, false, cond}
 use mathlib.Core.List.{List}
@@ -33,7 +34,7 @@ item_low : (t : Table) (y s k : ℕ) → meaning (items_of t y s) ≡ one k → 
 unfolding items_of
 item_low t y s k e = let O = (meaning_one (items_of t y s) (spelled_ascending t s _) k).0 e in ((items_of_iff t y s k).0 O.member).within
 
-module _ {kinds : List ℕ} {p : ℕ} {f : Finding} {g : code.Fault} {right : Bool} where
+module _ {kinds : List ℕ} {p : ℕ} {f : Finding} {g : Option code.Fault} {right : Bool} where
   pub node_made :
       {k j b : ℕ} → j ≡ get_or kinds k 0 → right ≡ value_kind j → fault_of g ≡ judged (λ _. right) (one 0) p → OneMore k b → Made g b 0 f → NodeFinding kinds k p f
   node_made e r a o F = record {
@@ -59,14 +60,14 @@ same_judged : (p q : ℕ → Bool) (j k l : ℕ) → p j ≡ q k → judged p (o
 same_judged p q j k l e = ap (λ (b : Bool). cond b express.fine (express.fault 11 l)) e
 
 module _ {kinds nodes : List ℕ} {p : ℕ} {f : Finding} where
-  pub nothing_found : {u : Use} {g : code.Fault} → u ≡ Nothing → fault_of g ≡ express.fault 10 p → Made g 0 0 f → UseFinding kinds nodes u p f
+  pub nothing_found : {u : Use} {g : Option code.Fault} → u ≡ Nothing → fault_of g ≡ express.fault 10 p → Made g 0 0 f → UseFinding kinds nodes u p f
   nothing_found {u} e a F = record {
     found = λ t keys heads next K P m S.
         let q : none ≡ m = rw e at S.is in
         rw (sym q) (record { fault_is = ap fault_of F.fault_is ∙ a; binding_is = F.binding_is; target_is = F.target_is });
   }
 
-  pub several_found : {u : Use} {g : code.Fault} → u ≡ Several → fault_of g ≡ express.fault 12 p → Made g 0 0 f → UseFinding kinds nodes u p f
+  pub several_found : {u : Use} {g : Option code.Fault} → u ≡ Several → fault_of g ≡ express.fault 12 p → Made g 0 0 f → UseFinding kinds nodes u p f
   several_found {u} e a F = record {
     found = λ t keys heads next K P m S.
         let q : several ≡ m = rw e at S.is in
@@ -128,7 +129,7 @@ same_item nodes p entry.Nothing = refl
 same_item nodes p (entry.One e) = refl
 same_item nodes p entry.Several = refl
 
-module _ {keys nodes heads next : List ℕ} {y s p : ℕ} {f : Finding} {g : code.Fault} {m : entries.Meaning} where
+module _ {keys nodes heads next : List ℕ} {y s p : ℕ} {f : Finding} {g : Option code.Fault} {m : entries.Meaning} where
   -- one number binds where one item is meant
   item_made :
       (b : ℕ) → Means keys heads next (λ t. items_of t y s) m → fault_of g ≡ judged (λ _. true) (entry_meant m) p → Made g b 0 f →
@@ -157,10 +158,10 @@ module _ {keys nodes heads next : List ℕ} {y s p : ℕ} {f : Finding} {g : cod
       let low = item_low t y s (get_or nodes e 0) (sym w) in
       rw q (o.is (omega arith) ∙ ap (λ (n : ℕ). n + 1) (z ∙ x)))
 
-module _ {kinds sizes keys nodes heads next : List ℕ} {v yp s p : ℕ} {i f : Finding} {g l : code.Fault} {b : Bool} where
+module _ {kinds sizes keys nodes heads next : List ℕ} {v yp s p : ℕ} {i f : Finding} {g : express.Fault} {l : Option code.Fault} {b : Bool} where
   pub type_found :
-      {k j : ℕ} → j ≡ get_or nodes v 0 → k ≡ j → TellsEnumeration kinds sizes k b → ItemFinding keys nodes heads next k s p i → fault_of g ≡ judged (λ _. b) (one 0) yp →
-      fault_of l ≡ or_later (fault_of g) (fault_of i.fault) → Made l i.binding 0 f → TypeFinding kinds sizes keys nodes heads next v yp s p f
+      {k j : ℕ} → j ≡ get_or nodes v 0 → k ≡ j → TellsEnumeration kinds sizes k b → ItemFinding keys nodes heads next k s p i → g ≡ judged (λ _. b) (one 0) yp →
+      fault_of l ≡ or_later g (fault_of i.fault) → Made l i.binding 0 f → TypeFinding kinds sizes keys nodes heads next v yp s p f
   type_found {k} {j} x z E I a c F =
       let q : k ≡ get_or nodes v 0 = z ∙ x in
       record {
@@ -173,7 +174,7 @@ module _ {kinds sizes keys nodes heads next : List ℕ} {v yp s p : ℕ} {i f : 
 
 module _ {kinds sizes keys nodes heads next : List ℕ} {h y yp s p : ℕ} {f : Finding} where
   pub unknown_type :
-      {m : entries.Meaning} {g : code.Fault} → m ≡ entry.Nothing → Means keys heads next (λ t. declarations t h y) m → fault_of g ≡ express.fault 10 yp → Made g 0 0 f →
+      {m : entries.Meaning} {g : Option code.Fault} → m ≡ entry.Nothing → Means keys heads next (λ t. declarations t h y) m → fault_of g ≡ express.fault 10 yp → Made g 0 0 f →
       QualifiedFinding kinds sizes keys nodes heads next h y yp s p f
   unfolding item_meant
   unknown_type {m} e M a F = record {
@@ -183,7 +184,7 @@ module _ {kinds sizes keys nodes heads next : List ℕ} {h y yp s p : ℕ} {f : 
   }
 
   pub two_types :
-      {m : entries.Meaning} {g : code.Fault} → m ≡ entry.Several → Means keys heads next (λ t. declarations t h y) m → fault_of g ≡ express.fault 12 yp → Made g 0 0 f →
+      {m : entries.Meaning} {g : Option code.Fault} → m ≡ entry.Several → Means keys heads next (λ t. declarations t h y) m → fault_of g ≡ express.fault 12 yp → Made g 0 0 f →
       QualifiedFinding kinds sizes keys nodes heads next h y yp s p f
   unfolding item_meant
   two_types {m} e M a F = record {

@@ -7,14 +7,13 @@ pub mod nodes;
 ghost use Rattle.std.specs.Prelude.{◌≡◌};
 ghost use Rattle.meanings.specs.Finding.{value_kind, Made, OneMore, TargetOf, NodeFinding, DeclarationFinding, UseFinding, TellsEnumeration, ItemFinding, TypeFinding, QualifiedFinding};
 
-use columns::{index, number, saturating_sub};
-use faults::Fault;
+use columns::{get_or, index, number};
+use faults::{Fault, Reply};
 use meanings::Use;
 use scopes::look_ups::{Meaning, declaration_meant, item_meant};
-use scopes::{at, at8};
 use type_names::Finding;
 
-pub fn found(fault: Fault, binding: u32, target: u32) -> Finding
+pub fn found(fault: Option<Fault>, binding: u32, target: u32) -> Finding
     ensures { Made fault binding target result }
 {
     Finding {
@@ -31,26 +30,17 @@ const LAST: usize = 4294967295;
 fn one_more(n: usize) -> u32
     ensures { OneMore n result }
 {
-    if LAST <= n {
-        return 0;
-    }
-    number(n + 1)
+    if LAST <= n { 0 } else { number(n + 1) }
 }
 
 // Has it a value: an attribute, a constant or an item?
 fn is_value(kind: u8) -> bool
     ensures { result ≡ value_kind kind }
 {
-    if kind == codes::nodes::ATTRIBUTE_NAME {
-        return true;
-    }
-    if kind == codes::nodes::DERIVED_ATTRIBUTE {
-        return true;
-    }
-    if kind == codes::nodes::CONSTANT {
-        return true;
-    }
-    kind == codes::nodes::ITEM
+    kind == codes::nodes::ATTRIBUTE_NAME
+        || kind == codes::nodes::DERIVED_ATTRIBUTE
+        || kind == codes::nodes::CONSTANT
+        || kind == codes::nodes::ITEM
 }
 
 // The target of a declaration's name: constants alone have one.
@@ -58,16 +48,17 @@ fn constant_target(kind: u8, vertex: usize) -> u32
     ensures { TargetOf kind vertex result }
 {
     if kind == codes::nodes::CONSTANT {
-        return one_more(vertex);
+        one_more(vertex)
+    } else {
+        0
     }
-    0
 }
 
 // A name that means a node that is no declaration.
 fn node_finding(kinds: &[u8], node: usize, place: u32) -> Finding
     ensures { NodeFinding kinds.now node place result }
 {
-    let right = is_value(at8(kinds, node));
+    let right = is_value(get_or(kinds, node, 0));
     found(faults::wrong_sort(right, place), one_more(node), 0)
 }
 
@@ -75,8 +66,8 @@ fn node_finding(kinds: &[u8], node: usize, place: u32) -> Finding
 fn declaration_finding(kinds: &[u8], nodes: &[u32], vertex: usize, place: u32) -> Finding
     ensures { DeclarationFinding kinds.now nodes.now vertex place result }
 {
-    let node = index(at(nodes, vertex));
-    let kind = at8(kinds, node);
+    let node = index(get_or(nodes, vertex, 0));
+    let kind = get_or(kinds, node, 0);
     found(
         faults::wrong_sort(is_value(kind), place),
         one_more(node),
@@ -89,8 +80,8 @@ pub fn use_finding(kinds: &[u8], nodes: &[u32], meaning: Use, place: u32) -> Fin
     ensures { UseFinding kinds.now nodes.now meaning place result }
 {
     match meaning {
-        Use::Nothing => found(faults::fault_at(codes::replies::NOT_FOUND, place), 0, 0),
-        Use::Several => found(faults::fault_at(codes::replies::AMBIGUOUS, place), 0, 0),
+        Use::Nothing => found(faults::fault_at(Reply::NotFound, place), 0, 0),
+        Use::Several => found(faults::fault_at(Reply::Ambiguous, place), 0, 0),
         Use::Node(k) => node_finding(kinds, k, place),
         Use::Declaration(v) => declaration_finding(kinds, nodes, v, place),
     }
@@ -100,11 +91,8 @@ pub fn use_finding(kinds: &[u8], nodes: &[u32], meaning: Use, place: u32) -> Fin
 fn is_enumeration(kinds: &[u8], sizes: &[u32], node: usize) -> bool
     ensures { TellsEnumeration kinds.now sizes.now node result }
 {
-    if at8(kinds, node) != codes::nodes::TYPE {
-        return false;
-    }
-    let first = saturating_sub(node, saturating_sub(index(at(sizes, node)), 1));
-    at8(kinds, first) == codes::nodes::ITEM
+    let first = node.saturating_sub(index(get_or(sizes, node, 0)).saturating_sub(1));
+    get_or(kinds, node, 0) == codes::nodes::TYPE && get_or(kinds, first, 0) == codes::nodes::ITEM
 }
 
 // The item of a type by the symbol of its name.
@@ -123,7 +111,7 @@ fn item_finding(
     let fault = faults::judged(meaning, true, place);
     match meaning {
         Meaning::Nothing => found(fault, 0, 0),
-        Meaning::One(e) => found(fault, one_more(index(at(nodes, e))), 0),
+        Meaning::One(e) => found(fault, one_more(index(get_or(nodes, e, 0))), 0),
         Meaning::Several => found(fault, 0, 0),
     }
 }
@@ -144,7 +132,7 @@ fn item_of_type(
     ensures { TypeFinding kinds.now sizes.now keys.now nodes.now heads.now next.now
         vertex beginning symbol place result }
 {
-    let node = index(at(nodes, vertex));
+    let node = index(get_or(nodes, vertex, 0));
     let item = item_finding(keys, nodes, heads, next, node, symbol, place);
     let of_type = faults::wrong_sort(is_enumeration(kinds, sizes, node), beginning);
     found(faults::or_later(of_type, item.fault), item.binding, 0)
@@ -169,10 +157,10 @@ pub fn qualified_finding(
 {
     let meaning = declaration_meant(keys, heads, next, schema, qualifier);
     match meaning {
-        Meaning::Nothing => found(faults::fault_at(codes::replies::NOT_FOUND, beginning), 0, 0),
+        Meaning::Nothing => found(faults::fault_at(Reply::NotFound, beginning), 0, 0),
         Meaning::One(v) => item_of_type(
             kinds, sizes, keys, nodes, heads, next, v, beginning, symbol, place,
         ),
-        Meaning::Several => found(faults::fault_at(codes::replies::AMBIGUOUS, beginning), 0, 0),
+        Meaning::Several => found(faults::fault_at(Reply::Ambiguous, beginning), 0, 0),
     }
 }

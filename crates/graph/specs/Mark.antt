@@ -1,10 +1,10 @@
 -- What a vertex reaches, marked.
-use Rattle.std.specs.Prelude.{◌≡◌, Bool, cond, not, ◌&&◌, List, ℕ, zero, suc, ◌+◌, ◌≤◌, ◌<◌, min, eqb, ltb, length, get_or, take, drop}
+use Rattle.std.specs.Prelude.{◌≡◌, Bool, cond, not, ◌&&◌, List, ℕ, zero, suc, ◌+◌, ◌≤◌, ◌<◌, min, eqb, ltb, length, get_or, take, drop, Result, Ok, Err}
 use Rattle.columns.specs.Column.{cleared_before}
 use Rattle.relations.specs.Reach.{Reaches}
 use Rattle.graph.specs.Graph.{vertices, Graph, Arc}
-use Rattle.graph.specs.declared.Marking.{Marking}
-use Rattle.graph.specs.declared.Marking.TheVariants.{Marked, Malformed, Short}
+use Rattle.graph.specs.declared.MarkError.{MarkError}
+use Rattle.graph.specs.declared.MarkError.TheVariants.{Malformed, Short}
 
 -- ---- counting
 
@@ -57,10 +57,10 @@ pub record Lacking (first to : List ℕ) (from needed : ℕ) (was is : Lent) : T
   pub needs : needed ≡ vertices first
   pub kept : is ≡ was
 
-abbrev pub Answers : List ℕ → List ℕ → ℕ → Lent → Lent → Marking → Type 0
-Answers first to from was is Marked = MarkedAll first to from was is
-Answers first to from was is Malformed = Refused first to from was is
-Answers first to from was is (Short needed) = Lacking first to from needed was is
+abbrev pub Answers : List ℕ → List ℕ → ℕ → Lent → Lent → Result Unit MarkError → Type 0
+Answers first to from was is (Ok _) = MarkedAll first to from was is
+Answers first to from was is (Err Malformed) = Refused first to from was is
+Answers first to from was is (Err (Short needed)) = Lacking first to from needed was is
 
 abbrev pub lent : List ℕ → List ℕ → Lent
 lent mark queue = record { mark = mark; queue = queue }

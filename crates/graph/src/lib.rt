@@ -5,10 +5,11 @@ ghost use Rattle.std.specs.Prelude.{◌≡◌, true, false, ℕ, ◌+◌, ◌-�
 ghost use Rattle.graph.specs.Graph.{Graph, Tells};
 ghost use Rattle.graph.specs.Mark.{stamped, unstamped, Searches, Expands};
 
-// Whether all that is reached is marked; a queue or a column of marks that is too short is told the entries that it needs.
-#[derive(Clone, Copy)]
-pub enum Marking {
-    Marked,
+use columns::{get_or, index, put};
+
+// Why nothing is marked: the two columns are no graph with that vertex, or a queue or a column of marks is too short and needs so many entries.
+#[derive(Clone, Copy, Debug, PartialEq, Eq)]
+pub enum MarkError {
     Malformed,
     Short(usize),
 }
@@ -18,12 +19,10 @@ fn rising(first: &[u32], n: usize) -> bool
     requires { length first.now ≡ n + 1 }
     ensures { Tells ((v : ℕ) → v < n → get_or first.now v 0 ≤ get_or first.now (v + 1) 0) result }
 {
-    let mut v = 0;
-    while v < n {
+    for v in 0..n {
         if first[v + 1] < first[v] {
             return false;
         }
-        v += 1;
     }
     true
 }
@@ -33,12 +32,10 @@ fn inside(to: &[u32], from: usize, end: usize, n: usize) -> bool
     requires { end ≤ length to.now }
     ensures { Tells ((e : ℕ) → from ≤ e → e < end → get_or to.now e 0 < n) result }
 {
-    let mut e = from;
-    while e < end {
-        if n <= columns::index(to[e]) {
+    for e in from..end {
+        if n <= index(to[e]) {
             return false;
         }
-        e += 1;
     }
     true
 }
@@ -50,41 +47,21 @@ const MOST: usize = 65536;
 pub fn valid(first: &[u32], to: &[u32]) -> bool
     ensures { Tells (Graph first.now to.now) result }
 {
-    if first.len() == 0 {
+    let Some(n) = first.len().checked_sub(1) else {
+        return false;
+    };
+    if MOST < n || !rising(first, n) {
         return false;
     }
-    let n = first.len() - 1;
-    if MOST < n {
-        return false;
-    }
-    if !rising(first, n) {
-        return false;
-    }
-    let end = columns::index(first[n]);
-    if to.len() < end {
-        return false;
-    }
-    inside(to, columns::index(first[0]), end, n)
-}
-
-// The number at an index; past the end of the column 0.
-fn entry(column: &[u32], i: usize) -> u32
-    ensures { result ≡ get_or column.now i 0 }
-{
-    if i < column.len() {
-        return column[i];
-    }
-    0
+    let end = index(first[n]);
+    end <= to.len() && inside(to, index(first[0]), end, n)
 }
 
 // Is it an index of a mark that is not the stamp?
 fn is_unstamped(mark: &[u32], v: usize, stamp: u32) -> bool
     ensures { result ≡ unstamped stamp mark.now v }
 {
-    if v < mark.len() {
-        return mark[v] != stamp;
-    }
-    false
+    v < mark.len() && mark[v] != stamp
 }
 
 // Marks the targets of u's arcs with the stamp, and puts those that are new into the queue.
@@ -103,18 +80,17 @@ fn expand(
     if first.len() <= u {
         return tail;
     }
-    let mut e = columns::index(entry(first, u));
-    let end = columns::index(entry(first, u + 1));
+    let start = index(get_or(first, u, 0));
+    let end = index(get_or(first, u + 1, 0));
     let mut t = tail;
-    while e < end {
-        let target = entry(to, e);
-        let w = columns::index(target);
+    for e in start..end {
+        let target = get_or(to, e, 0);
+        let w = index(target);
         if is_unstamped(mark, w, stamp) {
-            columns::put32(mark, w, stamp);
-            columns::put32(queue, t, target);
+            put(mark, w, stamp);
+            put(queue, t, target);
             t += 1;
         }
-        e += 1;
     }
     t
 }
@@ -134,7 +110,7 @@ pub fn search(
     let mut tail = expand(first, to, from, stamp, mark, queue, 0);
     let mut head = 0;
     while head < tail {
-        let u = columns::index(entry(queue, head));
+        let u = index(get_or(queue, head, 0));
         tail = expand(first, to, u, stamp, mark, queue, tail);
         head += 1;
     }

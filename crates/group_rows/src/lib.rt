@@ -5,14 +5,14 @@ ghost use Rattle.std.specs.Prelude.{◌≡◌, ◌+◌, ◌*◌, ◌<◌, length
 ghost use Rattle.graph.specs.Graph.{Tells};
 ghost use Rattle.group_rows.specs.Rows.{cell, Grouped, Inner, Arrangeable, Arranged};
 
-use columns::{index, number, put32, shorter};
+use columns::{index, number, put};
 
 // A row has six numbers; the first two are the group of a vertex and its place. There are at most so many vertices.
-const WIDTH: usize = 6;
+pub const WIDTH: usize = 6;
 
-const GROUP: usize = 0;
+pub const GROUP: usize = 0;
 
-const PLACE: usize = 1;
+pub const PLACE: usize = 1;
 
 const MOST: usize = 65536;
 
@@ -28,36 +28,23 @@ fn get(s: &[u32], column: usize, i: usize) -> usize
 fn in_group(s: &[u32], w: usize, group: usize) -> bool
     ensures { w < 65536 → 6 * w < length s.now → Tells (cell s.now 0 w ≡ group) result }
 {
-    if MOST <= w {
-        return false;
-    }
-    if s.len() <= WIDTH * w {
-        return false;
-    }
-    get(s, GROUP, w) == group
+    w < MOST && WIDTH * w < s.len() && get(s, GROUP, w) == group
 }
 
 // Has vertex v an arc into its own group? Of what is no graph, or has too few rows, nothing is said.
 pub fn inner(first: &[u32], to: &[u32], s: &[u32], v: usize) -> bool
     ensures { Grouped first.now to.now s.now v → Tells (Inner first.now to.now s.now v) result }
 {
-    if MOST <= v {
-        return false;
-    }
-    if first.len() <= v + 1 {
-        return false;
-    }
-    if s.len() <= WIDTH * v {
+    if MOST <= v || first.len() <= v + 1 || s.len() <= WIDTH * v {
         return false;
     }
     let own = get(s, GROUP, v);
-    let mut e = index(first[v]);
-    let end = shorter(index(first[v + 1]), to.len());
-    while e < end {
+    let start = index(first[v]);
+    let end = index(first[v + 1]).min(to.len());
+    for e in start..end {
         if in_group(s, index(to[e]), own) {
             return true;
         }
-        e += 1;
     }
     false
 }
@@ -66,16 +53,11 @@ pub fn inner(first: &[u32], to: &[u32], s: &[u32], v: usize) -> bool
 pub fn arrange(order: &mut [u32], s: &[u32], n: usize)
     ensures { Arrangeable order.old s.now n → Arranged s.now order.new n }
 {
-    if MOST < n {
+    if MOST < n || s.len() < WIDTH * n {
         return;
     }
-    if s.len() < WIDTH * n {
-        return;
-    }
-    let mut v = 0;
-    while v < n {
+    for v in 0..n {
         let k = get(s, PLACE, v);
-        put32(order, k, number(v));
-        v += 1;
+        put(order, k, number(v));
     }
 }

@@ -17,9 +17,8 @@ use Rattle.relations.proofs.Select.{and_fst, and_snd, and_both, untrue, first_is
 use Rattle.index.specs.Bucket.{bucket_of, InBucket}
 use Rattle.index.specs.Room.{fits}
 use Rattle.index.specs.Dictionary.{has, among, first_with, falls, link_to, link, Indexed, Walks, Builds, Finds, Continues}
-use Rattle.index.specs.declared.Outcome.TheVariants.{Done, Short}
-use Rattle.index.specs.declared.dictionary.Found.{Found}
-use Rattle.index.specs.declared.dictionary.Found.TheVariants.{At, Nothing}
+use Rattle.std.specs.Prelude.{Option, Some, None, Ok, Err}
+use Rattle.index.specs.declared.Short.{Short}
 use Rattle.index.proofs.Search.{first_skip, at_set}
 
 -- ---- what the tests say
@@ -66,17 +65,17 @@ module _ (keys : List ℕ) where
 
   -- ---- what an answer means
 
-  among_at : (n i j : ℕ) → among n i ≡ At j → (i ≡ j) × (i < n)
+  among_at : (n i j : ℕ) → among n i ≡ Some j → (i ≡ j) × (i < n)
   among_at n i j e = by (ltb i n) refl e
     where
-      by : (b : Bool) → ltb i n ≡ b → cond b (At i) Nothing ≡ At j → (i ≡ j) × (i < n)
+      by : (b : Bool) → ltb i n ≡ b → cond b (Some i) None ≡ Some j → (i ≡ j) × (i < n)
       by true t e = (cc, ltb-true i n t)
       by false t e = let z : ◌≡◌ {A = ℕ} 0 1 = cc in absurd (omega arith)
 
-  among_in : (n i : ℕ) → i < n → among n i ≡ At i
+  among_in : (n i : ℕ) → i < n → among n i ≡ Some i
   among_in n i h = rw (lt-ltb i n h)
 
-  among_past : (n i : ℕ) → n ≤ i → among n i ≡ Nothing
+  among_past : (n i : ℕ) → n ≤ i → among n i ≡ None
   among_past n i h = rw (le-ltb i n h)
 
   abbrev seek : ℕ → ℕ → ℕ
@@ -90,7 +89,7 @@ module _ (keys : List ℕ) where
     pub has : get_or keys i 0 ≡ key
     pub none : (j : ℕ) → from ≤ j → j < i → get_or keys j 0 ≡ key → ⊥
 
-  pub found_least : (key from i : ℕ) → first_with keys key from ≡ At i → Least key from i
+  pub found_least : (key from i : ℕ) → first_with keys key from ≡ Some i → Least key from i
   unfolding first_with
   found_least key from i e =
       let F = first_is (has keys key) from (count - from) in
@@ -110,7 +109,7 @@ module _ (keys : List ℕ) where
       }
 
   -- where nothing is found, no entry from there on has the key
-  pub found_nothing : (key from : ℕ) → first_with keys key from ≡ Nothing → 0 < key → (j : ℕ) → from ≤ j → j < length keys → get_or keys j 0 ≡ key → ⊥
+  pub found_nothing : (key from : ℕ) → first_with keys key from ≡ None → 0 < key → (j : ℕ) → from ≤ j → j < length keys → get_or keys j 0 ≡ key → ⊥
   unfolding first_with
   found_nothing key from e k j a b h =
       let F = first_is (has keys key) from (count - from) in
@@ -119,7 +118,7 @@ module _ (keys : List ℕ) where
       (λ l. false≢true (sym (F.none j a (omega (arith, l))) ∙ has_is key j k h))
 
   -- no entry has the key 0
-  pub none_keyed : (from : ℕ) → first_with keys 0 from ≡ Nothing
+  pub none_keyed : (from : ℕ) → first_with keys 0 from ≡ None
   unfolding first_with
   none_keyed from =
       let F = first_is (has keys 0) from (count - from) in
@@ -198,7 +197,7 @@ module _ (keys : List ℕ) where
             }
 
     -- the entry has the key: it is the least
-    pub walk_hit : {at l : ℕ} → at < l → l ≡ link keys m (bucket_of m key) at → get_or keys (l - 1) 0 ≡ key → At (l - 1) ≡ first_with keys key at
+    pub walk_hit : {at l : ℕ} → at < l → l ≡ link keys m (bucket_of m key) at → get_or keys (l - 1) 0 ≡ key → Some (l - 1) ≡ first_with keys key at
     unfolding first_with
     walk_hit {at} {l} h e k =
         let L = leads h e in
@@ -215,11 +214,11 @@ module _ (keys : List ℕ) where
         ap (among count) (sym s)
 
     -- the chain has ended: there is none
-    pub walk_end : {at l : ℕ} → l ≤ at → l ≡ link keys m (bucket_of m key) at → Nothing ≡ first_with keys key at
+    pub walk_end : {at l : ℕ} → l ≤ at → l ≡ link keys m (bucket_of m key) at → None ≡ first_with keys key at
     unfolding first_with
     walk_end {at} {l} h e = by (link_cases m bucket at)
       where
-        by : ((link keys m bucket at ≡ 0) × (count ≤ chain m bucket at)) ⊎ ((link keys m bucket at ≡ chain m bucket at + 1) × (chain m bucket at < count)) → Nothing ≡ among count (seek key at)
+        by : ((link keys m bucket at ≡ 0) × (count ≤ chain m bucket at)) ⊎ ((link keys m bucket at ≡ chain m bucket at + 1) × (chain m bucket at < count)) → None ≡ among count (seek key at)
         by (inr w) = absurd (omega (arith, w.0, (first_is (falls keys m bucket) at (count - at)).from))
         by (inl w) =
             by_cases (dec_lt at count)
@@ -242,18 +241,18 @@ module _ {keys next : List ℕ} {key from first : ℕ} where
   walking_starts = record { past = omega arith; is = λ heads I k e. (e, refl) }
 
   module _ {at l : ℕ} (w : Walking keys next key from first at l) where
-    pub walking_hits : at < l → l - 1 < length keys → get_or keys (l - 1) 0 ≡ key → Walks keys next key from first (At (l - 1))
+    pub walking_hits : at < l → l - 1 < length keys → get_or keys (l - 1) 0 ≡ key → Walks keys next key from first (Some (l - 1))
     walking_hits h inside e =
         record {
           holds = (omega (arith, w.past), inside, e);
           is = λ heads I k f. let s = w.is heads I k f in walk_hit keys (length heads) key k h s.0 e ∙ s.1;
         }
 
-    pub walking_ends : l ≤ at → Walks keys next key from first Nothing
+    pub walking_ends : l ≤ at → Walks keys next key from first None
     walking_ends h = record { holds = tt; is = λ heads I k f. let s = w.is heads I k f in walk_end keys (length heads) key k h s.0 ∙ s.1 }
 
     -- chains as `build` leaves them stay among the entries
-    pub walking_leaves : at < l → min (length keys) (length next) ≤ l - 1 → Walks keys next key from first Nothing
+    pub walking_leaves : at < l → min (length keys) (length next) ≤ l - 1 → Walks keys next key from first None
     walking_leaves h out =
         record {
           holds = tt;
@@ -395,25 +394,25 @@ built {keys} {heads₀} {next₀} {heads} {next} {i} w z =
 
 -- ---- the answer of `build`
 
-pub builds_short : {keys heads next : List ℕ} {b : Bool} → not b ≡ true → b ≡ fits (length keys) (length heads) (length next) → Builds keys heads next Short heads next
+pub builds_short : {keys heads next : List ℕ} {b : Bool} → not b ≡ true → b ≡ fits (length keys) (length heads) (length next) → {e : Short} → Builds keys heads next (Err e) heads next
 builds_short {b = b} t e =
     record { answer = sym (not-true b t) ∙ e; indexed = λ f. absurd (false≢true f); rest = λ f. absurd (false≢true f); kept = λ _. (refl, refl) }
 
 pub builds_done :
     {keys heads next heads' next' : List ℕ} {b : Bool} → not b ≡ false → b ≡ fits (length keys) (length heads) (length next) → Indexed keys heads' next'
-    → ((i : ℕ) → get_or keys i 0 ≡ 0 → get_or next' i 0 ≡ get_or next i 0) → Builds keys heads next Done heads' next'
+    → ((i : ℕ) → get_or keys i 0 ≡ 0 → get_or next' i 0 ≡ get_or next i 0) → Builds keys heads next (Ok tt) heads' next'
 builds_done {b = b} t e I z =
     record { answer = sym (not-false b t) ∙ e; indexed = λ _. I; rest = λ _. z; kept = λ f. absurd (false≢true f) }
 
 -- ---- the answers of `find` and `next_of`
 
-pub finds_none : {keys heads next : List ℕ} {key : ℕ} → key ≡ 0 → Finds keys heads next key Nothing
+pub finds_none : {keys heads next : List ℕ} {key : ℕ} → key ≡ 0 → Finds keys heads next key None
 finds_none {keys} e = record { holds = tt; is = λ I. sym (ap (λ (k : ℕ). first_with keys k 0) e ∙ none_keyed keys 0) }
 
-pub finds_no_bucket : {keys heads next : List ℕ} {key : ℕ} → length heads ≡ 0 → Finds keys heads next key Nothing
+pub finds_no_bucket : {keys heads next : List ℕ} {key : ℕ} → length heads ≡ 0 → Finds keys heads next key None
 finds_no_bucket e = record { holds = tt; is = λ I. absurd (omega (arith, I.some)) }
 
-pub finds_walked : {keys heads next : List ℕ} {key first : ℕ} {r : Found} (b : ℕ) → (key ≡ 0 → ⊥) → InBucket (length heads) key b → first ≡ get_or heads b 0
+pub finds_walked : {keys heads next : List ℕ} {key first : ℕ} {r : Option ℕ} (b : ℕ) → (key ≡ 0 → ⊥) → InBucket (length heads) key b → first ≡ get_or heads b 0
     → Walks keys next key 0 first r → Finds keys heads next key r
 finds_walked {keys} {heads} b n B e w =
     record {
@@ -424,17 +423,17 @@ finds_walked {keys} {heads} b n B e w =
           (e ∙ I.head b B.small ∙ ap (λ (x : ℕ). link keys (length heads) x 0) B.is);
     }
 
-pub continues_none : {keys next : List ℕ} {entry : ℕ} → get_or keys entry 0 ≡ 0 → Continues keys next entry Nothing
+pub continues_none : {keys next : List ℕ} {entry : ℕ} → get_or keys entry 0 ≡ 0 → Continues keys next entry None
 continues_none {keys} {next} {entry} e =
     record { holds = tt; is = λ heads I. sym (ap (λ (k : ℕ). first_with keys k (entry + 1)) e ∙ none_keyed keys (entry + 1)) }
 
-pub continues_past : {keys next : List ℕ} {entry : ℕ} → length keys ≤ entry → Continues keys next entry Nothing
+pub continues_past : {keys next : List ℕ} {entry : ℕ} → length keys ≤ entry → Continues keys next entry None
 continues_past {keys} {next} {entry} h = continues_none (get_or-eq_default keys 0 {n = entry} h)
 
-pub continues_short : {keys next : List ℕ} {entry : ℕ} → entry < length keys → length next ≤ entry → Continues keys next entry Nothing
+pub continues_short : {keys next : List ℕ} {entry : ℕ} → entry < length keys → length next ≤ entry → Continues keys next entry None
 continues_short l h = record { holds = tt; is = λ heads I. absurd (omega (arith, I.room)) }
 
-pub continues_walked : {keys next : List ℕ} {entry first : ℕ} {r : Found} → entry < length keys → (get_or keys entry 0 ≡ 0 → ⊥) → first ≡ get_or next entry 0
+pub continues_walked : {keys next : List ℕ} {entry first : ℕ} {r : Option ℕ} → entry < length keys → (get_or keys entry 0 ≡ 0 → ⊥) → first ≡ get_or next entry 0
     → Walks keys next (get_or keys entry 0) (entry + 1) first r → Continues keys next entry r
 continues_walked {keys} {next} {entry} l n e w =
     let k : 0 < get_or keys entry 0 = by_cases (ℕ_discrete (get_or keys entry 0) 0) (λ z. absurd (n z)) (λ z. omega (arith, z)) in

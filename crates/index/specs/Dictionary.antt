@@ -1,22 +1,20 @@
 -- A dictionary over keys: the least entry with a key, from an index on.
-use Rattle.std.specs.Prelude.{◌≡◌, Bool, true, cond, ◌&&◌, not, List, ℕ, ◌+◌, ◌-◌, ◌≤◌, ◌<◌, eqb, ltb, length, get_or}
+use Rattle.std.specs.Prelude.{◌≡◌, Bool, true, cond, ◌&&◌, not, List, ℕ, ◌+◌, ◌-◌, ◌≤◌, ◌<◌, eqb, ltb, length, get_or, Option, Some, None, Result}
 use Rattle.relations.specs.Select.{first_from}
 use Rattle.index.specs.Bucket.{bucket_of}
 use Rattle.index.specs.Room.{done, fits}
-use Rattle.index.specs.declared.Outcome.{Outcome}
-use Rattle.index.specs.declared.dictionary.Found.{Found}
-use Rattle.index.specs.declared.dictionary.Found.TheVariants.{At, Nothing}
+use Rattle.index.specs.declared.Short.{Short}
 
 -- entry i has the key: 0 is none
 abbrev pub has : List ℕ → ℕ → ℕ → Bool
 has keys key i = not (eqb key 0) && eqb (get_or keys i 0) key
 
 -- an index among n entries; past them there is nothing
-abbrev pub among : ℕ → ℕ → Found
-among n i = cond (ltb i n) (At i) Nothing
+abbrev pub among : ℕ → ℕ → Option ℕ
+among n i = cond (ltb i n) (Some i) None
 
 -- the least entry, from an index on, that has the key
-unfoldable pub first_with : List ℕ → ℕ → ℕ → Found
+unfoldable pub first_with : List ℕ → ℕ → ℕ → Option ℕ
 first_with keys key from = among (length keys) (first_from (has keys key) from (length keys - from))
 
 -- ---- what `build` leaves
@@ -44,29 +42,29 @@ pub record Indexed (keys heads next : List ℕ) : Type 0 where
 
 -- done exactly where there is room: then heads and next hold the chains, and an entry that has no key, as what is behind the keys, has the
 -- link that it had; else nothing changes
-pub record Builds (keys heads next : List ℕ) (r : Outcome) (heads' next' : List ℕ) : Type 0 where
+pub record Builds (keys heads next : List ℕ) (r : Result (Unit {0}) Short) (heads' next' : List ℕ) : Type 0 where
   pub answer : done r ≡ fits (length keys) (length heads) (length next)
   pub indexed : done r ≡ true → Indexed keys heads' next'
   pub rest : done r ≡ true → (i : ℕ) → get_or keys i 0 ≡ 0 → get_or next' i 0 ≡ get_or next i 0
   pub kept : not (done r) ≡ true → (heads' ≡ heads) × (next' ≡ next)
 
 -- an entry that is given lies in the keys, from an index on, and has the key
-abbrev pub Holds : List ℕ → ℕ → ℕ → Found → Type 0
-Holds keys key from (At i) = (from ≤ i) × (i < length keys) × (get_or keys i 0 ≡ key)
-Holds keys key from Nothing = Unit {0}
+abbrev pub Holds : List ℕ → ℕ → ℕ → Option ℕ → Type 0
+Holds keys key from (Some i) = (from ≤ i) × (i < length keys) × (get_or keys i 0 ≡ key)
+Holds keys key from None = Unit {0}
 
 -- the least entry with the key, where heads and next are as `build` leaves them; whatever they hold, the call ends, and an entry that
 -- it gives has the key
-pub record Finds (keys heads next : List ℕ) (key : ℕ) (r : Found) : Type 0 where
+pub record Finds (keys heads next : List ℕ) (key : ℕ) (r : Option ℕ) : Type 0 where
   pub holds : Holds keys key 0 r
   pub is : Indexed keys heads next → r ≡ first_with keys key 0
 
 -- the next entry with the same key, likewise
-pub record Continues (keys next : List ℕ) (entry : ℕ) (r : Found) : Type 0 where
+pub record Continues (keys next : List ℕ) (entry : ℕ) (r : Option ℕ) : Type 0 where
   pub holds : Holds keys (get_or keys entry 0) (entry + 1) r
   pub is : (heads : List ℕ) → Indexed keys heads next → r ≡ first_with keys (get_or keys entry 0) (entry + 1)
 
 -- the first entry with the key on a chain, from its first link on
-pub record Walks (keys next : List ℕ) (key from first : ℕ) (r : Found) : Type 0 where
+pub record Walks (keys next : List ℕ) (key from first : ℕ) (r : Option ℕ) : Type 0 where
   pub holds : Holds keys key from r
   pub is : (heads : List ℕ) → Indexed keys heads next → 0 < key → first ≡ link keys (length heads) (bucket_of (length heads) key) from → r ≡ first_with keys key from

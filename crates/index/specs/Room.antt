@@ -1,11 +1,10 @@
 -- When the work is done, and when a lent column is too short for it.
-use Rattle.std.specs.Prelude.{Bool, true, false, ◌&&◌, not, ℕ, eqb, leb, ltb}
-use Rattle.index.specs.declared.Outcome.{Outcome}
-use Rattle.index.specs.declared.Outcome.TheVariants.{Done, Short}
+use Rattle.std.specs.Prelude.{Bool, true, false, ◌&&◌, not, ℕ, eqb, leb, ltb, Result, Ok, Err}
+use Rattle.index.specs.declared.Short.{Short}
 
-abbrev pub done : Outcome → Bool
-done Done = true
-done Short = false
+abbrev pub done : Result (Unit {0}) Short → Bool
+done (Ok _) = true
+done (Err _) = false
 
 -- room for chains of so many entries: a bucket or more, a link for each entry, and links that 32 bits hold
 abbrev pub fits : ℕ → ℕ → ℕ → Bool

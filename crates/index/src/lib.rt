@@ -19,24 +19,15 @@ pub const FACTOR: u64 = 2654435761;
 // A link is an entry plus one, of 32 bits: there are fewer entries than this.
 const ENTRIES: usize = 4294967295;
 
-// Whether the scratch and the columns had room for the work.
-#[derive(Clone, Copy)]
-pub enum Outcome {
-    Done,
-    Short,
-}
+// The scratch or a column has too little room for the work.
+#[derive(Clone, Copy, Debug, PartialEq, Eq)]
+pub struct Short;
 
 // Does the scratch have room for chains of so many entries?
 pub fn scratch(count: usize, heads: usize, next: usize) -> bool
     ensures { result ≡ fits count heads next }
 {
-    if heads == 0 {
-        return false;
-    }
-    if next < count {
-        return false;
-    }
-    count < ENTRIES
+    heads != 0 && count <= next && count < ENTRIES
 }
 
 // A number of 32 bits, in the high ones of which all of x has a say.
@@ -54,5 +45,5 @@ fn bucket(x: u64, buckets: usize) -> usize
     if x < buckets as u64 {
         return x as usize;
     }
-    (mix(x) * (columns::shorter(buckets, RANGE) as u64) / WORD) as usize
+    (mix(x) * (buckets.min(RANGE) as u64) / WORD) as usize
 }

@@ -1,5 +1,5 @@
 -- Which nodes ask: a declaration does not, nor is it an attribute.
-use mathlib.Core.Path.{◌≡◌, refl, ◌∙◌}
+use mathlib.Core.Path.{◌≡◌, refl, sym, ◌∙◌}
 use mathlib.Core.Bool.{Bool, true, false, ◌&&◌, ◌||◌}
 use Prim.Native.Nat.{ℕ}
 use lib.Dec.{eqb}
@@ -25,6 +25,10 @@ asks_joined false false r false = refl
 
 pub asks_told : (kind role : ℕ) {x y z r : Bool} → x ≡ (eqb kind name || eqb kind rule) → y ≡ (x && eqb role in_expression) → z ≡ attribute_kind kind → r ≡ (y || z) → r ≡ asks_by kind role
 asks_told kind role a b c d = d ∙ rw (b, a, c) (asks_joined (eqb kind name) (eqb kind rule) (eqb role in_expression) (attribute_kind kind))
+
+-- the same of what the columns hold
+pub asks_at : {a b k r : ℕ} {x v : Bool} → k ≡ a → r ≡ b → x ≡ asks_by k r → x ≡ v → asks_by a b ≡ v
+asks_at p q h e = rw (← p, ← q) (sym h ∙ e)
 
 pub declaration_silent : (t : Table) (n : ℕ) → is_declaration t n ≡ true → asks t n ≡ false
 declaration_silent t n d = by (declaring t n d)

@@ -372,6 +372,9 @@ module _ {kinds nodes first : List ℕ} where
   pub inheriting_starts : {v : ℕ} → v ≡ length first - 1 → NoneInherits kinds nodes first v
   inheriting_starts e = record { upto = omega (arith, e); none = λ v a b. absurd (omega (arith, e)) }
 
+  pub inheriting_ends : {v r : ℕ} → NoneInherits kinds nodes first v → r ≡ v → NoneInherits kinds nodes first r
+  inheriting_ends N e = rw e N
+
   pub inheriting_goes : {v n m : ℕ} {b : Bool} → NoneInherits kinds nodes first v → 0 < v → n ≡ m → m ≡ get_or nodes (v - 1) 0 → b ≡ inherits_by kinds first n (v - 1) → b ≡ false
       → NoneInherits kinds nodes first (v - 1)
   inheriting_goes {v} {n} N l p q h e =

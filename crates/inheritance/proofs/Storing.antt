@@ -10,6 +10,11 @@ use lib.ListN.{length, get_or, set, length-set}
 use Rattle.columns.proofs.Laws.{at_set, at_other}
 use Rattle.inheritance.specs.Steps.{asks_by, StoresEach}
 
+-- what suits by one rule suits by another
+pub stores_as : {kinds roles : List ℕ} {Suits Other : ℕ → ℕ → Type 0} {lo hi : ℕ} {bound bound' : List ℕ} → ((n x : ℕ) → Suits n x → Other n x)
+    → StoresEach kinds roles Suits lo hi bound bound' → StoresEach kinds roles Other lo hi bound bound'
+stores_as f s = record { stored = λ n a b c e. f n _ (s.stored n a b c e); other = s.other; before = s.before; behind = s.behind }
+
 pub record Storing (kinds roles : List ℕ) (Suits : ℕ → ℕ → Type 0) (lo hi : ℕ) (bound₁ bound : List ℕ) (i : ℕ) : Type 0 where
   pub long : length bound ≡ length bound₁
   pub upto : i ≤ hi

@@ -1,5 +1,6 @@
 -- Results that fit, and results that leave the range. A signed local holds bits: `own z` is what those of z read as.
 use mathlib.Core.Path.{◌≡◌, refl, sym, ap, ◌∙◌}
+use mathlib.Core.Logic.{⊎_elim}
 use mathlib.Core.Bool.{Bool, true, false, cond, not}
 use Prim.Native.Nat.{ℕ, zero, suc, ◌^◌, ◌≤◌, ◌<◌}
 use native.Mathlib.Omega.{arith}
@@ -10,8 +11,14 @@ use lib.Signed.{mag, lt_z, le_z}
 use mir.Syntax.{w64}
 use mir.Val.{SFits, to_z, of_z}
 use mir.Facts.{to_z-of_z}
+use Rattle.std.specs.Prelude.{Option, None, Some, Result, SomeIff}
+use Rattle.std.specs.Option.{ok_or}
+use Rattle.std.proofs.lemmas.Bool.{cases_lt}
 use Rattle.express.specs.Semantics.Answer.{Answer, integer, end}
 use Rattle.express.specs.Semantics.Integer.{exact, negative}
+use Rattle.values.specs.declared.End.{End}
+use Rattle.values.specs.declared.End.TheVariants.{OutOfRange}
+use Rattle.integers.specs.Meaning.{integer_answer}
 
 abbrev pub own : ℤ → ℤ
 own z = to_z w64 (of_z w64 z)
@@ -24,6 +31,14 @@ exact_fits z h = rw (lt-ltb (mag z) (2 ^ 63) h)
 pub exact_over : (z : ℤ) → 2 ^ 63 ≤ mag z → exact z ≡ end 16
 unfolding exact
 exact_over z h = rw (le-ltb (mag z) (2 ^ 63) h)
+
+-- what a checked operation of the machine gives
+fits_or : (z : ℤ) → (SFits w64 z → ⊥) → 2 ^ 63 ≤ mag z
+fits_or z h = ⊎_elim (λ l. absurd (h (record { sfits = l }))) (λ l. l) (cases_lt (mag z) (2 ^ 63))
+
+pub checked_is : (z : ℤ) (o : Option ℤ) {r : Result ℤ End} → SomeIff o (SFits w64 z) z → r ≡ ok_or o OutOfRange → integer_answer r ≡ exact z
+checked_is z None h e = rw e (sym (exact_over z (fits_or z h)))
+checked_is z (Some x) h e = rw (e, h.1) (sym (exact_fits z h.0.sfits))
 
 -- ---- what an answer tells of the exact result
 is_integer : (t : Bool) (z w : ℤ) → cond t (integer z) (end 16) ≡ integer w → z ≡ w

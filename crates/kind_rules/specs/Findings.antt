@@ -1,5 +1,5 @@
 -- What is found at a node, from the numbers of kinds and of declared types.
-use Rattle.std.specs.Prelude.{◌≡◌, cond, ◌&&◌, ℕ, eqb}
+use Rattle.std.specs.Prelude.{◌≡◌, cond, ◌&&◌, ℕ, eqb, Result, Ok, Err}
 use Rattle.std.proofs.Math.Option.{Option, none, some}
 use Rattle.express.specs.Tokens.Terminal.{the}
 use Rattle.express.specs.Tokens.Terminal as word
@@ -12,13 +12,18 @@ use Rattle.express.specs.Semantics.Kind.{of_number, common, kind_of_type, of_kin
 use Rattle.express.specs.Semantics.Kind as express
 use Rattle.kind_rules.specs.declared.Class.{Class}
 use Rattle.kind_rules.specs.declared.Class.TheVariants.{Plus, Arithmetic, Relation, Connective, Unevaluated}
-use Rattle.kind_rules.specs.declared.Finding.{Finding}
-use Rattle.kind_rules.specs.declared.Finding.TheVariants.{OfKind, Fault}
+use Rattle.kind_rules.specs.declared.Fault.{Fault}
+use Rattle.kind_rules.specs.declared.Fault.TheVariants.{NotEvaluated, Misfit}
 
--- a finding, as express has it
-abbrev pub finding_of : Finding → express.Finding
-finding_of (OfKind k) = of_kind (of_number k)
-finding_of (Fault f) = fault f
+-- the reply to a fault
+abbrev pub reply_of : Fault → ℕ
+reply_of NotEvaluated = 14
+reply_of Misfit = 15
+
+-- a node's kind by its number, or the reply, as express has it
+abbrev pub finding_of : Result ℕ Fault → express.Finding
+finding_of (Ok k) = of_kind (of_number k)
+finding_of (Err f) = fault (reply_of f)
 
 -- K7, K10: the class of a two-operand operator, and of none, which is `/`
 abbrev pub class_of : Option Operator → Class
@@ -56,11 +61,11 @@ pub record KindOfType (number r : ℕ) : Type 0 where
   pub is : (d : Declared) → number ≡ declared_number d → of_number r ≡ kind_of_type d
 
 -- K3: a kind where a declared type of that number is evaluated
-pub record Evaluated (number k : ℕ) (r : Finding) : Type 0 where
+pub record Evaluated (number k : ℕ) (r : Result ℕ Fault) : Type 0 where
   pub is : (d : Declared) → number ≡ declared_number d → finding_of r ≡ if_evaluated d (of_number k)
 
 -- K9: a constant that is declared with a type of that number
-pub record Held (number value : ℕ) (r : Finding) : Type 0 where
+pub record Held (number value : ℕ) (r : Result ℕ Fault) : Type 0 where
   pub is :
       (d : Declared) → number ≡ declared_number d →
       finding_of r ≡ if_fits (comparable (common (kind_of_type d) (of_number value))) (kind_of_type d)

@@ -2,14 +2,13 @@
 #![tactic(auto)]
 
 ghost use Rattle.std.specs.Prelude.{◌≡◌, ◌&&◌};
-ghost use Rattle.express.specs.Syntax.NodeKind.{other_literal};
 ghost use Rattle.express.specs.Semantics.DeclaredColumn.{declared_number};
 ghost use Rattle.express.specs.Semantics.Declared as Declared;
 ghost use Rattle.express.specs.Semantics.Shape.{operator_of, sign_of};
 ghost use Rattle.express.specs.Semantics.Operate.{logicals, integral, truthful, summable, comparable};
 ghost use Rattle.express.specs.Semantics.Kind.{kind_number, of_number, if_fits};
 ghost use Rattle.express.specs.Semantics.Kind as Kind;
-ghost use Rattle.kind_rules.specs.Findings.{finding_of, class_of, class_of_sign, applied, leaf_found, KindOfType, Evaluated, Held};
+ghost use Rattle.kind_rules.specs.Findings.{reply_of, finding_of, class_of, class_of_sign, applied, leaf_found, KindOfType, Evaluated, Held};
 
 use codes::types;
 
@@ -27,7 +26,7 @@ pub const BINARIES: u32 = 4;
 pub const STRINGS: u32 = 5;
 
 // Operators by what they take and give; `/` is not evaluated.
-#[derive(Clone, Copy)]
+#[derive(Clone, Copy, Debug, PartialEq, Eq)]
 pub enum Class {
     Plus,
     Arithmetic,
@@ -36,11 +35,23 @@ pub enum Class {
     Unevaluated,
 }
 
-// A node's kind, or the reply.
-#[derive(Clone, Copy)]
-pub enum Finding {
-    OfKind(u32),
-    Fault(u8),
+// Why a node has no kind.
+#[derive(Clone, Copy, Debug, PartialEq, Eq)]
+pub enum Fault {
+    NotEvaluated,
+    Misfit,
+}
+
+// Its reply.
+impl From<Fault> for u8 {
+    ghost from_gives = { λ f n. n ≡ reply_of f };
+
+    fn from(f: Fault) -> u8 {
+        match f {
+            Fault::NotEvaluated => codes::replies::NOT_EVALUATED,
+            Fault::Misfit => codes::replies::MISFIT,
+        }
+    }
 }
 
 // The kind of two operands together.
@@ -48,59 +59,38 @@ pub fn common(j: u32, k: u32) -> u32
     ensures { result ≡ kind_number (Kind.common (of_number j) (of_number k)) }
 {
     if j == UNDETERMINED {
-        return k;
+        k
+    } else if k == UNDETERMINED || j == k {
+        j
+    } else {
+        UNTYPED
     }
-    if k == UNDETERMINED {
-        return j;
-    }
-    if j == k {
-        return j;
-    }
-    UNTYPED
 }
 
 // A kind where a test passes, else the reply.
-pub fn fits(test: bool, k: u32) -> Finding
+pub fn fits(test: bool, k: u32) -> Result<u32, Fault>
     ensures { finding_of result ≡ if_fits test (of_number k) }
 {
-    if test {
-        return Finding::OfKind(k);
-    }
-    Finding::Fault(codes::replies::MISFIT)
+    if test { Ok(k) } else { Err(Fault::Misfit) }
 }
 
 // What arithmetic takes, what connectives do, what `+` does and what relations do.
 fn is_integral(k: u32) -> bool
     ensures { result ≡ integral (of_number k) }
 {
-    if k == INTEGERS {
-        return true;
-    }
-    k == UNDETERMINED
+    matches!(k, INTEGERS | UNDETERMINED)
 }
 
 fn is_truthful(k: u32) -> bool
     ensures { result ≡ truthful (of_number k) }
 {
-    if k == LOGICALS {
-        return true;
-    }
-    k == UNDETERMINED
+    matches!(k, LOGICALS | UNDETERMINED)
 }
 
 fn is_summable(k: u32) -> bool
     ensures { result ≡ summable (of_number k) }
 {
-    if k == INTEGERS {
-        return true;
-    }
-    if k == BINARIES {
-        return true;
-    }
-    if k == STRINGS {
-        return true;
-    }
-    k == UNDETERMINED
+    matches!(k, INTEGERS | BINARIES | STRINGS | UNDETERMINED)
 }
 
 fn is_comparable(k: u32) -> bool
@@ -110,7 +100,7 @@ fn is_comparable(k: u32) -> bool
 }
 
 // What an operator of a class makes of operands of a kind.
-pub fn apply(class: Class, k: u32) -> Finding
+pub fn apply(class: Class, k: u32) -> Result<u32, Fault>
     ensures { finding_of result ≡ applied class (of_number k) }
 {
     match class {
@@ -118,21 +108,21 @@ pub fn apply(class: Class, k: u32) -> Finding
         Class::Arithmetic => fits(is_integral(k), INTEGERS),
         Class::Relation => fits(is_comparable(k), LOGICALS),
         Class::Connective => fits(is_truthful(k), LOGICALS),
-        Class::Unevaluated => Finding::Fault(codes::replies::NOT_EVALUATED),
+        Class::Unevaluated => Err(Fault::NotEvaluated),
     }
 }
 
 // The class of a two-operand operator.
+#[tactic(auto, unfolding(express::specs::Semantics::Shape::operator_of))]
 pub fn operator_class(terminal: u8) -> Class
     ensures { result ≡ class_of (operator_of terminal) }
 {
     match terminal {
         codes::PLUS => Class::Plus,
-        codes::MINUS | codes::POWER | codes::DIV | codes::MOD => Class::Arithmetic,
-        codes::TIMES => Class::Arithmetic,
-        codes::EQUAL | codes::LESS | codes::LESS_EQUAL | codes::GREATER_EQUAL => Class::Relation,
-        codes::GREATER | codes::UNEQUAL | codes::INSTANCE_UNEQUAL => Class::Relation,
-        codes::INSTANCE_EQUAL => Class::Relation,
+        codes::MINUS | codes::TIMES | codes::DIV | codes::MOD | codes::POWER => Class::Arithmetic,
+        codes::EQUAL | codes::UNEQUAL | codes::INSTANCE_EQUAL | codes::INSTANCE_UNEQUAL =>
+            Class::Relation,
+        codes::LESS | codes::GREATER | codes::LESS_EQUAL | codes::GREATER_EQUAL => Class::Relation,
         codes::AND | codes::OR | codes::XOR => Class::Connective,
         _ => Class::Unevaluated,
     }
@@ -143,9 +133,10 @@ pub fn sign_class(terminal: u8) -> Class
     ensures { result ≡ class_of_sign (sign_of terminal) }
 {
     if terminal == codes::NOT {
-        return Class::Connective;
+        Class::Connective
+    } else {
+        Class::Arithmetic
     }
-    Class::Arithmetic
 }
 
 // Do two kinds agree?
@@ -156,13 +147,10 @@ fn agree(j: u32, k: u32) -> bool
 }
 
 // An interval: each pair of neighbours by itself.
-pub fn interval(low: u32, item: u32, high: u32) -> Finding
+pub fn interval(low: u32, item: u32, high: u32) -> Result<u32, Fault>
     ensures { finding_of result ≡ if_fits (comparable (Kind.common (of_number low) (of_number item)) && comparable (Kind.common (of_number item) (of_number high))) logicals }
 {
-    if agree(low, item) {
-        return fits(agree(item, high), LOGICALS);
-    }
-    Finding::Fault(codes::replies::MISFIT)
+    fits(agree(low, item) && agree(item, high), LOGICALS)
 }
 
 // The kind of a declared type.
@@ -170,23 +158,25 @@ pub fn kind_of_type(declared: u32) -> u32
     ensures { KindOfType declared result }
 {
     if declared == types::BOOLEAN {
-        return LOGICALS;
+        LOGICALS
+    } else {
+        declared
     }
-    declared
 }
 
 // A kind where the declared type is evaluated.
-pub fn evaluated(declared: u32, k: u32) -> Finding
+pub fn evaluated(declared: u32, k: u32) -> Result<u32, Fault>
     ensures { Evaluated declared k result }
 {
     if declared == types::OTHER {
-        return Finding::Fault(codes::replies::NOT_EVALUATED);
+        Err(Fault::NotEvaluated)
+    } else {
+        Ok(k)
     }
-    Finding::OfKind(k)
 }
 
 // A constant: its declared type, and the kind of its expression.
-pub fn constant(declared: u32, value: u32) -> Finding
+pub fn constant(declared: u32, value: u32) -> Result<u32, Fault>
     ensures { Held declared value result }
 {
     let k = kind_of_type(declared);
@@ -194,6 +184,7 @@ pub fn constant(declared: u32, value: u32) -> Finding
 }
 
 // The number of a simple type.
+#[tactic(auto, unfolding(express::specs::Semantics::Declared::simple))]
 pub fn simple(terminal: u8) -> u32
     ensures { result ≡ declared_number (Declared.simple terminal) }
 {
@@ -207,27 +198,17 @@ pub fn simple(terminal: u8) -> u32
     }
 }
 
-// A real, a string, PI or CONST_E: the string alone is evaluated.
-fn other_literal(terminal: u8) -> Finding
-    ensures { finding_of result ≡ leaf_found other_literal terminal }
-{
-    if terminal == codes::STRING_LITERAL {
-        return Finding::OfKind(STRINGS);
-    }
-    Finding::Fault(codes::replies::NOT_EVALUATED)
-}
-
-// A node that has neither operands nor a name, and is no type.
-pub fn leaf(kind: u8, terminal: u8) -> Finding
+// A node that has neither operands nor a name, and is no type. Of a real, a string, PI and CONST_E the string alone is evaluated.
+pub fn leaf(kind: u8, terminal: u8) -> Result<u32, Fault>
     ensures { finding_of result ≡ leaf_found kind terminal }
 {
     match kind {
-        codes::nodes::INTEGER => Finding::OfKind(INTEGERS),
-        codes::nodes::BINARY => Finding::OfKind(BINARIES),
-        codes::nodes::LOGICAL => Finding::OfKind(LOGICALS),
-        codes::nodes::INDETERMINATE => Finding::OfKind(UNDETERMINED),
-        codes::nodes::OTHER => other_literal(terminal),
-        codes::nodes::INTERVAL_OPERATOR => Finding::OfKind(UNTYPED),
-        _ => Finding::Fault(codes::replies::NOT_EVALUATED),
+        codes::nodes::INTEGER => Ok(INTEGERS),
+        codes::nodes::BINARY => Ok(BINARIES),
+        codes::nodes::LOGICAL => Ok(LOGICALS),
+        codes::nodes::INDETERMINATE => Ok(UNDETERMINED),
+        codes::nodes::OTHER if terminal == codes::STRING_LITERAL => Ok(STRINGS),
+        codes::nodes::INTERVAL_OPERATOR => Ok(UNTYPED),
+        _ => Err(Fault::NotEvaluated),
     }
 }

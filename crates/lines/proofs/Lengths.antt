@@ -17,7 +17,7 @@ use Rattle.express.specs.Semantics.Bits.{bits}
 use Rattle.express.proofs.Semantics.Bits.{length_bits}
 use Rattle.express.specs.Whole.Listing.{signed, logical_name, bit_digit, name_of, printed, answer_line}
 use Rattle.records.specs.declared.Answer as records
-use Rattle.lines.specs.declared.Line.TheVariants.{Written}
+use Rattle.std.specs.Prelude.{Ok}
 use Rattle.lines.specs.Print.{fitted, record_answer}
 use Rattle.lines.proofs.Numbers.{decimal_short}
 use Rattle.lines.proofs.Strings.{literal_short}
@@ -81,5 +81,5 @@ module _ (t : Table) where
         )
 
 -- a line that fits is written
-pub line_fits : (line : List ℕ) (m : ℕ) → length line ≤ m → fitted (length line) m ≡ Written (length line)
+pub line_fits : (line : List ℕ) (m : ℕ) → length line ≤ m → fitted (length line) m ≡ Ok (length line)
 line_fits line m h = rw (le-leb (length line) m h)

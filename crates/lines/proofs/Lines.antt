@@ -19,10 +19,10 @@ use Rattle.express.specs.Semantics.AnswerRow.{natural, ranked}
 use Rattle.express.specs.Semantics.Bits.{bits}
 use Rattle.express.specs.Whole.Listing.{decimal, signed, logical_name, bit_digit, literal, name_of, printed, line, refused_line, accepted_line}
 use Rattle.records.specs.declared.Answer.{Answer}
-use Rattle.lines.specs.declared.Line.{Line}
-use Rattle.lines.specs.declared.Line.TheVariants.{Written, Short}
+use Rattle.lines.specs.declared.Short.{Short}
+use Rattle.std.specs.Prelude.{Result, Ok, Err}
 use Rattle.lines.specs.Piece.{Stored, Puts, Titled}
-use Rattle.lines.specs.Print.{fitted, Prints, table_of, record_answer}
+use Rattle.lines.specs.Print.{short, fitted, Prints, table_of, record_answer}
 use Rattle.lines.proofs.Pieces.{then, kept}
 
 -- ---- how an answer is printed, by the kind of its record; its number is read from its bits
@@ -81,14 +81,14 @@ titled {t} {c} {s} e p q r u =
 
 -- the line feed is stored, and the line fits or does not
 pub fits_all : {was have : List ℕ} {at n : ℕ} → Puts was at (10 ∷ []) have n → n ≤ length was
-    → (have ≡ set was at 10) × (Written n ≡ fitted (at + 1) (length was))
+    → (have ≡ set was at 10) × (Ok n ≡ fitted (at + 1) (length was))
 fits_all {was} {n = n} p h = (p.put.is, rw (← p.put.moves, le-leb n (length was) h))
 
 pub fits_not : {was have : List ℕ} {at n : ℕ} → Puts was at (10 ∷ []) have n → length was < n
-    → (have ≡ set was at 10) × (Short n ≡ fitted (at + 1) (length was))
+    → (have ≡ set was at 10) × (Err (short n) ≡ fitted (at + 1) (length was))
 fits_not {was} {n = n} p h = (p.put.is, rw (← p.put.moves, lt-leb n (length was) h))
 
-pub ended : {p was mid have : List ℕ} {m : ℕ} {r : Line} → Stored was 0 p mid m → have ≡ set mid m 10 → r ≡ fitted (m + 1) (length mid) → Prints (line p) was have r
+pub ended : {p was mid have : List ℕ} {m : ℕ} {r : Result ℕ Short} → Stored was 0 p mid m → have ≡ set mid m 10 → r ≡ fitted (m + 1) (length mid) → Prints (line p) was have r
 ended {p} {was} {mid} {have} {m} {r} s e f =
     let all : Stored was 0 (line p) have (m + 1) = then s (record { is = e; moves = refl }) in
     let size : m + 1 ≡ length (line p) = omega (arith, all.moves) in
@@ -96,24 +96,24 @@ ended {p} {was} {mid} {have} {m} {r} s e f =
 
 -- ---- the lines, piece by piece
 
-pub refused_printed : (k p : ℕ) {was x y z w have : List ℕ} {a b d e : ℕ} {r : Line} → Puts was 0 (bytes "refused ") x a → Puts x a (decimal k) y b
+pub refused_printed : (k p : ℕ) {was x y z w have : List ℕ} {a b d e : ℕ} {r : Result ℕ Short} → Puts was 0 (bytes "refused ") x a → Puts x a (decimal k) y b
     → Puts y b (bytes " at ") z d → Puts z d (decimal p) w e → have ≡ set w e 10 → r ≡ fitted (e + 1) (length w) → Prints (refused_line k p) was have r
 refused_printed k p q₁ q₂ q₃ q₄ = ended (then (then (then q₁.put q₂.put) q₃.put) q₄.put)
 
-pub accepted_printed : (n : ℕ) {was x y have : List ℕ} {a b : ℕ} {r : Line} → Puts was 0 (bytes "accepted ") x a → Puts x a (decimal n) y b
+pub accepted_printed : (n : ℕ) {was x y have : List ℕ} {a b : ℕ} {r : Result ℕ Short} → Puts was 0 (bytes "accepted ") x a → Puts x a (decimal n) y b
     → have ≡ set y b 10 → r ≡ fitted (b + 1) (length y) → Prints (accepted_line n) was have r
 accepted_printed n q₁ q₂ = ended (then q₁.put q₂.put)
 
 -- a line that is written stands at the buffer's start
-pub written_is : {l was have : List ℕ} {n : ℕ} → Prints l was have (Written n) → take n have ≡ l
+pub written_is : {l was have : List ℕ} {n : ℕ} → Prints l was have (Ok n) → take n have ≡ l
 written_is {l} {was} {have} {n} p = ⊎_elim
     (λ (h : length l ≤ length was).
-    let whole : fitted (length l) (length was) ≡ Written (length l) = rw (le-leb (length l) (length was) h) in
-    let answer : Written n ≡ fitted (length l) (length was) = p.answer in
+    let whole : fitted (length l) (length was) ≡ Ok (length l) = rw (le-leb (length l) (length was) h) in
+    let answer : Ok n ≡ fitted (length l) (length was) = p.answer in
     let size : n ≡ length l = cc in
     rw (size, p.is) (take_rows was l h))
     (λ (h : length was < length l).
-    let over : fitted (length l) (length was) ≡ Short (length l) = rw (lt-leb (length l) (length was) h) in
-    let answer : Written n ≡ fitted (length l) (length was) = p.answer in
+    let over : fitted (length l) (length was) ≡ Err (short (length l)) = rw (lt-leb (length l) (length was) h) in
+    let answer : Ok n ≡ fitted (length l) (length was) = p.answer in
     let z : ◌≡◌ {A = ℕ} 0 1 = cc in absurd (omega arith))
     (le_or (length l) (length was))

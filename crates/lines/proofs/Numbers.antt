@@ -195,10 +195,11 @@ pub record Remaining (n l : ℕ) (was : List ℕ) (at : ℕ) (have : List ℕ) (
   pub long : length have ≡ length was
 
 module _ {n l : ℕ} {was : List ℕ} {at : ℕ} where
-  pub remaining_starts : Remaining n l was at was l at
-  remaining_starts = record { is = refl; place = refl; within = omega arith; long = refl }
+  pub remaining_starts : Remaining n l was at was (l - 0) (at + 0)
+  remaining_starts = let e : l - 0 ≡ l = omega arith in let k : at + 0 ≡ at = omega arith in
+      rw (e, k) (record { is = refl; place = refl; within = omega arith; long = refl })
 
-  pub remaining_goes_on : {have now : List ℕ} {left next b : ℕ} → 0 < left → Remaining n l was at have left next → now ≡ set have next b
+  remaining_goes_on : {have now : List ℕ} {left next b : ℕ} → 0 < left → Remaining n l was at have left next → now ≡ set have next b
       → b ≡ bit_digit (eqb (n / 2 ^ (left - 1) % 2) 1) → Remaining n l was at now (left - 1) (next + 1)
   unfolding bits
   remaining_goes_on {have} {now} {left} {next} {b} h k set_is e =
@@ -212,13 +213,22 @@ module _ {n l : ℕ} {was : List ℕ} {at : ℕ} where
         long = ap length set_is ∙ length-set have next b ∙ k.long;
       }
 
-  pub remaining_ends : {have : List ℕ} {left next : ℕ} → left ≤ 0 → Remaining n l was at have left next → Stored was at (map bit_digit (bits l n)) have next
+  pub remaining_step : {have now : List ℕ} {i b : ℕ} → i < l → Remaining n l was at have (l - i) (at + i) → now ≡ set have (at + i) b
+      → b ≡ bit_digit (eqb (n / 2 ^ (l - 1 - i) % 2) 1) → Remaining n l was at now (l - (i + 1)) (at + (i + 1))
+  remaining_step {i = i} h k set_is e =
+      let a : l - (i + 1) ≡ l - i - 1 = omega arith in
+      let c : at + (i + 1) ≡ at + i + 1 = omega arith in
+      let d : l - 1 - i ≡ l - i - 1 = omega arith in
+      rw (a, c) (remaining_goes_on (omega arith) k set_is (rw d at e))
+
+  pub remaining_ends : {have : List ℕ} {i : ℕ} → l ≤ i → Remaining n l was at have (l - i) (at + i) → Stored was at (map bit_digit (bits l n)) have (at + l)
   unfolding bits
-  remaining_ends {have} {left} {next} h k =
-      let none : left ≡ 0 = omega arith in
+  remaining_ends {have} {i} h k =
+      let none : l - i ≡ 0 = omega arith in
+      let end : at + i ≡ at + l = omega (arith, k.place) in
       record {
-        is = rw none at k.is;
-        moves = omega (arith, k.place, length-map (bits l n) bit_digit, length_bits l n);
+        is = let e = ap (λ (m : ℕ). sets have (at + i) (map bit_digit (bits m n))) none in sym e ∙ k.is;
+        moves = omega (arith, length-map (bits l n) bit_digit, length_bits l n);
       }
 
 pub put_binary : {was mid have : List ℕ} {at m next : ℕ} (n l : ℕ) → l < 256 → Puts was at (37 ∷ []) mid m → Puts mid m (map bit_digit (bits l n)) have next

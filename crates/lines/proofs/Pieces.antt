@@ -5,6 +5,8 @@ use mathlib.Core.Logic.{⊎_elim}
 use Prim.Native.Nat.{ℕ, ◌+◌, ◌-◌, ◌≤◌, ◌<◌, ◌^◌, min}
 use native.Mathlib.Numerals.{add-one}
 use native.Mathlib.Omega.{arith}
+use borrow.Author.Tests.{lt-ltb, le-ltb, le-leb, lt-leb}
+use Rattle.std.specs.Char.{to_ascii_lowercase}
 use lib.ListN.{length, get_or, set, take, drop, length-append, length-map, length-drop, drop_of_length-le}
 use lib.Seq.{sets, length-sets, length-take-le, take-suc, take-length, take_all, take-nil}
 use Rattle.columns.proofs.Laws.{sets_append, sets_snoc}
@@ -63,7 +65,7 @@ module _ {f : ℕ → ℕ} {text was : List ℕ} {at : ℕ} where
         );
   }
 
-  pub copying_ends : {have : List ℕ} {i : ℕ} → length text ≤ i → Copying f text was at have i → Stored was at (map f text) have (at + i)
+  pub copying_ends : {have : List ℕ} {i : ℕ} → length text ≤ i → Copying f text was at have i → Stored was at (map f text) have (at + length text)
   copying_ends {have} {i} h k =
       let all : i ≡ length text = omega (arith, k.within) in
       record {
@@ -82,11 +84,19 @@ map_same : (xs : List ℕ) → map same xs ≡ xs
 map_same [] = refl
 map_same (x ∷ xs) = ap (λ (l : List ℕ). x ∷ l) (map_same xs)
 
-pub copied : {text was have : List ℕ} {at i : ℕ} → length text ≤ 2 ^ 32 → length text ≤ i → Copying same text was at have i → Puts was at text have (at + i)
+pub copied : {text was have : List ℕ} {at i : ℕ} → length text ≤ 2 ^ 32 → length text ≤ i → Copying same text was at have i → Puts was at text have (at + length text)
 copied {text} short h k = spelled text (copying_ends h k) (map_same text) short
 
+pub lowered : (b : ℕ) → to_ascii_lowercase b ≡ lower b
+unfolding lower
+lowered b = ⊎_elim
+    (λ (h : 65 ≤ b). ⊎_elim
+    (λ (k : b ≤ 90). rw (le-ltb b 65 h, lt-ltb b 91 (omega arith), le-leb 65 b h, le-leb b 90 k))
+    (λ (k : 90 < b). rw (le-ltb b 65 h, le-ltb b 91 (omega arith), le-leb 65 b h, lt-leb b 90 k)) (le_or b 90))
+    (λ (h : b < 65). rw (lt-ltb b 65 h, lt-leb 65 b h)) (le_or 65 b)
+
 pub lower_copied : {text was have : List ℕ} {at i : ℕ} → length text ≤ 2 ^ 32 → length text ≤ i → Copying lower text was at have i
-    → Puts was at (map lower text) have (at + i)
+    → Puts was at (map lower text) have (at + length text)
 lower_copied {text} short h k = spelled (map lower text) (copying_ends h k) refl (omega (arith, length-map text lower))
 
 -- ---- a part of a text, by its first byte and its length, both within the text

@@ -77,11 +77,10 @@ pub literal_short : (s : List ℕ) → length (literal s) ≤ 2 * length s + 2
 literal_short s =
     omega (arith, length-append (quote ∷ flat_map quoted_byte s) (quote ∷ []), quoted_short s)
 
--- a part of the room between two quotes; k is its length as an index
-pub put_literal : (room : List ℕ) (start n k first m : ℕ) {was x y have : List ℕ} {at a b next : ℕ} → (k ≡ n) × (k ≤ 255) → first ≡ min start (length room)
-    → m ≡ min k (length room - first) → Puts was at (quote ∷ []) x a → Puts x a (flat_map quoted_byte (take (first + m - first) (drop first room))) y b
+-- a part of the room between two quotes
+pub put_literal : (room : List ℕ) (start n first m : ℕ) {was x y have : List ℕ} {at a b next : ℕ} → n < 256 → first ≡ min start (length room)
+    → m ≡ min n (length room - first) → Puts was at (quote ∷ []) x a → Puts x a (flat_map quoted_byte (take (first + m - first) (drop first room))) y b
     → Puts y b (quote ∷ []) have next → Puts was at (literal (take n (drop start room))) have next
-put_literal room start n k first m h e d p q r =
-    let same : m ≡ min n (length room - first) = omega (arith, h.0) in
-    spelled (literal (take n (drop start room))) (then (then p.put q.put) r.put) (ap literal (part_is room start n first m e same))
+put_literal room start n first m h e d p q r =
+    spelled (literal (take n (drop start room))) (then (then p.put q.put) r.put) (ap literal (part_is room start n first m e d))
     (omega (arith, literal_short (take n (drop start room)), length-take n (drop start room)))

@@ -94,7 +94,7 @@ module _ (t : Table) (n₁ n₂ n₃ n₄ : ℕ) where
 -- ---- an answer, read back from its row of the lent columns and the room
 
 module _ (a : Accepted) (m₁ m₂ m₃ m₄ : ℕ) where
-  -- what `records::record_at` gives of them
+  -- what `records::Rows::at` gives of them
   abbrev pub record_lent : ℕ → Answer
   record_lent i =
       get_or (take (length a.answers) (rows (padded 0 m₁ (answer_kinds a)) (padded (pos 0) m₂ (answer_numbers a)) (padded 0 m₃ (answer_lengths a))))

@@ -12,15 +12,25 @@ ghost use Rattle.express.specs.Semantics.AnswerRow.{natural, ranked};
 ghost use Rattle.express.specs.Whole.Listing.{digit_byte, line_feed, decimal, signed, logical_name, bit_digit, quoted_byte, literal, name_of, printed, refused_line, accepted_line, answer_line};
 ghost use Rattle.relations.specs.Select.{first_from};
 ghost use Rattle.lines.specs.Piece.{Puts, Titled};
-ghost use Rattle.lines.specs.Print.{Prints, fitted, table_of, record_answer};
+ghost use Rattle.lines.specs.Print.{Prints, fitted, table, table_of, record_answer};
 
+use columns::{get_or, index, put};
 use records::Answer;
 
-// Where a line stands: in the buffer, so long; or too long for it: the buffer holds its front, and this is its length.
+// A line that is too long for the buffer, which holds its front: this is its length.
+#[derive(Clone, Copy, Debug, PartialEq, Eq)]
+pub struct Short {
+    pub length: usize,
+}
+
+// The columns that a line is made of: the bytes of a file, where its tokens start and how long they are, and of its nodes the kinds and the tokens.
 #[derive(Clone, Copy)]
-pub enum Line {
-    Written(usize),
-    Short(usize),
+pub struct Columns<'a> {
+    pub text: &'a [u8],
+    pub starts: &'a [u32],
+    pub lengths: &'a [u32],
+    pub kinds: &'a [u8],
+    pub tokens: &'a [u32],
 }
 
 // Ranks of logicals; any other is that of TRUE.
@@ -35,7 +45,7 @@ fn put_byte(out: &mut [u8], at: usize, byte: u8) -> usize
     requires { at < 2 ^ 63 }
     ensures { Puts out.old at (byte ∷ []) out.new result }
 {
-    columns::put8(out, at, byte);
+    put(out, at, byte);
     at + 1
 }
 
@@ -43,36 +53,22 @@ fn put_text(out: &mut [u8], at: usize, text: &[u8]) -> usize
     requires { (at < 2 ^ 62) × (length text.now ≤ 2 ^ 32) }
     ensures { Puts out.old at text.now out.new result }
 {
-    let mut i = 0;
-    while i < text.len() {
-        columns::put8(out, at + i, text[i]);
-        i += 1;
+    for i in 0..text.len() {
+        put(out, at + i, text[i]);
     }
-    at + i
+    at + text.len()
 }
 
-// A letter in lower case; any other byte as it is.
-fn lowered(byte: u8) -> u8
-    ensures { result ≡ lower byte }
-{
-    if b'A' <= byte {
-        if byte <= b'Z' {
-            return byte + (b'a' - b'A');
-        }
-    }
-    byte
-}
-
+// The same with letters in lower case.
+// Form kept: one function with a closure would carry clauses on each of its calls, which are longer than this loop.
 fn put_lower(out: &mut [u8], at: usize, text: &[u8]) -> usize
     requires { (at < 2 ^ 62) × (length text.now ≤ 2 ^ 32) }
     ensures { Puts out.old at (map lower text.now) out.new result }
 {
-    let mut i = 0;
-    while i < text.len() {
-        columns::put8(out, at + i, lowered(text[i]));
-        i += 1;
+    for i in 0..text.len() {
+        put(out, at + i, text[i].to_ascii_lowercase());
     }
-    at + i
+    at + text.len()
 }
 
 // A name in lower case; what of it is outside the bytes is left out.
@@ -80,8 +76,8 @@ fn put_name(out: &mut [u8], at: usize, text: &[u8], start: usize, length: usize)
     requires { (at < 2 ^ 62) × (length < 2 ^ 32) }
     ensures { Puts out.old at (map lower (take length (drop start text.now))) out.new result }
 {
-    let first = columns::shorter(start, text.len());
-    let end = first + columns::shorter(length, text.len() - first);
+    let first = start.min(text.len());
+    let end = first + length.min(text.len() - first);
     put_lower(out, at, &text[first..end])
 }
 
@@ -108,10 +104,7 @@ fn put_decimal(out: &mut [u8], at: usize, n: u64) -> usize
 fn natural(z: i64) -> u64
     ensures { (result ≡ natural z) × (result < 2 ^ 63) }
 {
-    if z < 0 {
-        return 0;
-    }
-    z as u64
+    if z < 0 { 0 } else { z as u64 }
 }
 
 // The magnitude of the least integer is in the range of n + 1, for an n that is.
@@ -133,13 +126,11 @@ const LAST_BIT: u8 = 63;
 fn bit(n: u64, weight: u8) -> u8
     ensures { result ≡ bit_digit (eqb (n / 2 ^ weight % 2) 1) }
 {
-    if LAST_BIT < weight {
-        return b'0';
+    if weight <= LAST_BIT && (n >> (weight as u64)) % 2 == 1 {
+        b'1'
+    } else {
+        b'0'
     }
-    if (n >> (weight as u64)) % 2 == 1 {
-        return b'1';
-    }
-    b'0'
 }
 
 // The last `length` bits of n, the leftmost weighing most.
@@ -147,14 +138,10 @@ fn put_bits(out: &mut [u8], at: usize, n: u64, length: u8) -> usize
     requires { at < 2 ^ 62 }
     ensures { Puts out.old at (map bit_digit (bits length n)) out.new result }
 {
-    let mut left = length;
-    let mut next = at;
-    while 0 < left {
-        left -= 1;
-        columns::put8(out, next, bit(n, left));
-        next += 1;
+    for i in 0..length {
+        put(out, at + i as usize, bit(n, length - 1 - i));
     }
-    next
+    at + length as usize
 }
 
 fn put_binary(out: &mut [u8], at: usize, n: u64, length: u8) -> usize
@@ -182,11 +169,9 @@ fn put_quoted(out: &mut [u8], at: usize, text: &[u8]) -> usize
     requires { (at < 2 ^ 61) × (length text.now ≤ 2 ^ 31) }
     ensures { Puts out.old at (flat_map quoted_byte text.now) out.new result }
 {
-    let mut i = 0;
     let mut next = at;
-    while i < text.len() {
-        next = put_quoted_byte(out, next, text[i]);
-        i += 1;
+    for byte in text {
+        next = put_quoted_byte(out, next, *byte);
     }
     next
 }
@@ -196,8 +181,8 @@ fn put_string(out: &mut [u8], at: usize, room: &[u8], start: usize, length: u8) 
     requires { at < 2 ^ 60 }
     ensures { Puts out.old at (literal (take length (drop start room.now))) out.new result }
 {
-    let first = columns::shorter(start, room.len());
-    let end = first + columns::shorter(columns::byte_index(length), room.len() - first);
+    let first = start.min(room.len());
+    let end = first + (length as usize).min(room.len() - first);
     let a = put_byte(out, at, b'\'');
     let b = put_quoted(out, a, &room[first..end]);
     put_byte(out, b, b'\'')
@@ -208,13 +193,11 @@ fn put_logical(out: &mut [u8], at: usize, rank: u64) -> usize
     requires { at < 2 ^ 61 }
     ensures { Puts out.old at (bytes (logical_name (ranked rank))) out.new result }
 {
-    if rank == FALSE {
-        return put_text(out, at, b"FALSE");
+    match rank {
+        FALSE => put_text(out, at, b"FALSE"),
+        UNKNOWN => put_text(out, at, b"UNKNOWN"),
+        _ => put_text(out, at, b"TRUE"),
     }
-    if rank == UNKNOWN {
-        return put_text(out, at, b"UNKNOWN");
-    }
-    put_text(out, at, b"TRUE")
 }
 
 fn put_end(out: &mut [u8], at: usize, number: u8) -> usize
@@ -231,123 +214,109 @@ fn put_end(out: &mut [u8], at: usize, number: u8) -> usize
 fn entry(column: &[u32], i: usize) -> usize
     ensures { (result ≡ get_or column.now i 0) × (result < 2 ^ 32) }
 {
-    if i < column.len() {
-        return columns::index(column[i]);
-    }
-    0
+    index(get_or(column, i, 0))
 }
 
-// The name of a node, by its naming token.
-fn put_named<'a>(
-    out: &mut [u8],
-    at: usize,
-    text: &'a [u8],
-    starts: &'a [u32],
-    lengths: &'a [u32],
-    tokens: &'a [u32],
-    node: usize,
-) -> usize
-    requires { at < 2 ^ 62 }
-    ensures { Puts out.old at (name_of (table_of text.now starts.now lengths.now [] tokens.now) node) out.new result }
-{
-    let token = entry(tokens, node);
-    let start = entry(starts, token);
-    let length = entry(lengths, token);
-    put_name(out, at, text, start, length)
-}
-
-// The first node of a kind from a node on, or the number of nodes.
+// The first node of a kind from a node on, or where there is none the number of nodes.
+// Form kept: its caller reads the name at that number too, as `schema_of` of `express` does.
 fn first_of_kind(kinds: &[u8], kind: u8, from: usize) -> usize
     ensures { result ≡ first_from (is (table_of [] [] [] kinds.now []) kind) from (length kinds.now - from) }
 {
-    let mut node = from;
-    while node < kinds.len() {
+    for node in from..kinds.len() {
         if kinds[node] == kind {
             return node;
         }
-        node += 1;
     }
-    node
+    from.max(kinds.len())
 }
 
 // ---- lines
 
-// An answer by its record; an item by its name, a string by its bytes in the room.
-fn put_answer<'a>(
-    out: &mut [u8],
-    at: usize,
-    text: &'a [u8],
-    starts: &'a [u32],
-    lengths: &'a [u32],
-    tokens: &'a [u32],
-    room: &'a [u8],
-    answer: Answer,
-) -> usize
-    requires { at < 2 ^ 60 }
-    ensures { Puts out.old at
-        (printed (table_of text.now starts.now lengths.now [] tokens.now) (record_answer room.now answer))
-        out.new result }
-{
-    let kind = answer.kind;
-    let number = answer.number;
-    match kind {
-        codes::answers::INDETERMINATE => put_byte(out, at, b'?'),
-        codes::answers::INTEGER => put_integer(out, at, number),
-        codes::answers::LOGICAL => put_logical(out, at, natural(number)),
-        codes::answers::BINARY => put_binary(out, at, natural(number), answer.length),
-        codes::answers::ITEM => put_named(
-            out,
-            at,
-            text,
-            starts,
-            lengths,
-            tokens,
-            natural(number) as usize,
-        ),
-        codes::answers::STRING => put_string(
-            out,
-            at,
-            room,
-            natural(number) as usize,
-            answer.length,
-        ),
-        _ => put_end(out, at, kind),
+impl<'a> Columns<'a> {
+    // The name of a node, by its naming token.
+    fn put_named(&self, out: &mut [u8], at: usize, node: usize) -> usize
+        requires { at < 2 ^ 62 }
+        ensures { Puts out.old at (name_of (table self.now) node) out.new result }
+    {
+        let token = entry(self.tokens, node);
+        let start = entry(self.starts, token);
+        let length = entry(self.lengths, token);
+        put_name(out, at, self.text, start, length)
+    }
+
+    // An answer by its record; an item by its name, a string by its bytes in the room.
+    fn put_answer(&self, out: &mut [u8], at: usize, room: &[u8], answer: Answer) -> usize
+        requires { at < 2 ^ 60 }
+        ensures { Puts out.old at (printed (table self.now) (record_answer room.now answer)) out.new result }
+    {
+        let kind = answer.kind;
+        let number = answer.number;
+        match kind {
+            codes::answers::INDETERMINATE => put_byte(out, at, b'?'),
+            codes::answers::INTEGER => put_integer(out, at, number),
+            codes::answers::LOGICAL => put_logical(out, at, natural(number)),
+            codes::answers::BINARY => put_binary(out, at, natural(number), answer.length),
+            codes::answers::ITEM => self.put_named(out, at, natural(number) as usize),
+            codes::answers::STRING => put_string(
+                out,
+                at,
+                room,
+                natural(number) as usize,
+                answer.length,
+            ),
+            _ => put_end(out, at, kind),
+        }
+    }
+
+    // The name of a constant's schema, a point, its own name and the sign of equality.
+    fn put_title(&self, out: &mut [u8], node: usize) -> usize
+        ensures { Titled (table self.now) node out.old out.new result }
+    {
+        let schema = first_of_kind(self.kinds, codes::nodes::SCHEMA, node);
+        let a = self.put_named(out, 0, schema);
+        let b = put_byte(out, a, b'.');
+        let c = self.put_named(out, b, node);
+        put_text(out, c, b" = ")
+    }
+
+    // The first constant from a node on, or the number of nodes.
+    pub fn next_constant(&self, from: usize) -> usize
+        ensures { result ≡ first_from (is (table self.now) constant) from (length self.now.kinds.now - from) }
+    {
+        first_of_kind(self.kinds, codes::nodes::CONSTANT, from)
+    }
+
+    // `schema.constant = answer`, of the constant at a node.
+    pub fn put_line(
+        &self,
+        out: &mut [u8],
+        room: &[u8],
+        node: usize,
+        answer: Answer,
+    ) -> Result<usize, Short>
+        ensures { Prints (answer_line (table self.now) node (record_answer room.now answer)) out.old out.new result }
+    {
+        let a = self.put_title(out, node);
+        let b = self.put_answer(out, a, room, answer);
+        end_line(out, b)
     }
 }
 
-// The name of a constant's schema, a point, its own name and the sign of equality.
-fn put_title<'a>(
-    out: &mut [u8],
-    text: &'a [u8],
-    starts: &'a [u32],
-    lengths: &'a [u32],
-    kinds: &'a [u8],
-    tokens: &'a [u32],
-    node: usize,
-) -> usize
-    ensures { Titled (table_of text.now starts.now lengths.now kinds.now tokens.now) node out.old out.new result }
-{
-    let schema = first_of_kind(kinds, codes::nodes::SCHEMA, node);
-    let a = put_named(out, 0, text, starts, lengths, tokens, schema);
-    let b = put_byte(out, a, b'.');
-    let c = put_named(out, b, text, starts, lengths, tokens, node);
-    put_text(out, c, b" = ")
-}
-
 // The line feed, and whether all of the line fits.
-fn end_line(out: &mut [u8], at: usize) -> Line
+fn end_line(out: &mut [u8], at: usize) -> Result<usize, Short>
     requires { at < 2 ^ 63 }
     ensures { (out.new ≡ set out.old at line_feed) × (result ≡ fitted (at + 1) (length out.old)) }
 {
     let length = put_byte(out, at, b'\n');
     if length <= out.len() {
-        return Line::Written(length);
+        Ok(length)
+    } else {
+        Err(Short { length })
     }
-    Line::Short(length)
 }
 
 // `refused N at P`.
-pub fn refused(out: &mut [u8], reply: u8, number: usize) -> Line
+pub fn refused(out: &mut [u8], reply: u8, number: usize) -> Result<usize, Short>
     ensures { Prints (refused_line reply number) out.old out.new result }
 {
     let a = put_text(out, 0, b"refused ");
@@ -358,38 +327,10 @@ pub fn refused(out: &mut [u8], reply: u8, number: usize) -> Line
 }
 
 // `accepted N`.
-pub fn accepted(out: &mut [u8], constants: usize) -> Line
+pub fn accepted(out: &mut [u8], constants: usize) -> Result<usize, Short>
     ensures { Prints (accepted_line constants) out.old out.new result }
 {
     let a = put_text(out, 0, b"accepted ");
     let b = put_decimal(out, a, constants as u64);
-    end_line(out, b)
-}
-
-// The first constant from a node on, or the number of nodes.
-pub fn next_constant(kinds: &[u8], from: usize) -> usize
-    ensures { result ≡ first_from (is (table_of [] [] [] kinds.now []) constant) from (length kinds.now - from) }
-{
-    first_of_kind(kinds, codes::nodes::CONSTANT, from)
-}
-
-// `schema.constant = answer`, of the constant at a node.
-pub fn constant<'a>(
-    out: &mut [u8],
-    text: &'a [u8],
-    starts: &'a [u32],
-    lengths: &'a [u32],
-    kinds: &'a [u8],
-    tokens: &'a [u32],
-    room: &'a [u8],
-    node: usize,
-    answer: Answer,
-) -> Line
-    ensures { Prints
-        (answer_line (table_of text.now starts.now lengths.now kinds.now tokens.now) node
-        (record_answer room.now answer)) out.old out.new result }
-{
-    let a = put_title(out, text, starts, lengths, kinds, tokens, node);
-    let b = put_answer(out, a, text, starts, lengths, tokens, room, answer);
     end_line(out, b)
 }

@@ -3,7 +3,11 @@
 
 use checker::check;
 use columns::index;
-use listing_io::{Input, print, read_input};
+use lines::Columns;
+use listing_io::{print, read_input};
+use listing_parts::Listing;
+use records::Rows;
+use std::io;
 use std::io::Write;
 
 // One byte more than a file may have: so much is enough to refuse it.
@@ -21,8 +25,46 @@ const ROOM: usize = ANSWERS * codes::limits::STRING_BYTES;
 // A buffer for any line: three names, each no longer than the file, or two and an answer.
 const LINES: usize = 262144;
 
-// Whether the whole listing was written.
-fn list<W: Write>(output: &mut W, src: &[u8]) -> bool {
+// The listing of the columns.
+fn print_columns<'a, W: Write>(
+    output: &mut W,
+    out: &mut [u8],
+    text: &'a [u8],
+    starts: &'a [u32],
+    lengths: &'a [u32],
+    kinds: &'a [u8],
+    tokens: &'a [u32],
+    answer_kinds: &'a [u8],
+    answer_numbers: &'a [i64],
+    answer_lengths: &'a [u8],
+    room: &'a [u8],
+    reply: u8,
+    number: usize,
+    constants: usize,
+) -> io::Result<()> {
+    let columns = Columns {
+        text,
+        starts,
+        lengths,
+        kinds,
+        tokens,
+    };
+    let rows = Rows {
+        kinds: answer_kinds,
+        numbers: answer_numbers,
+        lengths: answer_lengths,
+        count: constants,
+    };
+    let listing = Listing {
+        columns,
+        rows,
+        room,
+    };
+    print(output, out, &listing, reply, number)
+}
+
+// The listing of a file.
+fn list<W: Write>(output: &mut W, src: &[u8]) -> io::Result<()> {
     let mut token_kinds = [0u8; TOKENS];
     let mut token_starts = [0u32; TOKENS];
     let mut token_lengths = [0u32; TOKENS];
@@ -49,7 +91,7 @@ fn list<W: Write>(output: &mut W, src: &[u8]) -> bool {
         &mut room,
     );
     let mut out = [0u8; LINES];
-    print(
+    print_columns(
         output,
         &mut out,
         src,
@@ -73,15 +115,14 @@ fn complain<W: Write>(errors: &mut W, what: &[u8]) {
 
 fn main(rt: HostRuntime) {
     let mut src = [0u8; BYTES];
-    let read = read_input(&mut rt.stdin(), &mut src);
-    let Input::Read(length) = read else {
+    let Ok(length) = read_input(&mut rt.stdin(), &mut src) else {
         complain(
             &mut rt.stderr(),
             b"listing: the standard input cannot be read\n",
         );
         return;
     };
-    if !list(&mut rt.stdout(), &src[..length]) {
+    if list(&mut rt.stdout(), &src[..length]).is_err() {
         complain(
             &mut rt.stderr(),
             b"listing: the standard output cannot be written\n",

@@ -14,15 +14,15 @@ use Rattle.express.specs.Syntax.Tree.{Table, count}
 use Rattle.express.specs.Whole.Listing.{refused_line, accepted_line, answer_line}
 use Rattle.records.specs.declared.Answer.{Answer}
 use Rattle.records.specs.Rows.{zeros}
-use Rattle.lines.specs.declared.Line.{Line}
-use Rattle.lines.specs.declared.Line.TheVariants.{Written, Short}
-use Rattle.lines.specs.Print.{fitted, Prints, record_answer}
+use Rattle.lines.specs.declared.Short.{Short}
+use Rattle.std.specs.Prelude.{Result, Ok, Err}
+use Rattle.lines.specs.Print.{short, fitted, Prints, record_answer}
 use Rattle.listing_parts.specs.declared.Place.{Place}
 use Rattle.listing_parts.specs.Parts.{head_line, next, after, next_line, lines_from, part_end, start, PrintsAnswer, Parts, FirstPart}
 
 -- ---- the first line
 
-module _ (reply number constants : ℕ) {was have : List ℕ} {r : Line} where
+module _ (reply number constants : ℕ) {was have : List ℕ} {r : Result ℕ Short} where
   pub head_accepted : reply ≡ 0 → Prints (accepted_line constants) was have r → Prints (head_line reply number constants) was have r
   head_accepted e p = rw (eq-eqb reply 0 e) p
 
@@ -64,43 +64,43 @@ rest_long : (c : List ℕ) (at : ℕ) → length (rest c at) ≡ length c - at
 rest_long c at = ap length (rest_is c at) ∙ length-drop at c
 
 -- a line that is written fits, and its length is told; one that is short does not fit
-fit : (n m k : ℕ) → Written k ≡ fitted n m → (n ≤ m) × (k ≡ n)
+fit : (n m k : ℕ) → Ok k ≡ fitted n m → (n ≤ m) × (k ≡ n)
 fit n m k e = ⊎_elim
-    (λ (h : n ≤ m). (h, length_of _ _ (e ∙ ap (λ b. cond b (Written n) (Short n)) (le-leb n m h))))
-    (λ (h : m < n). absurd (not_written _ _ (e ∙ ap (λ b. cond b (Written n) (Short n)) (lt-leb n m h))))
+    (λ (h : n ≤ m). (h, length_of _ _ (e ∙ ap (λ b. cond b (Ok n) (Err (short n))) (le-leb n m h))))
+    (λ (h : m < n). absurd (not_written _ _ (e ∙ ap (λ b. cond b (Ok n) (Err (short n))) (lt-leb n m h))))
     (le_or n m)
   where
-    length_of : (i j : ℕ) → Written i ≡ Written j → i ≡ j
+    length_of : (i j : ℕ) → ◌≡◌ {A = Result ℕ Short} (Ok i) (Ok j) → i ≡ j
     length_of i j p = cc
 
-    not_written : (i j : ℕ) → Written i ≡ Short j → ⊥
+    not_written : (i j : ℕ) → ◌≡◌ {A = Result ℕ Short} (Ok i) (Err (short j)) → ⊥
     not_written i j p = let z : ◌≡◌ {A = ℕ} 0 1 = cc in absurd (omega arith)
 
-misfit : (n m k : ℕ) → Short k ≡ fitted n m → m < n
+misfit : (n m k : ℕ) → Err (short k) ≡ fitted n m → m < n
 misfit n m k e = ⊎_elim
-    (λ (h : n ≤ m). absurd (not_short _ _ (e ∙ ap (λ b. cond b (Written n) (Short n)) (le-leb n m h))))
+    (λ (h : n ≤ m). absurd (not_short _ _ (e ∙ ap (λ b. cond b (Ok n) (Err (short n))) (le-leb n m h))))
     (λ (h : m < n). h)
     (le_or n m)
   where
-    not_short : (i j : ℕ) → Short i ≡ Written j → ⊥
+    not_short : (i j : ℕ) → ◌≡◌ {A = Result ℕ Short} (Err (short i)) (Ok j) → ⊥
     not_short i j p = let z : ◌≡◌ {A = ℕ} 0 1 = cc in absurd (omega arith)
 
 -- a line that is written ends in the buffer
-pub ends_within : {line was have : List ℕ} {n : ℕ} → Prints line was have (Written n) → n ≤ length have
+pub ends_within : {line was have : List ℕ} {n : ℕ} → Prints line was have (Ok n) → n ≤ length have
 ends_within {line} {was} {have} {n} q =
     let f = fit (length line) (length was) n q.answer in omega (arith, f.0, f.1, ap length q.is, length-sets was 0 line)
 
 -- ---- what the calls give, by other names
 
-pub ended_by : {line was have : List ℕ} {r s : Line} → Prints line was have r → r ≡ s → Prints line was have s
+pub ended_by : {line was have : List ℕ} {r s : Result ℕ Short} → Prints line was have r → r ≡ s → Prints line was have s
 ended_by {line} {was} {have} p e = subst (Prints line was have) e p
 
-pub recorded : {t : Table} {room : List ℕ} {rs : List Answer} {i n : ℕ} {a : Answer} {was have : List ℕ} {r : Line} → a ≡ get_or rs i zeros
+pub recorded : {t : Table} {room : List ℕ} {rs : List Answer} {i n : ℕ} {a : Answer} {was have : List ℕ} {r : Result ℕ Short} → a ≡ get_or rs i zeros
     → Prints (answer_line t n (record_answer room a)) was have r → PrintsAnswer t room rs i n was have r
 recorded {t} {room} {n = n} {was = was} {have} {r} e p = record { prints = subst (λ (x : Answer). Prints (answer_line t n (record_answer room x)) was have r) e p }
 
 -- the constant that comes next, and how its line ends
-pub printed_by : {t : Table} {room : List ℕ} {rs : List Answer} (n : ℕ) {i c : ℕ} {was have : List ℕ} {r s : Line} → PrintsAnswer t room rs i c was have r → c ≡ next t n → r ≡ s
+pub printed_by : {t : Table} {room : List ℕ} {rs : List Answer} (n : ℕ) {i c : ℕ} {was have : List ℕ} {r s : Result ℕ Short} → PrintsAnswer t room rs i c was have r → c ≡ next t n → r ≡ s
     → Prints (next_line t room rs i n) was have s
 printed_by n p e f = ended_by (rw (← e) p.prints) f
 
@@ -145,7 +145,7 @@ module _ (t : Table) (room : List ℕ) (rs : List Answer) (constants : ℕ) wher
 
   module _ {was : List ℕ} {p₀ : Place} {have : List ℕ} {p : Place} (g : Going was p₀ have p) where
     module _ (h : p.line < constants) where
-      now_is : {last : List ℕ} {r : Line} → Prints (next_line t room rs p.line p.node) (rest have p.at) last r
+      now_is : {last : List ℕ} {r : Result ℕ Short} → Prints (next_line t room rs p.line p.node) (rest have p.at) last r
           → with_rest have p.at last ≡ sets have p.at (next_line t room rs p.line p.node)
       now_is q = ap (with_rest have p.at) q.is ∙ sets_rest have p.at (next_line t room rs p.line p.node) g.within
 
@@ -156,12 +156,12 @@ module _ (t : Table) (room : List ℕ) (rs : List Answer) (constants : ℕ) wher
           ∙ sets_append have p.at (next_line t room rs p.line p.node) (lines_from t room rs (p.line + 1) (after t p.node) (constants - (p.line + 1)))
 
       -- a line that is written ends in the buffer
-      pub going_fits : {last : List ℕ} {n : ℕ} → Prints (next_line t room rs p.line p.node) (rest have p.at) last (Written n) → p.at + n ≤ length have
+      pub going_fits : {last : List ℕ} {n : ℕ} → Prints (next_line t room rs p.line p.node) (rest have p.at) last (Ok n) → p.at + n ≤ length have
       going_fits {n = n} q =
           let f = fit (length (next_line t room rs p.line p.node)) (length (rest have p.at)) n q.answer in
           omega (arith, f.0, f.1, g.within, rest_long have p.at)
 
-      pub going_goes_on : {last : List ℕ} {n here node : ℕ} → Prints (next_line t room rs p.line p.node) (rest have p.at) last (Written n)
+      pub going_goes_on : {last : List ℕ} {n here node : ℕ} → Prints (next_line t room rs p.line p.node) (rest have p.at) last (Ok n)
           → here ≡ next t p.node → node ≡ min (here + 1) (count t)
           → Going was p₀ (with_rest have p.at last) (record { at = p.at + n; line = p.line + 1; node = node })
       going_goes_on {n = n} q e b =
@@ -176,7 +176,7 @@ module _ (t : Table) (room : List ℕ) (rs : List Answer) (constants : ℕ) wher
           } in
           rw (now_is q, f.1, b, e) go
 
-      pub going_stops : {last : List ℕ} {n : ℕ} → Prints (next_line t room rs p.line p.node) (rest have p.at) last (Short n)
+      pub going_stops : {last : List ℕ} {n : ℕ} → Prints (next_line t room rs p.line p.node) (rest have p.at) last (Err (short n))
           → Parts t room rs constants was p₀ (with_rest have p.at last) p
       going_stops {n = n} q =
           let f = misfit (length (next_line t room rs p.line p.node)) (length (rest have p.at)) n q.answer in
@@ -202,7 +202,7 @@ module _ (t : Table) (room : List ℕ) (rs : List Answer) (constants : ℕ) wher
   -- ---- the first part: the first line and a part behind it, or the front of the first line
 
   module _ (reply number : ℕ) {was mid : List ℕ} {n : ℕ} where
-    pub first_goes_on : {have : List ℕ} {r : Place} → Prints (head_line reply number constants) was mid (Written n)
+    pub first_goes_on : {have : List ℕ} {r : Place} → Prints (head_line reply number constants) was mid (Ok n)
         → Parts t room rs constants mid (record { at = n; line = 0; node = 0 }) have r → FirstPart t room rs reply number constants was have r
     first_goes_on {have} {r} q g =
         let f = fit (length (head_line reply number constants)) (length was) n q.answer in
@@ -220,7 +220,7 @@ module _ (t : Table) (room : List ℕ) (rs : List Answer) (constants : ℕ) wher
           within = g.within;
         }
 
-    pub first_stops : Prints (head_line reply number constants) was mid (Short n) → FirstPart t room rs reply number constants was mid start
+    pub first_stops : Prints (head_line reply number constants) was mid (Err (short n)) → FirstPart t room rs reply number constants was mid start
     first_stops q =
         let f = misfit (length (head_line reply number constants)) (length was) n q.answer in
         record {

@@ -1,5 +1,5 @@
 -- The listing in parts: the lines that are to come from a place on, as many of them as a buffer holds, and the place behind these.
-use Rattle.std.specs.Prelude.{◌≡◌, cond, List, [], ◌++◌, ℕ, zero, suc, ◌+◌, ◌-◌, ◌≤◌, min, eqb, leb, length, get_or}
+use Rattle.std.specs.Prelude.{◌≡◌, cond, List, [], ◌++◌, ℕ, zero, suc, ◌+◌, ◌-◌, ◌≤◌, min, eqb, leb, length, get_or, Result}
 use Rattle.std.proofs.lemmas.List.Edits.{sets}
 use Rattle.relations.specs.Select.{first_from}
 use Rattle.express.specs.Syntax.NodeKind.{constant}
@@ -7,7 +7,7 @@ use Rattle.express.specs.Syntax.Tree.{Table, count, is}
 use Rattle.express.specs.Whole.Listing.{refused_line, accepted_line, answer_line}
 use Rattle.records.specs.declared.Answer.{Answer}
 use Rattle.records.specs.Rows.{zeros}
-use Rattle.lines.specs.declared.Line.{Line}
+use Rattle.lines.specs.declared.Short.{Short}
 use Rattle.lines.specs.Print.{Prints, record_answer}
 use Rattle.listing_parts.specs.declared.Place.{Place}
 
@@ -40,7 +40,7 @@ part_end t room rs m (suc d) p =
     cond (leb end m) more p
 
 -- the line of answer i, of the constant at a node
-pub record PrintsAnswer (t : Table) (room : List ℕ) (rs : List Answer) (i node : ℕ) (was have : List ℕ) (r : Line) : Type 0 where
+pub record PrintsAnswer (t : Table) (room : List ℕ) (rs : List Answer) (i node : ℕ) (was have : List ℕ) (r : Result ℕ Short) : Type 0 where
   pub prints : Prints (answer_line t node (record_answer room (get_or rs i zeros))) was have r
 
 -- a part: from an index of the buffer on it holds what is to come, as far as it goes

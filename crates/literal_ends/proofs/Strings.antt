@@ -11,8 +11,8 @@ use Rattle.express.specs.Tokens.Bytes.{token_bytes, printable}
 use Rattle.express.specs.Tokens.Lexis.{Reading, at, refused, reading_then, string_value, most_bytes, end_of_string, end_of_short_string}
 use Rattle.express.proofs.Tokens.Strings.{length_string_value}
 use Rattle.blanks.specs.Step.{reading}
-use Rattle.blanks.specs.declared.Step.{Step}
-use Rattle.blanks.specs.declared.Step.TheVariants.{At, Refused}
+use Rattle.std.specs.Prelude.{Result, Ok, Err}
+use Rattle.blanks.specs.declared.Refusal.{Refusal}
 use Rattle.blanks.proofs.Turns.{at_cons, at_nil}
 
 module _ (s : List ℕ) (i o : ℕ) where
@@ -59,18 +59,18 @@ module _ (s : List ℕ) (p : ℕ) where
   abbrev taken_to : ℕ → Reading
   taken_to e = cond (leb (length (string_value (token_bytes s p (e - p)))) most_bytes) (at e) (refused 3 p)
 
-  module _ (r : Step) (is : reading r ≡ end_of_string p false (p + 1) (drop (p + 1) s)) where
+  module _ (r : Result ℕ Refusal) (is : reading r ≡ end_of_string p false (p + 1) (drop (p + 1) s)) where
     then_is : reading_then (reading r) taken_to ≡ end_of_short_string s p
     unfolding end_of_short_string
     then_is = ap (λ (x : Reading). reading_then x taken_to) is
 
-    pub short_open : {k o : ℕ} → r ≡ Refused k o → reading r ≡ end_of_short_string s p
-    short_open q = ap reading q ∙ ap (λ (x : Step). reading_then (reading x) taken_to) (sym q) ∙ then_is
+    pub short_open : {k : Refusal} → r ≡ Err k → reading (Err k) ≡ end_of_short_string s p
+    short_open q = ap (λ (x : Result ℕ Refusal). reading_then (reading x) taken_to) (sym q) ∙ then_is
 
-    short_is : {e : ℕ} → r ≡ At e → taken_to e ≡ end_of_short_string s p
-    short_is q = ap (λ (x : Step). reading_then (reading x) taken_to) (sym q) ∙ then_is
+    short_is : {e : ℕ} → r ≡ Ok e → taken_to e ≡ end_of_short_string s p
+    short_is q = ap (λ (x : Result ℕ Refusal). reading_then (reading x) taken_to) (sym q) ∙ then_is
 
-    module _ {e d : ℕ} (q : r ≡ At e) (size : d ≡ e - p) where
+    module _ {e d : ℕ} (q : r ≡ Ok e) (size : d ≡ e - p) where
       pub short_few : d ≤ most_bytes + 2 → at e ≡ end_of_short_string s p
       short_few h =
           let l : length (string_value (token_bytes s p (e - p))) ≤ most_bytes =

@@ -1,6 +1,6 @@
 -- What is read of a literal's value: the bound on it, and the first steps to it.
-use Rattle.std.specs.Prelude.{◌≡◌, false, List, ℕ, min, ◌+◌, ◌-◌, ◌≤◌, ◌<◌, eqb, length, take, drop, get_or}
-use Rattle.express.specs.Tokens.Lexis.{numeral, greatest, quote}
+use Rattle.std.specs.Prelude.{◌≡◌, List, ℕ, min, ◌+◌, ◌-◌, ◌≤◌, length, take, drop}
+use Rattle.express.specs.Tokens.Lexis.{numeral, greatest}
 
 -- what a byte counts as a digit; `0` is byte 48
 abbrev pub digit_value : ℕ → ℕ
@@ -19,23 +19,11 @@ few = 55
 abbrev pub capped : ℕ → ℕ
 capped n = min n (greatest + 1)
 
--- THE NUMBER of a few bytes in base 2: below 2 to the 63, and the digits of any longer part may go on from it
-pub record FewBits (s : List ℕ) (start end v : ℕ) : Type 0 where
+-- what stands between the quotes of a string's token
+abbrev pub between : List ℕ → List ℕ
+between t = take (length t - 2) (drop 1 t)
+
+-- THE NUMBER of a few bytes in base 2: below 2 to the 63, so that the digits of any longer part may go on from it
+pub record FewBits (t : List ℕ) (v : ℕ) : Type 0 where
   pub below : v ≤ greatest
-  pub is : (more : ℕ) → numeral 2 v (take more (drop end s)) ≡ numeral 2 0 (take (end - start + more) (drop start s))
-
--- the first n bytes of a part are zeros in front, which count for nothing
-pub record Zeros (s : List ℕ) (start size n : ℕ) : Type 0 where
-  pub few : n ≤ size
-  pub inside : n ≤ length s - start
-  pub is : numeral 10 0 (take (size - n) (drop (start + n) s)) ≡ numeral 10 0 (take size (drop start s))
-
--- none of the first n bytes behind a place is a quote
-pub record Plain (s : List ℕ) (start n : ℕ) : Type 0 where
-  pub is : (i : ℕ) → i < n → eqb (get_or s (start + 1 + i) 0) quote ≡ false
-
--- of so many bytes behind a place, r come before the first quote
-pub record Unquoted (s : List ℕ) (start count r : ℕ) : Type 0 where
-  pub few : r ≤ count
-  pub plain : Plain s start r
-  pub then : r < count → get_or s (start + 1 + r) 0 ≡ quote
+  pub is : v ≡ numeral 2 0 t

@@ -1,12 +1,11 @@
 // The values of integer, binary and string literals, from the bytes of their tokens.
 #![tactic(auto)]
 
-ghost use Rattle.std.specs.Prelude.{◌≡◌, cond, ◌+◌, ◌-◌, ◌≤◌, ◌<◌, eqb, length as size, take, drop, set};
+ghost use Rattle.std.specs.Prelude.{◌≡◌, cond, not, ◌+◌, ◌-◌, ◌≤◌, ◌<◌, eqb, length as size, take, drop, set};
+ghost use Rattle.std.specs.List.{prefix_len, position_or_len};
 ghost use Rattle.std.proofs.lemmas.List.Edits.{sets};
 ghost use Rattle.express.specs.Tokens.Lexis.{numeral, greatest, integer_value, binary_value, quote, string_value};
-ghost use Rattle.literals.specs.Literal.{digit_value, greatest_base, few, capped, FewBits, Zeros, Unquoted};
-
-use columns::shorter;
+ghost use Rattle.literals.specs.Literal.{digit_value, greatest_base, few, capped, between as between_quotes, FewBits};
 
 const DECIMAL: u64 = 10;
 
@@ -15,34 +14,32 @@ const BINARY: u64 = 2;
 // What is read of any larger number.
 const BEYOND: u64 = codes::limits::INTEGER + 1;
 
+// The bytes of a token, as far as the text goes.
+fn token(s: &[u8], start: usize, length: usize) -> &[u8]
+    ensures { result.now ≡ take length (drop start s.now) }
+{
+    let rest = &s[start.min(s.len())..];
+    &rest[..length.min(rest.len())]
+}
+
 fn digit(b: u8) -> u64
     ensures { (result ≡ digit_value b) × (result ≤ 255) }
 {
-    if b < b'0' {
-        return 0;
-    }
-    (b - b'0') as u64
+    b.saturating_sub(b'0') as u64
 }
 
-// The number that bytes stand for in a base behind digits that stand for `before`, as far as 2 to the 63.
-fn numeral_of(s: &[u8], start: usize, length: usize, base: u64, before: u64) -> u64
+// The number that digits of a base stand for behind others that stand for `before`, as far as 2 to the 63.
+fn numeral_of(digits: &[u8], base: u64, before: u64) -> u64
     requires { (0 < base) × (base ≤ greatest_base) × (before ≤ greatest) }
-    ensures { result ≡ capped (numeral base before (take length (drop start s.now))) }
+    ensures { result ≡ capped (numeral base before digits.now) }
 {
-    let mut i = start;
-    let mut left = length;
     let mut v = before;
-    while i < s.len() {
-        if left == 0 {
-            return v;
-        }
-        let d = digit(s[i]);
+    for b in digits {
+        let d = digit(*b);
         if v > (codes::limits::INTEGER - d) / base {
             return BEYOND;
         }
         v = v * base + d;
-        i += 1;
-        left -= 1;
     }
     v
 }
@@ -51,102 +48,75 @@ fn numeral_of(s: &[u8], start: usize, length: usize, base: u64, before: u64) -> 
 const FEW: usize = 55;
 
 // The number that a few bytes stand for in base 2: no bound has to be looked at.
-fn few_bits(s: &[u8], start: usize, end: usize) -> u64
-    requires { (start ≤ end) × (end ≤ size s.now) × (end - start ≤ few) }
-    ensures { FewBits s.now start end result }
+fn few_bits(bits: &[u8]) -> u64
+    requires { size bits.now ≤ few }
+    ensures { FewBits bits.now result }
 {
-    let mut i = start;
     let mut v: u64 = 0;
-    while i < end {
-        v = v * BINARY + digit(s[i]);
-        i += 1;
+    for b in bits {
+        v = v * BINARY + digit(*b);
     }
     v
 }
 
-// How many zeros a part starts with: none of them counts, and there may be a whole file of them.
-fn zeros(s: &[u8], start: usize, length: usize) -> usize
-    ensures { Zeros s.now start length result }
+// How many zeros there are in front: none of them counts, and there may be a whole file of them.
+fn zeros(digits: &[u8]) -> usize
+    ensures are { result ≡ prefix_len (λ b. eqb b 48) digits.now }
+    ensures within { result ≤ size digits.now }
 {
-    let mut n: usize = 0;
-    while n < length {
-        if start + n >= s.len() {
-            return n;
-        }
-        if s[start + n] != b'0' {
-            return n;
-        }
-        n += 1;
-    }
-    n
+    digits.iter().take_while(|b| **b == b'0').count()
 }
 
 // The value of the integer literal that lies from a start on, as far as 2 to the 63, which no literal of the language reaches.
 pub fn integer(s: &[u8], start: usize, length: usize) -> u64
     ensures { result ≡ capped (integer_value (take length (drop start s.now))) }
 {
-    let n = zeros(s, start, length);
-    numeral_of(s, start + n, length - n, DECIMAL, 0)
+    let digits = token(s, start, length);
+    numeral_of(&digits[zeros(digits)..], DECIMAL, 0)
 }
 
 // The bits of a binary literal as a number, its `%` passed over; there are as many as the token has bytes after that.
 pub fn binary(s: &[u8], start: usize, length: usize) -> u64
     ensures { result ≡ capped (binary_value (take length (drop start s.now))) }
 {
-    if start >= s.len() {
+    let Some((_, bits)) = token(s, start, length).split_first() else {
         return 0;
-    }
-    if length == 0 {
-        return 0;
-    }
-    let first = start + 1;
-    let few = shorter(shorter(length - 1, FEW), s.len() - first);
-    let v = few_bits(s, first, first + few);
-    numeral_of(s, first + few, length - 1 - few, BINARY, v)
+    };
+    let few = bits.len().min(FEW);
+    numeral_of(&bits[few..], BINARY, few_bits(&bits[..few]))
 }
 
-// How many bytes stand between the quotes of a string, as far as the text goes.
-fn between(s: &[u8], start: usize, length: usize) -> usize
-    ensures { result ≡ size (take length (drop start s.now)) - 2 }
+// What stands between the quotes of a string.
+fn between(token: &[u8]) -> &[u8]
+    ensures { result.now ≡ between_quotes token.now }
 {
-    let left = columns::saturating_sub(s.len(), start);
-    columns::saturating_sub(shorter(length, left), 2)
+    let rest = &token[token.len().min(1)..];
+    &rest[..token.len().saturating_sub(2)]
 }
 
 // How many bytes stand there for one byte of the value: a quote is a pair.
 fn width(b: u8) -> usize
     ensures { result ≡ cond (eqb b quote) 2 1 }
 {
-    if b == b'\'' {
-        return 2;
-    }
-    1
+    if b == b'\'' { 2 } else { 1 }
 }
 
-// How many of so many bytes behind a place come before the first quote. Where the next one stands depends on none of them.
-fn unquoted(s: &[u8], start: usize, count: usize) -> usize
-    requires { count ≤ size s.now - start - 1 }
-    ensures { Unquoted s.now start count result }
+// How many bytes come before the first quote. Where the next one stands depends on none of them.
+fn unquoted(text: &[u8]) -> usize
+    ensures { result ≡ position_or_len (λ b. eqb b quote) text.now }
 {
-    let mut i: usize = 0;
-    while i < count {
-        if s[start + 1 + i] == b'\'' {
-            return i;
-        }
-        i += 1;
-    }
-    i
+    text.iter().take_while(|b| **b != b'\'').count()
 }
 
 // How many bytes the value of the string literal has that lies from a start on. Most have no quote inside.
 pub fn string_length(s: &[u8], start: usize, length: usize) -> usize
     ensures { result ≡ size (string_value (take length (drop start s.now))) }
 {
-    let end = between(s, start, length);
-    let mut i = unquoted(s, start, end);
+    let text = between(token(s, start, length));
+    let mut i = unquoted(text);
     let mut n = i;
-    while i < end {
-        i += width(s[start + 1 + i]);
+    while i < text.len() {
+        i += width(text[i]);
         n += 1;
     }
     n
@@ -156,7 +126,7 @@ pub fn string_length(s: &[u8], start: usize, length: usize) -> usize
 pub fn put_behind(out: &mut [u8], at: usize, n: usize, b: u8)
     ensures { out.new ≡ set out.old (at + n) b }
 {
-    if n < columns::saturating_sub(out.len(), at) {
+    if n < out.len().saturating_sub(at) {
         out[at + n] = b;
     }
 }
@@ -166,11 +136,11 @@ pub fn string_bytes(s: &[u8], start: usize, length: usize, out: &mut [u8], at: u
     ensures { (result ≡ size (string_value (take length (drop start s.now))))
         × (out.new ≡ sets out.old at (string_value (take length (drop start s.now)))) }
 {
-    let end = between(s, start, length);
+    let text = between(token(s, start, length));
     let mut i: usize = 0;
     let mut n: usize = 0;
-    while i < end {
-        let b = s[start + 1 + i];
+    while i < text.len() {
+        let b = text[i];
         put_behind(out, at, n, b);
         i += width(b);
         n += 1;

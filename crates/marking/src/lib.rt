@@ -4,16 +4,16 @@
 ghost use Rattle.std.specs.Prelude.{◌≡◌, length, replicate};
 ghost use Rattle.graph.specs.Mark.{Markable, Marks, lent, Answers};
 
-use graph::Marking;
+use graph::MarkError;
 
 // Marks all that is reached, where there is room; the queue is left with zeros.
 fn spread(first: &[u32], to: &[u32], from: usize, mark: &mut [u32], queue: &mut [u32])
     requires { Markable first.now to.now from mark.old queue.old }
     ensures { Marks first.now to.now from mark.new × (queue.new ≡ replicate (length queue.old) 0) }
 {
-    columns::clear32(mark, 0);
+    columns::clear(mark, 0, 0);
     graph::search(first, to, from, 1, mark, queue);
-    columns::clear32(queue, 0);
+    columns::clear(queue, 0, 0);
 }
 
 // Marks all that a vertex reaches over one or more arcs.
@@ -23,19 +23,19 @@ pub fn reachable(
     from: usize,
     mark: &mut [u32],
     queue: &mut [u32],
-) -> Marking
+) -> Result<(), MarkError>
     ensures { Answers first.now to.now from (lent mark.old queue.old) (lent mark.new queue.new) result }
 {
     if !graph::valid(first, to) {
-        return Marking::Malformed;
+        return Err(MarkError::Malformed);
     }
     let n = first.len() - 1;
     if n <= from {
-        return Marking::Malformed;
+        return Err(MarkError::Malformed);
     }
-    if columns::shorter(mark.len(), queue.len()) < n {
-        return Marking::Short(n);
+    if mark.len().min(queue.len()) < n {
+        return Err(MarkError::Short(n));
     }
     spread(first, to, from, &mut mark[..n], &mut queue[..n]);
-    Marking::Marked
+    Ok(())
 }

@@ -1,4 +1,5 @@
 -- What the stage of expressions says of a node, by its kind.
+use Rattle.std.specs.Prelude.{Option}
 use mathlib.Core.Path.{◌≡◌, refl, sym, ap, ap₂, ◌∙◌}
 use mathlib.Core.Logic.{⊎_elim}
 use mathlib.Core.Bool.{Bool, true, false, cond, not, ◌&&◌, ◌||◌, false≢true}
@@ -30,7 +31,7 @@ use Rattle.type_names.specs.declared.Finding.{Finding}
 
 -- ---- an own attribute or label
 
-member : (u : Use) (p : ℕ) (f : code.Fault) (b : Bool) → fault_of f ≡ cond b (express.fault 12 p) express.fine
+member : (u : Use) (p : ℕ) (f : Option code.Fault) (b : Bool) → fault_of f ≡ cond b (express.fault 12 p) express.fine
     → ((t : Table) (nodes xs : List ℕ) → StandsFor t nodes (meaning xs) u → not (empty xs) ≡ b) → MemberFault u p f
 member u p f b a h = record { is = λ t nodes xs S. rw (h t nodes xs S) a }
 
@@ -43,20 +44,20 @@ some_list : (xs : List ℕ) → (meaning xs ≡ none → ⊥) → not (empty xs)
 some_list [] d = absurd (d refl)
 some_list (x ∷ xs) d = refl
 
-pub member_fine : {u : Use} {p : ℕ} {f : code.Fault} → u ≡ Nothing → fault_of f ≡ express.fine → MemberFault u p f
+pub member_fine : {u : Use} {p : ℕ} {f : Option code.Fault} → u ≡ Nothing → fault_of f ≡ express.fine → MemberFault u p f
 member_fine {u} {p} {f} e a = member u p f false a (λ t nodes xs S. no_list xs (rw e at S.is))
 
-pub member_several : {u : Use} {p : ℕ} {f : code.Fault} → u ≡ Several → fault_of f ≡ express.fault 12 p → MemberFault u p f
+pub member_several : {u : Use} {p : ℕ} {f : Option code.Fault} → u ≡ Several → fault_of f ≡ express.fault 12 p → MemberFault u p f
 member_several {u} {p} {f} e a =
     member u p f true a
     (λ t nodes xs S. some_list xs (λ z. let q : several ≡ meaning xs = rw e at S.is in let y : ◌≡◌ {A = ℕ} 0 1 = cc in omega arith))
 
-pub member_one : {u : Use} {k p : ℕ} {f : code.Fault} → u ≡ Node k → fault_of f ≡ express.fault 12 p → MemberFault u p f
+pub member_one : {u : Use} {k p : ℕ} {f : Option code.Fault} → u ≡ Node k → fault_of f ≡ express.fault 12 p → MemberFault u p f
 member_one {u} {k} {p} {f} e a =
     member u p f true a
     (λ t nodes xs S. some_list xs (λ z. let q : one k ≡ meaning xs = rw e at S.is in let y : ◌≡◌ {A = ℕ} 0 1 = cc in omega arith))
 
-pub member_declared : {u : Use} {v p : ℕ} {f : code.Fault} → u ≡ Declaration v → fault_of f ≡ express.fault 12 p → MemberFault u p f
+pub member_declared : {u : Use} {v p : ℕ} {f : Option code.Fault} → u ≡ Declaration v → fault_of f ≡ express.fault 12 p → MemberFault u p f
 member_declared {u} {v} {p} {f} e a =
     member u p f true a
     (λ t nodes xs S. some_list xs (λ z. let q : one (get_or nodes v 0) ≡ meaning xs = rw e at S.is in let y : ◌≡◌ {A = ℕ} 0 1 = cc in omega arith))
@@ -144,7 +145,7 @@ module _ (t : Table) (n : ℕ) where
       }
 
   pub self_found :
-      {f : Finding} {g : code.Fault} (o : Bool) → kind t n ≡ node.self → not o ≡ in_constant t n → fault_of g ≡ judged (λ _. o) (one 0) (place t n) → Made g 0 0 f → FoundAt t n f
+      {f : Finding} {g : Option code.Fault} (o : Bool) → kind t n ≡ node.self → not o ≡ in_constant t n → fault_of g ≡ judged (λ _. o) (one 0) (place t n) → Made g 0 0 f → FoundAt t n f
   unfolding expression
   self_found o e i a F =
       let x : kind t n ≡ node.name → ⊥ = λ (q : kind t n ≡ node.name). omega arith in
@@ -171,7 +172,7 @@ module _ (t : Table) (n : ℕ) where
       by false q = sym (chosen (is t node.self n && in_constant t n) _ _ (rw (s, sym q)))
 
   pub member_found :
-      {f : Finding} {g : code.Fault} → (kind t n ≡ node.name → ⊥) → (kind t n ≡ node.qualified_item → ⊥) → (kind t n ≡ node.self → ⊥) → is_scope_member t n ≡ true →
+      {f : Finding} {g : Option code.Fault} → (kind t n ≡ node.name → ⊥) → (kind t n ≡ node.qualified_item → ⊥) → (kind t n ≡ node.self → ⊥) → is_scope_member t n ≡ true →
       fault_of g ≡ cond (not (empty (inherited t (owner t n) (symbol t n)))) (express.fault 12 (place t n)) express.fine → Made g 0 0 f → FoundAt t n f
   unfolding expression
   member_found x y z m a F = record {
@@ -244,7 +245,7 @@ module _ {kinds tokens sizes symbols starts keys nodes heads next : List ℕ} {k
   }
 
   pub self_node :
-      {j : ℕ} {g : code.Fault} → k ≡ node.self → j ≡ get_or kinds o 0 → fault_of g ≡ judged (λ _. not (eqb j node.constant)) (one 0) pl → Made g 0 0 f →
+      {j : ℕ} {g : Option code.Fault} → k ≡ node.self → j ≡ get_or kinds o 0 → fault_of g ≡ judged (λ _. not (eqb j node.constant)) (one 0) pl → Made g 0 0 f →
       NodeFindings kinds tokens sizes symbols starts keys nodes heads next k o h u item n f
   unfolding mem
   self_node {j} e J a F = record {
@@ -261,7 +262,7 @@ module _ {kinds tokens sizes symbols starts keys nodes heads next : List ℕ} {k
       twice false = refl
 
   pub member_node :
-      {g : code.Fault} → (k ≡ node.name → ⊥) → (k ≡ node.qualified_item → ⊥) → (k ≡ node.self → ⊥) → MemberFault u pl g → Made g 0 0 f →
+      {g : Option code.Fault} → (k ≡ node.name → ⊥) → (k ≡ node.qualified_item → ⊥) → (k ≡ node.self → ⊥) → MemberFault u pl g → Made g 0 0 f →
       NodeFindings kinds tokens sizes symbols starts keys nodes heads next k o h u item n f
   member_node x y z M F = record {
     found = λ t R C P W.

@@ -1,5 +1,5 @@
 -- What is found of a name: its fault (N11, N12), its binding (N18), and the constant that it names (N17).
-use Rattle.std.specs.Prelude.{◌≡◌, Bool, true, cond, ◌||◌, List, ℕ, ◌+◌, ◌<◌, eqb, get_or}
+use Rattle.std.specs.Prelude.{◌≡◌, Bool, true, cond, ◌||◌, List, ℕ, ◌+◌, ◌<◌, eqb, get_or, Option}
 use Rattle.express.specs.Syntax.NodeKind.{enumeration_item, constant, attribute_name, derived_attribute}
 use Rattle.express.specs.Syntax.Tree.{Table, count}
 use Rattle.express.specs.Names.Scope.{Meaning, one, meaning, declarations, qualified_meant, items_of, binding_of}
@@ -20,7 +20,7 @@ value_kind kind = (eqb kind attribute_name || eqb kind derived_attribute) || eqb
 abbrev pub limit : ℕ
 limit = 4294967296
 
-pub record Made (fault : Fault) (binding target : ℕ) (f : Finding) : Type 0 where
+pub record Made (fault : Option Fault) (binding target : ℕ) (f : Finding) : Type 0 where
   pub fault_is : f.fault ≡ fault
   pub binding_is : f.binding ≡ binding
   pub target_is : f.target ≡ target

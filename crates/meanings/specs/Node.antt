@@ -1,5 +1,5 @@
 -- What is found of a node in an expression or of an own attribute or label (the stage of expressions, N11 to N16).
-use Rattle.std.specs.Prelude.{◌≡◌, Bool, true, not, cond, ◌||◌, List, ℕ, ◌<◌}
+use Rattle.std.specs.Prelude.{◌≡◌, Bool, true, not, cond, ◌||◌, List, ℕ, ◌<◌, Option}
 use Rattle.relations.specs.Select.{empty}
 use Rattle.express.specs.Syntax.NodeKind.{qualified_item, self}
 use Rattle.express.specs.Syntax.Grammar.{file}
@@ -24,7 +24,7 @@ abbrev pub inherits : Table → ℕ → Bool
 inherits t n = is_use t n || is_scope_member t n
 
 -- N16: an own attribute or label that is spelled like some inherited ones
-pub record MemberFault (u : Use) (p : ℕ) (f : Fault) : Type 0 where
+pub record MemberFault (u : Use) (p : ℕ) (f : Option Fault) : Type 0 where
   pub is : (t : Table) (nodes xs : List ℕ) → StandsFor t nodes (meaning xs) u → fault_of f ≡ cond (not (empty xs)) (express.fault 12 p) express.fine
 
 -- the columns of a file that are read

@@ -3,12 +3,11 @@
 
 ghost use Rattle.meanings.specs.Use.{ValueMeans, ByNode, InheritedOrValue, InDeclaration};
 
-use columns::index;
-use scopes::at;
+use columns::{get_or, index};
 use scopes::look_ups::{Meaning, declaration_meant, own_meant};
 
 // An attribute, a label or an item by its node, or a declaration by its number among these.
-#[derive(Clone, Copy)]
+#[derive(Clone, Copy, Debug, PartialEq, Eq)]
 pub enum Use {
     Nothing,
     Several,
@@ -22,7 +21,7 @@ fn by_node(nodes: &[u32], meaning: Meaning) -> Use
 {
     match meaning {
         Meaning::Nothing => Use::Nothing,
-        Meaning::One(e) => Use::Node(index(at(nodes, e))),
+        Meaning::One(e) => Use::Node(index(get_or(nodes, e, 0))),
         Meaning::Several => Use::Several,
     }
 }
@@ -60,9 +59,7 @@ fn inherited_or_value(
 {
     match inherited {
         Use::Nothing => value_meant(keys, heads, next, item, schema, symbol),
-        Use::Several => inherited,
-        Use::Node(_) => inherited,
-        Use::Declaration(_) => inherited,
+        Use::Several | Use::Node(_) | Use::Declaration(_) => inherited,
     }
 }
 

@@ -1,4 +1,5 @@
 -- All stages of names, one after the other: the first fault is that of N19, and where there is none each stage has what it asks for.
+use Rattle.std.specs.Prelude.{Option}
 use mathlib.Core.Path.{◌≡◌, refl, sym, ap, ap₂, ◌∙◌}
 use mathlib.Core.Logic.{by_cases}
 use mathlib.Core.Bool.{Bool, true, false, false≢true, cond, not, ◌&&◌, ◌||◌}
@@ -103,7 +104,7 @@ asking_no_type t n a = by (is_use t n) refl (tree.is_scope_member t n) refl
     by false e true f = ap (λ (b : Bool). b && not (is_use t n)) (member_no_name t n f)
     by false e false f = absurd (false≢true (sym (rw (e, f) refl) ∙ a))
 
-module _ {kinds tokens sizes roles symbols starts keys nodes heads next bound first to types constants scratch : List ℕ} {a b c d r : code.Fault}
+module _ {kinds tokens sizes roles symbols starts keys nodes heads next bound first to types constants scratch : List ℕ} {a b c r : Option code.Fault} {d : Fault}
     {bound₁ first₁ to₁ bound₂ types₁ constants₁ scratch₁ types₂ scratch₂ bound₃ first₂ to₂ constants₂ : List ℕ} where
   pub names_bound :
       BindsDeclarations kinds tokens roles symbols starts keys nodes heads next bound first to a bound₁ first₁ to₁ →
@@ -112,7 +113,7 @@ module _ {kinds tokens sizes roles symbols starts keys nodes heads next bound fi
       length bound₂ ≡ length bound₁ → length scratch₁ ≡ length scratch → length types₁ ≡ length types → length constants₁ ≡ length constants →
       Arranges tokens starts nodes first₁ to₁ types₁ scratch₁ b types₂ scratch₂ →
       BindsExpressions kinds tokens sizes roles symbols starts keys nodes heads next bound₂ first₁ to₁ constants₁ scratch₂ c bound₃ first₂ to₂ constants₂ →
-      fault_of d ≡ or_later (fault_of b) (fault_of c) → fault_of r ≡ or_later (fault_of a) (fault_of d) →
+      d ≡ or_later (fault_of b) (fault_of c) → fault_of r ≡ or_later (fault_of a) d →
       BindsNames kinds tokens sizes roles symbols starts keys nodes heads next bound first to types constants scratch r bound₃ types₂ constants₂
   names_bound D lb lf lt I lb₂ ls ly lc A E e f = record {
     is = λ t S C z R.
@@ -155,12 +156,12 @@ module _ {kinds tokens sizes roles symbols starts keys nodes heads next bound fi
         }) in
         let rest : Fault = or_later (least (cyclic t (is_declaration t) (type_edges t)) (tree.nodes t))
         (or_later (least (expression t) (tree.nodes t)) (least (cyclic t (is t node.constant) (constant_edges t)) (tree.nodes t))) in
-        let clean : r.number ≡ 0 → (fault_of a).number ≡ 0 = λ (n : r.number ≡ 0). no_first (fault_of a) (fault_of d) (ap (λ (g : Fault). g.number) (sym f) ∙ n) in
-        let later : r.number ≡ 0 → (or_later (fault_of b) (fault_of c)).number ≡ 0 = λ (n : r.number ≡ 0).
-        ap (λ (g : Fault). g.number) (sym e) ∙ no_later (fault_of a) (fault_of d) (ap (λ (g : Fault). g.number) (sym f) ∙ n) in
+        let clean : (fault_of r).number ≡ 0 → (fault_of a).number ≡ 0 = λ (n : (fault_of r).number ≡ 0). no_first (fault_of a) d (ap (λ (g : Fault). g.number) (sym f) ∙ n) in
+        let later : (fault_of r).number ≡ 0 → (or_later (fault_of b) (fault_of c)).number ≡ 0 = λ (n : (fault_of r).number ≡ 0).
+        ap (λ (g : Fault). g.number) (sym e) ∙ no_later (fault_of a) d (ap (λ (g : Fault). g.number) (sym f) ∙ n) in
         record {
           reply =
-              f ∙ same_later (fault_of a) (fault_of d) rest (λ q. e ∙ ap₂ or_later (O q).reply (Q q).reply)
+              f ∙ same_later (fault_of a) d rest (λ q. e ∙ ap₂ or_later (O q).reply (Q q).reply)
               ∙ ap (λ (g : Fault). or_later g rest) P.reply ∙ names_are t;
           entries = λ n. (Q (clean n)).entries;
           types_arranged = λ n. (O (clean n)).arranged (no_first (fault_of b) (fault_of c) (later n));

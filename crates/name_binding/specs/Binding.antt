@@ -1,5 +1,5 @@
 -- All names of a file are bound, stage after stage (N19), over columns that are as long as its dictionary and its graphs.
-use Rattle.std.specs.Prelude.{◌≡◌, List, ℕ, ◌+◌, ◌≤◌, ◌<◌, length, get_or, take}
+use Rattle.std.specs.Prelude.{◌≡◌, List, ℕ, ◌+◌, ◌≤◌, ◌<◌, length, get_or, take, Option}
 use Rattle.relations.specs.Reach.{Joins}
 use Rattle.relations.specs.Sorted.{Arranged}
 use Rattle.express.specs.Syntax.Tree.{Table, count}
@@ -29,14 +29,14 @@ pub record BindingRoom (t : Table) (bound first to types constants scratch : Lis
 
 -- THE NAMES of a file: the fault of the first stage that has one; and where there is none, what each node is bound to, and an order of the
 -- declarations in which a type comes after those that it is made of, and one in which a constant comes after those that it names
-pub record NamesBound (t : Table) (r : Fault) (bound types constants : List ℕ) : Type 0 where
+pub record NamesBound (t : Table) (r : Option Fault) (bound types constants : List ℕ) : Type 0 where
   pub reply : fault_of r ≡ names t
-  pub entries : r.number ≡ 0 → (n : ℕ) → n < count t → get_or bound n 0 ≡ binding t n
-  pub types_arranged : r.number ≡ 0 → Arranged (Joins (type_edges t)) (declared_nodes t) (take (vertex_count t) types)
-  pub constants_arranged : r.number ≡ 0 → Arranged (Joins (constant_edges t)) (declared_nodes t) (take (vertex_count t) constants)
+  pub entries : (fault_of r).number ≡ 0 → (n : ℕ) → n < count t → get_or bound n 0 ≡ binding t n
+  pub types_arranged : (fault_of r).number ≡ 0 → Arranged (Joins (type_edges t)) (declared_nodes t) (take (vertex_count t) types)
+  pub constants_arranged : (fault_of r).number ≡ 0 → Arranged (Joins (constant_edges t)) (declared_nodes t) (take (vertex_count t) constants)
 
 -- `bind_names`
-pub record BindsNames (kinds tokens sizes roles symbols starts keys nodes heads next bound first to types constants scratch : List ℕ) (r : Fault) (bound' types' constants' : List ℕ) :
+pub record BindsNames (kinds tokens sizes roles symbols starts keys nodes heads next bound first to types constants scratch : List ℕ) (r : Option Fault) (bound' types' constants' : List ℕ) :
     Type 0 where
   pub is :
       (t : Table) → Scanned t → FileColumns t kinds tokens roles symbols starts keys nodes heads next → sizes ≡ t.sizes →

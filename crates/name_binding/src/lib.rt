@@ -5,10 +5,9 @@ ghost use Rattle.name_binding.specs.Binding.{BindsNames};
 ghost use Rattle.name_binding.specs.Prepared.{PreparesFile};
 
 use faults::Fault;
-use index::Outcome;
 use name_stages::{bind_declarations, bind_expressions};
 use row_inheritance::inherit_all;
-use scopes::dictionary::Preparation;
+use scopes::dictionary::Unfit;
 
 // Interns the identifiers of a file, chained in a column of links, and enters what it declares into its dictionary.
 pub fn prepare(
@@ -25,14 +24,14 @@ pub fn prepare(
     heads: &mut [u32],
     links: &mut [u32],
     next: &mut [u32],
-) -> Preparation
+) -> Result<(), Unfit>
     ensures { PreparesFile src.now starts.now lengths.now terminals.now kinds.now tokens.now
         roles.now symbols.old keys.old nodes.old heads.old links.old next.old result
         symbols.new keys.new nodes.new heads.new next.new }
 {
     let interned = symbols::intern(src, starts, lengths, terminals, symbols, heads, links);
     match interned {
-        Outcome::Done => preparation::prepare(
+        Ok(()) => preparation::prepare(
             kinds,
             tokens,
             roles,
@@ -42,7 +41,7 @@ pub fn prepare(
             heads,
             next,
         ),
-        Outcome::Short => Preparation::Unfit,
+        Err(_) => Err(Unfit),
     }
 }
 
@@ -65,7 +64,7 @@ pub fn bind_names(
     types: &mut [u32],
     constants: &mut [u32],
     scratch: &mut [u32],
-) -> Fault
+) -> Option<Fault>
     ensures { BindsNames kinds.now tokens.now sizes.now roles.now symbols.now starts.now
         keys.now nodes.now heads.now next.now
         bound.old first.old to.old types.old constants.old scratch.old

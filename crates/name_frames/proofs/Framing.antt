@@ -1,15 +1,15 @@
 -- Arrays for a file of so many tokens: the law of all sizes, and of the choice among them.
 use mathlib.Core.Path.{◌≡◌, sym, ap}
 use mathlib.Core.List.{List}
-use Prim.Native.Nat.{ℕ, ◌+◌, ◌*◌, ◌/◌, ◌≤◌}
+use Prim.Native.Nat.{ℕ, ◌*◌, ◌<◌, ◌≤◌}
 use native.Mathlib.Omega.{arith}
 use lib.ListN.{length, replicate, length-replicate}
 use Rattle.express.specs.Tokens.Lexis.{most}
 use Rattle.bounds.proofs.Bounds.{entries_few}
 use Rattle.bounds.proofs.Roles.{roles_small}
-use Rattle.stages.specs.declared.Stage.{Stage}
+use Rattle.stages.specs.Line.{Stage}
 use Rattle.pipeline.specs.NameStage.{NamesFile}
-use Rattle.name_frames.specs.NameFrame.{NamesWithin}
+use Rattle.name_frames.specs.NameFrame.{FrameSizes, NamesWithin}
 use Rattle.name_frames.proofs.Room.{Sizes, names_room}
 
 -- an array that is filled with 0 has as many elements as were asked for
@@ -18,6 +18,30 @@ cleared n = length-replicate n 0
 
 pub counted : (n : ℕ) → n ≡ length (replicate {A = ℕ} n 0)
 counted n = sym (cleared n)
+
+-- a frame has room for its tokens
+frame_sizes : {rows half eighth fifth search : ℕ} → FrameSizes rows half eighth fifth search → Sizes rows rows rows half half eighth half fifth half search
+frame_sizes {rows} {fifth = fifth} F =
+    let n = F.few in
+    let s = F.some in
+    let h = F.half_is in
+    let e = F.eighth_is in
+    let f : rows < 5 * fifth = omega (arith, F.fifth_is) in
+    let w = F.search_is in
+    record {
+      small = n;
+      roles_fit = omega arith;
+      symbols_fit = omega arith;
+      keys_fit = omega arith;
+      nodes_fit = omega arith;
+      heads_fit = omega arith;
+      next_fit = omega arith;
+      first_fit = f;
+      to_fit = omega arith;
+      to_small = omega arith;
+      links_fit = omega arith;
+      search_fit = omega arith;
+    }
 
 module _ {before : Stage} {src starts lengths terminals kinds tokens sizes bindings types constants : List ℕ} {r : Stage} {bindings' types' constants' : List ℕ} where
   -- room in all arrays: their sizes are compared as numbers, for to count a long array's elements takes a step for each
@@ -34,12 +58,12 @@ module _ {before : Stage} {src starts lengths terminals kinds tokens sizes bindi
             (names_room F.read F.scanned Z (omega arith) a b (entries_few F.read) (roles_small F.read)));
       }
 
-  -- the sizes by the number of tokens
-  pub with_arrays : (n : ℕ) → Sizes n n n (n / 2) (n / 2) (n / 8) (n / 2) (n / 5 + 1) (n / 2) (6 * (n / 5 + 1)) →
-      NamesFile before src starts lengths terminals kinds tokens sizes bindings (replicate n 0) (replicate n 0) (replicate (n / 2) 0) (replicate (n / 2) 0) (replicate (n / 8) 0)
-      (replicate (n / 2) 0) (replicate (n / 5 + 1) 0) (replicate (n / 2) 0) types constants (replicate (6 * (n / 5 + 1)) 0) r bindings' types' constants' →
-      NamesWithin n before src starts lengths terminals kinds tokens sizes bindings types constants r bindings' types' constants'
-  with_arrays n Z N = with_sizes n _ _ _ _ _ _ _ _ _ Z N
+  -- the sizes of a frame
+  pub with_arrays : {rows half eighth fifth search : ℕ} → FrameSizes rows half eighth fifth search →
+      NamesFile before src starts lengths terminals kinds tokens sizes bindings (replicate rows 0) (replicate rows 0) (replicate half 0) (replicate half 0) (replicate eighth 0)
+      (replicate half 0) (replicate fifth 0) (replicate half 0) types constants (replicate search 0) r bindings' types' constants' →
+      NamesWithin rows before src starts lengths terminals kinds tokens sizes bindings types constants r bindings' types' constants'
+  with_arrays {rows} {half} {eighth} {fifth} {search} F N = with_sizes rows rows rows half half eighth half fifth half search (frame_sizes F) N
 
   -- so many tokens, whatever is asked of them elsewhere
   pub by_number : (n : ℕ) → length starts ≤ n →

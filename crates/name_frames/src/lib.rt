@@ -2,199 +2,78 @@
 #![tactic(auto)]
 
 ghost use Rattle.express.specs.Tokens.Lexis.{most};
-ghost use Rattle.reading.specs.FileReading.{few_rows, some_rows, many_rows};
-ghost use Rattle.name_frames.specs.NameFrame.{NamesWithin};
+ghost use Rattle.name_frames.specs.NameFrame.{FrameSizes, NamesWithin};
 
-use pipeline::name_file;
+use pipeline::{File, name_file};
 use reading::{FEW, LARGE, MANY, SOME};
 use stages::Stage;
 
 // Of n tokens: no more than n nodes, n / 2 entries of the dictionary and arcs, n / 5 declarations, and six words of the search for each of these.
-fn name_few(
-    before: Stage,
-    src: &[u8],
-    starts: &[u32],
-    lengths: &[u32],
-    terminals: &[u8],
-    kinds: &[u8],
-    tokens: &[u32],
-    sizes: &[u32],
-    bindings: &mut [u32],
-    types: &mut [u32],
-    constants: &mut [u32],
-) -> Stage
-    ensures { NamesWithin few_rows before src.now starts.now lengths.now terminals.now kinds.now
-        tokens.now sizes.now bindings.old types.old constants.old result
-        bindings.new types.new constants.new }
-{
-    let mut roles = [0u8; FEW];
-    let mut symbols = [0u32; FEW];
-    let mut keys = [0u64; FEW / 2];
-    let mut nodes = [0u32; FEW / 2];
-    let mut heads = [0u32; FEW / 8];
-    let mut next = [0u32; FEW / 2];
-    let mut first = [0u32; FEW / 5 + 1];
-    let mut to = [0u32; FEW / 2];
-    let mut scratch = [0u32; 6 * (FEW / 5 + 1)];
-    name_file(
-        before,
-        src,
-        starts,
-        lengths,
-        terminals,
-        kinds,
-        tokens,
-        sizes,
-        bindings,
-        &mut roles,
-        &mut symbols,
-        &mut keys,
-        &mut nodes,
-        &mut heads,
-        &mut next,
-        &mut first,
-        &mut to,
-        types,
-        constants,
-        &mut scratch,
-    )
-}
+const FEW_HALF: usize = FEW / 2;
 
-fn name_some(
-    before: Stage,
-    src: &[u8],
-    starts: &[u32],
-    lengths: &[u32],
-    terminals: &[u8],
-    kinds: &[u8],
-    tokens: &[u32],
-    sizes: &[u32],
-    bindings: &mut [u32],
-    types: &mut [u32],
-    constants: &mut [u32],
-) -> Stage
-    ensures { NamesWithin some_rows before src.now starts.now lengths.now terminals.now kinds.now
-        tokens.now sizes.now bindings.old types.old constants.old result
-        bindings.new types.new constants.new }
-{
-    let mut roles = [0u8; SOME];
-    let mut symbols = [0u32; SOME];
-    let mut keys = [0u64; SOME / 2];
-    let mut nodes = [0u32; SOME / 2];
-    let mut heads = [0u32; SOME / 8];
-    let mut next = [0u32; SOME / 2];
-    let mut first = [0u32; SOME / 5 + 1];
-    let mut to = [0u32; SOME / 2];
-    let mut scratch = [0u32; 6 * (SOME / 5 + 1)];
-    name_file(
-        before,
-        src,
-        starts,
-        lengths,
-        terminals,
-        kinds,
-        tokens,
-        sizes,
-        bindings,
-        &mut roles,
-        &mut symbols,
-        &mut keys,
-        &mut nodes,
-        &mut heads,
-        &mut next,
-        &mut first,
-        &mut to,
-        types,
-        constants,
-        &mut scratch,
-    )
-}
+const FEW_EIGHTH: usize = FEW / 8;
 
-fn name_many(
-    before: Stage,
-    src: &[u8],
-    starts: &[u32],
-    lengths: &[u32],
-    terminals: &[u8],
-    kinds: &[u8],
-    tokens: &[u32],
-    sizes: &[u32],
-    bindings: &mut [u32],
-    types: &mut [u32],
-    constants: &mut [u32],
-) -> Stage
-    ensures { NamesWithin many_rows before src.now starts.now lengths.now terminals.now kinds.now
-        tokens.now sizes.now bindings.old types.old constants.old result
-        bindings.new types.new constants.new }
-{
-    let mut roles = [0u8; MANY];
-    let mut symbols = [0u32; MANY];
-    let mut keys = [0u64; MANY / 2];
-    let mut nodes = [0u32; MANY / 2];
-    let mut heads = [0u32; MANY / 8];
-    let mut next = [0u32; MANY / 2];
-    let mut first = [0u32; MANY / 5 + 1];
-    let mut to = [0u32; MANY / 2];
-    let mut scratch = [0u32; 6 * (MANY / 5 + 1)];
-    name_file(
-        before,
-        src,
-        starts,
-        lengths,
-        terminals,
-        kinds,
-        tokens,
-        sizes,
-        bindings,
-        &mut roles,
-        &mut symbols,
-        &mut keys,
-        &mut nodes,
-        &mut heads,
-        &mut next,
-        &mut first,
-        &mut to,
-        types,
-        constants,
-        &mut scratch,
-    )
-}
+const FEW_FIFTH: usize = FEW / 5 + 1;
 
-fn name_large(
+const FEW_SEARCH: usize = 6 * FEW_FIFTH;
+
+const SOME_HALF: usize = SOME / 2;
+
+const SOME_EIGHTH: usize = SOME / 8;
+
+const SOME_FIFTH: usize = SOME / 5 + 1;
+
+const SOME_SEARCH: usize = 6 * SOME_FIFTH;
+
+const MANY_HALF: usize = MANY / 2;
+
+const MANY_EIGHTH: usize = MANY / 8;
+
+const MANY_FIFTH: usize = MANY / 5 + 1;
+
+const MANY_SEARCH: usize = 6 * MANY_FIFTH;
+
+const LARGE_HALF: usize = LARGE / 2;
+
+const LARGE_EIGHTH: usize = LARGE / 8;
+
+const LARGE_FIFTH: usize = LARGE / 5 + 1;
+
+const LARGE_SEARCH: usize = 6 * LARGE_FIFTH;
+
+// The names with arrays for ROWS tokens. Each size is a function of its own, so that its arrays are in no frame of a caller.
+#[inline(never)]
+fn name_within<
+    const ROWS: usize,
+    const HALF: usize,
+    const EIGHTH: usize,
+    const FIFTH: usize,
+    const SEARCH: usize,
+>(
     before: Stage,
-    src: &[u8],
-    starts: &[u32],
-    lengths: &[u32],
-    terminals: &[u8],
-    kinds: &[u8],
-    tokens: &[u32],
-    sizes: &[u32],
+    file: &File,
     bindings: &mut [u32],
     types: &mut [u32],
     constants: &mut [u32],
 ) -> Stage
-    ensures { NamesWithin most before src.now starts.now lengths.now terminals.now kinds.now
-        tokens.now sizes.now bindings.old types.old constants.old result
+    requires { FrameSizes ROWS HALF EIGHTH FIFTH SEARCH }
+    ensures { NamesWithin ROWS before file.now.src.now file.now.starts.now file.now.lengths.now
+        file.now.terminals.now file.now.kinds.now file.now.tokens.now file.now.sizes.now
+        bindings.old types.old constants.old result
         bindings.new types.new constants.new }
 {
-    let mut roles = [0u8; LARGE];
-    let mut symbols = [0u32; LARGE];
-    let mut keys = [0u64; LARGE / 2];
-    let mut nodes = [0u32; LARGE / 2];
-    let mut heads = [0u32; LARGE / 8];
-    let mut next = [0u32; LARGE / 2];
-    let mut first = [0u32; LARGE / 5 + 1];
-    let mut to = [0u32; LARGE / 2];
-    let mut scratch = [0u32; 6 * (LARGE / 5 + 1)];
+    let mut roles = [0u8; ROWS];
+    let mut symbols = [0u32; ROWS];
+    let mut keys = [0u64; HALF];
+    let mut nodes = [0u32; HALF];
+    let mut heads = [0u32; EIGHTH];
+    let mut next = [0u32; HALF];
+    let mut first = [0u32; FIFTH];
+    let mut to = [0u32; HALF];
+    let mut scratch = [0u32; SEARCH];
     name_file(
         before,
-        src,
-        starts,
-        lengths,
-        terminals,
-        kinds,
-        tokens,
-        sizes,
+        file,
         bindings,
         &mut roles,
         &mut symbols,
@@ -211,65 +90,50 @@ fn name_large(
 }
 
 // The arrays by the number of tokens, so that a small file clears little.
-pub fn name_framed(
+fn name_framed(
     before: Stage,
-    src: &[u8],
-    starts: &[u32],
-    lengths: &[u32],
-    terminals: &[u8],
-    kinds: &[u8],
-    tokens: &[u32],
-    sizes: &[u32],
+    file: &File,
     bindings: &mut [u32],
     types: &mut [u32],
     constants: &mut [u32],
 ) -> Stage
-    ensures { NamesWithin most before src.now starts.now lengths.now terminals.now kinds.now
-        tokens.now sizes.now bindings.old types.old constants.old result
+    ensures { NamesWithin most before file.now.src.now file.now.starts.now file.now.lengths.now
+        file.now.terminals.now file.now.kinds.now file.now.tokens.now file.now.sizes.now
+        bindings.old types.old constants.old result
         bindings.new types.new constants.new }
 {
-    if starts.len() <= SOME {
-        return name_some(
-            before, src, starts, lengths, terminals, kinds, tokens, sizes, bindings, types,
-            constants,
+    if file.starts.len() <= SOME {
+        return name_within::<SOME, SOME_HALF, SOME_EIGHTH, SOME_FIFTH, SOME_SEARCH>(
+            before, file, bindings, types, constants,
         );
     }
-    if starts.len() <= MANY {
-        return name_many(
-            before, src, starts, lengths, terminals, kinds, tokens, sizes, bindings, types,
-            constants,
+    if file.starts.len() <= MANY {
+        return name_within::<MANY, MANY_HALF, MANY_EIGHTH, MANY_FIFTH, MANY_SEARCH>(
+            before, file, bindings, types, constants,
         );
     }
-    name_large(
-        before, src, starts, lengths, terminals, kinds, tokens, sizes, bindings, types, constants,
+    name_within::<LARGE, LARGE_HALF, LARGE_EIGHTH, LARGE_FIFTH, LARGE_SEARCH>(
+        before, file, bindings, types, constants,
     )
 }
 
-// For short files: with a frame that has none of the large arrays, for the whole of a frame is touched page by page where it is entered.
-pub fn name_short(
+// For short files the smallest arrays where there are few tokens, for the whole of a frame is touched page by page where it is entered.
+pub fn name_sized<const SHORT: bool>(
     before: Stage,
-    src: &[u8],
-    starts: &[u32],
-    lengths: &[u32],
-    terminals: &[u8],
-    kinds: &[u8],
-    tokens: &[u32],
-    sizes: &[u32],
+    file: &File,
     bindings: &mut [u32],
     types: &mut [u32],
     constants: &mut [u32],
 ) -> Stage
-    ensures { NamesWithin most before src.now starts.now lengths.now terminals.now kinds.now
-        tokens.now sizes.now bindings.old types.old constants.old result
+    ensures { NamesWithin most before file.now.src.now file.now.starts.now file.now.lengths.now
+        file.now.terminals.now file.now.kinds.now file.now.tokens.now file.now.sizes.now
+        bindings.old types.old constants.old result
         bindings.new types.new constants.new }
 {
-    if starts.len() <= FEW {
-        return name_few(
-            before, src, starts, lengths, terminals, kinds, tokens, sizes, bindings, types,
-            constants,
+    if SHORT && file.starts.len() <= FEW {
+        return name_within::<FEW, FEW_HALF, FEW_EIGHTH, FEW_FIFTH, FEW_SEARCH>(
+            before, file, bindings, types, constants,
         );
     }
-    name_framed(
-        before, src, starts, lengths, terminals, kinds, tokens, sizes, bindings, types, constants,
-    )
+    name_framed(before, file, bindings, types, constants)
 }

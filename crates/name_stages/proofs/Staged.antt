@@ -1,4 +1,5 @@
 -- One stage after another.
+use Rattle.std.specs.Prelude.{Option}
 use mathlib.Core.Path.{◌≡◌, sym, ap, ap₂, ◌∙◌}
 use mathlib.Core.Logic.{by_cases}
 use mathlib.Core.Bool.{Bool, cond}
@@ -42,7 +43,7 @@ no_later f g e = ap (λ (x : Fault). x.number) (sym (gives_way f g (no_first f g
 pub same_later : (f g h : Fault) → (f.number ≡ 0 → g ≡ h) → or_later f g ≡ or_later f h
 same_later f g h e = by_cases (ℕ_discrete f.number 0) (λ z. ap (or_later f) (e z)) (λ d. hides f g d ∙ sym (hides f h d))
 
-module _ {kinds tokens roles symbols starts keys nodes heads next bound first to : List ℕ} {a b r : code.Fault} {bound' first' to' : List ℕ} where
+module _ {kinds tokens roles symbols starts keys nodes heads next bound first to : List ℕ} {a b r : Option code.Fault} {bound' first' to' : List ℕ} where
   pub declarations_bound :
       Duplicates tokens starts keys nodes next a → BindsTypeNames kinds tokens roles symbols starts keys nodes heads next bound first to b bound' first' to' →
       fault_of r ≡ or_later (fault_of a) (fault_of b) → BindsDeclarations kinds tokens roles symbols starts keys nodes heads next bound first to r bound' first' to'
@@ -62,7 +63,7 @@ pub joined_long : (n : ℕ) (l a : List ℕ) → n ≤ length l → length a ≡
 joined_long n l a h e = omega (arith, length-append a (drop n l), length-drop n l, length-take-le n l h, e)
 
 -- The table of items is a part of the scratch, as long as the column of symbols; the search for an order has the whole of it.
-module _ {kinds tokens sizes roles symbols starts keys nodes heads next bound first to order scratch : List ℕ} {slots : ℕ} {b c r : code.Fault}
+module _ {kinds tokens sizes roles symbols starts keys nodes heads next bound first to order scratch : List ℕ} {slots : ℕ} {b c r : Option code.Fault}
     {bound' first' to' order' scratch' : List ℕ} where
   pub expressions_bound :
       (items : List ℕ) → slots ≡ min (length symbols) (length scratch) → length items ≡ length (take slots scratch) →

@@ -21,7 +21,7 @@ pub fn bind_declarations(
     bound: &mut [u32],
     first: &mut [u32],
     to: &mut [u32],
-) -> Fault
+) -> Option<Fault>
     ensures { BindsDeclarations kinds.now tokens.now roles.now symbols.now starts.now
         keys.now nodes.now heads.now next.now
         bound.old first.old to.old result bound.new first.new to.new }
@@ -51,13 +51,13 @@ pub fn bind_expressions(
     to: &mut [u32],
     order: &mut [u32],
     scratch: &mut [u32],
-) -> Fault
+) -> Option<Fault>
     ensures { BindsExpressions kinds.now tokens.now sizes.now roles.now symbols.now starts.now
         keys.now nodes.now heads.now next.now
         bound.old first.old to.old order.old scratch.old result
         bound.new first.new to.new order.new }
 {
-    let slots = columns::shorter(symbols.len(), scratch.len());
+    let slots = symbols.len().min(scratch.len());
     let unbound = uses::bind_uses(
         kinds,
         tokens,

@@ -1,4 +1,5 @@
 -- The stages have room in columns that are long enough for the tokens and the declarations of a file.
+use Rattle.std.specs.Prelude.{Option}
 use mathlib.Core.Path.{◌≡◌, ap, ◌∙◌}
 use mathlib.Core.List.{List}
 use Prim.Native.Nat.{ℕ, ◌+◌, ◌*◌, ◌≤◌}
@@ -15,7 +16,7 @@ use Rattle.resolutions.specs.Answer.{StageRoom}
 use Rattle.names.specs.Resolution.{BindsPrepared}
 
 module _ {kinds tokens sizes roles symbols starts keys nodes heads next : List ℕ} {v entries : ℕ} {bound to types constants scratch : List ℕ} (first : List ℕ)
-    {r : Fault} {bound' types' constants' : List ℕ} where
+    {r : Option Fault} {bound' types' constants' : List ℕ} where
   pub prepared_bound :
       StageRoom (length starts) v (length first) (length to) (length types) (length constants) (length scratch) →
       BindsNames kinds tokens sizes roles symbols starts (take entries keys) (take entries nodes) heads next bound (take (v + 1) first) to types constants scratch r bound' types' constants' →

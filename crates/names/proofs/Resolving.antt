@@ -1,4 +1,5 @@
 -- The names of a file as a whole: from its dictionary to the answer.
+use Rattle.std.specs.Prelude.{Option, Some, None, Result, Ok, Err, IsOk, IsErr, is_none, is_err}
 use mathlib.Core.Path.{◌≡◌, refl, sym, ap, subst, ◌∙◌}
 use mathlib.Core.Logic.{◌≢◌, by_cases}
 use mathlib.Core.Bool.{Bool, true, false, false≢true, cond, not}
@@ -23,35 +24,21 @@ use Rattle.scopes.specs.Entries.{Entry, entries, radix}
 use Rattle.scopes.specs.Standing.{table_of, Counted, Counting}
 use Rattle.scopes.specs.Preparation.{Decides}
 use Rattle.scopes.specs.declared.Counts.{Counts}
-use Rattle.scopes.specs.declared.dictionary.Preparation.{Preparation}
-use Rattle.scopes.specs.declared.dictionary.Preparation.TheVariants as preparation
+use Rattle.scopes.specs.declared.dictionary.Unfit as dictionary
 use Rattle.preparation.proofs.Preparing.{entries_total, total_small}
 use Rattle.scopes.proofs.Tables.{columns_of, counted_for}
+use Rattle.faults.specs.Meaning.{number_of}
+use Rattle.faults.specs.declared.Reply.{Reply}
+use Rattle.faults.specs.declared.Reply.TheVariants.{Repeated, NotFound, WrongSort, Ambiguous, Cycle}
 use Rattle.faults.specs.declared.Fault.{Fault}
 use Rattle.type_names.specs.TypeName.{FileColumns}
 use Rattle.name_binding.proofs.Preparing.{as_many, length_span}
 use Rattle.name_binding.specs.Prepared.{FilePrepared, PreparesFile}
 use Rattle.name_binding.specs.Binding.{NamesBound}
-use Rattle.resolutions.specs.Answer.{Narrows, StageRoom, done_with, Finishes}
+use Rattle.resolutions.specs.Answer.{Narrows, StageRoom, Finishes}
 use Rattle.names.specs.Resolution.{FileRead, NamesRoom, Resolved, Resolves, BindsPrepared, ResolvesRoles}
-use Rattle.resolutions.specs.declared.Resolution.{Resolution}
-use Rattle.resolutions.specs.declared.Resolution.TheVariants.{Bound, Faulty, Unfit}
-
--- ---- the tests
-
-both_done : (p : Preparation) (b : Bool) → done_with p b ≡ true → (p ≡ preparation.Done) × (b ≡ true)
-both_done preparation.Done b e = (refl, e)
-both_done preparation.Unfit b e = absurd (false≢true e)
-
-pub fits_done : {p : Preparation} (b : Bool) {g : Bool} → g ≡ done_with p b → not g ≡ false → p ≡ preparation.Done
-fits_done {p} b {g} e n = (both_done p b (sym e ∙ not-false g n)).0
-
-pub fits_room : (p : Preparation) {b g : Bool} {P : Type 0} → Decides P b → g ≡ done_with p b → not g ≡ false → P
-fits_room p {b} {g} D e n = D.yes (both_done p b (sym e ∙ not-false g n)).1
-
-not_both : (p : Preparation) (b : Bool) → done_with p b ≡ false → p ≡ preparation.Done → b ≡ false
-not_both preparation.Done b e q = e
-not_both preparation.Unfit b e q = absurd (false≢true (ap (λ (x : Preparation). done_with x true) q))
+use Rattle.resolutions.specs.declared.Refusal.{Refusal}
+use Rattle.resolutions.specs.declared.Refusal.TheVariants.{Faulty, Unfit}
 
 -- ---- the columns as a table
 
@@ -74,7 +61,7 @@ same_symbols :
     t.symbols ≡ symbols_of src starts lengths terminals
 same_symbols F = F.scanned.symbols_are ∙ rw (F.bytes_are, F.starts_are, F.lengths_are, F.terminals_are) refl
 
-module _ {src starts lengths terminals kinds tokens roles symbols keys nodes heads links next : List ℕ} {p : Preparation} {symbols' keys' nodes' heads' next' : List ℕ}
+module _ {src starts lengths terminals kinds tokens roles symbols keys nodes heads links next : List ℕ} {p : Result (Unit {0}) dictionary.Unfit} {symbols' keys' nodes' heads' next' : List ℕ}
     (P : PreparesFile src starts lengths terminals kinds tokens roles symbols keys nodes heads links next p symbols' keys' nodes' heads' next') {c : Counts} (C : Counting kinds roles c) where
   -- what is counted is the dictionary of any file with these columns
   counted : (t : Table) → kinds ≡ t.kinds → roles ≡ t.roles → length kinds < radix → Counted t (count t) c
@@ -84,7 +71,7 @@ module _ {src starts lengths terminals kinds tokens roles symbols keys nodes hea
       (subst (λ (x : List ℕ). Counted (table_of kinds t.tokens x t.symbols) (length kinds) c) o (C.is few t.tokens t.symbols)) in
       counted_for t D
 
-  module _ (q : p ≡ preparation.Done) where
+  module _ (q : IsOk p) where
     some_table : Table
     some_table = table_with src starts lengths terminals kinds tokens [] roles
 
@@ -170,89 +157,89 @@ bound_all t bound l h =
     let w : n < count t = omega (arith, m, length-take-le (count t) bound l) in
     get_or-take (count t) bound n 0 w ∙ h n w ∙ sym (mapped_all (binding t) (count t) n w))
 
-abbrev is_unfit : Resolution → Bool
-is_unfit Bound = false
-is_unfit (Faulty k x) = false
-is_unfit Unfit = true
+abbrev is_unfit : Result (Unit {0}) Refusal → Bool
+is_unfit (Ok x) = false
+is_unfit (Err (Faulty f)) = false
+is_unfit (Err Unfit) = true
 
-abbrev is_bound : Resolution → Bool
-is_bound Bound = true
-is_bound (Faulty k x) = false
-is_bound Unfit = false
+-- no reply has the number of an acceptance
+replied : (k : Reply) → number_of k ≢ 0
+replied Repeated e = omega (arith, e)
+replied NotFound e = omega (arith, e)
+replied WrongSort e = omega (arith, e)
+replied Ambiguous e = omega (arith, e)
+replied Cycle e = omega (arith, e)
 
-module _ {src starts lengths terminals kinds tokens sizes roles bindings symbols keys nodes heads next first to types constants scratch : List ℕ} {p : Preparation}
-    {symbols' keys' nodes' heads' next' : List ℕ} {c : Counts} where
-  pub unfit_resolved :
-      {b g : Bool} → PreparesFile src starts lengths terminals kinds tokens roles symbols keys nodes heads scratch next p symbols' keys' nodes' heads' next' → Counting kinds roles c →
-      {k : ℕ} → k ≡ length scratch → Decides (StageRoom (length starts) c.declarations (length first) (length to) (length types) (length constants) k) b → g ≡ done_with p b → not g ≡ true →
-      ResolvesRoles src starts lengths terminals kinds tokens sizes roles bindings symbols keys nodes heads next first to types constants scratch Unfit bindings types constants
-  unfit_resolved {b} {g} P C l D e n = record {
+as_long :
+    {src starts lengths terminals kinds tokens sizes roles : List ℕ} {a b : ℕ} → a ≡ b →
+    (t : Table) → FileRead src starts lengths terminals kinds tokens sizes roles t → b ≡ length roles → a ≡ count t
+as_long l t F o = l ∙ o ∙ ap length F.roles_are ∙ as_many_roles F.read
+
+names_of :
+    {src starts lengths terminals kinds tokens sizes roles bindings symbols keys nodes heads next scratch : List ℕ} {p : Result (Unit {0}) dictionary.Unfit}
+    {symbols' keys' nodes' heads' next' : List ℕ} {c : Counts} {f : Option Fault} {bound' types' constants' : List ℕ} →
+    PreparesFile src starts lengths terminals kinds tokens roles symbols keys nodes heads scratch next p symbols' keys' nodes' heads' next' → Counting kinds roles c → IsOk p →
+    BindsPrepared kinds tokens sizes roles (take (length starts) symbols') starts keys' nodes' heads' next' bindings c.declarations (c.declarations + c.others) f bound' types' constants' →
+    length bound' ≡ length bindings → (t : Table) → FileRead src starts lengths terminals kinds tokens sizes roles t → length bindings ≡ length roles → NamesBound t f bound' types' constants'
+names_of P C q B l t F o = B.is t F.scanned (file_columns P C q F) F.sizes_are (counted_file P C q F).declarations_is (omega (arith, as_long l t F o, l))
+
+module _ {src starts lengths terminals kinds tokens sizes roles bindings symbols keys nodes heads next first to types constants scratch : List ℕ} {p : Result (Unit {0}) dictionary.Unfit}
+    {symbols' keys' nodes' heads' next' : List ℕ} where
+  -- no dictionary
+  pub unfit_prepared :
+      PreparesFile src starts lengths terminals kinds tokens roles symbols keys nodes heads scratch next p symbols' keys' nodes' heads' next' → IsErr p →
+      ResolvesRoles src starts lengths terminals kinds tokens sizes roles bindings symbols keys nodes heads next first to types constants scratch (Err Unfit) bindings types constants
+  unfit_prepared P q = record {
     kept = λ w. refl;
-    put_back = λ k x w. absurd (false≢true (sym (ap is_unfit w)));
+    put_back = λ f w. absurd (false≢true (sym (ap is_unfit w)));
     is = λ t F o. tt;
-    unfit = λ w t F R. by p refl F R;
+    unfit = λ w t F R.
+        P.unfit q t F.kinds_are F.tokens_are F.roles_are (same_symbols F) (rw (F.starts_are, F.lengths_are) R.symbol_room) R.consistent R.entry_room;
   }
-    where
-      off : done_with p b ≡ false
-      off = sym e ∙ not-true g n
 
-      by :
-          {t : Table} (x : Preparation) → p ≡ x → FileRead src starts lengths terminals kinds tokens sizes roles t →
-          NamesRoom t (length roles) (length symbols) (length keys) (length nodes) (length heads) (length next) (length first) (length to) (length types) (length constants) (length scratch) → ⊥
-      by {t} preparation.Done q F R =
+  module _ {c : Counts} (P : PreparesFile src starts lengths terminals kinds tokens roles symbols keys nodes heads scratch next p symbols' keys' nodes' heads' next')
+      (C : Counting kinds roles c) (q : IsOk p) where
+    -- no room for the stages
+    pub unfit_room :
+        {b : Bool} {k : ℕ} → k ≡ length scratch → Decides (StageRoom (length starts) c.declarations (length first) (length to) (length types) (length constants) k) b → b ≡ false →
+        ResolvesRoles src starts lengths terminals kinds tokens sizes roles bindings symbols keys nodes heads next first to types constants scratch (Err Unfit) bindings types constants
+    unfit_room l D n = record {
+      kept = λ w. refl;
+      put_back = λ f w. absurd (false≢true (sym (ap is_unfit w)));
+      is = λ t F o. tt;
+      unfit = λ w t F R.
           let K : Counted t (count t) c = counted_file P C q F in
-          D.no (not_both p b off q) (rw (ap length F.starts_are, K.declarations_is, l) R.stage_room)
-      by {t} preparation.Unfit q F R =
-          P.unfit q t F.kinds_are F.tokens_are F.roles_are (same_symbols F) (rw (F.starts_are, F.lengths_are) R.symbol_room) R.consistent R.entry_room
+          D.no n (rw (ap length F.starts_are, K.declarations_is, l) R.stage_room);
+    }
 
-  pub file_resolved :
-      (b : Bool) {g : Bool} {f : Fault} {r : Resolution} {bound' types' constants' bindings' : List ℕ} →
-      PreparesFile src starts lengths terminals kinds tokens roles symbols keys nodes heads scratch next p symbols' keys' nodes' heads' next' → Counting kinds roles c →
-      g ≡ done_with p b → not g ≡ false →
-      BindsPrepared kinds tokens sizes roles (take (length starts) symbols') starts keys' nodes' heads' next' bindings c.declarations (c.declarations + c.others) f bound' types' constants' →
-      length bound' ≡ length bindings → Finishes f roles bound' r bindings' →
-      ResolvesRoles src starts lengths terminals kinds tokens sizes roles bindings symbols keys nodes heads next first to types constants scratch r bindings' types' constants'
-  file_resolved b {g} {f} {r} {bound'} {types'} {constants'} {bindings'} P C e n B l E = record {
-    kept = λ w. absurd (by_cases (ℕ_discrete f.number 0) (λ z. false≢true (ap is_unfit (sym (zero_bound z) ∙ w))) (λ z. false≢true (ap is_unfit (sym (other_faulty z) ∙ w))));
-    put_back = λ k x w o. by_cases (ℕ_discrete f.number 0) (λ z. absurd (false≢true (sym (ap is_bound (sym (zero_bound z) ∙ w))))) (λ z. restored o z);
-    is = λ t F o. by_cases (ℕ_discrete f.number 0)
-        (λ z. subst (λ (x : Resolution). Resolved t x bindings' types' constants') (sym (zero_bound z)) (when_bound t F o z))
-        (λ z. subst (λ (x : Resolution). Resolved t x bindings' types' constants') (sym (other_faulty z)) (sym (names_of t F o).reply, z));
-    unfit = λ w t F R. by_cases (ℕ_discrete f.number 0) (λ z. false≢true (ap is_unfit (sym (zero_bound z) ∙ w))) (λ z. false≢true (ap is_unfit (sym (other_faulty z) ∙ w)));
-  }
-    where
-      both : (p ≡ preparation.Done) × (b ≡ true)
-      both = both_done p b (sym e ∙ not-false g n)
-
-      zero_bound : f.number ≡ 0 → r ≡ Bound
-      zero_bound z = E.answer ∙ ap (λ (x : Bool). cond x Bound (Faulty f.number f.place)) (eq-eqb f.number 0 z)
-
-      other_faulty : (f.number ≡ 0 → ⊥) → r ≡ Faulty f.number f.place
-      other_faulty z = E.answer ∙ ap (λ (x : Bool). cond x Bound (Faulty f.number f.place)) (ne_eqb f.number 0 z)
-
-      restored : length bindings ≡ length roles → (f.number ≡ 0 → ⊥) → bindings' ≡ roles
-      restored o z =
+    pub file_resolved :
+        (f : Option Fault) {r : Result (Unit {0}) Refusal} {bound' types' constants' bindings' : List ℕ} →
+        BindsPrepared kinds tokens sizes roles (take (length starts) symbols') starts keys' nodes' heads' next' bindings c.declarations (c.declarations + c.others) f bound' types' constants' →
+        length bound' ≡ length bindings → Finishes f roles bound' r bindings' →
+        ResolvesRoles src starts lengths terminals kinds tokens sizes roles bindings symbols keys nodes heads next first to types constants scratch r bindings' types' constants'
+    file_resolved None {r} {bound'} {types'} {constants'} {bindings'} B l E = record {
+      kept = λ w. absurd (false≢true (ap is_unfit (sym E.answer ∙ w)));
+      put_back = λ x w o. absurd (false≢true (ap is_err (sym E.answer ∙ w)));
+      is = λ t F o.
+          let N = names_of P C q B l t F o in
+          let m : length bound' ≡ count t = as_long l t F o in
+          subst (λ (x : Result (Unit {0}) Refusal). Resolved t x bindings' types' constants') (sym E.answer) (
+            ap (λ (x : express.Fault). x.number) (sym N.reply),
+            E.bindings_are ∙ sym (take_all (count t) bound' (omega (arith, m))) ∙ bound_all t bound' (omega (arith, m)) (N.entries refl),
+            N.types_arranged refl,
+            N.constants_arranged refl,
+          );
+      unfit = λ w t F R. false≢true (ap is_unfit (sym E.answer ∙ w));
+    }
+    file_resolved (Some x) {r} {bound'} {types'} {constants'} {bindings'} B l E = record {
+      kept = λ w. absurd (false≢true (ap is_unfit (sym E.answer ∙ w)));
+      put_back = λ y w o.
           let all : take (min (length roles) (length bound')) roles ≡ roles = take_all (min (length roles) (length bound')) roles (omega (arith, o, l)) in
-          E.bindings_are ∙ ap (λ (x : Bool). cond x bound' (sets bound' 0 (take (min (length roles) (length bound')) roles))) (ne_eqb f.number 0 z)
-          ∙ ap (sets bound' 0) all ∙ sets_over bound' roles (omega (arith, o, l))
-
-      as_long : (t : Table) → FileRead src starts lengths terminals kinds tokens sizes roles t → length bindings ≡ length roles → length bound' ≡ count t
-      as_long t F o = l ∙ o ∙ ap length F.roles_are ∙ as_many_roles F.read
-
-      names_of : (t : Table) → FileRead src starts lengths terminals kinds tokens sizes roles t → length bindings ≡ length roles → NamesBound t f bound' types' constants'
-      names_of t F o =
-          B.is t F.scanned (file_columns P C both.0 F) F.sizes_are (counted_file P C both.0 F).declarations_is (omega (arith, as_long t F o, l))
-
-      when_bound : (t : Table) → FileRead src starts lengths terminals kinds tokens sizes roles t → length bindings ≡ length roles → f.number ≡ 0 → Resolved t Bound bindings' types' constants'
-      when_bound t F o z =
-          let N = names_of t F o in
-          let m : length bound' ≡ count t = as_long t F o in (
-            ap (λ (x : express.Fault). x.number) (sym N.reply) ∙ z,
-            E.bindings_are ∙ ap (λ (x : Bool). cond x bound' (sets bound' 0 (take (min (length roles) (length bound')) roles))) (eq-eqb f.number 0 z)
-                ∙ sym (take_all (count t) bound' (omega (arith, m))) ∙ bound_all t bound' (omega (arith, m)) (N.entries z),
-            N.types_arranged z,
-            N.constants_arranged z,
-          )
+          E.bindings_are ∙ ap (sets bound' 0) all ∙ sets_over bound' roles (omega (arith, o, l));
+      is = λ t F o.
+          subst (λ (y : Result (Unit {0}) Refusal). Resolved t y bindings' types' constants') (sym E.answer) (sym (names_of P C q B l t F o).reply, replied x.reply);
+      unfit = λ w t F R. false≢true (ap is_unfit (sym E.answer ∙ w));
+    }
 
 -- ---- roles in bytes
 
@@ -263,7 +250,7 @@ module _ {src starts lengths terminals kinds tokens sizes bindings roles symbols
   -- a role that is no byte, or no room for the roles
   pub wide_resolved :
       {b : Bool} → Narrows bindings (length roles) b roles' → not b ≡ true →
-      Resolves src starts lengths terminals kinds tokens sizes bindings roles symbols keys nodes heads next first to types constants scratch Unfit bindings types constants
+      Resolves src starts lengths terminals kinds tokens sizes bindings roles symbols keys nodes heads next first to types constants scratch (Err Unfit) bindings types constants
   wide_resolved {b} N n = record {
     kept = λ w. refl;
     is = λ t F. tt;
@@ -273,7 +260,7 @@ module _ {src starts lengths terminals kinds tokens sizes bindings roles symbols
   }
 
   pub narrow_resolved :
-      {b : Bool} {r : Resolution} {bindings' types' constants' : List ℕ} → Narrows bindings (length roles) b roles' → not b ≡ false →
+      {b : Bool} {r : Result (Unit {0}) Refusal} {bindings' types' constants' : List ℕ} → Narrows bindings (length roles) b roles' → not b ≡ false →
       ResolvesRoles src starts lengths terminals kinds tokens sizes (take (length bindings) roles') bindings symbols keys nodes heads next first to types constants scratch r
       bindings' types' constants' →
       Resolves src starts lengths terminals kinds tokens sizes bindings roles symbols keys nodes heads next first to types constants scratch r bindings' types' constants'
@@ -300,7 +287,7 @@ module _ {src starts lengths terminals kinds tokens sizes bindings roles symbols
       as_bytes : {t : Table} → FileRead src starts lengths terminals kinds tokens sizes bindings t → FileRead src starts lengths terminals kinds tokens sizes (take (length bindings) roles') t
       as_bytes {t} F = rw front F
 
-      by_kept : (x : Resolution) → r ≡ x → r ≢ Bound → bindings' ≡ bindings
-      by_kept Bound e d = absurd (d e)
-      by_kept (Faulty k x) e d = Q.put_back k x e same_long ∙ front
-      by_kept Unfit e d = Q.kept e
+      by_kept : (x : Result (Unit {0}) Refusal) → r ≡ x → IsErr r → bindings' ≡ bindings
+      by_kept (Ok u) e d = absurd (false≢true (sym (ap is_err e) ∙ d))
+      by_kept (Err (Faulty y)) e d = Q.put_back y e same_long ∙ front
+      by_kept (Err Unfit) e d = Q.kept e

@@ -7,7 +7,7 @@ ghost use Rattle.resolutions.specs.Answer.{StageRoom};
 
 use faults::Fault;
 use name_binding::{bind_names, prepare};
-use resolutions::{Resolution, finish, fits, narrow, room};
+use resolutions::{Refusal, finish, narrow, room};
 
 // Binds all names, with the dictionary of so many entries at the front of its columns.
 fn bind_prepared(
@@ -29,7 +29,7 @@ fn bind_prepared(
     types: &mut [u32],
     constants: &mut [u32],
     scratch: &mut [u32],
-) -> Fault
+) -> Option<Fault>
     requires { StageRoom (length starts.now) vertices (length first.old) (length to.old) (length types.old) (length constants.old) (length scratch.old)
         × (entries ≤ length keys.now) × (entries ≤ length nodes.now) }
     ensures { BindsPrepared kinds.now tokens.now sizes.now roles.now symbols.now starts.now keys.now
@@ -77,16 +77,16 @@ fn resolve_roles(
     types: &mut [u32],
     constants: &mut [u32],
     scratch: &mut [u32],
-) -> Resolution
+) -> Result<(), Refusal>
     ensures { ResolvesRoles src.now starts.now lengths.now terminals.now kinds.now tokens.now sizes.now
         roles.now bindings.old symbols.old keys.old nodes.old heads.old next.old
         first.old to.old types.old constants.old scratch.old
         result bindings.new types.new constants.new }
 {
-    let prepared = prepare(
+    prepare(
         src, starts, lengths, terminals, kinds, tokens, roles, symbols, keys, nodes, heads,
         scratch, next,
-    );
+    )?;
     let counts = preparation::count_entries(kinds, roles);
     let enough = room(
         starts.len(),
@@ -97,8 +97,8 @@ fn resolve_roles(
         constants.len(),
         scratch.len(),
     );
-    if !fits(prepared, enough) {
-        return Resolution::Unfit;
+    if !enough {
+        return Err(Refusal::Unfit);
     }
     let fault = bind_prepared(
         kinds,
@@ -144,14 +144,14 @@ pub fn resolve(
     types: &mut [u32],
     constants: &mut [u32],
     scratch: &mut [u32],
-) -> Resolution
+) -> Result<(), Refusal>
     ensures { Resolves src.now starts.now lengths.now terminals.now kinds.now tokens.now sizes.now
         bindings.old roles.old symbols.old keys.old nodes.old heads.old next.old
         first.old to.old types.old constants.old scratch.old
         result bindings.new types.new constants.new }
 {
     if !narrow(bindings, roles) {
-        return Resolution::Unfit;
+        return Err(Refusal::Unfit);
     }
     let n = bindings.len();
     resolve_roles(

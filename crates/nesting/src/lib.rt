@@ -6,17 +6,14 @@ ghost use Rattle.ebnf.specs.Depth.{opened};
 ghost use Rattle.express.specs.Syntax.Syntax.{opening, closing, nesting};
 ghost use Rattle.parsing.specs.Outcome.{steps as step_list, deep_or_end, end_of, judged};
 
-use parsing::{Judgement, Read};
+use parsing::{Judgement, Read, Refusal};
 
 // How many brackets are open after one more token.
 fn nested(steps: &[u8; 256], depth: usize, c: u8) -> usize
     requires { (steps.now ≡ step_list) × (depth ≤ nesting) }
     ensures { result ≡ opened opening closing depth c }
 {
-    columns::saturating_sub(
-        depth + columns::byte_index(steps[columns::byte_index(c)]),
-        1,
-    )
+    (depth + columns::byte_index(steps[columns::byte_index(c)])).saturating_sub(1)
 }
 
 // The first token that opens a parenthesis or an interval while 64 are open; the length where there is none.
@@ -30,25 +27,20 @@ pub fn first_deep(terminals: &[u8]) -> usize
     steps[columns::byte_index(codes::RPAREN)] = 0;
     steps[columns::byte_index(codes::RBRACE)] = 0;
     let mut depth: usize = 0;
-    let mut i: usize = 0;
-    while i < terminals.len() {
+    for i in 0..terminals.len() {
         depth = nested(&steps, depth, terminals[i]);
         if depth > codes::limits::NESTING {
             return i;
         }
-        i += 1;
     }
-    i
+    terminals.len()
 }
 
 // Where the tokens that are read end: behind one that is too deep.
 pub fn end_of(deep: usize, length: usize) -> usize
     ensures { result ≡ end_of deep length }
 {
-    if deep < length {
-        return deep + 1;
-    }
-    length
+    if deep < length { deep + 1 } else { length }
 }
 
 // What the answer on the tokens before `end` says of all tokens.
@@ -56,20 +48,21 @@ pub fn judged(read: Read, deep: usize, end: usize) -> Judgement
     ensures { result ≡ judged read deep end }
 {
     match read {
-        Read::At(q, m) => {
-            if q != end {
-                return Judgement::Unexpected(q);
+        Ok(next) => {
+            if next.token != end {
+                Err(Refusal::Unexpected(next.token))
+            } else if deep < end {
+                Err(Refusal::TooDeep(deep))
+            } else {
+                Ok(next.row)
             }
-            if deep < end {
-                return Judgement::TooDeep(deep);
-            }
-            Judgement::Good(m)
         }
-        Read::Refused(j) => {
-            if deep < j {
-                return Judgement::TooDeep(deep);
+        Err(refused) => {
+            if deep < refused.token {
+                Err(Refusal::TooDeep(deep))
+            } else {
+                Err(Refusal::Unexpected(refused.token))
             }
-            Judgement::Unexpected(j)
         }
     }
 }

@@ -25,8 +25,8 @@ use Rattle.operations.specs.declared.Answer as code
 use Rattle.operations.specs.declared.Answer.TheVariants.{Indeterminate}
 use Rattle.operations.specs.declared.Operator as operator_type
 use Rattle.answer_rows.proofs.Stored.{Storable, combined_storable, applied_storable, between_storable, held_storable}
-use Rattle.node_answers.specs.declared.operators.Reading.{Reading}
-use Rattle.node_answers.specs.declared.operators.Reading.TheVariants.{Evaluated, Unevaluated}
+use Rattle.operations.specs.declared.Operator.{Operator}
+use Rattle.std.specs.Prelude.{Option, None, Some}
 use Rattle.node_answers.specs.Operators.{reading_of, combined_by}
 use Rattle.node_answers.specs.Answers.{answers_in, Gives}
 use Rattle.tree.specs.Children.{Child}
@@ -35,9 +35,9 @@ use Rattle.node_answers.proofs.Rows.{held_whole, same, nothing, whole_of, gives_
 use Rattle.node_answers.proofs.Nodes.{at_sign, at_operator, at_interval, at_constant, at_leaf}
 
 -- ---- two operands
-module _ {w : ℕ} {R : Reading} (E : reading_of R ≡ operator_of w) {x y : code.Answer} where
+module _ {w : ℕ} {R : Option Operator} (E : reading_of R ≡ operator_of w) {x y : code.Answer} where
   pub combines :
-      {o : operator_type.Operator} → R ≡ Evaluated o → {r : code.Answer} →
+      {o : operator_type.Operator} → R ≡ Some o → {r : code.Answer} →
       answer_of r ≡ combined (operations.operator_of o) (answer_of x) (answer_of y) → Combines w x y r
   combines {o} q {r} C =
       record {
@@ -46,7 +46,7 @@ module _ {w : ℕ} {R : Reading} (E : reading_of R ≡ operator_of w) {x y : cod
             (record { is = C ∙ ap₂ (combined (operations.operator_of o)) G.is H.is; whole = (combined_storable (operations.operator_of o) (whole_of G) (whole_of H)).is });
       }
 
-  pub combines_none : R ≡ Unevaluated → Combines w x y Indeterminate
+  pub combines_none : R ≡ None → Combines w x y Indeterminate
   combines_none q = record { is = λ a b G H. subst (λ v. Gives Indeterminate (combined_by v a b)) (sym (ap reading_of q) ∙ E) nothing }
 
 -- ---- operations

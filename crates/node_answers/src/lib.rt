@@ -13,27 +13,22 @@ ghost use Rattle.answer_rows.specs.Stored.{stored};
 ghost use Rattle.node_answers.specs.Answers.{Gives, Stores, answers_in};
 ghost use Rattle.node_answers.specs.NodeAnswer.{part, IntegerRead, BinaryRead, StringRead, Leaf, Combines, Intervals, Operates, HeldIn, Others, Answered};
 
-use crate::operators::{Reading, bound, logical, operator, sign};
+use crate::operators::{bound, logical, operator, sign};
 use answer_rows::{answer_of_row, row_of};
 use bits::Binary;
+use columns::get_or;
 use combinations::{applied, between, combined, held};
 use operations::Answer;
-use tree::{at8, at32, index_at, last, left, low, lower, middle};
+use tree::{index_at, last, left, low, lower, middle};
 
 // The answer that is kept in a row, and `?` past the end of the columns.
 pub fn answer_at(kinds: &[u8], numbers: &[i64], lengths: &[u8], i: usize) -> Answer
     ensures { Gives result (answer_at (answers_in kinds.now numbers.now lengths.now) i) }
 {
-    if i >= kinds.len() {
-        return Answer::Indeterminate;
+    if i < kinds.len() && i < numbers.len() && i < lengths.len() {
+        return answer_of_row(kinds[i], numbers[i], lengths[i]);
     }
-    if i >= numbers.len() {
-        return Answer::Indeterminate;
-    }
-    if i >= lengths.len() {
-        return Answer::Indeterminate;
-    }
-    answer_of_row(kinds[i], numbers[i], lengths[i])
+    Answer::Indeterminate
 }
 
 // Keeps an answer in a row.
@@ -41,16 +36,16 @@ pub fn put_answer(kinds: &mut [u8], numbers: &mut [i64], lengths: &mut [u8], i: 
     ensures { Stores (stored (answer_of a)) i kinds.old numbers.old lengths.old kinds.new numbers.new lengths.new }
 {
     let row = row_of(a);
-    columns::put8(kinds, i, row.kind);
-    columns::put64(numbers, i, row.number);
-    columns::put8(lengths, i, row.length);
+    columns::put(kinds, i, row.kind);
+    columns::put(numbers, i, row.number);
+    columns::put(lengths, i, row.length);
 }
 
 // The terminal of a node's naming token.
 fn terminal_at(terminals: &[u8], tokens: &[u32], n: usize) -> u8
     ensures { result ≡ get_or terminals.now (get_or tokens.now n 0) 0 }
 {
-    at8(terminals, index_at(tokens, n))
+    get_or(terminals, index_at(tokens, n), 0)
 }
 
 // An integer literal; what no integer of the language reaches is `?`.
@@ -68,8 +63,8 @@ fn integer(src: &[u8], start: usize, length: usize) -> Answer
 fn binary(src: &[u8], start: usize, length: usize) -> Answer
     ensures { BinaryRead (part src.now start length) result }
 {
-    let bytes = columns::shorter(length, columns::saturating_sub(src.len(), start));
-    let bits = columns::saturating_sub(bytes, 1);
+    let bytes = length.min(src.len().saturating_sub(start));
+    let bits = bytes.saturating_sub(1);
     if bits > codes::limits::BITS {
         return Answer::Indeterminate;
     }
@@ -94,10 +89,7 @@ fn string(src: &[u8], start: usize, length: usize) -> Answer
 fn is_string(kind: u8, terminal: u8) -> bool
     ensures { result ≡ (eqb kind node.other_literal && eqb terminal (the word.string)) }
 {
-    if kind == codes::nodes::OTHER {
-        return terminal == codes::STRING_LITERAL;
-    }
-    false
+    kind == codes::nodes::OTHER && terminal == codes::STRING_LITERAL
 }
 
 // A literal; every other leaf is `?`.
@@ -124,8 +116,8 @@ fn two_operands(terminal: u8, x: Answer, y: Answer) -> Answer
     ensures { Combines terminal x y result }
 {
     match operator(terminal) {
-        Reading::Evaluated(o) => combined(o, x, y),
-        Reading::Unevaluated => Answer::Indeterminate,
+        Some(o) => combined(o, x, y),
+        None => Answer::Indeterminate,
     }
 }
 
@@ -228,7 +220,7 @@ fn other(
     }
     leaf(
         kind,
-        at8(terminals, token),
+        get_or(terminals, token, 0),
         src,
         index_at(starts, token),
         index_at(lengths, token),
@@ -238,13 +230,10 @@ fn other(
 fn is_operation(kind: u8) -> bool
     ensures { result ≡ (eqb kind node.unary || (eqb kind node.two_operand || eqb kind node.interval)) }
 {
-    if kind == codes::nodes::UNARY {
-        return true;
-    }
-    if kind == codes::nodes::TWO_OPERAND {
-        return true;
-    }
-    kind == codes::nodes::INTERVAL
+    matches!(
+        kind,
+        codes::nodes::UNARY | codes::nodes::TWO_OPERAND | codes::nodes::INTERVAL
+    )
 }
 
 // The answer of a node that is no name.
@@ -284,7 +273,7 @@ pub fn answered(
         lengths,
         terminals,
         index_at(tokens, n),
-        at32(declared, n),
+        get_or(declared, n, 0),
         value_kinds,
         value_numbers,
         value_lengths,

@@ -9,23 +9,14 @@ use operations::{Arithmetic, Connective, Operator, Sign};
 use values::logical::Logical;
 use values::order::Relation;
 
-// A two-operand operator; `/` is not evaluated.
-#[derive(Clone, Copy)]
-pub enum Reading {
-    Evaluated(Operator),
-    Unevaluated,
-}
-
 pub fn sign(terminal: u8) -> Sign
     ensures { operations.sign_of result ≡ sign_of terminal }
 {
-    if terminal == codes::NOT {
-        return Sign::Not;
+    match terminal {
+        codes::NOT => Sign::Not,
+        codes::MINUS => Sign::Negative,
+        _ => Sign::Positive,
     }
-    if terminal == codes::MINUS {
-        return Sign::Negative;
-    }
-    Sign::Positive
 }
 
 // An operator of an interval: `<` or `<=`.
@@ -33,46 +24,45 @@ pub fn bound(terminal: u8) -> Relation
     ensures { values.relation_of result ≡ bound_of terminal }
 {
     if terminal == codes::LESS {
-        return Relation::LessThan;
+        Relation::LessThan
+    } else {
+        Relation::AtMost
     }
-    Relation::AtMost
 }
 
 pub fn logical(terminal: u8) -> Logical
     ensures { values.logical_of result ≡ logical_of terminal }
 {
-    if terminal == codes::TRUE {
-        return Logical::TRUE;
+    match terminal {
+        codes::TRUE => Logical::True,
+        codes::FALSE => Logical::False,
+        _ => Logical::Unknown,
     }
-    if terminal == codes::FALSE {
-        return Logical::FALSE;
-    }
-    Logical::UNKNOWN
 }
 
-pub fn operator(terminal: u8) -> Reading
+// A two-operand operator; `/` is not evaluated.
+#[tactic(auto, unfolding(express::specs::Semantics::Shape::operator_of))]
+pub fn operator(terminal: u8) -> Option<Operator>
     ensures { reading_of result ≡ operator_of terminal }
 {
-    match terminal {
-        codes::PLUS => Reading::Evaluated(Operator::Plus),
-        codes::MINUS => Reading::Evaluated(Operator::Arithmetic(Arithmetic::Minus)),
-        codes::TIMES => Reading::Evaluated(Operator::Arithmetic(Arithmetic::Times)),
-        codes::DIV => Reading::Evaluated(Operator::Arithmetic(Arithmetic::Divide)),
-        codes::MOD => Reading::Evaluated(Operator::Arithmetic(Arithmetic::Modulo)),
-        codes::POWER => Reading::Evaluated(Operator::Arithmetic(Arithmetic::Power)),
-        codes::LESS => Reading::Evaluated(Operator::Relation(Relation::LessThan)),
-        codes::GREATER => Reading::Evaluated(Operator::Relation(Relation::GreaterThan)),
-        codes::LESS_EQUAL => Reading::Evaluated(Operator::Relation(Relation::AtMost)),
-        codes::GREATER_EQUAL => Reading::Evaluated(Operator::Relation(Relation::AtLeast)),
-        codes::UNEQUAL => Reading::Evaluated(Operator::Relation(Relation::Unequal)),
-        codes::EQUAL => Reading::Evaluated(Operator::Relation(Relation::Equal)),
-        codes::INSTANCE_UNEQUAL => Reading::Evaluated(Operator::Relation(
-            Relation::InstanceUnequal,
-        )),
-        codes::INSTANCE_EQUAL => Reading::Evaluated(Operator::Relation(Relation::InstanceEqual)),
-        codes::AND => Reading::Evaluated(Operator::Connective(Connective::And)),
-        codes::OR => Reading::Evaluated(Operator::Connective(Connective::Or)),
-        codes::XOR => Reading::Evaluated(Operator::Connective(Connective::Xor)),
-        _ => Reading::Unevaluated,
-    }
+    Some(match terminal {
+        codes::PLUS => Operator::Plus,
+        codes::MINUS => Operator::Arithmetic(Arithmetic::Minus),
+        codes::TIMES => Operator::Arithmetic(Arithmetic::Times),
+        codes::DIV => Operator::Arithmetic(Arithmetic::Divide),
+        codes::MOD => Operator::Arithmetic(Arithmetic::Modulo),
+        codes::POWER => Operator::Arithmetic(Arithmetic::Power),
+        codes::LESS => Operator::Relation(Relation::LessThan),
+        codes::GREATER => Operator::Relation(Relation::GreaterThan),
+        codes::LESS_EQUAL => Operator::Relation(Relation::AtMost),
+        codes::GREATER_EQUAL => Operator::Relation(Relation::AtLeast),
+        codes::UNEQUAL => Operator::Relation(Relation::Unequal),
+        codes::EQUAL => Operator::Relation(Relation::Equal),
+        codes::INSTANCE_UNEQUAL => Operator::Relation(Relation::InstanceUnequal),
+        codes::INSTANCE_EQUAL => Operator::Relation(Relation::InstanceEqual),
+        codes::AND => Operator::Connective(Connective::And),
+        codes::OR => Operator::Connective(Connective::Or),
+        codes::XOR => Operator::Connective(Connective::Xor),
+        _ => return None,
+    })
 }

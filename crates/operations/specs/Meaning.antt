@@ -1,6 +1,8 @@
 -- What the types of the code stand for: answers (K12), operators and signs (K7).
-use Rattle.std.specs.Prelude.{◌≡◌, Bool, true, false, length}
-use Rattle.std.proofs.Math.Option.{Option, none, some}
+use Rattle.std.specs.Prelude.{◌≡◌, Bool, true, false, length, Option, None, Some}
+use Rattle.std.proofs.Math.Option.{none, some}
+use Rattle.std.proofs.Math.Option as math
+use Rattle.std.specs.declared.cmp.Ordering as order
 use Prim.Native.Nat.{Ordering}
 use Rattle.express.specs.Semantics.Answer.{indeterminate, integer, logical, binary, item, string, end}
 use Rattle.express.specs.Semantics.Answer as answer
@@ -21,8 +23,6 @@ use Rattle.operations.specs.declared.Operator.{Operator}
 use Rattle.operations.specs.declared.Operator.TheVariants as an_operator
 use Rattle.operations.specs.declared.Sign.{Sign}
 use Rattle.operations.specs.declared.Sign.TheVariants.{Positive, Negative, Not}
-use Rattle.operations.specs.declared.Comparison.{Comparison}
-use Rattle.operations.specs.declared.Comparison.TheVariants.{Ordered, Unordered}
 
 -- an item by its node, a string by its length, an end by its number
 abbrev pub answer_of : Answer → answer.Answer
@@ -68,9 +68,9 @@ sign_of Negative = negative
 sign_of Not = not
 
 -- the order of two values, where they have one (K22)
-abbrev pub comparison_of : Comparison → Option Ordering
-comparison_of (Ordered o) = some (ordering_of o)
-comparison_of Unordered = none
+abbrev pub comparison_of : Option order.Ordering → math.Option Ordering
+comparison_of (Some o) = some (ordering_of o)
+comparison_of None = none
 
 -- whether a declared type is BOOLEAN, seen through renamings (K2)
 abbrev pub is_boolean : Declared → Bool

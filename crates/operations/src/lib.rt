@@ -6,15 +6,13 @@ ghost use Rattle.express.specs.Semantics.Operate.{computed, combined_logicals, c
 ghost use Rattle.express.specs.Semantics.Shape.{plus, arithmetic, relation};
 ghost use Rattle.values.specs.Meaning.{logical_of, relation_of};
 ghost use Rattle.integers.specs.Meaning.{integer_answer};
-ghost use Rattle.bits.specs.Meaning.{binary_answer};
-ghost use Rattle.strings.specs.Meaning.{joined_answer};
 ghost use Rattle.operations.specs.Meaning.{answer_of, arithmetic_of, connective_of, comparison_of};
 
-use bits::{Binary, Joined};
-use integers::Outcome;
+use bits::Binary;
+use std::cmp::Ordering;
 use values::End;
 use values::logical::Logical;
-use values::order::{Order, Relation};
+use values::order::Relation;
 
 // What an expression comes to: an item by its node; of a string the length alone is told.
 #[derive(Clone, Copy)]
@@ -63,62 +61,28 @@ pub enum Sign {
     Not,
 }
 
-// The order of two values of one kind; two others have none.
-#[derive(Clone, Copy)]
-enum Comparison {
-    Ordered(Order),
-    Unordered,
-}
-
-pub fn from_outcome(outcome: Outcome) -> Answer
-    ensures { answer_of result ≡ integer_answer outcome }
-{
-    match outcome {
-        Outcome::Value(z) => Answer::Integer(z),
-        Outcome::Ended(e) => Answer::Ended(e),
-    }
-}
-
-fn from_joined(joined: Joined) -> Answer
-    ensures { answer_of result ≡ binary_answer joined }
-{
-    match joined {
-        Joined::Whole(b) => Answer::Binary(b),
-        Joined::Ended(e) => Answer::Ended(e),
-    }
-}
-
-fn from_text(joined: strings::Joined) -> Answer
-    ensures { answer_of result ≡ joined_answer joined }
-{
-    match joined {
-        strings::Joined::Whole(n) => Answer::Text(n),
-        strings::Joined::Ended(e) => Answer::Ended(e),
-    }
-}
-
 // `+` where no operand is an end.
 pub fn sum(x: Answer, y: Answer) -> Answer
     ensures { answer_of result ≡ operated plus (answer_of x) (answer_of y) }
 {
-    match x {
-        Answer::Integer(a) => match y {
-            Answer::Integer(b) => from_outcome(integers::add(a, b)),
-            _ => Answer::Indeterminate,
-        },
-        Answer::Binary(a) => match y {
-            Answer::Binary(b) => from_joined(bits::join(a, b)),
-            _ => Answer::Indeterminate,
-        },
-        Answer::Text(a) => match y {
-            Answer::Text(b) => from_text(strings::join(a, b)),
-            _ => Answer::Indeterminate,
-        },
+    match (x, y) {
+        (Answer::Integer(a), Answer::Integer(b)) => integers::add(a, b).map_or_else(
+            Answer::Ended,
+            Answer::Integer,
+        ),
+        (Answer::Binary(a), Answer::Binary(b)) => bits::join(a, b).map_or_else(
+            Answer::Ended,
+            Answer::Binary,
+        ),
+        (Answer::Text(a), Answer::Text(b)) => strings::join(a, b).map_or_else(
+            Answer::Ended,
+            Answer::Text,
+        ),
         _ => Answer::Indeterminate,
     }
 }
 
-fn computed(o: Arithmetic, a: i64, b: i64) -> Outcome
+fn computed(o: Arithmetic, a: i64, b: i64) -> Result<i64, End>
     ensures { integer_answer result ≡ computed (arithmetic_of o) a b }
 {
     match o {
@@ -134,42 +98,27 @@ fn computed(o: Arithmetic, a: i64, b: i64) -> Outcome
 pub fn calculated(o: Arithmetic, x: Answer, y: Answer) -> Answer
     ensures { answer_of result ≡ operated (arithmetic (arithmetic_of o)) (answer_of x) (answer_of y) }
 {
-    match x {
-        Answer::Integer(a) => match y {
-            Answer::Integer(b) => from_outcome(computed(o, a, b)),
-            _ => Answer::Indeterminate,
-        },
+    match (x, y) {
+        (Answer::Integer(a), Answer::Integer(b)) => computed(o, a, b).map_or_else(
+            Answer::Ended,
+            Answer::Integer,
+        ),
         _ => Answer::Indeterminate,
     }
 }
 
-// Items of one enumeration have their nodes in the order in which it lists them. Strings of which the lengths alone are told are ordered by them;
-// with their bytes strings are compared where the bytes are at hand (`evaluate`).
-fn compared(x: Answer, y: Answer) -> Comparison
+// The order of two values of one kind; two others have none. Items of one enumeration have their nodes in the order in which it lists them.
+// Strings of which the lengths alone are told are ordered by them; with their bytes strings are compared where the bytes are at hand (`evaluate`).
+fn compared(x: Answer, y: Answer) -> Option<Ordering>
     ensures { comparison_of result ≡ compared (answer_of x) (answer_of y) }
 {
-    match x {
-        Answer::Integer(a) => match y {
-            Answer::Integer(b) => Comparison::Ordered(integers::compare(a, b)),
-            _ => Comparison::Unordered,
-        },
-        Answer::Logical(a) => match y {
-            Answer::Logical(b) => Comparison::Ordered(a.compare(b)),
-            _ => Comparison::Unordered,
-        },
-        Answer::Binary(a) => match y {
-            Answer::Binary(b) => Comparison::Ordered(bits::compare(a, b)),
-            _ => Comparison::Unordered,
-        },
-        Answer::Item(a) => match y {
-            Answer::Item(b) => Comparison::Ordered(Order::of(a as u64, b as u64)),
-            _ => Comparison::Unordered,
-        },
-        Answer::Text(a) => match y {
-            Answer::Text(b) => Comparison::Ordered(Order::of(a as u64, b as u64)),
-            _ => Comparison::Unordered,
-        },
-        _ => Comparison::Unordered,
+    match (x, y) {
+        (Answer::Integer(a), Answer::Integer(b)) => Some(integers::compare(a, b)),
+        (Answer::Logical(a), Answer::Logical(b)) => Some(a.compare(b)),
+        (Answer::Binary(a), Answer::Binary(b)) => Some(bits::compare(a, b)),
+        (Answer::Item(a), Answer::Item(b)) => Some(a.cmp(&b)),
+        (Answer::Text(a), Answer::Text(b)) => Some(a.cmp(&b)),
+        _ => None,
     }
 }
 
@@ -177,10 +126,7 @@ fn compared(x: Answer, y: Answer) -> Comparison
 pub fn related(o: Relation, x: Answer, y: Answer) -> Answer
     ensures { answer_of result ≡ operated (relation (relation_of o)) (answer_of x) (answer_of y) }
 {
-    match compared(x, y) {
-        Comparison::Ordered(order) => Answer::Logical(order.relate(o)),
-        Comparison::Unordered => Answer::Logical(Logical::UNKNOWN),
-    }
+    Answer::Logical(compared(x, y).map_or(Logical::Unknown, |order| o.holds(order)))
 }
 
 // To a logical operator `?` is UNKNOWN.
@@ -189,7 +135,7 @@ pub fn counted(x: Answer) -> Logical
 {
     match x {
         Answer::Logical(l) => l,
-        _ => Logical::UNKNOWN,
+        _ => Logical::Unknown,
     }
 }
 

@@ -1,7 +1,7 @@
 -- The test of the places goes over the vertices; what passes it is an order, and there is no cycle.
 use mathlib.Core.Path.{◌≡◌, refl, sym, ap, ◌∙◌}
 use mathlib.Core.Logic.{by_cases}
-use mathlib.Core.Bool.{Bool, true, false, false≢true, not}
+use mathlib.Core.Bool.{Bool, true, false, false≢true}
 use mathlib.Core.List.{List}
 use Prim.Native.Nat.{ℕ, ◌+◌, ◌≤◌, ◌<◌}
 use native.Mathlib.Omega.{arith}
@@ -16,10 +16,6 @@ use Rattle.orders.specs.Places.{Falls, Places, Copies, CopiesIf, SortsIn}
 
 pub never : {P : Type 0} → false ≡ true → P
 never e = absurd (false≢true e)
-
-pub passed : (b : Bool) → not b ≡ false → b ≡ true
-passed true e = refl
-passed false e = sym e
 
 -- ---- the arcs of a vertex, as far as they are passed
 pub record Fallen (to s : List ℕ) (p from e : ℕ) : Type 0 where
@@ -119,16 +115,8 @@ module _ {first to s : List ℕ} (P : Places first to (vertices first) s (vertic
         after = λ j k l h a. omega (arith, at j l, at k h, arc_falls a);
       }
 
--- ---- `copy_if`, and what `sort_in` comes to
+-- ---- what `sort_in` comes to
 module _ (s : List ℕ) (n : ℕ) (order : List ℕ) where
-  pub copies_no : (b : Bool) → not b ≡ true → CopiesIf b s n order order
-  copies_no true e = never e
-  copies_no false e = refl
-
-  pub copies_yes : (b : Bool) (order' : List ℕ) → not b ≡ false → Copies s n order' (length order) → CopiesIf b s n order order'
-  copies_yes true order' e c = c
-  copies_yes false order' e c = never (sym e)
-
   pub sorts_in : {first to s₀ z : List ℕ} (order' : List ℕ) (b : Bool) → (b ≡ true → Places first to n s n) → n ≡ length order → CopiesIf b s n order order' → Zeros s₀ z
       → SortsIn first to order s₀ b order' z
   sorts_in order' true p q c h =

@@ -11,8 +11,9 @@ use lib.Seq.{length-take-le, drop_at}
 use Rattle.graph.specs.Graph.{vertices, Graph}
 use Rattle.cycles.specs.State.{needed}
 use Rattle.cycles.specs.Answer.{Lent, lent, Used, OrderAnswers}
-use Rattle.cycles.specs.declared.Dependencies.{Dependencies}
-use Rattle.cycles.specs.declared.Dependencies.TheVariants as dependencies
+use Rattle.cycles.specs.declared.GraphError.{GraphError}
+use Rattle.cycles.specs.declared.GraphError.TheVariants.{Malformed, ColumnShort, ScratchShort}
+use Rattle.std.specs.Prelude.{Option, Some, None, Result, Ok, Err}
 use Rattle.cycles.proofs.Use.{used, kept_front, ordered_front, replies_none}
 use Rattle.orders.specs.Places.{SortsIn, Cleared, Sorts}
 
@@ -42,7 +43,7 @@ module _ {first to : List ℕ} (g : Graph first to) (column scratch front z : Li
 cleared_twice : (k : ℕ) (s : List ℕ) → cleared_before 0 k (cleared_before 0 k s) ≡ cleared_before 0 k s
 cleared_twice k s = ap (λ (r : List ℕ). replicate k 0 ++ r) (drop_at (replicate k 0) (drop k s) k (length-replicate k 0))
 
-pub sorted : {first to : List ℕ} (was is : Lent) (b : Bool) → b ≡ true → Sorts first to was is b → OrderAnswers first to was is dependencies.Acyclic
+pub sorted : {first to : List ℕ} (was is : Lent) (b : Bool) → b ≡ true → Sorts first to was is b → OrderAnswers first to was is (Ok None)
 sorted was is true e s = s
 sorted was is false e s = absurd (false≢true e)
 
@@ -57,12 +58,12 @@ module _ {first to : List ℕ} (column scratch : List ℕ) (mid is : Lent) (q : 
         scratch_is = u.scratch_is ∙ ap (cleared_before 0 (needed (vertices first))) c.scratch_is ∙ cleared_twice (needed (vertices first)) scratch;
       }
 
-  after_cleared : (r : Dependencies) → Cleared first to (lent column scratch) mid → OrderAnswers first to mid is r → OrderAnswers first to (lent column scratch) is r
-  after_cleared dependencies.Acyclic c a = record { used = used_after c a.used; replies = a.replies; ordered = a.ordered }
-  after_cleared (dependencies.Cyclic v) c a = record { used = used_after c a.used; replies = a.replies; kept = a.kept ∙ q }
-  after_cleared dependencies.Malformed c a = absurd (a.no c.graph)
-  after_cleared (dependencies.ColumnShort k) c a = absurd (omega (arith, a.short, a.needs, ap length q, c.column_room))
-  after_cleared (dependencies.ScratchShort k) c a =
+  after_cleared : (r : Result (Option ℕ) GraphError) → Cleared first to (lent column scratch) mid → OrderAnswers first to mid is r → OrderAnswers first to (lent column scratch) is r
+  after_cleared (Ok None) c a = record { used = used_after c a.used; replies = a.replies; ordered = a.ordered }
+  after_cleared (Ok (Some v)) c a = record { used = used_after c a.used; replies = a.replies; kept = a.kept ∙ q }
+  after_cleared (Err Malformed) c a = absurd (a.no c.graph)
+  after_cleared (Err (ColumnShort k)) c a = absurd (omega (arith, a.short, a.needs, ap length q, c.column_room))
+  after_cleared (Err (ScratchShort k)) c a =
       absurd
       (omega (
         arith,
@@ -73,7 +74,7 @@ module _ {first to : List ℕ} (column scratch : List ℕ) (mid is : Lent) (q : 
         length-replicate {A = ℕ} (needed (vertices first)) 0,
       ))
 
-module _ (first to column scratch : List ℕ) (mid is : Lent) (r : Dependencies) (a : OrderAnswers first to mid is r) where
+module _ (first to column scratch : List ℕ) (mid is : Lent) (r : Result (Option ℕ) GraphError) (a : OrderAnswers first to mid is r) where
   pub after_sort : (b : Bool) → b ≡ false → Sorts first to (lent column scratch) mid b → OrderAnswers first to (lent column scratch) is r
   after_sort true e s = absurd (false≢true (sym e))
   after_sort false e s = by s.1

@@ -5,47 +5,34 @@
 
 ghost use Rattle.std.specs.Prelude.{◌≡◌, true, List, ◌+◌, ◌≤◌, ◌<◌, length, get_or};
 ghost use Rattle.cycles.specs.Answer.{lent, OrderAnswers};
-ghost use Rattle.orders.specs.Places.{Falls, Places, Copies, CopiesIf, SortsIn, Sorts};
+ghost use Rattle.orders.specs.Places.{Falls, Places, Copies, SortsIn, Sorts};
 
-use columns::{index, number, put32, saturating_sub};
-use cycles::Dependencies;
+use columns::{get_or, index, number, put};
+use cycles::GraphError;
 
 // Scratch that is lent has six numbers for each vertex, as the search needs them; here two are used: by vertex, its place, or as long as it
 // has none the number of vertices and the arcs to it that are left; and behind them, by place, its vertex.
 const WIDTH: usize = 6;
 
 // The number at an index; past the end of the column 0.
-fn entry(column: &[u32], i: usize) -> u32
-    ensures { result ≡ get_or column.now i 0 }
-{
-    if i < column.len() {
-        return column[i];
-    }
-    0
-}
-
 fn at(column: &[u32], i: usize) -> usize
     ensures { (result ≡ get_or column.now i 0) × (result < 4294967296) }
 {
-    index(entry(column, i))
+    index(get_or(column, i, 0))
 }
 
 // No vertex has a place.
 fn start(s: &mut [u32], n: usize) {
-    let mut v = 0;
-    while v < n {
-        put32(s, v, number(n));
-        v += 1;
+    for v in 0..n {
+        put(s, v, number(n));
     }
 }
 
 // One more for each arc to a vertex.
 fn count(to: &[u32], from: usize, end: usize, s: &mut [u32]) {
-    let mut e = from;
-    while e < end {
+    for e in from..end {
         let w = at(to, e);
-        put32(s, w, number(at(s, w) + 1));
-        e += 1;
+        put(s, w, number(at(s, w) + 1));
     }
 }
 
@@ -54,9 +41,9 @@ fn place(s: &mut [u32], n: usize, taken: usize, v: usize) -> usize
     requires { (n ≤ 65536) × (taken ≤ 65536) }
     ensures { result ≤ taken }
 {
-    let p = saturating_sub(taken, 1);
-    put32(s, n + p, number(v));
-    put32(s, v, number(p));
+    let p = taken.saturating_sub(1);
+    put(s, n + p, number(v));
+    put(s, v, number(p));
     p
 }
 
@@ -77,13 +64,11 @@ fn release(to: &[u32], from: usize, end: usize, n: usize, before: usize, s: &mut
     ensures { result ≤ before }
 {
     let mut taken = before;
-    let mut e = from;
-    while e < end {
+    for e in from..end {
         let w = at(to, e);
-        let left = saturating_sub(at(s, w), 1);
-        put32(s, w, number(left));
+        let left = at(s, w).saturating_sub(1);
+        put(s, w, number(left));
         taken = place_free(s, n, taken, w, left);
-        e += 1;
     }
     taken
 }
@@ -111,9 +96,7 @@ fn assign(first: &[u32], to: &[u32], n: usize, s: &mut [u32])
     start(s, n);
     count(to, at(first, 0), at(first, n), s);
     let mut taken = n;
-    let mut v = n;
-    while 0 < v {
-        v -= 1;
+    for v in (0..n).rev() {
         let left = at(s, v);
         let then = place_free(s, n, taken, v, left);
         taken = follow(first, to, n, taken, then, s);
@@ -136,12 +119,10 @@ pub fn places(first: &[u32], to: &[u32], s: &mut [u32]) {
 fn lead_before(to: &[u32], from: usize, end: usize, s: &[u32], p: usize) -> bool
     ensures { result ≡ true → Falls to.now s.now p from end }
 {
-    let mut e = from;
-    while e < end {
+    for e in from..end {
         if p <= at(s, at(to, e)) {
             return false;
         }
-        e += 1;
     }
     true
 }
@@ -151,26 +132,17 @@ fn is_order(first: &[u32], to: &[u32], n: usize, s: &[u32]) -> bool
     requires { n ≤ 65536 }
     ensures { result ≡ true → Places first.now to.now n s.now n }
 {
-    let mut v = 0;
-    while v < n {
+    for v in 0..n {
         let p = at(s, v);
         let w = at(s, n + v);
-        if n <= p {
+        if n <= p
+            || n <= w
+            || at(s, n + p) != v
+            || at(s, w) != v
+            || !lead_before(to, at(first, v), at(first, v + 1), s, p)
+        {
             return false;
         }
-        if n <= w {
-            return false;
-        }
-        if at(s, n + p) != v {
-            return false;
-        }
-        if at(s, w) != v {
-            return false;
-        }
-        if !lead_before(to, at(first, v), at(first, v + 1), s, p) {
-            return false;
-        }
-        v += 1;
     }
     true
 }
@@ -180,22 +152,9 @@ fn copy(s: &[u32], n: usize, order: &mut [u32])
     requires { n ≤ 65536 }
     ensures { Copies s.now n order.new (length order.old) }
 {
-    let mut k = 0;
-    while k < n {
-        put32(order, k, number(at(s, n + k)));
-        k += 1;
+    for k in 0..n {
+        put(order, k, number(at(s, n + k)));
     }
-}
-
-// The same where they are sorted.
-fn copy_if(sorted: bool, s: &[u32], n: usize, order: &mut [u32])
-    requires { n ≤ 65536 }
-    ensures { CopiesIf sorted s.now n order.old order.new }
-{
-    if !sorted {
-        return;
-    }
-    copy(s, n, order);
 }
 
 // An order in a column as long as there are vertices, or false, with the column as it was; scratch is left with zeros.
@@ -206,8 +165,10 @@ fn sort_in(first: &[u32], to: &[u32], order: &mut [u32], s: &mut [u32]) -> bool
     let n = order.len();
     assign(first, to, n, s);
     let sorted = is_order(first, to, n, s);
-    copy_if(sorted, s, n, order);
-    columns::clear32(s, 0);
+    if sorted {
+        copy(s, n, order);
+    }
+    columns::clear(s, 0, 0);
     sorted
 }
 
@@ -220,21 +181,23 @@ fn sort(first: &[u32], to: &[u32], column: &mut [u32], scratch: &mut [u32]) -> b
     }
     let n = first.len() - 1;
     let needed = WIDTH * n;
-    if column.len() < n {
-        return false;
-    }
-    if scratch.len() < needed {
+    if column.len() < n || scratch.len() < needed {
         return false;
     }
     sort_in(first, to, &mut column[..n], &mut scratch[..needed])
 }
 
 // The vertices in an order in which each stands after all that it depends on, or the smallest vertex on a cycle.
-pub fn order(first: &[u32], to: &[u32], column: &mut [u32], scratch: &mut [u32]) -> Dependencies
+pub fn order(
+    first: &[u32],
+    to: &[u32],
+    column: &mut [u32],
+    scratch: &mut [u32],
+) -> Result<Option<usize>, GraphError>
     ensures { OrderAnswers first.now to.now (lent column.old scratch.old) (lent column.new scratch.new) result }
 {
     if sort(first, to, column, scratch) {
-        return Dependencies::Acyclic;
+        return Ok(None);
     }
     cycles::topological_order(first, to, column, scratch)
 }

@@ -3,6 +3,7 @@ use mathlib.Core.Bool.{Bool, true, false, cond}
 use mathlib.Core.List.{List, [], ◌∷◌, ◌++◌, map, map-append}
 use mathlib.Core.Logic.{⊎_elim}
 use mathlib.Core.Path.{◌≡◌, refl, sym, ap, ◌∙◌}
+use Rattle.std.specs.Prelude.{Ok, Err}
 use Prim.Native.Nat.{ℕ, suc, ◌+◌, ◌*◌, ◌/◌, ◌%◌, ◌≤◌, ◌<◌, min}
 use native.Mathlib.Omega.{arith}
 use native.Mathlib.Numerals.{add-one}
@@ -18,39 +19,35 @@ use Rattle.columns.proofs.Laws.{sets_append, sets_out, sets_snoc, take_rows, cle
 use Rattle.ebnf.proofs.Sets.{lt_or_le}
 use Rattle.express.specs.Syntax.Grammar.{Nonterminal}
 use Rattle.express.specs.Syntax.Syntax.{parsed}
-use Rattle.parsing.specs.declared.Read.{Read}
-use Rattle.parsing.specs.declared.Read.TheVariants.{At, Refused as refused}
-use Rattle.parsing.specs.declared.Judgement.{Judgement}
-use Rattle.parsing.specs.declared.Judgement.TheVariants.{Good, Unexpected, TooDeep}
-use Rattle.parsing.specs.declared.Parsed.{Parsed}
-use Rattle.parsing.specs.declared.Parsed.TheVariants.{Scratch, Long}
+use Rattle.parsing.specs.declared.Refusal.TheVariants.{Unexpected, TooDeep}
+use Rattle.parsing.specs.declared.Failure.TheVariants.{Scratch, Long}
 use Rattle.express.specs.Whole.Reply.{node_entries}
-use Rattle.parsing.specs.Parsing.{most, answer, rows_of, Parsing}
-use Rattle.parsing.specs.Reading.{word_of, Fits, All_fit, Ahead}
-use Rattle.parsing.specs.Outcome.{judged, Judges, kind_in, role_in, token_in, size_in, unpacked, count, Judging, answered, LaysOut, Parses}
+use Rattle.parsing.specs.Parsing.{Parsed, most, answer, rows_of, Parsing}
+use Rattle.parsing.specs.Reading.{Read, word_of, Fits, All_fit, Ahead}
+use Rattle.parsing.specs.Outcome.{Judgement, judged, Judges, kind_in, role_in, token_in, size_in, unpacked, count, Judging, answered, LaysOut, Parses}
 use Rattle.parsing.proofs.Laws.{map_length}
 
-length_map : (f : ℕ → ℕ) (l : List ℕ) → length (map f l) ≡ length l
+length_map : {A : Type 0} (f : ℕ → A) (l : List ℕ) → length (map f l) ≡ length l
 length_map f [] = refl
 length_map f (x ∷ l) = ap suc (length_map f l)
 
 -- past the end of the column nothing is stored
-sets_more : (c vs ws : List ℕ) → length c ≤ length vs → sets c 0 (vs ++ ws) ≡ sets c 0 vs
+sets_more : {A : Type 0} (c vs ws : List A) → length c ≤ length vs → sets c 0 (vs ++ ws) ≡ sets c 0 vs
 sets_more c vs ws l =
     let h = length-sets c 0 vs in
     sets_append c 0 vs ws ∙ sets_out (sets c 0 vs) (0 + length vs) ws (omega arith)
 
-column_whole : (f : ℕ → ℕ) (words c : List ℕ) (n end : ℕ) → end ≤ n → end ≤ length words → length c ≤ end → unpacked f end words c ≡ unpacked f n words c
-column_whole f words c n end k h l =
+column_whole : {A : Type 0} (f : ℕ → A) (words : List ℕ) (c : List A) (n end : ℕ) → end ≤ n → end ≤ length words → length c ≤ end → unpacked f end words c ≡ unpacked f n words c
+column_whole {A} f words c n end k h l =
     let front : take end (take n words) ≡ take end words = take-take end n words k in
     let both : map f (take end words) ++ map f (drop end (take n words)) ≡ map f (take n words) =
     sym (map-append f (take end words) (drop end (take n words)))
     ∙ ap (map f) (ap (λ (x : List ℕ). x ++ drop end (take n words)) (sym front) ∙ take-append-drop end (take n words)) in
     let m : length (map f (take end words)) ≡ end = length_map f (take end words) ∙ length-take-le end words h in
-    sym (sets_more c (map f (take end words)) (map f (drop end (take n words))) (omega arith)) ∙ ap (λ (x : List ℕ). sets c 0 x) both
+    sym (sets_more c (map f (take end words)) (map f (drop end (take n words))) (omega arith)) ∙ ap (λ (x : List A). sets c 0 x) both
 
 -- the words that there are and the column holds are all that a column takes
-column_end : (f : ℕ → ℕ) (words c : List ℕ) (n end : ℕ) → end ≡ min n (min (length words) (length c)) → unpacked f end words c ≡ unpacked f n words c
+column_end : {A : Type 0} (f : ℕ → A) (words : List ℕ) (c : List A) (n end : ℕ) → end ≡ min n (min (length words) (length c)) → unpacked f end words c ≡ unpacked f n words c
 column_end f words c n end e =
     ⊎_elim
     (λ (l : n < min (length words) (length c)). let z : end ≡ n = e ∙ min-eq_left (omega arith) in rw z refl)
@@ -65,27 +62,27 @@ column_end f words c n end e =
     (lt_or_le n (min (length words) (length c)))
 
 -- one word more in a column
-grown : (f : ℕ → ℕ) (words : List ℕ) (i w v : ℕ) (c₀ c c' : List ℕ) → i < length words → w ≡ get_or words i 0 → c ≡ sets c₀ 0 (map f (take i words)) → v ≡ f w → c' ≡ set c i v →
+grown : {A : Type 0} (f : ℕ → A) (words : List ℕ) (i w : ℕ) (v : A) (c₀ c c' : List A) → i < length words → w ≡ get_or words i 0 → c ≡ sets c₀ 0 (map f (take i words)) → v ≡ f w → c' ≡ set c i v →
     c' ≡ sets c₀ 0 (map f (take (i + 1) words))
-grown f words i w v c₀ c c' l e h g k =
+grown {A} f words i w v c₀ c c' l e h g k =
     let n : 0 + length (map f (take i words)) ≡ i = omega (arith, length_map f (take i words), length-take-le i words (omega arith)) in
     let s = sets_snoc c₀ 0 (map f (take i words)) v in
     let t : map f (take (i + 1) words) ≡ map f (take i words) ++ (v ∷ []) =
     ap (λ (j : ℕ). map f (take j words)) (add-one i)
     ∙ (ap (map f) (take-suc words i 0 l)
     ∙ (map-append f (take i words) (get_or words i 0 ∷ [])
-    ∙ ap (λ (x : ℕ). map f (take i words) ++ (x ∷ [])) (ap f (sym e) ∙ sym g))) in
-    k ∙ (ap (λ (x : List ℕ). set x i v) h ∙ (ap (λ (j : ℕ). set (sets c₀ 0 (map f (take i words))) j v) (sym n) ∙ (sym s ∙ ap (λ (x : List ℕ). sets c₀ 0 x) (sym t))))
+    ∙ ap (λ (x : A). map f (take i words) ++ (x ∷ [])) (ap f (sym e) ∙ sym g))) in
+    k ∙ (ap (λ (x : List A). set x i v) h ∙ (ap (λ (j : ℕ). set (sets c₀ 0 (map f (take i words))) j v) (sym n) ∙ (sym s ∙ ap (λ (x : List A). sets c₀ 0 x) (sym t))))
 
 -- A COLUMN IS FILLED from the first n words, or as many as there are and it holds: what a loop has done before the one at i.
-pub record Filled (part : ℕ → ℕ) (words : List ℕ) (n : ℕ) (was : List ℕ) (end i : ℕ) (c : List ℕ) : Type 0 where
+pub record Filled {A : Type 0} (part : ℕ → A) (words : List ℕ) (n : ℕ) (was : List A) (end i : ℕ) (c : List A) : Type 0 where
   pub all : end ≡ min n (min (length words) (length was))
   pub inside : end ≤ length words
   pub room : end ≤ length was
   pub upto : i ≤ end
   pub is : c ≡ unpacked part i words was
 
-module _ (part : ℕ → ℕ) {words : List ℕ} {n : ℕ} {was : List ℕ} where
+module _ {A : Type 0} (part : ℕ → A) {words : List ℕ} {n : ℕ} {was : List A} where
   pub filled_none : {end k : ℕ} → k ≡ min (length words) (length was) → end ≡ min n k → Filled part words n was end 0 was
   filled_none {end} {k} e f =
       let l = min-le_right n k in
@@ -97,12 +94,12 @@ module _ (part : ℕ → ℕ) {words : List ℕ} {n : ℕ} {was : List ℕ} wher
         is = refl;
       }
 
-  module _ {end i : ℕ} {c : List ℕ} (u : Filled part words n was end i c) where
+  module _ {end i : ℕ} {c : List A} (u : Filled part words n was end i c) where
     -- the column keeps its length
     pub filled_length : length c ≡ length was
     filled_length = ap length u.is ∙ length-sets was 0 (map part (take i words))
 
-    pub filled_more : {w v : ℕ} → i < end → w ≡ get_or words i 0 → v ≡ part w → Filled part words n was end (i + 1) (set c i v)
+    pub filled_more : {w : ℕ} {v : A} → i < end → w ≡ get_or words i 0 → v ≡ part w → Filled part words n was end (i + 1) (set c i v)
     filled_more {w} {v} l e f =
         let k = u.inside in
         record { all = u.all; inside = k; room = u.room; upto = omega arith; is = grown part words i w v was c (set c i v) (omega arith) e u.is f refl }
@@ -167,7 +164,7 @@ module _ (a : List ℕ) {j : Judgement} {b : List ℕ} {r : Parsed} {k t z o w k
       (r ≡ answer (node_entries k t z o) out) × (k' ≡ sets k 0 (map (λ (r : Row). r.kind) (rows_of out))) × (t' ≡ sets t 0 (map (λ (r : Row). r.token) (rows_of out)))
       × (z' ≡ sets z 0 (map (λ (r : Row). r.size) (rows_of out))) × (o' ≡ sets o 0 (map (λ (r : Row). r.role) (rows_of out)))
   laid_out (good s) h l u =
-      let u₂ : LaysOut (Good (length s.rows)) r b k t z o w k' t' z' o' = rw h.0 at u in
+      let u₂ : LaysOut (Ok (length s.rows)) r b k t z o w k' t' z' o' = rw h.0 at u in
       let l₂ : length s.rows ≤ length a = rw h.0 at l in
       let w = take_words a b s.rows l₂ h.1 in (
         u₂.answers,
@@ -177,10 +174,10 @@ module _ (a : List ℕ) {j : Judgement} {b : List ℕ} {r : Parsed} {k t z o w k
         u₂.roles_are ∙ ap (λ (l : List ℕ). sets o 0 l) (ap (map role_in) w ∙ parts role_in (λ (r : Row). r.role) role_is s.rows h.2),
       )
   laid_out (unexpected i) h l u =
-      let u₂ : LaysOut (Unexpected i) r b k t z o w k' t' z' o' = rw h at u in
+      let u₂ : LaysOut (Err (Unexpected i)) r b k t z o w k' t' z' o' = rw h at u in
       (u₂.answers, u₂.kinds_are, u₂.tokens_are, u₂.sizes_are, u₂.roles_are)
   laid_out (too_deep i) h l u =
-      let u₂ : LaysOut (TooDeep i) r b k t z o w k' t' z' o' = rw h at u in
+      let u₂ : LaysOut (Err (TooDeep i)) r b k t z o w k' t' z' o' = rw h at u in
       (u₂.answers, u₂.kinds_are, u₂.tokens_are, u₂.sizes_are, u₂.roles_are)
 
 -- what the grammar says of a list that is read, laid out in the columns
@@ -208,13 +205,13 @@ parsing {x} {ts} {r} {s} {n = n} q m l h v =
     }
 
 -- a list that is too long is not read
-pub too_long : (x : Nonterminal) {ts s k t z o : List ℕ} → most < length ts → Parsing x ts Long s k t z o s k t z o
+pub too_long : (x : Nonterminal) {ts s k t z o : List ℕ} → most < length ts → Parsing x ts (Err Long) s k t z o s k t z o
 too_long x {ts} h =
     let e = lt-leb (length ts) most h in
     record { answers = rw e refl; kinds_are = rw e refl; tokens_are = rw e refl; sizes_are = rw e refl; roles_are = rw e refl; scratch_is = rw e refl }
 
 -- nor is one for which there is too little scratch
-pub too_little : (x : Nonterminal) {ts s k t z o : List ℕ} → length ts ≤ most → length s < length ts → Parsing x ts (Scratch (length ts)) s k t z o s k t z o
+pub too_little : (x : Nonterminal) {ts s k t z o : List ℕ} → length ts ≤ most → length s < length ts → Parsing x ts (Err (Scratch (length ts))) s k t z o s k t z o
 too_little x {ts} {s} m h =
     let e = le-leb (length ts) most m in
     let f = lt-leb (length ts) (length s) h in
@@ -222,15 +219,15 @@ too_little x {ts} {s} m h =
 
 -- no more words than tokens
 pub judged_few : (ts : List ℕ) (read : Read) (deep end : ℕ) (r : Judgement) → end ≤ length ts → r ≡ judged read deep end → Ahead (take end ts) 0 0 read → count r ≤ length ts
-judged_few ts (At q m) deep end r l e h = rw e (go (eqb q end) (ltb deep end))
+judged_few ts (Ok next) deep end r l e h = rw e (go (eqb next.token end) (ltb deep end))
   where
-    go : (u v : Bool) → count (cond u (cond v (TooDeep deep) (Good m)) (Unexpected q)) ≤ length ts
+    go : (u v : Bool) → count (cond u (cond v (Err (TooDeep deep)) (Ok next.row)) (Err (Unexpected next.token))) ≤ length ts
     go true true = omega arith
     go true false = omega (arith, h.1, h.3, length-take-le end ts l)
     go false v = omega arith
-judged_few ts (refused k) deep end r l e h = rw e (go (ltb deep k))
+judged_few ts (Err refusal) deep end r l e h = rw e (go (ltb deep refusal.token))
   where
-    go : (u : Bool) → count (cond u (TooDeep deep) (Unexpected k)) ≤ length ts
+    go : (u : Bool) → count (cond u (Err (TooDeep deep)) (Err (Unexpected refusal.token))) ≤ length ts
     go true = omega arith
     go false = omega arith
 

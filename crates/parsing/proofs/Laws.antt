@@ -2,6 +2,9 @@
 use mathlib.Core.Bool.{Bool, true, false, ◌&&◌, cond}
 use mathlib.Core.List.{List, [], ◌∷◌, ◌++◌, map, map-append}
 use mathlib.Core.Path.{◌≡◌, refl, sym, ap, subst, ◌∙◌}
+use Rattle.std.specs.Prelude.{Ok as Success, Err, IsErrAnd}
+use Rattle.std.proofs.lemmas.Result.{err_from_is_err_and}
+use Rattle.parsing.specs.declared.Unexpected.{Unexpected}
 use Prim.Native.Nat.{ℕ, suc, ◌+◌, ◌-◌, ◌≤◌, ◌<◌}
 use native.Mathlib.Nat.{add-zero}
 use native.Mathlib.Numerals.{add-one}
@@ -20,9 +23,7 @@ use Rattle.express.proofs.Syntax.Syntax.{express}
 use Rattle.express.proofs.Syntax.Descent.{phrase, phrase_placed, so}
 use Rattle.express.proofs.Syntax.Count.{Counted, phrase_counted}
 use Rattle.columns.proofs.Laws.{sets_append, take_sets}
-use Rattle.parsing.specs.declared.Read.{Read}
-use Rattle.parsing.specs.declared.Read.TheVariants.{At, Refused}
-use Rattle.parsing.specs.Reading.{labelled, word, word_of, Fits, All_fit, Ready, Sound, Ahead, Found, Reads, Named, run, Reading, Compares, Leaf}
+use Rattle.parsing.specs.Reading.{Read, At, Refused, labelled, word, word_of, Fits, All_fit, Ready, Sound, Ahead, Found, Reads, Named, run, Reading, Compares, Leaf}
 
 -- ---- rows
 
@@ -59,7 +60,23 @@ cond_bind : (b : Bool) (x y u v : Result Rows) (l : ℕ → Rows → Result Rows
 cond_bind true x y u v l f g = f
 cond_bind false x y u v l f g = g
 
+-- ---- places
+
+abbrev next_of : Read → ℕ × ℕ
+next_of (Success next) = (next.token, next.row)
+next_of (Err e) = (0, 0)
+
+pub same_token : {p n q m : ℕ} → At p n ≡ At q m → p ≡ q
+same_token e = ap (λ (r : Read). (next_of r).0) e
+
+pub same_row : {p n q m : ℕ} → At p n ≡ At q m → n ≡ m
+same_row e = ap (λ (r : Read). (next_of r).1) e
+
 -- ---- refusals
+
+-- a `?` hands on the refusal that it met
+pub handed_on : {r x : Read} {e : Unexpected} → IsErrAnd r (λ y. y ≡ e) → x ≡ Err e → r ≡ x
+handed_on {r} h z = let p = err_from_is_err_and r h in p.1 ∙ (ap Err p.2 ∙ sym z)
 
 at_not_refused : {A : Type 0} (j m k : ℕ) → At j m ≡ Refused k → A
 at_not_refused j m k e = let z : ◌≡◌ {A = ℕ} 0 1 = cc in absurd (omega arith)
@@ -133,8 +150,8 @@ module _ (ts : List ℕ) (want : Result Rows) (n : ℕ) (a : List ℕ) (rest : E
   token_at : (d : Result Rows) → Found d n (At q i) a b → Named d m → want ≡ bind d (λ j s. run ts (seq (step silent cs none) rest) j s) →
       Reading ts want n a rest m (expected ts cs q i) b
   token_at (at j s) f e w =
-      let e₁ : q ≡ j = cc f.0 in
-      let e₂ : i ≡ n + length s.rows = cc f.0 in
+      let e₁ : q ≡ j = same_token f.0 in
+      let e₂ : i ≡ n + length s.rows = same_row f.0 in
       rw (e₁, e₂) (go (mem (get_or ts j 0) cs) refl)
     where
       go : (t : Bool) → mem (get_or ts j 0) cs ≡ t → Reading ts want n a rest m (cond t (At (j + 1) (n + length s.rows)) (Refused j)) b
@@ -147,8 +164,8 @@ module _ (ts : List ℕ) (want : Result Rows) (n : ℕ) (a : List ℕ) (rest : E
   named_at : (d : Result Rows) → Found d n (At q i) a b → want ≡ bind d (λ j s. run ts (seq (step here cs none) rest) j s) →
       Reading ts want n a rest q (expected ts cs q i) b
   named_at (at j s) f w =
-      let e₁ : q ≡ j = cc f.0 in
-      let e₂ : i ≡ n + length s.rows = cc f.0 in
+      let e₁ : q ≡ j = same_token f.0 in
+      let e₂ : i ≡ n + length s.rows = same_row f.0 in
       rw (e₁, e₂) (go (mem (get_or ts j 0) cs) refl)
     where
       go : (t : Bool) → mem (get_or ts j 0) cs ≡ t → Reading ts want n a rest j (cond t (At (j + 1) (n + length s.rows)) (Refused j)) b
@@ -178,7 +195,7 @@ module _ {ts : List ℕ} {want : Result Rows} {n : ℕ} {a : List ℕ} {rest : E
 one_more : (j n i : ℕ) (s : Rows) (a b c : List ℕ) (q name : ℕ) (r : Row) → Found (at j s) n (At j i) a b → Fits r → c ≡ set b i (word_of r) →
     Found (at q (so name (s.rows ++ (r ∷ [])))) n (At q (i + 1)) a c
 one_more j n i s a b c q name r f g w =
-    let e : i ≡ n + length s.rows = cc f.0 in
+    let e : i ≡ n + length s.rows = same_row f.0 in
     let l : i + 1 ≡ n + length (s.rows ++ (r ∷ [])) = omega (arith, e, length-append s.rows (r ∷ [])) in (
       ap (λ (k : ℕ). At q k) l,
       w ∙ (ap (λ (k : ℕ). set b k (word_of r)) e ∙ (ap (λ (l : List ℕ). set l (n + length s.rows) (word_of r)) f.1 ∙ sets_both a n s.rows (r ∷ []))),
@@ -189,12 +206,12 @@ module _ (ts : List ℕ) (want : Result Rows) (n : ℕ) (a : List ℕ) (rest : E
   leaf_at : (cs : List ℕ) (r : Read) → Ready ts q i → (t : Bool) → mem (get_or ts q 0) cs ≡ t → Leaf t (labelled k o) q i r b c → (d : Result Rows) → Found d n (At q i) a b → Named d m →
       want ≡ bind d (λ j s. run ts (seq (step (leaf k o) cs none) rest) j s) → Reading ts want n a rest m r c
   leaf_at cs r g true z v (at j s) f e w =
-      let e₁ : j ≡ q = cc f.0 in
+      let e₁ : j ≡ q = sym (same_token f.0) in
       let row : Row = record { kind = k; token = q; size = 1; role = o } in
       let g₁ = g.small in
       let g₂ = g.within in
       let fits : Fits row = record { kind = hk; role = ho; token = omega arith; size = omega arith } in
-      let e₃ : i ≡ n + length s.rows = cc f.0 in
+      let e₃ : i ≡ n + length s.rows = same_row f.0 in
       let f₂ : Found (at q s) n (At q i) a b = (ap (λ (z : ℕ). At q z) e₃, f.1, f.2) in
       let size : i + 1 - i ≡ 1 = omega arith in
       rw v.0
@@ -205,7 +222,7 @@ module _ (ts : List ℕ) (want : Result Rows) (n : ℕ) (a : List ℕ) (rest : E
         is = w ∙ (rw e₁ (rw z));
       })
   leaf_at cs r g false z v (at j s) f e w =
-      let e₁ : j ≡ q = cc f.0 in
+      let e₁ : j ≡ q = sym (same_token f.0) in
       record { done = refused q; found = (v.0, ap (take n) v.1 ∙ kept n a (map word_of s.rows) f.1); named = tt; is = w ∙ (rw e₁ (rw z)) }
   leaf_at cs r g t z v (refused k') f e w = at_not_refused q i k' f.0
   leaf_at cs r g t z v starved f e w = absurd f
@@ -213,8 +230,8 @@ module _ (ts : List ℕ) (want : Result Rows) (n : ℕ) (a : List ℕ) (rest : E
   row_at : i ≤ 65536 → m < 1048576 → c ≡ set b i (word (labelled k o) m (i + 1 - n)) → (d : Result Rows) → Found d n (At q i) a b → Named d m →
       want ≡ bind d (λ j s. run ts (seq (mark (node k o)) rest) j s) → Reading ts want n a rest m (At q (i + 1)) c
   row_at g l h (at j s) f e w =
-      let e₁ : j ≡ q = cc f.0 in
-      let e₂ : i ≡ n + length s.rows = cc f.0 in
+      let e₁ : j ≡ q = sym (same_token f.0) in
+      let e₂ : i ≡ n + length s.rows = same_row f.0 in
       let size : i + 1 - n ≡ suc (length s.rows) = omega arith in
       let row : Row = record { kind = k; token = m; size = suc (length s.rows); role = o } in
       let fits : Fits row = record { kind = hk; role = ho; token = l; size = omega arith } in
@@ -245,7 +262,7 @@ module _ (ts : List ℕ) (want : Result Rows) (n : ℕ) (a : List ℕ) (rest : E
   both : (s : Rows) → Found (at p s) n (At p i) a b → Named (at p s) m → (d : Result Rows) → Found d i r b c →
       want ≡ bind d (λ j t. run ts rest j (in_rows.join s t)) → Reading ts want n a rest m r c
   both s f e (at k t) g w =
-      let e₁ : i ≡ n + length s.rows = cc f.0 in
+      let e₁ : i ≡ n + length s.rows = same_row f.0 in
       let l : i + length t.rows ≡ n + length (s.rows ++ t.rows) = omega (arith, e₁, length-append s.rows t.rows) in
       record {
         done = at k (in_rows.join s t);
@@ -258,15 +275,15 @@ module _ (ts : List ℕ) (want : Result Rows) (n : ℕ) (a : List ℕ) (rest : E
         is = w;
       }
   both s f e (refused k) g w =
-      let e₁ : i ≡ n + length s.rows = cc f.0 in
+      let e₁ : i ≡ n + length s.rows = same_row f.0 in
       record { done = refused k; found = (g.0, kept_below n i b c (omega arith) g.1 ∙ kept n a (map word_of s.rows) f.1); named = tt; is = w }
   both s f e starved g w = absurd g
 
   phrase_at : Found (phrase ts y p) i r b c → (d : Result Rows) → Found d n (At p i) a b → Named d m → want ≡ bind d (λ j s. run ts (seq (nt y) rest) j s) →
       Reading ts want n a rest m r c
   phrase_at g (at j s) f e w =
-      let e₁ : j ≡ p = cc f.0 in
-      let e₃ : i ≡ n + length s.rows = cc f.0 in
+      let e₁ : j ≡ p = sym (same_token f.0) in
+      let e₃ : i ≡ n + length s.rows = same_row f.0 in
       let f₂ : Found (at p s) n (At p i) a b = (ap (λ (z : ℕ). At p z) e₃, f.1, f.2) in
       both s f₂ e (phrase ts y p) g (w ∙ (rw e₁ refl))
   phrase_at g (refused k) f e w = at_not_refused p i k f.0
@@ -300,7 +317,7 @@ module _ (ts : List ℕ) (want : Result Rows) (n : ℕ) (a : List ℕ) (rest : E
   instead : (e g : Ebnf Nonterminal) → ((s : Rows) → run ts e q s ≡ run ts g q s) → (d : Result Rows) → Found d n (At q i) a b → Named d m →
       want ≡ bind d (λ j s. run ts e j s) → Reading ts want n a g m (At q i) b
   instead e g h (at j s) f nm w =
-      let e₁ : j ≡ q = cc f.0 in
+      let e₁ : j ≡ q = sym (same_token f.0) in
       record { done = at j s; found = f; named = nm; is = w ∙ rw e₁ (h s) }
   instead e g h (refused k) f nm w = at_not_refused q i k f.0
   instead e g h starved f nm w = absurd f
@@ -308,8 +325,8 @@ module _ (ts : List ℕ) (want : Result Rows) (n : ℕ) (a : List ℕ) (rest : E
   forked : (cs ds : List ℕ) (e g : Ebnf Nonterminal) → (mem (get_or ts q 0) cs && mem (get_or ts (suc q) 0) ds) ≡ true → (d : Result Rows) → Found d n (At q i) a b →
       want ≡ bind d (λ j s. run ts (seq (fork here cs ds e g) rest) j s) → Reading ts want n a (seq e rest) q (At (q + 2) i) b
   forked cs ds e g h (at j s) f w =
-      let e₁ : j ≡ q = cc f.0 in
-      let e₂ : i ≡ n + length s.rows = cc f.0 in
+      let e₁ : j ≡ q = sym (same_token f.0) in
+      let e₂ : i ≡ n + length s.rows = same_row f.0 in
       let e₃ : q + 2 ≡ suc (suc q) = omega arith in
       record {
         done = at (suc (suc q)) (so q s.rows);
@@ -393,8 +410,8 @@ compares_at {ts} {p} {n} {q} {m} {r} h e = ahead_at ts p n q m r e h.ahead
 
 -- a place that a reader came to is one that a reader may be given
 pub sound_of : {ts : List ℕ} {p n : ℕ} (r : Read) → Ready ts p n → Ahead ts p n r → Sound ts r
-sound_of (At q m) g h = let w = g.behind in record { small = g.small; within = h.1; behind = omega arith }
-sound_of (Refused k) g h = tt
+sound_of (Success next) g h = let w = g.behind in record { small = g.small; within = h.1; behind = omega arith }
+sound_of (Err e) g h = tt
 
 pub ready_of : {ts : List ℕ} {p n q m : ℕ} {r : Read} → Ready ts p n → Ahead ts p n r → r ≡ At q m → Ready ts q m
 ready_of {ts} {q = q} {m = m} {r = r} g h e = subst (λ (r : Read). Sound ts r) e (sound_of r g h)

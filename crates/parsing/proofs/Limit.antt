@@ -4,6 +4,7 @@ use mathlib.Core.List.{List, [], ◌∷◌}
 use mathlib.Core.Logic.{⊎_elim}
 use mathlib.Core.Option.{Option, some, none as nowhere}
 use mathlib.Core.Path.{◌≡◌, refl, sym, ap, subst, ◌∙◌}
+use Rattle.std.specs.Prelude.{Ok, Err}
 use Prim.Native.Nat.{ℕ, zero, suc, ◌+◌, ◌-◌, ◌≤◌, ◌<◌}
 use native.Mathlib.Omega.{arith}
 use native.Mathlib.Numerals.{add-one}
@@ -24,11 +25,9 @@ use Rattle.express.specs.Syntax.Lookahead.{tables}
 use Rattle.express.specs.Syntax.Syntax.{opening, closing, nesting, parsed}
 use Rattle.express.proofs.Syntax.Syntax.{express}
 use Rattle.express.proofs.Syntax.Descent.{phrase, phrase_placed, parse_is, so}
-use Rattle.parsing.specs.declared.Read.{Read}
-use Rattle.parsing.specs.declared.Judgement.{Judgement}
-use Rattle.parsing.specs.declared.Judgement.TheVariants.{Good, Unexpected, TooDeep}
-use Rattle.parsing.specs.Reading.{Ready, Found, Reads}
-use Rattle.parsing.specs.Outcome.{steps, or_end, deep_or_end, end_of, judged, Judges}
+use Rattle.parsing.specs.declared.Refusal.TheVariants.{Unexpected, TooDeep}
+use Rattle.parsing.specs.Reading.{Read, Ready, Found, Reads}
+use Rattle.parsing.specs.Outcome.{Judgement, steps, or_end, deep_or_end, end_of, judged, Judges}
 
 -- ---- how many brackets are open
 
@@ -125,8 +124,8 @@ module _ (ts : List ℕ) (x : Nonterminal) (read : Read) (a b : List ℕ) where
   judge_uncut : (l : ℕ) (d : Result Rows) → descent.Placed express in_rows ts 1 0 d → length ts ≡ l → Found d 0 read a b → Judges (uncut (verdict l (bind d shut))) (judged read l l) a b
   judge_uncut l (at j s) g e f = rw f.0 (go (eqb j l) refl)
     where
-      go : (t : Bool) → eqb j l ≡ t → Judges (uncut (cond t (accepted (so 0 s.rows)) (refused_at j))) (cond t (cond (ltb l l) (TooDeep l) (Good (0 + length s.rows))) (Unexpected j)) a b
-      go true h = rw (le-ltb l l (omega arith)) (ap Good (omega arith), f.1, f.2)
+      go : (t : Bool) → eqb j l ≡ t → Judges (uncut (cond t (accepted (so 0 s.rows)) (refused_at j))) (cond t (cond (ltb l l) (Err (TooDeep l)) (Ok (0 + length s.rows))) (Err (Unexpected j))) a b
+      go true h = rw (le-ltb l l (omega arith)) (ap Ok (omega arith), f.1, f.2)
       go false h = refl
   judge_uncut l (refused k) g e f = let u = g.1 in rw (f.0, le-ltb l k (omega arith)) refl
   judge_uncut l starved g e f = absurd f
@@ -135,8 +134,8 @@ module _ (ts : List ℕ) (x : Nonterminal) (read : Read) (a b : List ℕ) where
       (bind d shut))) (judged read k (suc k)) a b
   judge_cut us k (at j s) g e f = rw f.0 (go (eqb j (suc k)) refl)
     where
-      go : (t : Bool) → eqb j (suc k) ≡ t → Judges (cut_at k (cond t (accepted (so 0 s.rows)) (refused_at j))) (cond t (cond (ltb k (suc k)) (TooDeep k) (Good (0 + length
-          s.rows))) (Unexpected j)) a b
+      go : (t : Bool) → eqb j (suc k) ≡ t → Judges (cut_at k (cond t (accepted (so 0 s.rows)) (refused_at j))) (cond t (cond (ltb k (suc k)) (Err (TooDeep k)) (Ok (0 + length
+          s.rows))) (Err (Unexpected j))) a b
       go true h = rw (lt-ltb k (suc k) (omega arith)) refl
       go false h =
           let u = g.1 in
@@ -144,7 +143,7 @@ module _ (ts : List ℕ) (x : Nonterminal) (read : Read) (a b : List ℕ) where
           rw (le-leb j k n) refl
   judge_cut us k (refused j) g e f = rw f.0 (go (leb j k) refl)
     where
-      go : (t : Bool) → leb j k ≡ t → Judges (cond t (unexpected j) (too_deep k)) (cond (ltb k j) (TooDeep k) (Unexpected j)) a b
+      go : (t : Bool) → leb j k ≡ t → Judges (cond t (unexpected j) (too_deep k)) (cond (ltb k j) (Err (TooDeep k)) (Err (Unexpected j))) a b
       go true h = rw (le-ltb k j (leb-true j k h)) refl
       go false h = rw (lt-ltb k j (leb-false j k h)) refl
   judge_cut us k starved g e f = absurd f

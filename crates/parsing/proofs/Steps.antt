@@ -15,11 +15,9 @@ use Rattle.ebnf.specs.Parse.{Result}
 use Rattle.ebnf.proofs.Sets.{and_split, lt_or_le}
 use Rattle.express.specs.Syntax.Grammar.{Nonterminal}
 use Rattle.express.specs.Syntax.NodeKind as kind
-use Rattle.parsing.specs.declared.Read.{Read}
-use Rattle.parsing.specs.declared.Read.TheVariants.{At, Refused}
-use Rattle.parsing.specs.Reading.{word, is_place, expect_at, Expects, Ready, Reads, ReadsAnywhere, Reading, Combines}
+use Rattle.parsing.specs.Reading.{Read, At, Refused, word, is_place, expect_at, Expects, Ready, Reads, ReadsAnywhere, Reading, Combines}
 use Rattle.parsing.proofs.Terminals.{is_one, not_one, inside}
-use Rattle.parsing.proofs.Laws.{expected, token, named, told, refused_not_at}
+use Rattle.parsing.proofs.Laws.{expected, token, named, told, same_token, same_row, refused_not_at}
 
 no_zero : (code : ℕ) → 0 < code → mem 0 (code ∷ []) ≡ false
 no_zero code h = not_one 0 code (λ e. omega arith)
@@ -44,20 +42,6 @@ mem_one : (c code : ℕ) → mem c (code ∷ []) ≡ eqb c code
 unfolding mem
 mem_one c code = or_false (eqb c code)
 
-module _ {code : ℕ} {ts : List ℕ} {p n : ℕ} where
-  pub expects_there : p < length ts → get_or ts p 0 ≡ code → Expects code ts p n (At (p + 1) n)
-  expects_there l e = record { is = rw (lt-ltb p (length ts) l, eq-eqb (get_or ts p 0) code e) refl }
-
-  pub expects_other : (get_or ts p 0 ≡ code → ⊥) → Expects code ts p n (Refused p)
-  expects_other e = record { is = rw (ne_eqb (get_or ts p 0) code e) (go (ltb p (length ts))) }
-    where
-      go : (b : Bool) → Refused p ≡ cond (b && false) (At (p + 1) n) (Refused p)
-      go true = refl
-      go false = refl
-
-  pub expects_past : length ts ≤ p → Expects code ts p n (Refused p)
-  expects_past l = record { is = rw (le-ltb p (length ts) l) refl }
-
 -- past the end there is none
 expected_is : (ts : List ℕ) (code p n : ℕ) → 0 < code → expect_at ts code p n ≡ expected ts (code ∷ []) p n
 expected_is ts code p n z =
@@ -72,7 +56,7 @@ module _ {code : ℕ} {ts : List ℕ} {p n : ℕ} {r : Read} (h : Expects code t
   expect_goes {q} {m} e = go (ltb p (length ts) && eqb (get_or ts p 0) code) refl (sym h.is ∙ e)
     where
       go : (b : Bool) → (ltb p (length ts) && eqb (get_or ts p 0) code) ≡ b → cond b (At (p + 1) n) (Refused p) ≡ At q m → (q ≡ p + 1) × (m ≡ n) × (p < length ts)
-      go true b z = (cc, cc, ltb-true p (length ts) (and_split (ltb p (length ts)) _ b).0)
+      go true b z = (sym (same_token z), sym (same_row z), ltb-true p (length ts) (and_split (ltb p (length ts)) _ b).0)
       go false b z = refused_not_at q m p z
 
   pub expect_ready : {q m : ℕ} → Ready ts p n → r ≡ At q m → Ready ts q m

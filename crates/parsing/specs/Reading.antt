@@ -1,5 +1,5 @@
 -- What a reading step answers and leaves, in terms of the grammar: the inner contracts of the readers.
-use Rattle.std.specs.Prelude.{Bool, true, false, ◌&&◌, cond, List, [], ◌∷◌, map, ◌≡◌, ℕ, ◌+◌, ◌-◌, ◌*◌, ◌%◌, ◌≤◌, ◌<◌, eqb, ltb, leb, length, get_or, set, take}
+use Rattle.std.specs.Prelude.{Bool, true, false, ◌&&◌, cond, List, [], ◌∷◌, map, ◌≡◌, ℕ, ◌+◌, ◌-◌, ◌*◌, ◌%◌, ◌≤◌, ◌<◌, eqb, ltb, leb, length, get_or, set, take, Result as Either, Ok, Err}
 use Rattle.std.proofs.lemmas.List.Edits.{sets}
 use Rattle.ebnf.specs.Set.{mem}
 use Rattle.ebnf.specs.Grammar.{Ebnf, seq, nt}
@@ -10,8 +10,21 @@ use Rattle.express.specs.Syntax.Grammar.{Nonterminal, rules, sum, ◌·◌, leav
 use Rattle.express.specs.Syntax.NodeKind as kind
 use Rattle.ebnf.specs.Descent as descent
 use Rattle.express.specs.Syntax.Lookahead.{tables}
-use Rattle.parsing.specs.declared.Read.{Read}
-use Rattle.parsing.specs.declared.Read.TheVariants.{At, Refused}
+use Rattle.parsing.specs.declared.Position.{Position}
+use Rattle.parsing.specs.declared.Unexpected.{Unexpected}
+
+-- ---- answers
+
+-- what a reader answers: where it goes on, or the token that cannot stand
+abbrev pub Read : Type 0
+Read = Either Position Unexpected
+
+-- the next token and the next row
+abbrev pub At : ℕ → ℕ → Read
+At p n = Ok (record { token = p; row = n })
+
+abbrev pub Refused : ℕ → Read
+Refused k = Err (record { token = k })
 
 -- ---- rows in words
 
@@ -50,13 +63,13 @@ abbrev pub is_place : List ℕ → ℕ → ℕ → Bool
 is_place ts p n = leb (length ts) 65536 && (leb p (length ts) && leb n p)
 
 abbrev pub Sound : List ℕ → Read → Type 0
-Sound ts (At p n) = Ready ts p n
-Sound ts (Refused k) = Unit {0}
+Sound ts (Ok next) = Ready ts next.token next.row
+Sound ts (Err e) = Unit {0}
 
 -- an answer to what was read from token p and row n on
 abbrev pub Ahead : List ℕ → ℕ → ℕ → Read → Type 0
-Ahead ts p n (At q m) = (p < q) × (q ≤ length ts) × (n ≤ m) × (m + p ≤ q + n)
-Ahead ts p n (Refused k) = Unit {0}
+Ahead ts p n (Ok next) = (p < next.token) × (next.token ≤ length ts) × (n ≤ next.row) × (next.row + p ≤ next.token + n)
+Ahead ts p n (Err e) = Unit {0}
 
 -- ---- what is found
 

@@ -1,47 +1,28 @@
 -- The declarations counted, and cut from the columns that hold their orders.
 use mathlib.Core.Path.{◌≡◌, sym, ap, ◌∙◌}
-use mathlib.Core.Bool.{Bool, true, false}
 use mathlib.Core.List.{List}
-use Prim.Native.Nat.{ℕ, min, ◌+◌, ◌≤◌, ◌<◌}
+use Prim.Native.Nat.{ℕ, min, ◌≤◌}
 use native.Mathlib.Omega.{arith}
 use lib.IntN.{ℤ}
 use lib.ListN.{length, get_or, take}
+use Rattle.std.specs.List.{count_by}
 use Rattle.relations.specs.Select.{span, keep}
 use Rattle.express.specs.Syntax.Tree.{Table}
 use Rattle.scopes.specs.Entries.{vertex}
 use Rattle.scopes.specs.Range.{vertex_count}
 use Rattle.scopes.specs.Standing.{declares}
-use Rattle.constant_rows.proofs.Numbering.{next_one, next_none, none_yet}
-use Rattle.stages.specs.declared.Stage.{Stage}
+use Rattle.stages.specs.Line.{Stage}
+use Rattle.stages.proofs.Counting.{counted_places}
 use Rattle.answer_stages.specs.AnswerStage.{AnswersFile}
 use Rattle.pipeline.specs.Binding.{Declarations, AnswersNamed}
 
--- ---- the declarations, counted from the first node on
+-- ---- the declarations, counted
 
 abbrev so_far : List ℕ → ℕ → ℕ
 so_far kinds n = length (keep (λ m. declares (get_or kinds m 0)) (span 0 n))
 
-pub record Counting (kinds : List ℕ) (n vertices : ℕ) : Type 0 where
-  pub low : n ≤ length kinds
-  pub few : vertices ≤ n
-  pub is : vertices ≡ so_far kinds n
-
-module _ {kinds : List ℕ} where
-  pub counting_starts : Counting kinds 0 0
-  counting_starts = record { low = omega arith; few = omega arith; is = sym (none_yet (λ m. declares (get_or kinds m 0))) }
-
-  pub counting_declaration : {n vertices : ℕ} {b : Bool} → Counting kinds n vertices → n < length kinds → b ≡ declares (get_or kinds n 0) → b ≡ true → Counting kinds (n + 1) (vertices + 1)
-  counting_declaration {n} C l e q =
-      let f = C.few in
-      record { low = omega arith; few = omega arith; is = ap (λ (x : ℕ). x + 1) C.is ∙ sym (next_one (λ m. declares (get_or kinds m 0)) n (sym e ∙ q)) }
-
-  pub counting_other : {n vertices : ℕ} {b : Bool} → Counting kinds n vertices → n < length kinds → b ≡ declares (get_or kinds n 0) → b ≡ false → Counting kinds (n + 1) vertices
-  counting_other {n} C l e q =
-      let f = C.few in
-      record { low = omega arith; few = omega arith; is = C.is ∙ sym (next_none (λ m. declares (get_or kinds m 0)) n (sym e ∙ q)) }
-
-  pub counting_ends : {n vertices : ℕ} → Counting kinds n vertices → length kinds ≤ n → Declarations kinds vertices
-  counting_ends {n} C h = let l = C.low in let e : n ≡ length kinds = omega arith in record { is = C.is ∙ ap (so_far kinds) e }
+pub declarations_counted : {kinds : List ℕ} {n : ℕ} → n ≡ count_by declares kinds → Declarations kinds n
+declarations_counted {kinds} e = record { is = e ∙ counted_places declares kinds }
 
 vertices_are : (t : Table) (kinds : List ℕ) {n : ℕ} → kinds ≡ t.kinds → Declarations kinds n → n ≡ vertex_count t
 unfolding vertex

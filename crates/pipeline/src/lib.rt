@@ -6,32 +6,42 @@ ghost use Rattle.pipeline.specs.Binding.{Declarations, AnswersNamed};
 ghost use Rattle.pipeline.specs.NameStage.{of_resolution, NamesFile};
 
 use answer_stages::answer_file;
-use columns::shorter;
 use names::resolve;
-use resolutions::Resolution;
-use stages::Stage;
+use stages::{Refusal, Stage};
+
+// A file as far as its nodes: its bytes, and the columns of its tokens and of its nodes.
+#[derive(Clone, Copy)]
+pub struct File<'a> {
+    pub src: &'a [u8],
+    pub starts: &'a [u32],
+    pub lengths: &'a [u32],
+    pub terminals: &'a [u8],
+    pub kinds: &'a [u8],
+    pub tokens: &'a [u32],
+    pub sizes: &'a [u32],
+}
 
 // What a resolution comes to, of a file with n constants. Columns that do not fit are no file's.
-fn of_resolution(resolution: Resolution, n: usize) -> Stage
+fn of_resolution(resolution: Result<(), resolutions::Refusal>, n: usize) -> Stage
     ensures { result ≡ of_resolution resolution n }
 {
     match resolution {
-        Resolution::Bound => Stage::Done(n),
-        Resolution::Faulty(k, p) => Stage::Refused(k, p),
-        Resolution::Unfit => Stage::Refused(codes::replies::TOO_LONG, codes::limits::BYTES),
+        Ok(()) => Ok(n),
+        Err(resolutions::Refusal::Faulty(fault)) => Err(Refusal {
+            reply: fault.reply.number(),
+            number: fault.place,
+        }),
+        Err(resolutions::Refusal::Unfit) => Err(Refusal {
+            reply: codes::replies::TOO_LONG,
+            number: codes::limits::BYTES,
+        }),
     }
 }
 
 // The names of a file: replies 9 to 13. The column of bindings holds the roles before.
 pub fn name_file(
     before: Stage,
-    src: &[u8],
-    starts: &[u32],
-    lengths: &[u32],
-    terminals: &[u8],
-    kinds: &[u8],
-    tokens: &[u32],
-    sizes: &[u32],
+    file: &File,
     bindings: &mut [u32],
     roles: &mut [u8],
     symbols: &mut [u32],
@@ -45,50 +55,51 @@ pub fn name_file(
     constants: &mut [u32],
     scratch: &mut [u32],
 ) -> Stage
-    ensures { NamesFile before src.now starts.now lengths.now terminals.now kinds.now
-        tokens.now sizes.now bindings.old roles.old symbols.old keys.old nodes.old
+    ensures { NamesFile before file.now.src.now file.now.starts.now file.now.lengths.now
+        file.now.terminals.now file.now.kinds.now file.now.tokens.now file.now.sizes.now
+        bindings.old roles.old symbols.old keys.old nodes.old
         heads.old next.old first.old to.old types.old constants.old
         scratch.old result bindings.new types.new constants.new }
 {
-    match before {
-        Stage::Done(n) => {
-            let resolution = resolve(
-                src, starts, lengths, terminals, kinds, tokens, sizes, bindings, roles, symbols,
-                keys, nodes, heads, next, first, to, types, constants, scratch,
-            );
-            of_resolution(resolution, n)
-        }
-        Stage::Refused(k, p) => Stage::Refused(k, p),
-    }
+    let n = before?;
+    let resolution = resolve(
+        file.src,
+        file.starts,
+        file.lengths,
+        file.terminals,
+        file.kinds,
+        file.tokens,
+        file.sizes,
+        bindings,
+        roles,
+        symbols,
+        keys,
+        nodes,
+        heads,
+        next,
+        first,
+        to,
+        types,
+        constants,
+        scratch,
+    );
+    of_resolution(resolution, n)
 }
 
 // How many constants, types and entities there are.
 fn count_declarations(kinds: &[u8]) -> usize
     ensures { Declarations kinds.now result }
 {
-    let mut vertices: usize = 0;
-    let mut n: usize = 0;
-    while n < kinds.len() {
-        if scopes::is_declaration(kinds[n]) {
-            vertices += 1;
-            n += 1;
-        } else {
-            n += 1;
-        }
-    }
-    vertices
+    kinds
+        .iter()
+        .filter(|kind| scopes::is_declaration(**kind))
+        .count()
 }
 
 // From names to answers, with the orders of the declarations at the fronts of two columns.
 pub fn answer_named(
     before: Stage,
-    src: &[u8],
-    starts: &[u32],
-    lengths: &[u32],
-    terminals: &[u8],
-    kinds: &[u8],
-    tokens: &[u32],
-    sizes: &[u32],
+    file: &File,
     bindings: &[u32],
     types: &[u32],
     constants: &[u32],
@@ -102,25 +113,23 @@ pub fn answer_named(
     value_lengths: &mut [u8],
     room: &mut [u8],
 ) -> Stage
-    ensures { AnswersNamed before src.now starts.now lengths.now terminals.now
-        kinds.now tokens.now sizes.now bindings.now types.now constants.now
+    ensures { AnswersNamed before file.now.src.now file.now.starts.now file.now.lengths.now
+        file.now.terminals.now file.now.kinds.now file.now.tokens.now file.now.sizes.now
+        bindings.now types.now constants.now
         declared.old row_of.old answer_kinds.old answer_numbers.old answer_lengths.old
         value_kinds.old value_numbers.old value_lengths.old room.old result answer_kinds.new
         answer_numbers.new answer_lengths.new room.new }
 {
-    let v = shorter(
-        count_declarations(kinds),
-        shorter(types.len(), constants.len()),
-    );
+    let v = count_declarations(file.kinds).min(types.len().min(constants.len()));
     answer_file(
         before,
-        src,
-        starts,
-        lengths,
-        terminals,
-        kinds,
-        tokens,
-        sizes,
+        file.src,
+        file.starts,
+        file.lengths,
+        file.terminals,
+        file.kinds,
+        file.tokens,
+        file.sizes,
         bindings,
         &types[..v],
         &constants[..v],

@@ -14,7 +14,8 @@ use Rattle.relations.proofs.Select.{and_both}
 use Rattle.express.specs.Syntax.Tree.{Table, count, nodes, is_declaration}
 use Rattle.index.specs.Dictionary.{Builds}
 use Rattle.index.specs.Room.{done}
-use Rattle.index.specs.declared.Outcome.{Outcome}
+use Rattle.std.specs.Prelude.{Result}
+use Rattle.index.specs.declared.Short.{Short}
 use Rattle.scopes.specs.Entries.{radix, Entry, own_entry, declares_other, declaring, entries, vertex, others_before}
 use Rattle.scopes.specs.Standing.{Counted}
 use Rattle.scopes.specs.Preparation.{Consistent, Room, Prepares, Refused, Decides, Filled, keys_of, nodes_of}
@@ -50,7 +51,7 @@ module _ {t : Table} (keys nodes heads next : List ℕ) where
       prefix_long = omega (arith, prefix_fits, length-take (c.declarations + c.others) keys')
 
       pub prepares :
-          {nodes' heads' next' : List ℕ} {r : Outcome} → Consistent t → Filled (λ (e : Entry). e.node) t nodes nodes' →
+          {nodes' heads' next' : List ℕ} {r : Result (Unit {0}) Short} → Consistent t → Filled (λ (e : Entry). e.node) t nodes nodes' →
           Builds (take (c.declarations + c.others) keys') heads next r heads' next' → Prepares t keys nodes keys' nodes' heads' next'
       prepares {nodes'} {heads'} {next'} {r} ok G B =
           record {

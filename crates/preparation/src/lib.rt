@@ -10,9 +10,9 @@ ghost use Rattle.preparation.specs.Fitting.{AtMost, Fitting};
 ghost use Rattle.scopes.specs.NoneFrom.{NoneFrom};
 ghost use Rattle.scopes.specs.Preparation.{Consistent, Room, Answers, Decides, Enterable, Entered, Filled};
 
-use columns::{index, shorter};
-use scopes::dictionary::{Preparation, key, put, scope};
-use scopes::{Counts, DECLARATIONS, Here, NO_SORT, RADIX, SCHEMAS, at8};
+use columns::{get_or, index, put};
+use scopes::dictionary::{Unfit, key, scope};
+use scopes::{Counts, DECLARATIONS, Here, NO_SORT, RADIX, SCHEMAS};
 
 // What a node declares: a row for each kind of node, a column for each role, the last one for all roles from 7 on. A class is a sort,
 // and 8 where its entry stands behind the declarations; it stands here as a letter, that of class 0 being @. So @ is nothing, B a constant,
@@ -73,7 +73,7 @@ fn class(classes: &[u8; 256], kind: u8, role: u32) -> u8
     if ROWS <= kind {
         return NOTHING;
     }
-    let column = columns::shorter(columns::index(role), COLUMNS - 1);
+    let column = columns::index(role).min(COLUMNS - 1);
     classes[columns::byte_index(kind) * COLUMNS + column] - b'@'
 }
 
@@ -93,10 +93,7 @@ fn entries_in(class: u8) -> usize
 fn choose(test: bool, yes: usize, no: usize) -> usize
     ensures { result ≡ cond test yes no }
 {
-    if test {
-        return yes;
-    }
-    no
+    if test { yes } else { no }
 }
 
 // What is known past the last node.
@@ -118,8 +115,10 @@ fn passed(class: u8, i: usize, after: Here) -> Here
     let sort = sort_in(class);
     let owner = choose(sort == DECLARATIONS, i, after.owner);
     let schema = choose(sort == SCHEMAS, i, after.schema);
-    let vertex = columns::saturating_sub(after.vertex, choose(sort == DECLARATIONS, 1, 0));
-    let other = columns::saturating_sub(after.other, entries_in(class));
+    let vertex = after
+        .vertex
+        .saturating_sub(choose(sort == DECLARATIONS, 1, 0));
+    let other = after.other.saturating_sub(entries_in(class));
     Here {
         owner,
         schema,
@@ -144,19 +143,7 @@ fn more(class: u8, before: Counts) -> Counts
 fn one(test: bool) -> u8
     ensures { (result ≡ cond test 1 0) × (result ≤ 1) }
 {
-    if test {
-        return 1;
-    }
-    0
-}
-
-fn both(a: bool, b: bool) -> u8
-    ensures { (result ≡ cond (a && b) 1 0) × (result ≤ 1) }
-{
-    if a {
-        return one(b);
-    }
-    0
+    u8::from(test)
 }
 
 // How many declarations a node is, and how many entries it has behind these: sums of tests, so that the compiler counts many nodes at once.
@@ -174,13 +161,9 @@ fn others_of(kind: u8, role: u8) -> u8
     let named = one(kind == codes::nodes::SCHEMA) + one(kind == codes::nodes::ITEM);
     let attributes = one(kind == codes::nodes::ATTRIBUTE_NAME)
         + one(kind == codes::nodes::DERIVED_ATTRIBUTE);
-    let rules = both(
-        kind == codes::nodes::RULE,
-        role as u32 == codes::roles::LABELLED,
-    );
-    let supertypes = both(
-        kind == codes::nodes::NAME,
-        role as u32 == codes::roles::SUPERTYPE_NAME,
+    let rules = one((kind == codes::nodes::RULE) & (role as u32 == codes::roles::LABELLED));
+    let supertypes = one(
+        (kind == codes::nodes::NAME) & (role as u32 == codes::roles::SUPERTYPE_NAME),
     );
     named + attributes + rules + supertypes
 }
@@ -189,11 +172,8 @@ fn others_of(kind: u8, role: u8) -> u8
 fn may_declare(kind: u8, role: u8) -> bool
     ensures { result ≡ may_declare kind role }
 {
-    let supertype = scopes::both(
-        kind == codes::nodes::NAME,
-        role as u32 == codes::roles::SUPERTYPE_NAME,
-    );
-    scopes::either(supertype, codes::nodes::ITEM <= kind)
+    (kind == codes::nodes::NAME) & (role as u32 == codes::roles::SUPERTYPE_NAME)
+        | (codes::nodes::ITEM <= kind)
 }
 
 // The nodes before an end, without the last ones, of which none may declare something.
@@ -201,14 +181,12 @@ fn declaring_before(kinds: &[u8], roles: &[u8], end: usize) -> usize
     requires { (end ≤ length kinds.now) × (end ≤ length roles.now) }
     ensures { NoneFrom (λ n. may_declare (get_or kinds.now n 0) (get_or roles.now n 0)) 0 end result }
 {
-    let mut i = end;
-    while 0 < i {
-        if may_declare(kinds[i - 1], roles[i - 1]) {
-            return i;
+    for i in (0..end).rev() {
+        if may_declare(kinds[i], roles[i]) {
+            return i + 1;
         }
-        i -= 1;
     }
-    i
+    0
 }
 
 // The nodes of a block, counted in bytes.
@@ -219,11 +197,9 @@ fn count_block(kinds: &[u8], roles: &[u8], from: usize, to: usize, before: Count
 {
     let mut declarations: u8 = 0;
     let mut others: u8 = 0;
-    let mut i = from;
-    while i < to {
+    for i in from..to {
         declarations += declarations_of(kinds[i]);
         others += others_of(kinds[i], roles[i]);
-        i += 1;
     }
     Counts {
         declarations: before.declarations + columns::byte_index(declarations),
@@ -238,10 +214,11 @@ fn count_from(kinds: &[u8], roles: &[u8], from: usize, before: Counts) -> Counts
 {
     let classes = CLASSES;
     let mut so_far = before;
-    let mut i = from;
-    while i < kinds.len() {
-        so_far = more(class(&classes, kinds[i], at8(roles, i) as u32), so_far);
-        i += 1;
+    for i in from..kinds.len() {
+        so_far = more(
+            class(&classes, kinds[i], get_or(roles, i, 0) as u32),
+            so_far,
+        );
     }
     so_far
 }
@@ -257,34 +234,23 @@ pub fn count_entries(kinds: &[u8], roles: &[u8]) -> Counts
     if RADIX <= kinds.len() as u64 {
         return so_far;
     }
-    let blocks = shorter(kinds.len(), roles.len());
+    let blocks = kinds.len().min(roles.len());
     let mut i = 0;
     while i < blocks {
-        let to = shorter(blocks, i + BLOCK);
+        let to = blocks.min(i + BLOCK);
         so_far = count_block(kinds, roles, i, to, so_far);
         i = to;
     }
     count_from(kinds, roles, i, so_far)
 }
 
-fn larger(a: u32, b: u32) -> u32
-    ensures { (a ≤ result) × (b ≤ result) }
-{
-    if a < b {
-        return b;
-    }
-    a
-}
-
 // A number that is as large as the largest of a column: the compiler takes many at once.
 fn largest(column: &[u32]) -> u32
     ensures { AtMost column.now (length column.now) result }
 {
-    let mut most = 0;
-    let mut i = 0;
-    while i < column.len() {
-        most = larger(most, column[i]);
-        i += 1;
+    let mut most: u32 = 0;
+    for x in column {
+        most = most.max(*x);
     }
     most
 }
@@ -293,10 +259,7 @@ fn largest(column: &[u32]) -> u32
 fn surely_fits(tokens: &[u32], symbols: &[u32]) -> bool
     ensures { result ≡ true → Fitting tokens.now symbols.now }
 {
-    if symbols.len() <= index(largest(tokens)) {
-        return false;
-    }
-    (largest(symbols) as u64) < RADIX
+    index(largest(tokens)) < symbols.len() && (largest(symbols) as u64) < RADIX
 }
 
 // Do the columns of nodes and tokens fit each other?
@@ -306,22 +269,17 @@ fn consistent(kinds: &[u8], tokens: &[u32], roles: &[u8], symbols: &[u32]) -> bo
     if RADIX <= kinds.len() as u64 {
         return false;
     }
-    if shorter(tokens.len(), roles.len()) < kinds.len() {
+    if tokens.len().min(roles.len()) < kinds.len() {
         return false;
     }
     if surely_fits(tokens, symbols) {
         return true;
     }
-    let mut i = 0;
-    while i < kinds.len() {
+    for i in 0..kinds.len() {
         let k = index(tokens[i]);
-        if symbols.len() <= k {
+        if symbols.len() <= k || RADIX <= symbols[k] as u64 {
             return false;
         }
-        if RADIX <= symbols[k] as u64 {
-            return false;
-        }
-        i += 1;
     }
     true
 }
@@ -330,10 +288,7 @@ fn consistent(kinds: &[u8], tokens: &[u32], roles: &[u8], symbols: &[u32]) -> bo
 fn room(entries: usize, keys: usize, nodes: usize, heads: usize, next: usize) -> bool
     ensures { Decides (Room entries keys nodes heads next) result }
 {
-    if heads == 0 {
-        return false;
-    }
-    entries <= shorter(shorter(keys, nodes), next)
+    heads != 0 && entries <= keys.min(nodes).min(next)
 }
 
 fn enter(keys: &mut [u64], nodes: &mut [u32], at: usize, key: u64, node: usize)
@@ -341,7 +296,7 @@ fn enter(keys: &mut [u64], nodes: &mut [u32], at: usize, key: u64, node: usize)
     ensures { (keys.new ≡ set keys.old at key) × (nodes.new ≡ set nodes.old at node) }
 {
     put(keys, at, key);
-    columns::put32(nodes, at, node as u32);
+    put(nodes, at, node as u32);
 }
 
 // Enters what a node declares: a declaration at its vertex, all else at its place behind them.
@@ -415,20 +370,21 @@ pub fn prepare(
     nodes: &mut [u32],
     heads: &mut [u32],
     next: &mut [u32],
-) -> Preparation
+) -> Result<(), Unfit>
     ensures { Answers (table_of kinds.now tokens.now roles.now symbols.now)
         keys.old nodes.old heads.old next.old result
         keys.new nodes.new heads.new next.new }
 {
     if !consistent(kinds, tokens, roles, symbols) {
-        return Preparation::Unfit;
+        return Err(Unfit);
     }
     let counts = count_entries(kinds, roles);
     let entries = counts.declarations + counts.others;
     if !room(entries, keys.len(), nodes.len(), heads.len(), next.len()) {
-        return Preparation::Unfit;
+        return Err(Unfit);
     }
     fill(kinds, tokens, roles, symbols, counts, keys, nodes);
-    index::dictionary::build(&keys[..entries], heads, next);
-    Preparation::Done
+    // There is room, so the build is done.
+    let _ = index::dictionary::build(&keys[..entries], heads, next);
+    Ok(())
 }

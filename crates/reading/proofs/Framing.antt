@@ -6,7 +6,7 @@ use native.Mathlib.Omega.{arith}
 use lib.ListN.{length, replicate, length-map, length-replicate}
 use Rattle.express.specs.Tokens.Lexis as lexis
 use Rattle.express.specs.Tokens.Lexis.{TokenRow, most, lexed}
-use Rattle.stages.specs.declared.Stage.{Stage}
+use Rattle.stages.specs.Line.{Stage}
 use Rattle.stages.specs.Reading.{ReadsNodes}
 use Rattle.stages.proofs.Straight.{token_done}
 use Rattle.reading.specs.FileReading.{ReadsWithin}

@@ -5,14 +5,13 @@ use Prim.Native.Nat.{ℕ, min, ◌≤◌}
 use native.Mathlib.Omega.{arith}
 use lib.ListN.{length, take, length-map, length-take}
 use lib.Seq.{sets}
+use Rattle.std.specs.Prelude.{Ok, Err}
 use Rattle.columns.proofs.Laws.{take_rows}
 use Rattle.express.specs.Tokens.Lexis as lexis
 use Rattle.express.specs.Tokens.Lexis.{most, lexed}
 use Rattle.express.specs.Syntax.Tree.{count}
 use Rattle.express.specs.Whole.Reply.{token_entries, node_entries}
-use Rattle.stages.specs.declared.Stage.{Stage}
-use Rattle.stages.specs.declared.Stage.TheVariants.{Done, Refused}
-use Rattle.stages.specs.Line.{then_stage, count_of, of_constants, table_of, token_stage, node_stage, constant_stage}
+use Rattle.stages.specs.Line.{Stage, then_stage, count_of, of_constants, table_of, token_stage, node_stage, constant_stage}
 use Rattle.stages.specs.Reading.{ScansTokens, TokenColumns, NodesRead, FitsConstants}
 use Rattle.stages.proofs.Bounds.{tokens_few}
 use Rattle.stages.proofs.Straight.{token_done, node_done, constant_done, nodes_few}
@@ -26,12 +25,12 @@ front column values n e h = rw e (take_rows column values (omega arith))
 -- ---- what is counted is in the columns
 
 tokens_bound : (s : List ℕ) (tr : ℕ) (x : Stage) → x ≡ token_stage s tr → (count_of x ≤ tr) × (count_of x ≤ length (lexed s).rows)
-tokens_bound s tr (Done n) e = let D = token_done s tr n (sym e) in (omega (arith, D.is, D.room), omega (arith, D.is))
-tokens_bound s tr (Refused k p) e = (omega arith, omega arith)
+tokens_bound s tr (Ok n) e = let D = token_done s tr n (sym e) in (omega (arith, D.is, D.room), omega (arith, D.is))
+tokens_bound s tr (Err f) e = (omega arith, omega arith)
 
 nodes_bound : (s : List ℕ) (tr nr : ℕ) (x : Stage) → x ≡ node_stage s tr nr → count_of x ≤ nr
-nodes_bound s tr nr (Done n) e = let N = node_done s tr nr n (sym e) in omega (arith, N.is, N.room)
-nodes_bound s tr nr (Refused k p) e = omega arith
+nodes_bound s tr nr (Ok n) e = let N = node_done s tr nr n (sym e) in omega (arith, N.is, N.room)
+nodes_bound s tr nr (Err f) e = omega arith
 
 -- the length of the shortest of four columns, each as long as it was
 shortest_of_four : (a b c d : ℕ) → min (min a b) (min c d) ≡ min a (min b (min c d))
@@ -59,7 +58,7 @@ module _ {s k₀ s₀ z₀ : List ℕ} {scanned : Stage} {k' s' z' : List ℕ} (
 
   -- the columns of the tokens, for what comes after them
   token_columns : (terms words : List ℕ) (tokens : ℕ) → tokens ≡ count_of scanned → tokens ≤ length terms →
-      (n : ℕ) → scanned ≡ Done n → n ≤ length words → TokenColumns s n (take tokens k') (take tokens s') (take tokens z') terms words
+      (n : ℕ) → scanned ≡ Ok n → n ≤ length words → TokenColumns s n (take tokens k') (take tokens s') (take tokens z') terms words
   token_columns terms words tokens c a n e b =
       let D = token_done s (token_entries k₀ s₀ z₀) n (sym S.is ∙ e) in
       let t : tokens ≡ n = c ∙ ap count_of e in
@@ -78,7 +77,7 @@ module _ {s k₀ s₀ z₀ : List ℕ} {scanned : Stage} {k' s' z' : List ℕ} (
 
 module _ {s : List ℕ} {tr nr : ℕ} {read : Stage} {terms nk nt ns nb : List ℕ} (R : NodesRead s tr nr read terms nk nt ns nb) (nodes : ℕ) (nodes_are : nodes ≡ count_of read) where
   -- the first nodes of the columns are those of the file
-  front_kinds : (n : ℕ) → read ≡ Done n → take nodes nk ≡ (table_of s).kinds
+  front_kinds : (n : ℕ) → read ≡ Ok n → take nodes nk ≡ (table_of s).kinds
   front_kinds n e = let q : nodes ≡ n = nodes_are ∙ ap count_of e in rw q (R.nodes_are n e).kinds_are
 
   -- THE ROOM FOR ANSWERS
@@ -86,12 +85,12 @@ module _ {s : List ℕ} {tr nr : ℕ} {read : Stage} {terms nk nt ns nb : List �
   fit_is {ar} {fit} F = by read refl
     where
       by : (x : Stage) → read ≡ x → fit ≡ constant_stage s tr nr ar
-      by (Done n) e =
+      by (Ok n) e =
           let N = node_done s tr nr n (sym R.is ∙ e) in
           let k = front_kinds n e in
           let few : length (take nodes nk) ≤ most = rw k (nodes_few N) in
           F.is few ∙ rw (k, R.is)
-      by (Refused j p) e =
+      by (Err f) e =
           let z : nodes ≡ 0 = nodes_are ∙ ap count_of e in
           let few : length (take nodes nk) ≤ most = rw z (omega arith) in
           F.is few ∙ ap (λ (x : Stage). then_stage x (λ _. of_constants (take nodes nk) ar)) e ∙
@@ -124,11 +123,11 @@ module _ {s tk ts tl terms nk nt ns nb tk' ts' tl' terms' nk' nt' ns' nb' : List
     fit_as : fit ≡ constant_stage s tr nr answers
     fit_as = fit_is nodes_read nodes nodes_are F
 
-    begins : (n : ℕ) → fit ≡ Done n → FileBegins s (table_of s) tokens nodes tk' ts' tl' terms' nk' nt' ns' nb'
+    begins : (n : ℕ) → fit ≡ Ok n → FileBegins s (table_of s) tokens nodes tk' ts' tl' terms' nk' nt' ns' nb'
     begins n e =
         let C = constant_done s tr nr answers n (sym fit_as ∙ e) in
         let q = C.of_nodes.tokens_done in
-        let w : scanned ≡ Done (length (lexed s).rows) = S.is ∙ q in
+        let w : scanned ≡ Ok (length (lexed s).rows) = S.is ∙ q in
         let T = token_columns S terms terms tokens tokens_are (omega (arith, tokens_is, room_is)) (length (lexed s).rows) w few in
         let N = nodes_read.nodes_are (count (table_of s)) (nodes_read.is ∙ C.nodes_done) in
         let u : tokens ≡ length (lexed s).rows = tokens_are ∙ ap count_of w in

@@ -1,12 +1,10 @@
 -- The stages up to the room for answers, in one call, with the words of the parser in an array of their own (replies 1 to 8).
-use Rattle.std.specs.Prelude.{◌≡◌, List, ℕ, ◌≤◌, length, take}
+use Rattle.std.specs.Prelude.{◌≡◌, List, ℕ, ◌≤◌, length, take, Ok}
 use Rattle.express.specs.Tokens.Lexis.{lexed}
 use Rattle.express.specs.Tokens.Lexis as lexis
 use Rattle.express.specs.Syntax.Tree.{Table}
 use Rattle.express.specs.Whole.Reply.{token_entries, node_entries}
-use Rattle.stages.specs.declared.Stage.{Stage}
-use Rattle.stages.specs.declared.Stage.TheVariants.{Done}
-use Rattle.stages.specs.Line.{count_of, table_of, token_stage, node_stage, constant_stage}
+use Rattle.stages.specs.Line.{Stage, count_of, table_of, token_stage, node_stage, constant_stage}
 use Rattle.stages.specs.Reading.{TokenColumns, NodesRead}
 use Rattle.reading.specs.declared.Reading.{Reading}
 
@@ -32,7 +30,7 @@ pub record ReadsWithin (tokens_most : ℕ) (s : List ℕ) (before : Stage) (toke
     (terminals' kinds' tokens' sizes' roles' : List ℕ) : Type 0 where
   pub is :
       length token_kinds ≤ tokens_most → (token_rows : ℕ) → before ≡ token_stage s token_rows →
-      ((n : ℕ) → before ≡ Done n → (words : List ℕ) → n ≤ length words → TokenColumns s n token_kinds starts lengths terminals words) →
+      ((n : ℕ) → before ≡ Ok n → (words : List ℕ) → n ≤ length words → TokenColumns s n token_kinds starts lengths terminals words) →
       NodesRead s token_rows (node_entries kinds tokens sizes roles) r terminals' kinds' tokens' sizes' roles'
 
 -- the columns begin with the tokens and the nodes of a file
@@ -52,9 +50,9 @@ pub record FileRead (s : List ℕ) (token_rows node_rows answer_rows : ℕ) (r :
   pub tokens_are : r.tokens ≡ count_of (token_stage s token_rows)
   pub nodes_are : r.nodes ≡ count_of (node_stage s token_rows node_rows)
   pub stage_is : r.stage ≡ constant_stage s token_rows node_rows answer_rows
-  pub begins : (n : ℕ) → r.stage ≡ Done n → FileBegins s (table_of s) r.tokens r.nodes token_kinds token_starts token_lengths terminals node_kinds node_tokens node_sizes roles
+  pub begins : (n : ℕ) → r.stage ≡ Ok n → FileBegins s (table_of s) r.tokens r.nodes token_kinds token_starts token_lengths terminals node_kinds node_tokens node_sizes roles
 
--- `read_file`, `read_short_file`: what is counted is in the columns, whatever they are; and the file is read where there is a terminal for each token
+-- `read_file`: what is counted is in the columns, whatever they are; and the file is read where there is a terminal for each token
 pub record ReadsFile (s token_kinds token_starts token_lengths terminals node_kinds node_tokens node_sizes roles : List ℕ) (answer_rows : ℕ) (r : Reading)
     (token_kinds' token_starts' token_lengths' terminals' node_kinds' node_tokens' node_sizes' roles' : List ℕ) : Type 0 where
   pub tokens_in : (r.tokens ≤ token_entries token_kinds token_starts token_lengths) × (r.tokens ≤ length terminals)

@@ -1,10 +1,10 @@
 // The tokens and the nodes of a file, from its bytes. The words of the parser are in an array of the call, in one of four sizes, and gone after it.
 #![tactic(auto)]
 
+ghost use Rattle.std.specs.Prelude.{◌≤◌};
 ghost use Rattle.express.specs.Tokens.Lexis.{most};
-ghost use Rattle.reading.specs.FileReading.{few_rows, some_rows, many_rows, ReadsWithin, ReadsFile};
+ghost use Rattle.reading.specs.FileReading.{ReadsWithin, ReadsFile};
 
-use columns::shorter;
 use stages::{Stage, count, fit_constants, read_nodes, scan_tokens};
 
 // The bytes of a small file, of one of middle size, and of the largest. A file has no more tokens than bytes.
@@ -29,7 +29,9 @@ pub struct Reading {
     pub stage: Stage,
 }
 
-fn read_few(
+// The nodes with a word of the parser for each of ROWS tokens. Each size is a function of its own, so that its array is in no frame of a caller.
+#[inline(never)]
+fn read_within<const ROWS: usize>(
     before: Stage,
     src: &[u8],
     token_kinds: &[u8],
@@ -41,107 +43,12 @@ fn read_few(
     sizes: &mut [u32],
     roles: &mut [u32],
 ) -> Stage
-    ensures { ReadsWithin few_rows src.now before token_kinds.now starts.now lengths.now terminals.old
+    requires { ROWS ≤ most }
+    ensures { ReadsWithin ROWS src.now before token_kinds.now starts.now lengths.now terminals.old
         kinds.old tokens.old sizes.old roles.old result
         terminals.new kinds.new tokens.new sizes.new roles.new }
 {
-    let mut words = [0u64; FEW];
-    read_nodes(
-        before,
-        src,
-        token_kinds,
-        starts,
-        lengths,
-        terminals,
-        &mut words,
-        kinds,
-        tokens,
-        sizes,
-        roles,
-    )
-}
-
-fn read_some(
-    before: Stage,
-    src: &[u8],
-    token_kinds: &[u8],
-    starts: &[u32],
-    lengths: &[u32],
-    terminals: &mut [u8],
-    kinds: &mut [u8],
-    tokens: &mut [u32],
-    sizes: &mut [u32],
-    roles: &mut [u32],
-) -> Stage
-    ensures { ReadsWithin some_rows src.now before token_kinds.now starts.now lengths.now terminals.old
-        kinds.old tokens.old sizes.old roles.old result
-        terminals.new kinds.new tokens.new sizes.new roles.new }
-{
-    let mut words = [0u64; SOME];
-    read_nodes(
-        before,
-        src,
-        token_kinds,
-        starts,
-        lengths,
-        terminals,
-        &mut words,
-        kinds,
-        tokens,
-        sizes,
-        roles,
-    )
-}
-
-fn read_many(
-    before: Stage,
-    src: &[u8],
-    token_kinds: &[u8],
-    starts: &[u32],
-    lengths: &[u32],
-    terminals: &mut [u8],
-    kinds: &mut [u8],
-    tokens: &mut [u32],
-    sizes: &mut [u32],
-    roles: &mut [u32],
-) -> Stage
-    ensures { ReadsWithin many_rows src.now before token_kinds.now starts.now lengths.now terminals.old
-        kinds.old tokens.old sizes.old roles.old result
-        terminals.new kinds.new tokens.new sizes.new roles.new }
-{
-    let mut words = [0u64; MANY];
-    read_nodes(
-        before,
-        src,
-        token_kinds,
-        starts,
-        lengths,
-        terminals,
-        &mut words,
-        kinds,
-        tokens,
-        sizes,
-        roles,
-    )
-}
-
-fn read_large(
-    before: Stage,
-    src: &[u8],
-    token_kinds: &[u8],
-    starts: &[u32],
-    lengths: &[u32],
-    terminals: &mut [u8],
-    kinds: &mut [u8],
-    tokens: &mut [u32],
-    sizes: &mut [u32],
-    roles: &mut [u32],
-) -> Stage
-    ensures { ReadsWithin most src.now before token_kinds.now starts.now lengths.now terminals.old
-        kinds.old tokens.old sizes.old roles.old result
-        terminals.new kinds.new tokens.new sizes.new roles.new }
-{
-    let mut words = [0u64; LARGE];
+    let mut words = [0u64; ROWS];
     read_nodes(
         before,
         src,
@@ -175,7 +82,7 @@ fn read_framed(
         terminals.new kinds.new tokens.new sizes.new roles.new }
 {
     if token_kinds.len() <= SOME {
-        return read_some(
+        return read_within::<SOME>(
             before,
             src,
             token_kinds,
@@ -189,7 +96,7 @@ fn read_framed(
         );
     }
     if token_kinds.len() <= MANY {
-        return read_many(
+        return read_within::<MANY>(
             before,
             src,
             token_kinds,
@@ -202,7 +109,7 @@ fn read_framed(
             roles,
         );
     }
-    read_large(
+    read_within::<LARGE>(
         before,
         src,
         token_kinds,
@@ -216,8 +123,8 @@ fn read_framed(
     )
 }
 
-// For short files: the smallest array where there are few tokens.
-fn read_short(
+// For short files the smallest array where there are few tokens.
+fn read_sized<const SHORT: bool>(
     before: Stage,
     src: &[u8],
     token_kinds: &[u8],
@@ -233,8 +140,8 @@ fn read_short(
         kinds.old tokens.old sizes.old roles.old result
         terminals.new kinds.new tokens.new sizes.new roles.new }
 {
-    if token_kinds.len() <= FEW {
-        return read_few(
+    if SHORT && token_kinds.len() <= FEW {
+        return read_within::<FEW>(
             before,
             src,
             token_kinds,
@@ -261,8 +168,9 @@ fn read_short(
     )
 }
 
-// From the bytes of a file to its nodes and the room for its answers.
-pub fn read_file(
+// From the bytes of a file to its nodes and the room for its answers. For short files with an array for few tokens
+// where there are few, for the whole of a frame is touched page by page where it is entered.
+pub fn read_file<const SHORT: bool>(
     src: &[u8],
     token_kinds: &mut [u8],
     token_starts: &mut [u32],
@@ -280,8 +188,8 @@ pub fn read_file(
         terminals.new node_kinds.new node_tokens.new node_sizes.new roles.new }
 {
     let scanned = scan_tokens(src, token_kinds, token_starts, token_lengths);
-    let tokens = shorter(count(scanned), terminals.len());
-    let read = read_framed(
+    let tokens = count(scanned).min(terminals.len());
+    let read = read_sized::<SHORT>(
         scanned,
         src,
         &token_kinds[..tokens],
@@ -293,60 +201,15 @@ pub fn read_file(
         node_sizes,
         roles,
     );
-    let entries = shorter(
-        shorter(node_kinds.len(), node_tokens.len()),
-        shorter(node_sizes.len(), roles.len()),
-    );
-    let nodes = shorter(count(read), entries);
+    let entries = node_kinds
+        .len()
+        .min(node_tokens.len())
+        .min(node_sizes.len().min(roles.len()));
+    let nodes = count(read).min(entries);
     let fit = fit_constants(read, &node_kinds[..nodes], answers);
     Reading {
-        tokens: tokens,
-        nodes: nodes,
-        stage: fit,
-    }
-}
-
-// The same for short files, with a frame that has none of the large arrays, for the whole of a frame is touched page by page where it is entered.
-pub fn read_short_file(
-    src: &[u8],
-    token_kinds: &mut [u8],
-    token_starts: &mut [u32],
-    token_lengths: &mut [u32],
-    terminals: &mut [u8],
-    node_kinds: &mut [u8],
-    node_tokens: &mut [u32],
-    node_sizes: &mut [u32],
-    roles: &mut [u32],
-    answers: usize,
-) -> Reading
-    ensures { ReadsFile src.now token_kinds.old token_starts.old token_lengths.old
-        terminals.old node_kinds.old node_tokens.old node_sizes.old roles.old
-        answers result token_kinds.new token_starts.new token_lengths.new
-        terminals.new node_kinds.new node_tokens.new node_sizes.new roles.new }
-{
-    let scanned = scan_tokens(src, token_kinds, token_starts, token_lengths);
-    let tokens = shorter(count(scanned), terminals.len());
-    let parsed = read_short(
-        scanned,
-        src,
-        &token_kinds[..tokens],
-        &token_starts[..tokens],
-        &token_lengths[..tokens],
-        terminals,
-        node_kinds,
-        node_tokens,
-        node_sizes,
-        roles,
-    );
-    let entries = shorter(
-        shorter(node_kinds.len(), node_tokens.len()),
-        shorter(node_sizes.len(), roles.len()),
-    );
-    let nodes = shorter(count(parsed), entries);
-    let fit = fit_constants(parsed, &node_kinds[..nodes], answers);
-    Reading {
-        tokens: tokens,
-        nodes: nodes,
+        tokens,
+        nodes,
         stage: fit,
     }
 }

@@ -1,14 +1,13 @@
 // The public call beside `check`: the answers go into a lent slice of records (R11).
 #![tactic(auto)]
 
+ghost use Rattle.std.specs.Prelude.{◌+◌, ◌*◌, ◌<◌, ◌≤◌};
 ghost use Rattle.demands.specs.Checks.{Checks, tables_of};
 ghost use Rattle.reports.specs.Reporting.{report_of};
 ghost use Rattle.express.specs.Tokens.Lexis.{most};
-ghost use Rattle.reading.specs.FileReading.{small_bytes, middle_bytes};
 ghost use Rattle.record_demands.specs.Records.{record_tables, ChecksRows, RecordsWithin};
 
 use checker::check;
-use columns::shorter;
 use reading::{LARGE, MIDDLE, SMALL};
 use records::{Answer, fill};
 use reports::Report;
@@ -44,9 +43,9 @@ fn check_rows(
         node_kinds.new node_tokens.new node_sizes.new node_bindings.new
         answer_kinds.new answer_numbers.new answer_lengths.new room.new) rows (report_of result) }
 {
-    let a = shorter(rows, answer_kinds.len());
-    let b = shorter(rows, answer_numbers.len());
-    let c = shorter(rows, answer_lengths.len());
+    let a = rows.min(answer_kinds.len());
+    let b = rows.min(answer_numbers.len());
+    let c = rows.min(answer_lengths.len());
     check(
         src,
         token_kinds,
@@ -63,8 +62,9 @@ fn check_rows(
     )
 }
 
-// The call with columns of its own, for files of at most so many tokens.
-fn records_small(
+// The call with columns of its own, for files of at most BYTES tokens. Never put into its caller, so that a small file is in no frame with the largest columns.
+#[inline(never)]
+fn records_within<const BYTES: usize, const ROWS: usize>(
     src: &[u8],
     token_kinds: &mut [u8],
     token_starts: &mut [u32],
@@ -76,107 +76,17 @@ fn records_small(
     records: &mut [Answer],
     room: &mut [u8],
 ) -> Report
-    ensures { RecordsWithin small_bytes src.now
+    requires few { ROWS ≤ most }
+    requires many { BYTES < 6 * ROWS + 6 }
+    ensures { RecordsWithin BYTES src.now
         (record_tables token_kinds.old token_starts.old token_lengths.old
         node_kinds.old node_tokens.old node_sizes.old node_bindings.old records.old room.old)
         (record_tables token_kinds.new token_starts.new token_lengths.new
         node_kinds.new node_tokens.new node_sizes.new node_bindings.new records.new room.new) (report_of result) }
 {
-    let mut kinds = [0u8; SMALL_ROWS];
-    let mut numbers = [0i64; SMALL_ROWS];
-    let mut lengths = [0u8; SMALL_ROWS];
-    let report = check_rows(
-        src,
-        token_kinds,
-        token_starts,
-        token_lengths,
-        node_kinds,
-        node_tokens,
-        node_sizes,
-        node_bindings,
-        &mut kinds,
-        &mut numbers,
-        &mut lengths,
-        room,
-        records.len(),
-    );
-    fill(
-        &kinds,
-        &numbers,
-        &lengths,
-        report.constants as usize,
-        records,
-    );
-    report
-}
-
-fn records_middle(
-    src: &[u8],
-    token_kinds: &mut [u8],
-    token_starts: &mut [u32],
-    token_lengths: &mut [u32],
-    node_kinds: &mut [u8],
-    node_tokens: &mut [u32],
-    node_sizes: &mut [u32],
-    node_bindings: &mut [u32],
-    records: &mut [Answer],
-    room: &mut [u8],
-) -> Report
-    ensures { RecordsWithin middle_bytes src.now
-        (record_tables token_kinds.old token_starts.old token_lengths.old
-        node_kinds.old node_tokens.old node_sizes.old node_bindings.old records.old room.old)
-        (record_tables token_kinds.new token_starts.new token_lengths.new
-        node_kinds.new node_tokens.new node_sizes.new node_bindings.new records.new room.new) (report_of result) }
-{
-    let mut kinds = [0u8; MIDDLE_ROWS];
-    let mut numbers = [0i64; MIDDLE_ROWS];
-    let mut lengths = [0u8; MIDDLE_ROWS];
-    let report = check_rows(
-        src,
-        token_kinds,
-        token_starts,
-        token_lengths,
-        node_kinds,
-        node_tokens,
-        node_sizes,
-        node_bindings,
-        &mut kinds,
-        &mut numbers,
-        &mut lengths,
-        room,
-        records.len(),
-    );
-    fill(
-        &kinds,
-        &numbers,
-        &lengths,
-        report.constants as usize,
-        records,
-    );
-    report
-}
-
-fn records_large(
-    src: &[u8],
-    token_kinds: &mut [u8],
-    token_starts: &mut [u32],
-    token_lengths: &mut [u32],
-    node_kinds: &mut [u8],
-    node_tokens: &mut [u32],
-    node_sizes: &mut [u32],
-    node_bindings: &mut [u32],
-    records: &mut [Answer],
-    room: &mut [u8],
-) -> Report
-    ensures { RecordsWithin most src.now
-        (record_tables token_kinds.old token_starts.old token_lengths.old
-        node_kinds.old node_tokens.old node_sizes.old node_bindings.old records.old room.old)
-        (record_tables token_kinds.new token_starts.new token_lengths.new
-        node_kinds.new node_tokens.new node_sizes.new node_bindings.new records.new room.new) (report_of result) }
-{
-    let mut kinds = [0u8; LARGE_ROWS];
-    let mut numbers = [0i64; LARGE_ROWS];
-    let mut lengths = [0u8; LARGE_ROWS];
+    let mut kinds = [0u8; ROWS];
+    let mut numbers = [0i64; ROWS];
+    let mut lengths = [0u8; ROWS];
     let report = check_rows(
         src,
         token_kinds,
@@ -222,7 +132,7 @@ pub fn check_records(
         node_kinds.new node_tokens.new node_sizes.new node_bindings.new records.new room.new) (report_of result) }
 {
     if src.len() <= SMALL {
-        return records_small(
+        return records_within::<SMALL, SMALL_ROWS>(
             src,
             token_kinds,
             token_starts,
@@ -236,7 +146,7 @@ pub fn check_records(
         );
     }
     if src.len() <= MIDDLE {
-        return records_middle(
+        return records_within::<MIDDLE, MIDDLE_ROWS>(
             src,
             token_kinds,
             token_starts,
@@ -249,7 +159,7 @@ pub fn check_records(
             room,
         );
     }
-    records_large(
+    records_within::<LARGE, LARGE_ROWS>(
         src,
         token_kinds,
         token_starts,

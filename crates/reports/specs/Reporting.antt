@@ -3,8 +3,7 @@ use Rattle.std.specs.Prelude.{◌≡◌, List, ℕ, ◌≤◌, ℤ, pos}
 use Rattle.columns.specs.Column.{cleared}
 use Rattle.express.specs.Tokens.Lexis.{most}
 use Rattle.express.specs.Whole.Reply as express
-use Rattle.stages.specs.declared.Stage.{Stage}
-use Rattle.stages.specs.Line.{count_of, reported}
+use Rattle.stages.specs.Line.{Stage, count_of, reported}
 use Rattle.reports.specs.declared.Report.{Report}
 
 -- R10: a report of the code

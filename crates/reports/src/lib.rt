@@ -5,7 +5,7 @@ ghost use Rattle.std.specs.Prelude.{◌≡◌};
 ghost use Rattle.stages.specs.Line.{kept_of};
 ghost use Rattle.reports.specs.Reporting.{Reports, ClearsTokens, ClearsNodes, ClearsAnswers};
 
-use columns::{clear8, clear32, clear64, number};
+use columns::{clear, number};
 use stages::Stage;
 
 // What is answered: the reply and the number beside it, and how many tokens, nodes and constants there are, 0 after a refusal.
@@ -23,8 +23,8 @@ pub fn kept(last: Stage, entries: usize) -> usize
     ensures { result ≡ kept_of last entries }
 {
     match last {
-        Stage::Done(_) => entries,
-        Stage::Refused(_, _) => 0,
+        Ok(_) => entries,
+        Err(_) => 0,
     }
 }
 
@@ -32,16 +32,16 @@ pub fn summary(tokens: usize, nodes: usize, last: Stage) -> Report
     ensures { Reports tokens nodes last result }
 {
     match last {
-        Stage::Done(n) => Report {
+        Ok(n) => Report {
             reply: codes::replies::ACCEPTED,
             number: 0,
             tokens: number(tokens),
             nodes: number(nodes),
             constants: number(n),
         },
-        Stage::Refused(k, p) => Report {
-            reply: k,
-            number: p,
+        Err(refusal) => Report {
+            reply: refusal.reply,
+            number: refusal.number,
             tokens: 0,
             nodes: 0,
             constants: 0,
@@ -49,13 +49,14 @@ pub fn summary(tokens: usize, nodes: usize, last: Stage) -> Report
     }
 }
 
+// Form kept: (d) the three tables have other numbers and types of columns, each with a zero of its own: one function would ask for all of them.
 pub fn clear_tokens(kinds: &mut [u8], starts: &mut [u32], lengths: &mut [u32], from: usize)
     ensures { ClearsTokens from kinds.old starts.old lengths.old
         kinds.new starts.new lengths.new }
 {
-    clear8(kinds, from);
-    clear32(starts, from);
-    clear32(lengths, from);
+    clear(kinds, from, 0);
+    clear(starts, from, 0);
+    clear(lengths, from, 0);
 }
 
 pub fn clear_nodes(
@@ -68,17 +69,17 @@ pub fn clear_nodes(
     ensures { ClearsNodes from kinds.old tokens.old sizes.old bindings.old
         kinds.new tokens.new sizes.new bindings.new }
 {
-    clear8(kinds, from);
-    clear32(tokens, from);
-    clear32(sizes, from);
-    clear32(bindings, from);
+    clear(kinds, from, 0);
+    clear(tokens, from, 0);
+    clear(sizes, from, 0);
+    clear(bindings, from, 0);
 }
 
 pub fn clear_answers(kinds: &mut [u8], numbers: &mut [i64], lengths: &mut [u8], from: usize)
     ensures { ClearsAnswers from kinds.old numbers.old lengths.old
         kinds.new numbers.new lengths.new }
 {
-    clear8(kinds, from);
-    clear64(numbers, from);
-    clear8(lengths, from);
+    clear(kinds, from, 0);
+    clear(numbers, from, 0);
+    clear(lengths, from, 0);
 }

@@ -1,11 +1,9 @@
 -- What the names of a file come to (N19), and the room that the stages need.
-use Rattle.std.specs.Prelude.{◌≡◌, Bool, true, false, cond, List, ℕ, ◌+◌, ◌*◌, ◌≤◌, ◌<◌, min, eqb, length, get_or, take}
+use Rattle.std.specs.Prelude.{◌≡◌, Bool, true, false, cond, List, ℕ, ◌+◌, ◌*◌, ◌≤◌, ◌<◌, min, length, get_or, take, is_none, Option, Some, None, Result, Ok, Err}
 use Rattle.std.proofs.lemmas.List.Edits.{sets}
-use Rattle.scopes.specs.declared.dictionary.Preparation.{Preparation}
-use Rattle.scopes.specs.declared.dictionary.Preparation.TheVariants as preparation
 use Rattle.faults.specs.declared.Fault.{Fault}
-use Rattle.resolutions.specs.declared.Resolution.{Resolution}
-use Rattle.resolutions.specs.declared.Resolution.TheVariants.{Bound, Faulty}
+use Rattle.resolutions.specs.declared.Refusal.{Refusal}
+use Rattle.resolutions.specs.declared.Refusal.TheVariants.{Faulty}
 
 -- `narrow`: the roles stand at the front of the column of bytes; false only where it is too short, or a role is no byte
 pub record Narrows (roles : List ℕ) (room : ℕ) (r : Bool) (bytes' : List ℕ) : Type 0 where
@@ -25,15 +23,11 @@ pub record StageRoom (tokens vertices first to types constants scratch : ℕ) : 
   pub search_room : 6 * vertices ≤ scratch
   pub table_room : tokens + vertices < scratch
 
--- the dictionary is made, and there is room
-abbrev pub done_with : Preparation → Bool → Bool
-done_with preparation.Done b = b
-done_with preparation.Unfit b = false
-
 -- `finish`: the answer to a fault, and the roles back in the column of bindings
-abbrev pub answer_to : Fault → Resolution
-answer_to f = cond (eqb f.number 0) Bound (Faulty f.number f.place)
+abbrev pub answer_to : Option Fault → Result (Unit {0}) Refusal
+answer_to None = Ok tt
+answer_to (Some f) = Err (Faulty f)
 
-pub record Finishes (f : Fault) (roles bindings : List ℕ) (r : Resolution) (bindings' : List ℕ) : Type 0 where
+pub record Finishes (f : Option Fault) (roles bindings : List ℕ) (r : Result (Unit {0}) Refusal) (bindings' : List ℕ) : Type 0 where
   pub answer : r ≡ answer_to f
-  pub bindings_are : bindings' ≡ cond (eqb f.number 0) bindings (sets bindings 0 (take (min (length roles) (length bindings)) roles))
+  pub bindings_are : bindings' ≡ cond (is_none f) bindings (sets bindings 0 (take (min (length roles) (length bindings)) roles))

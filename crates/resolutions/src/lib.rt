@@ -3,12 +3,12 @@
 
 ghost use Rattle.std.specs.Prelude.{◌≡◌, min, length, take};
 ghost use Rattle.std.proofs.lemmas.List.Edits.{sets};
-ghost use Rattle.resolutions.specs.Answer.{Narrows, StageRoom, done_with, Finishes};
+ghost use Rattle.resolutions.specs.Answer.{Narrows, StageRoom, Finishes};
+ghost use Rattle.resolutions.specs.declared.Refusal.TheVariants as refusal;
 ghost use Rattle.scopes.specs.Preparation.{Decides};
 
-use columns::shorter;
 use faults::Fault;
-use scopes::dictionary::Preparation;
+use scopes::dictionary::Unfit;
 
 // Words of scratch that the search for an order needs for a declaration.
 const SEARCH_WORDS: usize = 6;
@@ -24,12 +24,19 @@ const BYTE: u32 = 256;
 // A name for every two tokens, or fewer.
 const TOKENS_OF_ARC: usize = 2;
 
-// All names are bound; a reply from 9 to 13 and its place; or the lent columns are too short, or fit no file.
-#[derive(Clone, Copy)]
-pub enum Resolution {
-    Bound,
-    Faulty(u8, u32),
+// Why names are not bound: one is at fault; or the lent columns are too short, or fit no file.
+#[derive(Clone, Copy, Debug, PartialEq, Eq)]
+pub enum Refusal {
+    Faulty(Fault),
     Unfit,
+}
+
+impl From<Unfit> for Refusal {
+    ghost from_gives = { λ _ r. r ≡ refusal.Unfit };
+
+    fn from(_unfit: Unfit) -> Refusal {
+        Refusal::Unfit
+    }
 }
 
 // Copies roles to the front of a column of bytes: false where it is too short, or a role is no byte, which the bits of all of them tell at the end.
@@ -40,12 +47,10 @@ pub fn narrow(roles: &[u32], bytes: &mut [u8]) -> bool
         return false;
     }
     let mut all: u32 = 0;
-    let mut i = 0;
-    while i < roles.len() {
+    for i in 0..roles.len() {
         let role = roles[i];
         bytes[i] = (role % BYTE) as u8;
         all = all | role;
-        i += 1;
     }
     all < BYTE
 }
@@ -54,11 +59,9 @@ pub fn narrow(roles: &[u32], bytes: &mut [u8]) -> bool
 pub fn widen(bytes: &[u8], into: &mut [u32])
     ensures { into.new ≡ sets into.old 0 (take (min (length bytes.now) (length into.old)) bytes.now) }
 {
-    let end = shorter(bytes.len(), into.len());
-    let mut i = 0;
-    while i < end {
+    let end = bytes.len().min(into.len());
+    for i in 0..end {
         into[i] = bytes[i] as u32;
-        i += 1;
     }
 }
 
@@ -74,41 +77,23 @@ pub fn room(
 ) -> bool
     ensures { Decides (StageRoom tokens vertices first to types constants scratch) result }
 {
-    if MOST_DECLARATIONS <= vertices {
-        return false;
-    }
-    if WORD <= to as u64 {
-        return false;
-    }
-    if first <= vertices {
-        return false;
-    }
-    if scratch < SEARCH_WORDS * vertices {
-        return false;
-    }
-    if shorter(scratch - vertices, TOKENS_OF_ARC * to + 1) <= tokens {
-        return false;
-    }
-    vertices <= shorter(types, constants)
-}
-
-// Was the dictionary made, and is there room?
-pub fn fits(prepared: Preparation, room: bool) -> bool
-    ensures { result ≡ done_with prepared room }
-{
-    match prepared {
-        Preparation::Done => room,
-        Preparation::Unfit => false,
-    }
+    vertices < MOST_DECLARATIONS
+        && (to as u64) < WORD
+        && vertices < first
+        && SEARCH_WORDS * vertices <= scratch
+        && tokens < (scratch - vertices).min(TOKENS_OF_ARC * to + 1)
+        && vertices <= types.min(constants)
 }
 
 // The answer to a fault: the roles are put back into the column of bindings.
-pub fn finish(fault: Fault, roles: &[u8], bindings: &mut [u32]) -> Resolution
+pub fn finish(fault: Option<Fault>, roles: &[u8], bindings: &mut [u32]) -> Result<(), Refusal>
     ensures { Finishes fault roles.now bindings.old result bindings.new }
 {
-    if fault.number == codes::replies::ACCEPTED {
-        return Resolution::Bound;
+    match fault {
+        None => Ok(()),
+        Some(fault) => {
+            widen(roles, bindings);
+            Err(Refusal::Faulty(fault))
+        }
     }
-    widen(roles, bindings);
-    Resolution::Faulty(fault.number, fault.place)
 }

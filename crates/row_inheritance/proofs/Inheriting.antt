@@ -4,6 +4,7 @@ use mathlib.Core.Bool.{true, false, false≢true}
 use mathlib.Core.List.{List, ◌++◌}
 use Prim.Native.Nat.{ℕ, zero, suc, ◌+◌, ◌-◌, ◌*◌, ◌≤◌, ◌<◌}
 use native.Mathlib.Omega.{arith}
+use Rattle.std.specs.Prelude.{Some}
 use lib.ListN.{length, get_or, drop, replicate, length-replicate, get_or-append}
 use lib.Seq.{get_or-append-add}
 use Rattle.columns.specs.Column.{cleared_before}
@@ -33,7 +34,7 @@ module _ (n : ℕ) (table : List ℕ) where
 
 module _ {kinds tokens roles symbols keys nodes first to table mark queue bound : List ℕ} {n entities width chained : ℕ} {table₂ table₃ table₄ rows pairs bound' : List ℕ}
     (F : RowsFit (length symbols) (length first) (length nodes) (length table)) (d : n ≡ length first - 1) (long : length table₂ ≡ length table)
-    (K : RanksDeclarations kinds nodes (length symbols) n entities table₂) (R : RelatesEntities first to (length symbols) n entities table₂ width rows) (some : 0 < width)
+    (K : RanksDeclarations kinds nodes (length symbols) n entities table₂) (R : RelatesEntities first to (length symbols) n entities table₂ (Some width) rows)
     (Z : table₃ ≡ cleared_before 0 (length symbols) table₂) (same : length table₃ ≡ length table₂)
     (H : ChainsAttributes kinds keys nodes rows (length symbols) n table₃ queue chained table₄ pairs) (fit : 2 * chained ≤ length queue)
     (S : StoresInherited kinds tokens roles symbols keys nodes first table₄ rows pairs width bound bound') where
@@ -72,9 +73,9 @@ module _ {kinds tokens roles symbols keys nodes first to table mark queue bound 
           columns = C;
           inheriting = I;
           few = omega (arith, X.stamps);
-          narrow = R.narrow;
+          narrow = R.narrow width refl;
           rows_are =
-              R.rows_are kinds nodes d K.total K.stand some
+              R.rows_are width refl kinds nodes d K.total K.stand
               (entity_graph (record { kinds_are = C.kinds_are; node_is = column_node I.prepared }) (graph_is C I) I.read I.right);
           charted = H.is t chainable fit;
           empty = X.empty;
@@ -99,6 +100,3 @@ pub inherits_after : {kinds tokens roles symbols keys nodes first to table mark 
 inherits_after {kinds} {tokens} {roles} {symbols} {keys} {nodes} {first} {to} {table} {mark} {queue} {bound} {table'} {mark'} {queue'} {was} {bound'} a b c e h =
     let h' : Inherits kinds tokens roles symbols keys nodes first to table' mark' queue' bound bound' = rw e at h in
     record { is = λ t C I X. h'.is t C I (same_room a b c X) }
-
-pub some_width : {width : ℕ} → (width ≡ 0 → ⊥) → 0 < width
-some_width h = omega (arith, h)

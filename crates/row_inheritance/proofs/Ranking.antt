@@ -145,14 +145,14 @@ module _ {kinds nodes : List ℕ} where
                 (λ z. at_other ranks v w x 0 z ∙ s.is h w (omega (arith, z)));
           })
 
-      pub ranking_more : {x k y z : ℕ} {ranks' : List ℕ} → z ≡ get_or nodes v 0 → y ≡ z → k ≡ get_or kinds y 0 → k ≡ entity → (count + 1 < 4294967296 → x ≡ count + 1) → ranks' ≡ set ranks v x
-          → Ranking kinds nodes ranks₁ ranks' (count + 1) (v + 1)
-      ranking_more p q h o f g =
+      pub ranking_more : {x k y z c : ℕ} {ranks' : List ℕ} → z ≡ get_or nodes v 0 → y ≡ z → k ≡ get_or kinds y 0 → k ≡ entity → (count + 1 < 4294967296 → x ≡ count + 1) → c ≡ count + 1
+          → ranks' ≡ set ranks v x → Ranking kinds nodes ranks₁ ranks' c (v + 1)
+      ranking_more p q h o f i g =
           let e = told_entity kinds nodes v p q h o in
           goes g (λ h. f (omega (arith, ranking_few, s.long)) ∙ ap (λ (n : ℕ). n + 1) s.counted ∙ sym (rank_more kinds nodes v e))
-          (ap (λ (n : ℕ). n + 1) s.counted ∙ sym (before_more kinds nodes v e))
+          (i ∙ ap (λ (n : ℕ). n + 1) s.counted ∙ sym (before_more kinds nodes v e))
 
-      pub ranking_none : {k y z : ℕ} {ranks' : List ℕ} → z ≡ get_or nodes v 0 → y ≡ z → k ≡ get_or kinds y 0 → (k ≡ entity → ⊥) → ranks' ≡ set ranks v 0 → Ranking kinds nodes ranks₁ ranks' count (v + 1)
-      ranking_none p q h o g =
+      pub ranking_none : {k y z c : ℕ} {ranks' : List ℕ} → z ≡ get_or nodes v 0 → y ≡ z → k ≡ get_or kinds y 0 → (k ≡ entity → ⊥) → c ≡ count → ranks' ≡ set ranks v 0 → Ranking kinds nodes ranks₁ ranks' c (v + 1)
+      ranking_none p q h o i g =
           let e = told_other kinds nodes v p q h o in
-          goes g (λ h. sym (rank_none kinds nodes v e)) (s.counted ∙ sym (before_same kinds nodes v e))
+          goes g (λ h. sym (rank_none kinds nodes v e)) (i ∙ s.counted ∙ sym (before_same kinds nodes v e))

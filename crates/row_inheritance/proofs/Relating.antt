@@ -9,6 +9,8 @@ use lib.Dec.{eqb}
 use native.Mathlib.Decide.{dec_lt}
 use mathlib.Core.Logic.{by_cases}
 use native.Mathlib.Omega.{arith}
+use Rattle.std.specs.Prelude.{Some, None}
+use Rattle.std.proofs.lemmas.Option.{none-some, same_Some}
 use lib.ListN.{length, get_or, take, drop, get_or-append, get_or-eq_default}
 use lib.Seq.{get_or-take}
 use Rattle.graph.specs.Graph.{vertices}
@@ -113,15 +115,15 @@ module _ {kinds nodes first to : List ℕ} {symbols declarations entities width 
             ∙ (rw q at (R.by_any v u (omega (arith, p, entity_ranked kinds nodes v e)) r));
       }
 
-pub relates_none : {first to : List ℕ} {symbols declarations entities : ℕ} {table rows : List ℕ} → RelatesEntities first to symbols declarations entities table 0 rows
-relates_none = record { narrow = omega arith; rows_are = λ kinds nodes D n S l G. absurd (omega arith) }
+pub relates_none : {first to : List ℕ} {symbols declarations entities : ℕ} {table rows : List ℕ} → RelatesEntities first to symbols declarations entities table None rows
+relates_none = record { narrow = λ w e. absurd (none-some w e); rows_are = λ w e. absurd (none-some w e) }
 
 pub relates_some : {first to : List ℕ} {symbols declarations entities width : ℕ} {table order part part' : List ℕ} {r : Bool} (rest : List ℕ) → width ≡ entities / word + 1
     → entities ≤ declarations → declarations < declaration_limit → symbols + declarations ≤ length table
     → Relates first to (take (symbols + declarations - symbols) (drop symbols table)) order width part r part' → r ≡ true → length part' ≡ length part
-    → length part ≡ (entities + 1) * width → RelatesEntities first to symbols declarations entities table width (part' ++ rest)
-relates_some {part' = part'} rest w a b room R e p q =
+    → length part ≡ (entities + 1) * width → RelatesEntities first to symbols declarations entities table (Some width) (part' ++ rest)
+relates_some {width = width} {part' = part'} rest w a b room R e p q =
     record {
-      narrow = width_low w (omega arith);
-      rows_are = λ kinds nodes D n S l G. entity_rows D n S room w G part' rest (p ∙ q) (R.is e (ranked D n S room w G));
+      narrow = λ v z. let y : v ≡ width = same_Some v width (sym z) in rw y (width_low w (omega arith));
+      rows_are = λ v z kinds nodes D n S G. let y : v ≡ width = same_Some v width (sym z) in rw y (entity_rows D n S room w G part' rest (p ∙ q) (R.is e (ranked D n S room w G)));
     }

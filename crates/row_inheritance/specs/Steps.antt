@@ -1,5 +1,5 @@
 -- What the inner functions go by.
-use Rattle.std.specs.Prelude.{◌≡◌, ◌↔◌, Bool, true, false, cond, ◌&&◌, List, [], ◌++◌, ℕ, zero, suc, ◌+◌, ◌-◌, ◌*◌, ◌≤◌, ◌<◌, length, get_or}
+use Rattle.std.specs.Prelude.{◌≡◌, ◌↔◌, Option, Some, Bool, true, false, cond, ◌&&◌, List, [], ◌++◌, ℕ, zero, suc, ◌+◌, ◌-◌, ◌*◌, ◌≤◌, ◌<◌, length, get_or}
 use Rattle.relations.specs.Reach.{Reaches}
 use Rattle.express.specs.Syntax.Tree.{Table, count, symbol, owner}
 use Rattle.express.specs.Tokens.Scanned.{Scanned}
@@ -43,11 +43,11 @@ pub record RanksDeclarations (kinds nodes : List ℕ) (symbols declarations r : 
   pub total : r ≡ entities_before kinds nodes declarations
   pub stand : RanksStand kinds nodes symbols declarations table'
 
--- `relate_entities`: the words of a row, and 0 where the rows are not made
-pub record RelatesEntities (first to : List ℕ) (symbols declarations entities : ℕ) (table : List ℕ) (r : ℕ) (rows' : List ℕ) : Type 0 where
-  pub narrow : r ≤ width_limit
-  pub rows_are : (kinds nodes : List ℕ) → declarations ≡ vertices first → entities ≡ entities_before kinds nodes declarations → RanksStand kinds nodes symbols declarations table
-      → 0 < r → EntityGraph kinds nodes first to → EntityRows kinds nodes first to r rows'
+-- `relate_entities`: the words of a row, if the rows are made
+pub record RelatesEntities (first to : List ℕ) (symbols declarations entities : ℕ) (table : List ℕ) (r : Option ℕ) (rows' : List ℕ) : Type 0 where
+  pub narrow : (width : ℕ) → r ≡ Some width → width ≤ width_limit
+  pub rows_are : (width : ℕ) → r ≡ Some width → (kinds nodes : List ℕ) → declarations ≡ vertices first → entities ≡ entities_before kinds nodes declarations → RanksStand kinds nodes symbols declarations table
+      → EntityGraph kinds nodes first to → EntityRows kinds nodes first to width rows'
 
 -- ---- chains
 

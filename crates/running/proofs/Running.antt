@@ -6,6 +6,7 @@ use native.Mathlib.Omega.{arith}
 use lib.IntN.{ℤ}
 use lib.ListN.{length, take, drop, replicate, length-map, length-append, length-drop, length-replicate}
 use lib.Seq.{sets, length-take-le, take_at}
+use Rattle.std.specs.Prelude.{Ok, Err}
 use Rattle.columns.proofs.Laws.{take_rows}
 use Rattle.express.specs.Tokens.Lexis.{TokenRow, most, lexed}
 use Rattle.express.specs.Tokens.Scanned.{row_bytes}
@@ -21,9 +22,8 @@ use Rattle.scopes.specs.Range.{vertex_count}
 use Rattle.constants.specs.Constants.{file_answers, WrittenRows}
 use Rattle.bounds.proofs.Bounds.{vertices_few}
 use Rattle.names.specs.Resolution.{FileRead}
-use Rattle.stages.specs.declared.Stage.{Stage}
-use Rattle.stages.specs.declared.Stage.TheVariants.{Done, Refused}
-use Rattle.stages.specs.Line.{then_stage, of_names, of_kinds, of_room, table_of, accepted_with, constant_stage, name_stage, room_needed, room_stage}
+use Rattle.stages.specs.declared.Refusal.{Refusal}
+use Rattle.stages.specs.Line.{Stage, then_stage, of_names, of_kinds, of_room, table_of, accepted_with, constant_stage, name_stage, room_needed, room_stage}
 use Rattle.stages.proofs.Bounds.{tokens_few}
 use Rattle.stages.proofs.Straight.{constant_done, name_done, kind_done, room_done, table_scanned, nodes_few}
 use Rattle.pipeline.specs.NameStage.{NamesEnd}
@@ -34,7 +34,7 @@ use Rattle.name_frames.specs.NameFrame.{NamesWithin}
 use Rattle.express.proofs.Whole.AnswerRow.{rows_counted}
 use Rattle.answer_stages.specs.AnswerStage.{Answered}
 use Rattle.answer_frames.specs.AnswerFrame.{NamedFile, AnswersWithin}
-use Rattle.running.specs.Run.{Begins, AsLong, token_rows, node_rows, answer_rows, Ran, RunsWithin}
+use Rattle.running.specs.Run.{Begins, AsLong, token_rows, node_rows, answer_rows, Sizes, Ran, RunsWithin}
 
 -- a column that values were stored in begins with them, where it is long enough
 front : {A : Type 0} (column values : List A) (n : ℕ) → n ≡ length values → n ≤ length column → take n (sets column 0 values) ≡ values
@@ -52,12 +52,6 @@ joined_length n front column e h = omega (arith, e, length-take-le n column h, l
 -- an array that is filled with 0 has as many elements as were asked for. By this law and not by computing, which takes a step for each element
 pub counted : (n : ℕ) → n ≡ length (replicate {A = ℕ} n 0)
 counted n = sym (length-replicate n 0)
-
-pub filled : (n k : ℕ) → n ≤ k → n ≤ length (replicate {A = ℕ} k 0)
-filled n k h = omega (arith, counted k)
-
-pub filled_fifth : (n k : ℕ) → n < 5 * k + 5 → n < 5 * length (replicate {A = ℕ} k 0) + 5
-filled_fifth n k h = omega (arith, counted k)
 
 -- what is counted is in each column that is as long as it was
 module _ {s tk ts tl terms nk nt ns nb : List ℕ} {answers : ℕ} {r : Reading} {tk' ts' tl' terms' nk' nt' ns' nb' : List ℕ}
@@ -87,26 +81,26 @@ module _ {s tk ts tl terms nk nt ns nb : List ℕ} {answers : ℕ} {r : Reading}
 
 module _ (s : List ℕ) (tr nr ar : ℕ) where
   -- THE NAMES
-  pub named_is : {fit named : Stage} → fit ≡ constant_stage s tr nr ar → ((k p : ℕ) → fit ≡ Refused k p → named ≡ Refused k p) → ((n : ℕ) → fit ≡ Done n → named ≡ of_names (names (table_of
+  pub named_is : {fit named : Stage} → fit ≡ constant_stage s tr nr ar → ((f : Refusal) → fit ≡ Err f → named ≡ Err f) → ((n : ℕ) → fit ≡ Ok n → named ≡ of_names (names (table_of
       s)) n) → named ≡ name_stage s tr nr ar
   named_is {fit} {named} fit_as passed is = by fit refl
     where
       by : (x : Stage) → fit ≡ x → named ≡ name_stage s tr nr ar
-      by (Done n) e = is n e ∙ ap (λ (x : Stage). then_stage x (of_names (names (table_of s)))) (sym e ∙ fit_as)
-      by (Refused k p) e = passed k p e ∙ ap (λ (x : Stage). then_stage x (of_names (names (table_of s)))) (sym e ∙ fit_as)
+      by (Ok n) e = is n e ∙ ap (λ (x : Stage). then_stage x (of_names (names (table_of s)))) (sym e ∙ fit_as)
+      by (Err f) e = passed f e ∙ ap (λ (x : Stage). then_stage x (of_names (names (table_of s)))) (sym e ∙ fit_as)
 
   -- THE KINDS, AND THE ROOM
   module _ (room : ℕ) where
     abbrev to_end : Stage → Stage
     to_end x = then_stage (then_stage x (of_kinds (table_of s) (typing (table_of s) (scope.bindings (table_of s))))) (of_room (room_needed (table_of s)) room)
 
-    pub last_is : {named last : Stage} → named ≡ name_stage s tr nr ar → ((k p : ℕ) → named ≡ Refused k p → last ≡ Refused k p) →
-        ((n : ℕ) → named ≡ Done n → last ≡ to_end (Done n)) → last ≡ room_stage s tr nr ar room
+    pub last_is : {named last : Stage} → named ≡ name_stage s tr nr ar → ((f : Refusal) → named ≡ Err f → last ≡ Err f) →
+        ((n : ℕ) → named ≡ Ok n → last ≡ to_end (Ok n)) → last ≡ room_stage s tr nr ar room
     last_is {named} {last} named_as passed is = by named refl
       where
         by : (x : Stage) → named ≡ x → last ≡ room_stage s tr nr ar room
-        by (Done n) e = is n e ∙ ap to_end (sym e ∙ named_as)
-        by (Refused k p) e = passed k p e ∙ ap to_end (sym e ∙ named_as)
+        by (Ok n) e = is n e ∙ ap to_end (sym e ∙ named_as)
+        by (Err f) e = passed f e ∙ ap to_end (sym e ∙ named_as)
 
 -- ---- the rows of the answers
 
@@ -148,18 +142,18 @@ module _ {s : List ℕ} {l m : Tables} {read : Reading} {named last : Stage} {an
     fit_as = file.stage_is ∙ ap (constant_stage s (token_rows l) (node_rows l)) (answers_are ∙ ap (min (length l.answer_kinds)) rest_are)
 
     -- where there is room for the answers
-    done : (n : ℕ) → read.stage ≡ Done n → constant_stage s (token_rows l) (node_rows l) (answer_rows l) ≡ Done n
+    done : (n : ℕ) → read.stage ≡ Ok n → constant_stage s (token_rows l) (node_rows l) (answer_rows l) ≡ Ok n
     done n e = sym fit_as ∙ e
 
     -- a declaration for each five tokens at most
-    vertices_fit : (n : ℕ) → read.stage ≡ Done n → (vertex_count (table_of s) ≤ length types) × (vertex_count (table_of s) ≤ length orders)
+    vertices_fit : (n : ℕ) → read.stage ≡ Ok n → (vertex_count (table_of s) ≤ length types) × (vertex_count (table_of s) ≤ length orders)
     vertices_fit n e =
         let C = constant_done s (token_rows l) (node_rows l) (answer_rows l) n (done n e) in
         let v = vertices_few C.of_nodes.read in
         let k : length (table_of s).terminals ≡ length (lexed s).rows = length-map (lexed s).rows (λ (r : TokenRow). terminal_of r.kind (row_bytes s r)) in
         (omega (arith, v, k, types_room), omega (arith, v, k, orders_room))
 
-    ended : (n : ℕ) → read.stage ≡ Done n → NamesEnd (table_of s) n named b types' orders'
+    ended : (n : ℕ) → read.stage ≡ Ok n → NamesEnd (table_of s) n named b types' orders'
     ended n e =
         let C = constant_done s (token_rows l) (node_rows l) (answer_rows l) n (done n e) in
         let B = file.begins n e in
@@ -183,14 +177,14 @@ module _ {s : List ℕ} {l m : Tables} {read : Reading} {named last : Stage} {an
     named_as : named ≡ name_stage s (token_rows l) (node_rows l) (answer_rows l)
     named_as = named_is s (token_rows l) (node_rows l) (answer_rows l) fit_as N.passed_on (λ n e. (ended n e).is)
 
-    fit_done : (n : ℕ) → named ≡ Done n → read.stage ≡ Done n
+    fit_done : (n : ℕ) → named ≡ Ok n → read.stage ≡ Ok n
     fit_done n e = fit_as ∙ (name_done s (token_rows l) (node_rows l) (answer_rows l) n (sym named_as ∙ e)).constants_done
 
-    bound : (n : ℕ) → named ≡ Done n → take read.nodes m.node_bindings ≡ scope.bindings (table_of s)
+    bound : (n : ℕ) → named ≡ Ok n → take read.nodes m.node_bindings ≡ scope.bindings (table_of s)
     bound n e = bindings_are ∙ (ended n (fit_done n e)).bound n e
 
     -- the names are right and bound
-    named_file : (n : ℕ) → named ≡ Done n → NamedFile s (take read.tokens m.token_starts) (take read.tokens m.token_lengths) (take read.tokens terms')
+    named_file : (n : ℕ) → named ≡ Ok n → NamedFile s (take read.tokens m.token_starts) (take read.tokens m.token_lengths) (take read.tokens terms')
         (take read.nodes m.node_kinds) (take read.nodes m.node_tokens) (take read.nodes m.node_sizes) (take read.nodes m.node_bindings) types' orders'
         l.answer_kinds l.answer_numbers l.answer_lengths (table_of s)
     named_file n e =
@@ -219,7 +213,7 @@ module _ {s : List ℕ} {l m : Tables} {read : Reading} {named last : Stage} {an
           answer_room = record { kinds_long = omega arith; numbers_long = omega arith; lengths_long = omega arith };
         }
 
-    answered : (n : ℕ) → named ≡ Done n → Answered (table_of s) (take read.nodes m.node_bindings) n last
+    answered : (n : ℕ) → named ≡ Ok n → Answered (table_of s) (take read.nodes m.node_bindings) n last
         l.answer_kinds l.answer_numbers l.answer_lengths l.room m.answer_kinds m.answer_numbers m.answer_lengths m.room
     answered n e =
         let C = constant_done s (token_rows l) (node_rows l) (answer_rows l) n (done n (fit_done n e)) in
@@ -231,12 +225,12 @@ module _ {s : List ℕ} {l m : Tables} {read : Reading} {named last : Stage} {an
         (λ n e. (answered n e).is
         ∙ ap (λ (x : List ℕ). then_stage (of_kinds (table_of s) (typing (table_of s) x) n) (of_room (room_needed (table_of s)) (length l.room))) (bound n e))
 
-    named_done : (n : ℕ) → last ≡ Done n → named ≡ Done n
+    named_done : (n : ℕ) → last ≡ Ok n → named ≡ Ok n
     named_done n e =
         let k = room_done s (token_rows l) (node_rows l) (answer_rows l) (length l.room) n (sym last_as ∙ e) in
         named_as ∙ kind_done s (token_rows l) (node_rows l) (answer_rows l) n k
 
-    begins : (n : ℕ) → last ≡ Done n → Begins (accepted_with s) read.tokens read.nodes n m
+    begins : (n : ℕ) → last ≡ Ok n → Begins (accepted_with s) read.tokens read.nodes n m
     begins n e =
         let nd = named_done n e in
         let fd = fit_done n nd in
@@ -275,6 +269,12 @@ module _ {s : List ℕ} {l m : Tables} {read : Reading} {named last : Stage} {an
   pub runs_within : (n : ℕ) → n ≤ length terms → n < 5 * length types + 5 → n < 5 * length orders + 5 →
       RunsWithin n s l m (record { tokens = read.tokens; nodes = read.nodes; stage = last })
   runs_within n a b c = record { is = λ h. ran (omega arith) (omega arith) (omega arith) }
+
+  -- arrays of these sizes
+  pub runs_sized : {bytes declared : ℕ} → bytes ≡ length terms → declared ≡ length types → declared ≡ length orders → Sizes bytes declared →
+      RunsWithin bytes s l m (record { tokens = read.tokens; nodes = read.nodes; stage = last })
+  runs_sized {bytes} {declared} a b c Z =
+      let d : bytes < 5 * declared + 5 = omega (arith, Z.declared_is) in runs_within bytes (omega arith) (omega arith) (omega arith)
 
 -- ---- the choice among the three
 

@@ -1,12 +1,10 @@
 -- All stages of a file (R3), and what they leave in the lent columns.
-use Rattle.std.specs.Prelude.{◌≡◌, ℕ, ◌≤◌, List, length, take}
+use Rattle.std.specs.Prelude.{◌≡◌, ℕ, ◌/◌, ◌≤◌, List, length, take, Ok}
 use Rattle.columns.specs.Column.{padded}
-use Rattle.express.specs.Tokens.Lexis.{lexed}
+use Rattle.express.specs.Tokens.Lexis.{most, lexed}
 use Rattle.express.specs.Whole.Reply.{Accepted, Tables, token_entries, node_entries, answer_entries}
 use Rattle.express.specs.Whole.Reply as express
-use Rattle.stages.specs.declared.Stage.{Stage}
-use Rattle.stages.specs.declared.Stage.TheVariants.{Done}
-use Rattle.stages.specs.Line.{count_of, accepted_with, token_stage, node_stage, room_stage}
+use Rattle.stages.specs.Line.{Stage, count_of, accepted_with, token_stage, node_stage, room_stage}
 use Rattle.reading.specs.declared.Reading.{Reading}
 
 -- tables begin with the rows of what is accepted
@@ -52,9 +50,14 @@ pub record Ran (s : List ℕ) (l m : Tables) (tokens nodes : ℕ) (last : Stage)
   pub tokens_are : tokens ≡ count_of (token_stage s (token_rows l))
   pub nodes_are : nodes ≡ count_of (node_stage s (token_rows l) (node_rows l))
   pub last_is : last ≡ room_stage s (token_rows l) (node_rows l) (answer_rows l) (length l.room)
-  pub begins : (n : ℕ) → last ≡ Done n → Begins (accepted_with s) tokens nodes n m
-  pub strings : (n : ℕ) → last ≡ Done n → m.room ≡ padded 0 (length l.room) (express.answer_room (accepted_with s))
+  pub begins : (n : ℕ) → last ≡ Ok n → Begins (accepted_with s) tokens nodes n m
+  pub strings : (n : ℕ) → last ≡ Ok n → m.room ≡ padded 0 (length l.room) (express.answer_room (accepted_with s))
   pub as_long : AsLong l m
+
+-- sizes of arrays for a file of at most so many tokens, which has a declaration for each five at most
+pub record Sizes (tokens_most declared : ℕ) : Type 0 where
+  pub few : tokens_most ≤ most
+  pub declared_is : declared ≡ tokens_most / 5
 
 -- the same of a file that has at most so many tokens
 pub record RunsWithin (tokens_most : ℕ) (s : List ℕ) (l m : Tables) (r : Reading) : Type 0 where

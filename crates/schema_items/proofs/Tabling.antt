@@ -1,12 +1,13 @@
 -- The items of a schema are the item nodes below its node, since the schema of a node is the first at or after it and none stands below another.
 use mathlib.Core.Path.{◌≡◌, refl, sym, ap, ◌∙◌}
-use mathlib.Core.Logic.{◌⊎◌, inl, inr, ⊎_elim, by_cases}
+use mathlib.Core.Logic.{inl, ⊎_elim}
 use mathlib.Core.Bool.{Bool, true, false≢true}
 use mathlib.Core.List.{List, [], append-nil, Memᴰ}
 use Prim.Native.Nat.{ℕ, ◌-◌, ◌≤◌, ◌<◌}
 use native.Mathlib.Omega.{arith}
-use native.Mathlib.Decide.{ℕ_discrete}
 use borrow.Author.Tests.{eqb-true, eq-eqb}
+use Rattle.std.specs.Prelude.{None}
+use Rattle.std.proofs.lemmas.Option.{none-some}
 use lib.Dec.{eqb}
 use lib.ListN.{length, get_or}
 use Rattle.columns.specs.Column.{cleared}
@@ -27,10 +28,10 @@ use Rattle.express.proofs.Syntax.FormedRows.{sized}
 use Rattle.express.proofs.Names.Meaning.{items_iff, spelled_ascending}
 use Rattle.express.proofs.Names.Owned.{in_schema}
 use Rattle.symbol_tables.specs.Entry.{code, stamp_of, says}
-use Rattle.symbol_tables.specs.Table.{either_kind, symbol_in, kinds_between, reach, OnlyStamped, AddsRange}
+use Rattle.symbol_tables.specs.Table.{either_kind, symbol_in, kinds_between, reach, AddsRange}
 use Rattle.symbol_tables.proofs.Tables.{untouched}
 use Rattle.symbol_tables.proofs.Orders.{ascending_distinct, distinct_keep, meaning_same}
-use Rattle.schema_items.specs.Items.{ItemsOf, Tabulates, Tabling, Begins, Turns}
+use Rattle.schema_items.specs.Items.{Tabulates, Begins}
 use Rattle.schema_items.specs.declared.Tabled.{Tabled}
 
 -- ---- the nodes below a schema
@@ -120,44 +121,15 @@ module _ {kinds tokens sizes symbols : List ℕ} {h stamp x y z from : ℕ} {tab
         );
   }
 
--- ---- `begin` and `turn_to`
+-- ---- `begin`
 
-module _ {t : Table} {v : ℕ} {before : Tabled} {table : List ℕ} (T : Tabling t v before table) where
-  free : 0 < v → (s : ℕ) → stamp_of (get_or table s 0) ≡ v → ⊥
-  free some s q = ⊎_elim (λ z. omega (arith, z, q)) (λ z. omega (arith, z, q)) (T.stamps s)
-
-  fewer : (s : ℕ) → (stamp_of (get_or table s 0) ≡ 0) ⊎ (v - 1 < stamp_of (get_or table s 0))
-  fewer s = ⊎_elim inl (λ z. inr (omega (arith, z))) (T.stamps s)
-
-  stamped : {table' : List ℕ} → 0 < v → OnlyStamped v table table' → (s : ℕ) → (stamp_of (get_or table' s 0) ≡ 0) ⊎ (v - 1 < stamp_of (get_or table' s 0))
-  stamped {table'} some O s =
-      by_cases (ℕ_discrete (stamp_of (get_or table' s 0)) v) (λ q. inr (omega (arith, q))) (λ q. rw (O.others s q) (fewer s))
-
-pub begins : {n : ℕ} (table : List ℕ) {table' : List ℕ} {r : Tabled} → table' ≡ cleared 0 0 table → r.schema ≡ n → Begins n r table'
-begins {n} table {table'} {r} c e = record {
-  is = λ t q v. record { stamps = λ s. inl (none s); items_are = λ l. absurd (omega (arith, l, e, q)) };
+pub begins : (table : List ℕ) {table' : List ℕ} {r : Tabled} → table' ≡ cleared 0 0 table → r.schema ≡ None → Begins r table'
+begins table {table'} {r} c e = record {
+  is = λ t v. record { stamps = λ s. inl (none s); items_are = λ h q. absurd (none-some h (sym e ∙ q)) };
 }
   where
     none : (s : ℕ) → stamp_of (get_or table' s 0) ≡ 0
     none s = ap (λ (l : List ℕ). stamp_of (get_or l s 0)) (c ∙ clear_front 0 0 table [] refl) ∙ ap stamp_of (getD_padded 0 (length table) [] s)
-
-module _ {kinds tokens sizes symbols : List ℕ} {h stamp : ℕ} {before : Tabled} {table : List ℕ} where
-  pub stays : h ≡ before.schema → Turns kinds tokens sizes symbols h stamp before table before table
-  stays e = record {
-    is = λ t S some few T.
-        let I : ItemsOf t h table before.stamp = rw e (T.items_are (omega (arith, e, S.known))) in
-        (I, record { stamps = fewer T; items_are = T.items_are });
-  }
-
-  pub turns :
-      {table' : List ℕ} {after : Tabled} → Tabulates kinds tokens sizes symbols h stamp table table' → after.schema ≡ h → after.stamp ≡ stamp →
-      Turns kinds tokens sizes symbols h stamp before table after table'
-  turns {table'} {after} A e f = record {
-    is = λ t S some few T.
-        let U = A.is t S few (free T some) in
-        let I : ItemsOf t h table' after.stamp = rw f U.0 in
-        (I, record { stamps = stamped T some U.1; items_are = λ l. rw e I });
-  }
 
 -- ---- `item_at`
 

@@ -1,5 +1,5 @@
 -- The items of a schema, by symbol.
-use Rattle.std.specs.Prelude.{◌≡◌, ◌⊎◌, true, List, ℕ, ◌-◌, ◌≤◌, ◌<◌, length, get_or}
+use Rattle.std.specs.Prelude.{◌≡◌, ◌⊎◌, true, Some, List, ℕ, ◌-◌, ◌≤◌, ◌<◌, length, get_or}
 use Rattle.express.specs.Syntax.NodeKind.{schema}
 use Rattle.express.specs.Syntax.Grammar.{file}
 use Rattle.express.specs.Syntax.Syntax.{Read}
@@ -31,14 +31,14 @@ pub record Tabulates (kinds tokens sizes symbols : List ℕ) (h stamp : ℕ) (ta
       (t : Table) → SchemaOf t kinds tokens sizes symbols h → stamp < stamp_count → ((s : ℕ) → stamp_of (get_or table s 0) ≡ stamp → ⊥) →
       ItemsOf t h table' stamp × OnlyStamped stamp table table'
 
--- The stamps v and below have no entry, but for 0 of an entry that was never made; and the items of one schema stand in the table, unless that is no node of the file.
+-- The stamps v and below have no entry, but for 0 of an entry that was never made; and the items of one schema stand in the table, if it has those of any.
 pub record Tabling (t : Table) (v : ℕ) (tabled : Tabled) (table : List ℕ) : Type 0 where
   pub stamps : (s : ℕ) → (stamp_of (get_or table s 0) ≡ 0) ⊎ (v < stamp_of (get_or table s 0))
-  pub items_are : tabled.schema < count t → ItemsOf t tabled.schema table tabled.stamp
+  pub items_are : (h : ℕ) → tabled.schema ≡ Some h → ItemsOf t h table tabled.stamp
 
 -- `begin`
-pub record Begins (n : ℕ) (r : Tabled) (table' : List ℕ) : Type 0 where
-  pub is : (t : Table) → n ≡ count t → (v : ℕ) → Tabling t v r table'
+pub record Begins (r : Tabled) (table' : List ℕ) : Type 0 where
+  pub is : (t : Table) (v : ℕ) → Tabling t v r table'
 
 -- `turn_to`, with the stamp that is free next
 pub record Turns (kinds tokens sizes symbols : List ℕ) (h stamp : ℕ) (before : Tabled) (table : List ℕ) (after : Tabled) (table' : List ℕ) : Type 0 where

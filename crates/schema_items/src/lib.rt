@@ -7,13 +7,12 @@ ghost use Rattle.symbol_tables.specs.Entry.{says};
 ghost use Rattle.symbol_tables.specs.Table.{symbol_in};
 ghost use Rattle.schema_items.specs.Items.{Tabulates, Begins, Turns};
 
-use columns::{index, saturating_sub};
-use scopes::at;
+use columns::{get_or, index};
 
-// Of which schema the items stand in a table, and under which stamp.
+// Of which schema the items stand in a table, if of any, and under which stamp.
 #[derive(Clone, Copy)]
 pub struct Tabled {
-    pub schema: usize,
+    pub schema: Option<usize>,
     pub stamp: u32,
 }
 
@@ -29,7 +28,7 @@ fn tabulate_items(
 )
     ensures { Tabulates kinds.now tokens.now sizes.now symbols.now schema stamp table.old table.new }
 {
-    let from = saturating_sub(schema, saturating_sub(index(at(sizes, schema)), 1));
+    let from = schema.saturating_sub(index(get_or(sizes, schema, 0)).saturating_sub(1));
     symbol_tables::add_range(
         kinds,
         tokens,
@@ -43,13 +42,13 @@ fn tabulate_items(
     );
 }
 
-// A table without entries: no node of a file with so many is a schema that stands in it.
-pub fn begin(count: usize, table: &mut [u32]) -> Tabled
-    ensures { Begins count result table.new }
+// A table without entries.
+pub fn begin(table: &mut [u32]) -> Tabled
+    ensures { Begins result table.new }
 {
-    columns::clear32(table, 0);
+    columns::clear(table, 0, 0);
     Tabled {
-        schema: count,
+        schema: None,
         stamp: 0,
     }
 }
@@ -67,10 +66,11 @@ pub fn turn_to(
 ) -> Tabled
     ensures { Turns kinds.now tokens.now sizes.now symbols.now schema stamp before table.old result table.new }
 {
-    if schema == before.schema {
+    if before.schema == Some(schema) {
         return before;
     }
     tabulate_items(kinds, tokens, sizes, symbols, schema, stamp, table);
+    let schema = Some(schema);
     Tabled { schema, stamp }
 }
 
@@ -78,5 +78,9 @@ pub fn turn_to(
 pub fn item_at(tokens: &[u32], symbols: &[u32], table: &[u32], stamp: u32, node: usize) -> u32
     ensures { result ≡ says table.now stamp (symbol_in tokens.now symbols.now node) }
 {
-    symbol_tables::meaning_of(table, stamp, at(symbols, index(at(tokens, node))))
+    symbol_tables::meaning_of(
+        table,
+        stamp,
+        get_or(symbols, index(get_or(tokens, node, 0)), 0),
+    )
 }

@@ -102,6 +102,13 @@ module _ {bytes starts lengths terminals kinds tokens sizes bindings declared or
             };
       }
 
+  pub measuring_same :
+      {aks : List ℕ} {azs : List ℤ} {als vks : List ℕ} {vzs : List ℤ} {vls aks' : List ℕ} {azs' : List ℤ} {als' vks' : List ℕ} {vzs' : List ℤ} {vls' : List ℕ} {i : ℕ} →
+      aks' ≡ aks → azs' ≡ azs → als' ≡ als → vks' ≡ vks → vzs' ≡ vzs → vls' ≡ vls →
+      Measuring bytes starts lengths terminals kinds tokens sizes bindings declared order row_of aks₀ azs₀ als₀ vks₀ vzs₀ vls₀ aks azs als vks vzs vls i →
+      Measuring bytes starts lengths terminals kinds tokens sizes bindings declared order row_of aks₀ azs₀ als₀ vks₀ vzs₀ vls₀ aks' azs' als' vks' vzs' vls' i
+  measuring_same a b c d e f P = rw (a, b, c, d, e, f) P
+
   module _ {aks : List ℕ} {azs : List ℤ} {als vks : List ℕ} {vzs : List ℤ} {vls : List ℕ} {i : ℕ}
       (P : Measuring bytes starts lengths terminals kinds tokens sizes bindings declared order row_of aks₀ azs₀ als₀ vks₀ vzs₀ vls₀ aks azs als vks vzs vls i) where
     module _ (l : i < length order) {d : ℕ} (d_is : d ≡ get_or order i 0) {n : ℕ} (n_is : n ≡ length kinds) {b : Bool} (b_is : b ≡ due kinds 0 n d) where

@@ -4,7 +4,7 @@ use mathlib.Core.Bool.{Bool, true, false, false≢true}
 use mathlib.Core.List.{List}
 use Prim.Native.Nat.{ℕ, ◌+◌, ◌-◌, ◌≤◌, ◌<◌}
 use native.Mathlib.Omega.{arith}
-use borrow.Author.Tests.{eqb-true, eq-eqb, ne_eqb}
+use borrow.Author.Tests.{eqb-true, eq-eqb}
 use lib.Dec.{eqb}
 use lib.IntN.{ℤ, pos}
 use lib.ListN.{length, get_or, set, take, drop}
@@ -14,7 +14,7 @@ use Rattle.express.specs.Syntax.NodeKind as node
 use Rattle.express.specs.Syntax.Tree.{Table, count, kind, size, first, last}
 use Rattle.express.specs.Tokens.Lexis.{most_bytes}
 use Rattle.express.specs.Names.Scope as scope
-use Rattle.express.specs.Semantics.Answer.{Answer, indeterminate, string}
+use Rattle.express.specs.Semantics.Answer.{Answer, string}
 use Rattle.express.specs.Semantics.AnswerRow.{AnswerRow, row_of, row_at, bytes_of, natural}
 use Rattle.express.specs.Semantics.Declared.{Declared, INTEGER, BOOLEAN, LOGICAL, BINARY, STRING, enumeration, other, declared_type}
 use Rattle.express.specs.Semantics.DeclaredColumn.{declared_number}
@@ -26,7 +26,6 @@ use Rattle.express.proofs.Semantics.Operations.{ends_range}
 use Rattle.express.proofs.Syntax.FormedRows.{formed_rows}
 use Rattle.operations.specs.Meaning.{answer_of, sized}
 use Rattle.operations.specs.declared.Answer as code
-use Rattle.operations.specs.declared.Answer.TheVariants.{Indeterminate}
 use Rattle.operations.proofs.Sized.{answer_sized, sized_held}
 use Rattle.answer_rows.specs.Stored.{stored}
 use Rattle.answer_rows.proofs.Stored.{sized_row}
@@ -47,7 +46,7 @@ use Rattle.string_bytes.proofs.Reading.{nodes_leaves}
 use Rattle.string_relations.specs.Comparing.{Comparison}
 use Rattle.string_relations.specs.Comparing as comparing
 use Rattle.evaluate.specs.Evaluation.{Knows, Comparable, EvaluatesNodes}
-use Rattle.schemas.specs.Rows.{answer_of_constant, is_string, measured, OfFile, Room, EvaluatesConstant, MeasuresConstant, WritesString, FillsConstant}
+use Rattle.schemas.specs.Rows.{answer_of_constant, is_string, measured, OfFile, Room, EvaluatesConstant, MeasuresConstant, WritesString}
 use Rattle.schemas.proofs.Settled.{settled}
 use Rattle.schemas.proofs.Nodes.{valued, root_first, root_part}
 
@@ -106,9 +105,6 @@ module _ {t : Table} {bytes starts lengths terminals kinds tokens sizes bindings
 
   pub string_told : {n : ℕ} → n ≡ get_or declared d 0 → n ≡ declared_number STRING → is_string t d ≡ true
   string_told e f = eq-eqb _ _ (sym string_number ∙ sym e ∙ f)
-
-  pub other_told : {n : ℕ} → n ≡ get_or declared d 0 → (n ≡ declared_number STRING → ⊥) → is_string t d ≡ false
-  other_told e f = ne_eqb _ _ (λ q. f (e ∙ string_number ∙ q))
 
   -- the nodes of the expression, by the sizes
   first_told : {s k lo : ℕ} → s ≡ get_or sizes d 0 → k ≡ s - 2 → lo ≡ d - k → lo ≡ first t (last d)
@@ -206,9 +202,6 @@ module _ {t : Table} {bytes starts lengths terminals kinds tokens sizes bindings
 pub measured_string : (t : Table) (d : ℕ) → is_string t d ≡ true → measured t d ≡ answer_of_constant t d
 measured_string t d e = rw e
 
-measured_other : (t : Table) (d : ℕ) → is_string t d ≡ false → measured t d ≡ indeterminate
-measured_other t d e = rw e
-
 stores_same : {x y : Answer} {i j : ℕ} {ks : List ℕ} {zs : List ℤ} {ls ks' : List ℕ} {zs' : List ℤ} {ls' : List ℕ} → x ≡ y → i ≡ j → Stores x i ks zs ls ks' zs' ls' →
     Stores y j ks zs ls ks' zs' ls'
 stores_same {x = x} {y = y} {i = i} {j = j} {ks = ks} {zs = zs} {ls = ls} {ks' = ks'} {zs' = zs'} {ls' = ls'} p q S =
@@ -224,15 +217,6 @@ module _ {bytes starts lengths terminals kinds tokens sizes bindings declared ro
         is = λ t order O M l h W.
             let s = string_told O d l h N q in
             stores_same (sym (measured_string t d s)) refl (E.is t order O M l h (W s) (comparable_none O d l h s));
-      }
-
-  pub measured_nothing :
-      (n ≡ declared_number STRING → ⊥) → {p j : ℕ} → p ≡ get_or row_of d 0 → j ≡ p - at → Stores (stored (answer_of Indeterminate)) j aks azs als aks' azs' als' →
-      MeasuresConstant bytes starts lengths terminals kinds tokens sizes bindings declared row_of d at aks azs als vks vzs vls aks' azs' als'
-  measured_nothing q P J S =
-      record {
-        is = λ t order O M l h W.
-            stores_same (sym (measured_other t d (other_told O d l h N q))) (J ∙ ap (λ (x : ℕ). x - at) P) S;
       }
 
 -- ---- writing the string of a constant
@@ -292,39 +276,3 @@ module _ {bytes starts lengths terminals kinds tokens sizes bindings row_of : Li
               let front : take n out' ≡ v = ap₂ take n_is Y.is ∙ take_rows out v (omega (arith, long, short)) in
               let st_is : st ≡ start = Q ∙ ap (λ (x : ℕ). natural (get_or azs x (pos 0))) (row_told row_of d at P J) ∙ ap natural nn in
               W.is ∙ ap₂ (sets room) st_is (front ∙ sym (ap bytes_of q))
-
-  pub string_unwritten : (k ≡ 5 → ⊥) → WritesString bytes starts lengths terminals kinds tokens sizes bindings row_of d at aks azs als room room
-  string_unwritten none =
-      record {
-        is = λ t declared order O l h e R start kk nn.
-            by t start (answer_of_constant t d) refl
-            (string_answer t O.scanned O.read O.named (subst (WellTyped t) (sym O.bindings_are) O.typed) d l h (is_declared t d e)) kk;
-      }
-    where
-      by : (t : Table) (start : ℕ) (a : Answer) → answer_of_constant t d ≡ a → StringAnswer a → get_or aks (get_or row_of d 0 - at) 0 ≡ (row_at start a).kind →
-          room ≡ sets room start (bytes_of (answer_of_constant t d))
-      by t start a q laws.no_value kk = sym (ap (λ (x : Answer). sets room start (bytes_of x)) q)
-      by t start a q (laws.an_end m) kk = sym (ap (λ (x : Answer). sets room start (bytes_of x)) q)
-      by t start a q (laws.a_string short) kk = absurd (none (K ∙ ap (λ (x : ℕ). get_or aks x 0) (row_told row_of d at P J) ∙ kk))
-
--- ---- one constant or the other
-module _ {bytes starts lengths terminals kinds tokens sizes bindings declared row_of : List ℕ} {d at : ℕ} {aks : List ℕ} {azs : List ℤ} {als vks : List ℕ} {vzs : List ℤ}
-    {vls room : List ℕ} {n : ℕ} (N : n ≡ get_or declared d 0) where
-  pub fills_string :
-      n ≡ declared_number STRING → {room' : List ℕ} → WritesString bytes starts lengths terminals kinds tokens sizes bindings row_of d at aks azs als room room' →
-      FillsConstant bytes starts lengths terminals kinds tokens sizes bindings declared row_of d at aks azs als vks vzs vls room aks azs als room'
-  fills_string q W =
-      record {
-        string = λ t order O l h e. (refl, refl, refl, W);
-        other = λ t order O l h e. absurd (false≢true (sym e ∙ string_told O d l h N q));
-      }
-
-  pub fills_other :
-      (n ≡ declared_number STRING → ⊥) → {aks' : List ℕ} {azs' : List ℤ} {als' : List ℕ} →
-      EvaluatesConstant bytes starts lengths terminals kinds tokens sizes bindings declared row_of d at aks azs als vks vzs vls room aks' azs' als' →
-      FillsConstant bytes starts lengths terminals kinds tokens sizes bindings declared row_of d at aks azs als vks vzs vls room aks' azs' als' room
-  fills_other q E =
-      record {
-        string = λ t order O l h e. absurd (false≢true (sym (other_told O d l h N q) ∙ e));
-        other = λ t order O l h e. (refl, E);
-      }

@@ -227,6 +227,13 @@ module _ {bytes starts lengths terminals kinds tokens sizes bindings declared pa
             (placed_rows L (λ c m. Memᴰ.not-nil m), record { long = refl; there = λ c m D. absurd (Memᴰ.not-nil m); rest = λ i h. refl });
       }
 
+  pub passing_same :
+      {aks : List ℕ} {azs : List ℤ} {als vks : List ℕ} {vzs : List ℤ} {vls room aks' : List ℕ} {azs' : List ℤ} {als' vks' : List ℕ} {vzs' : List ℤ} {vls' room' : List ℕ} {i : ℕ} →
+      aks' ≡ aks → azs' ≡ azs → als' ≡ als → vks' ≡ vks → vzs' ≡ vzs → vls' ≡ vls → room' ≡ room →
+      Passing bytes starts lengths terminals kinds tokens sizes bindings declared part row_of lo hi at aks₀ azs₀ als₀ vks₀ vzs₀ vls₀ room₀ aks azs als vks vzs vls room i →
+      Passing bytes starts lengths terminals kinds tokens sizes bindings declared part row_of lo hi at aks₀ azs₀ als₀ vks₀ vzs₀ vls₀ room₀ aks' azs' als' vks' vzs' vls' room' i
+  passing_same a b c d e f g P = rw (a, b, c, d, e, f, g) P
+
   module _ {aks : List ℕ} {azs : List ℤ} {als vks : List ℕ} {vzs : List ℤ} {vls room : List ℕ} {i : ℕ}
       (P : Passing bytes starts lengths terminals kinds tokens sizes bindings declared part row_of lo hi at aks₀ azs₀ als₀ vks₀ vzs₀ vls₀ room₀ aks azs als vks vzs vls room i) where
     module _ (l : i < length part) {d : ℕ} (d_is : d ≡ get_or part i 0) {b : Bool} (b_is : b ≡ due kinds lo hi d) where

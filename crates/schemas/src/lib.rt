@@ -8,20 +8,14 @@ ghost use Rattle.schemas.specs.Rows.{due, EvaluatesConstant, MeasuresConstant, M
 use evaluate::evaluate_expression;
 use node_answers::{held_answer, put_answer};
 use operations::Answer;
-use string_bytes::{copy_bytes, spell, start_at};
-use tree::{at8, at32, index_at};
+use string_bytes::{Expression, Known, copy_bytes, spell, start_at};
+use tree::index_at;
 
 // Is a node a constant from lo up to hi?
 fn is_due(kinds: &[u8], lo: usize, hi: usize, d: usize) -> bool
     ensures { result ≡ due kinds.now lo hi d }
 {
-    if d < lo {
-        return false;
-    }
-    if d >= hi {
-        return false;
-    }
-    at8(kinds, d) == codes::nodes::CONSTANT
+    lo <= d && d < hi && columns::get_or(kinds, d, 0) == codes::nodes::CONSTANT
 }
 
 // The nodes of a constant that are not of its expression: its own and, before the expression, that of its type, which has no answer.
@@ -29,14 +23,7 @@ const BESIDES: usize = 2;
 
 // Evaluates one constant into its row, of columns that start with row `at`: the nodes of its expression, and what it holds of their answer.
 fn evaluate_constant(
-    src: &[u8],
-    starts: &[u32],
-    lengths: &[u32],
-    terminals: &[u8],
-    kinds: &[u8],
-    tokens: &[u32],
-    sizes: &[u32],
-    bindings: &[u32],
+    file: &Expression,
     declared: &[u32],
     row_of: &[u32],
     d: usize,
@@ -49,39 +36,35 @@ fn evaluate_constant(
     value_lengths: &mut [u8],
     room: &[u8],
 )
-    ensures { EvaluatesConstant src.now starts.now lengths.now terminals.now kinds.now
-        tokens.now sizes.now bindings.now declared.now row_of.now d at answer_kinds.old
+    ensures { EvaluatesConstant file.now.src.now file.now.starts.now file.now.lengths.now file.now.terminals.now file.now.kinds.now
+        file.now.tokens.now file.now.sizes.now file.now.bindings.now declared.now row_of.now d at answer_kinds.old
         answer_numbers.old answer_lengths.old value_kinds.old value_numbers.old
         value_lengths.old room.now answer_kinds.new answer_numbers.new answer_lengths.new }
 {
-    let nodes = columns::saturating_sub(index_at(sizes, d), BESIDES);
-    let first = columns::saturating_sub(d, nodes);
+    let nodes = index_at(file.sizes, d).saturating_sub(BESIDES);
+    let first = d.saturating_sub(nodes);
+    let known = Known {
+        file_kinds: file.kinds,
+        row_of,
+        first_row: at,
+        kinds: answer_kinds,
+        numbers: answer_numbers,
+        lengths: answer_lengths,
+        room,
+    };
     evaluate_expression(
-        src,
-        starts,
-        lengths,
-        terminals,
-        kinds,
-        tokens,
-        sizes,
-        bindings,
+        file,
+        declared,
+        &known,
         first,
         d,
-        kinds,
-        declared,
-        row_of,
-        at,
-        answer_kinds,
-        answer_numbers,
-        answer_lengths,
-        room,
         value_kinds,
         value_numbers,
         value_lengths,
     );
-    let row = columns::saturating_sub(index_at(row_of, d), at);
+    let row = index_at(row_of, d).saturating_sub(at);
     let answer = held_answer(
-        at32(declared, d),
+        columns::get_or(declared, d, 0),
         value_kinds,
         value_numbers,
         value_lengths,
@@ -93,14 +76,7 @@ fn evaluate_constant(
 // Measures one constant: a string is evaluated, and its row tells the length; every other constant waits. No strings are compared in the expression of a
 // string, so no room is read: any bytes do.
 fn measure_constant(
-    src: &[u8],
-    starts: &[u32],
-    lengths: &[u32],
-    terminals: &[u8],
-    kinds: &[u8],
-    tokens: &[u32],
-    sizes: &[u32],
-    bindings: &[u32],
+    file: &Expression,
     declared: &[u32],
     row_of: &[u32],
     d: usize,
@@ -112,21 +88,14 @@ fn measure_constant(
     value_numbers: &mut [i64],
     value_lengths: &mut [u8],
 )
-    ensures { MeasuresConstant src.now starts.now lengths.now terminals.now kinds.now
-        tokens.now sizes.now bindings.now declared.now row_of.now d at answer_kinds.old
+    ensures { MeasuresConstant file.now.src.now file.now.starts.now file.now.lengths.now file.now.terminals.now file.now.kinds.now
+        file.now.tokens.now file.now.sizes.now file.now.bindings.now declared.now row_of.now d at answer_kinds.old
         answer_numbers.old answer_lengths.old value_kinds.old value_numbers.old
         value_lengths.old answer_kinds.new answer_numbers.new answer_lengths.new }
 {
-    if at32(declared, d) == codes::types::STRING {
+    if columns::get_or(declared, d, 0) == codes::types::STRING {
         evaluate_constant(
-            src,
-            starts,
-            lengths,
-            terminals,
-            kinds,
-            tokens,
-            sizes,
-            bindings,
+            file,
             declared,
             row_of,
             d,
@@ -137,11 +106,11 @@ fn measure_constant(
             value_kinds,
             value_numbers,
             value_lengths,
-            src,
+            file.src,
         );
         return;
     }
-    let row = columns::saturating_sub(index_at(row_of, d), at);
+    let row = index_at(row_of, d).saturating_sub(at);
     put_answer(
         answer_kinds,
         answer_numbers,
@@ -153,14 +122,7 @@ fn measure_constant(
 
 // Measures the constants of a file, as they stand in an order.
 pub fn measure_constants(
-    src: &[u8],
-    starts: &[u32],
-    lengths: &[u32],
-    terminals: &[u8],
-    kinds: &[u8],
-    tokens: &[u32],
-    sizes: &[u32],
-    bindings: &[u32],
+    file: &Expression,
     declared: &[u32],
     order: &[u32],
     row_of: &[u32],
@@ -171,24 +133,16 @@ pub fn measure_constants(
     value_numbers: &mut [i64],
     value_lengths: &mut [u8],
 )
-    ensures { MeasuresConstants src.now starts.now lengths.now terminals.now kinds.now
-        tokens.now sizes.now bindings.now declared.now order.now row_of.now
+    ensures { MeasuresConstants file.now.src.now file.now.starts.now file.now.lengths.now file.now.terminals.now file.now.kinds.now
+        file.now.tokens.now file.now.sizes.now file.now.bindings.now declared.now order.now row_of.now
         answer_kinds.old answer_numbers.old answer_lengths.old value_kinds.old
         value_numbers.old value_lengths.old answer_kinds.new answer_numbers.new answer_lengths.new }
 {
-    let mut i: usize = 0;
-    while i < order.len() {
-        let d = columns::index(order[i]);
-        if is_due(kinds, 0, kinds.len(), d) {
+    for declaration in order {
+        let d = columns::index(*declaration);
+        if is_due(file.kinds, 0, file.kinds.len(), d) {
             measure_constant(
-                src,
-                starts,
-                lengths,
-                terminals,
-                kinds,
-                tokens,
-                sizes,
-                bindings,
+                file,
                 declared,
                 row_of,
                 d,
@@ -200,23 +154,13 @@ pub fn measure_constants(
                 value_numbers,
                 value_lengths,
             );
-            i += 1;
-        } else {
-            i += 1;
         }
     }
 }
 
 // Writes the string of a constant into the room, where its row says; a constant that came to no string has none.
 fn write_string(
-    src: &[u8],
-    starts: &[u32],
-    lengths: &[u32],
-    terminals: &[u8],
-    kinds: &[u8],
-    tokens: &[u32],
-    sizes: &[u32],
-    bindings: &[u32],
+    file: &Expression,
     row_of: &[u32],
     d: usize,
     at: usize,
@@ -225,48 +169,32 @@ fn write_string(
     answer_lengths: &[u8],
     room: &mut [u8],
 )
-    ensures { WritesString src.now starts.now lengths.now terminals.now kinds.now
-        tokens.now sizes.now bindings.now row_of.now d at answer_kinds.now
+    ensures { WritesString file.now.src.now file.now.starts.now file.now.lengths.now file.now.terminals.now file.now.kinds.now
+        file.now.tokens.now file.now.sizes.now file.now.bindings.now row_of.now d at answer_kinds.now
         answer_numbers.now answer_lengths.now room.old room.new }
 {
-    let row = columns::saturating_sub(index_at(row_of, d), at);
-    if at8(answer_kinds, row) == codes::answers::STRING {
+    let row = index_at(row_of, d).saturating_sub(at);
+    if columns::get_or(answer_kinds, row, 0) == codes::answers::STRING {
         let mut bytes = [0u8; codes::limits::STRING_BYTES];
-        let nodes = columns::saturating_sub(index_at(sizes, d), BESIDES);
-        let first = columns::saturating_sub(d, nodes);
-        let size = spell(
-            src,
-            starts,
-            lengths,
-            terminals,
-            kinds,
-            tokens,
-            bindings,
-            kinds,
+        let nodes = index_at(file.sizes, d).saturating_sub(BESIDES);
+        let first = d.saturating_sub(nodes);
+        let known = Known {
+            file_kinds: file.kinds,
             row_of,
-            at,
-            answer_kinds,
-            answer_numbers,
-            answer_lengths,
+            first_row: at,
+            kinds: answer_kinds,
+            numbers: answer_numbers,
+            lengths: answer_lengths,
             room,
-            first,
-            d,
-            &mut bytes,
-        );
+        };
+        let size = spell(file, &known, first, d, &mut bytes);
         copy_bytes(&bytes, 0, size, room, start_at(answer_numbers, row));
     }
 }
 
 // Writes the string of one constant, or evaluates it into its row.
 fn fill_constant(
-    src: &[u8],
-    starts: &[u32],
-    lengths: &[u32],
-    terminals: &[u8],
-    kinds: &[u8],
-    tokens: &[u32],
-    sizes: &[u32],
-    bindings: &[u32],
+    file: &Expression,
     declared: &[u32],
     row_of: &[u32],
     d: usize,
@@ -279,22 +207,15 @@ fn fill_constant(
     value_lengths: &mut [u8],
     room: &mut [u8],
 )
-    ensures { FillsConstant src.now starts.now lengths.now terminals.now kinds.now
-        tokens.now sizes.now bindings.now declared.now row_of.now d at answer_kinds.old
+    ensures { FillsConstant file.now.src.now file.now.starts.now file.now.lengths.now file.now.terminals.now file.now.kinds.now
+        file.now.tokens.now file.now.sizes.now file.now.bindings.now declared.now row_of.now d at answer_kinds.old
         answer_numbers.old answer_lengths.old value_kinds.old value_numbers.old
         value_lengths.old room.old answer_kinds.new answer_numbers.new answer_lengths.new
         room.new }
 {
-    if at32(declared, d) == codes::types::STRING {
+    if columns::get_or(declared, d, 0) == codes::types::STRING {
         write_string(
-            src,
-            starts,
-            lengths,
-            terminals,
-            kinds,
-            tokens,
-            sizes,
-            bindings,
+            file,
             row_of,
             d,
             at,
@@ -306,14 +227,7 @@ fn fill_constant(
         return;
     }
     evaluate_constant(
-        src,
-        starts,
-        lengths,
-        terminals,
-        kinds,
-        tokens,
-        sizes,
-        bindings,
+        file,
         declared,
         row_of,
         d,
@@ -331,14 +245,7 @@ fn fill_constant(
 // Fills the rows of the constants from node lo up to hi, which are those of a schema, as they stand in a part of the order: in the part of the answer columns
 // from row `at` on.
 pub fn evaluate_schema(
-    src: &[u8],
-    starts: &[u32],
-    lengths: &[u32],
-    terminals: &[u8],
-    kinds: &[u8],
-    tokens: &[u32],
-    sizes: &[u32],
-    bindings: &[u32],
+    file: &Expression,
     declared: &[u32],
     part: &[u32],
     row_of: &[u32],
@@ -353,25 +260,17 @@ pub fn evaluate_schema(
     value_lengths: &mut [u8],
     room: &mut [u8],
 )
-    ensures { FillsSchema src.now starts.now lengths.now terminals.now kinds.now
-        tokens.now sizes.now bindings.now declared.now part.now row_of.now lo hi at
+    ensures { FillsSchema file.now.src.now file.now.starts.now file.now.lengths.now file.now.terminals.now file.now.kinds.now
+        file.now.tokens.now file.now.sizes.now file.now.bindings.now declared.now part.now row_of.now lo hi at
         answer_kinds.old answer_numbers.old answer_lengths.old value_kinds.old
         value_numbers.old value_lengths.old room.old answer_kinds.new answer_numbers.new
         answer_lengths.new room.new }
 {
-    let mut i: usize = 0;
-    while i < part.len() {
-        let d = columns::index(part[i]);
-        if is_due(kinds, lo, hi, d) {
+    for declaration in part {
+        let d = columns::index(*declaration);
+        if is_due(file.kinds, lo, hi, d) {
             fill_constant(
-                src,
-                starts,
-                lengths,
-                terminals,
-                kinds,
-                tokens,
-                sizes,
-                bindings,
+                file,
                 declared,
                 row_of,
                 d,
@@ -384,9 +283,6 @@ pub fn evaluate_schema(
                 value_lengths,
                 room,
             );
-            i += 1;
-        } else {
-            i += 1;
         }
     }
 }

@@ -16,8 +16,7 @@ use Rattle.express.specs.Names.Scope as express
 use Rattle.express.specs.Names.Scope.{declarations, own, items_of}
 use Rattle.express.proofs.Names.Meaning.{meaning_first}
 use Rattle.index.specs.Dictionary.{has, first_with, Indexed, Holds, Finds, Continues}
-use Rattle.index.specs.declared.dictionary.Found.{Found}
-use Rattle.index.specs.declared.dictionary.Found.TheVariants as found
+use Rattle.std.specs.Prelude.{Option, Some, None}
 use Rattle.scopes.specs.Entries.{declared, items_of_types, members, sorts, radix, key_of, entries, with_key}
 use Rattle.scopes.specs.Preparation.{Consistent, Prepared}
 use Rattle.scopes.specs.LookUp.{numbers, node_meant, Meant, Means, UnderKey}
@@ -28,14 +27,14 @@ use Rattle.scopes.proofs.WithKey.{by_declaration, by_type, by_owner}
 use Rattle.scopes.proofs.Numbering.{meant_nodes}
 
 -- ---- the meaning, by the first entry and the next
-abbrev after_first : ℕ → Found → express.Meaning
-after_first e found.Nothing = express.one e
-after_first e (found.At k) = express.several
+abbrev after_first : ℕ → Option ℕ → express.Meaning
+after_first e None = express.one e
+after_first e (Some k) = express.several
 
 module _ (keys : List ℕ) (key : ℕ) where
-  abbrev by_first : Found → express.Meaning
-  by_first found.Nothing = express.none
-  by_first (found.At e) = after_first e (first_with keys key (e + 1))
+  abbrev by_first : Option ℕ → express.Meaning
+  by_first None = express.none
+  by_first (Some e) = after_first e (first_with keys key (e + 1))
 
   meaning_found : express.meaning (numbers keys key) ≡ by_first (first_with keys key 0)
   unfolding numbers first_with
@@ -50,22 +49,22 @@ module _ (keys : List ℕ) (key : ℕ) where
       f : ℕ
       f = first_from (has keys key) 0 (n - 0)
 
-      second : (c : Bool) (j : ℕ) → cond c express.several (express.one f) ≡ after_first f (cond c (found.At j) found.Nothing)
+      second : (c : Bool) (j : ℕ) → cond c express.several (express.one f) ≡ after_first f (cond c (Some j) None)
       second true j = refl
       second false j = refl
 
       first : (b : Bool) →
-          cond b (cond (ltb (first_from (has keys key) (f + 1) (n - (f + 1))) n) express.several (express.one f)) express.none ≡ by_first (cond b (found.At f) found.Nothing)
+          cond b (cond (ltb (first_from (has keys key) (f + 1) (n - (f + 1))) n) express.several (express.one f)) express.none ≡ by_first (cond b (Some f) None)
       first true = second (ltb (first_from (has keys key) (f + 1) (n - (f + 1))) n) (first_from (has keys key) (f + 1) (n - (f + 1)))
       first false = refl
 
-module _ {keys heads next : List ℕ} {key : ℕ} {r : Found} (F : Finds keys heads next key r) where
-  pub nothing_meant : r ≡ found.Nothing → Meant keys heads next key Nothing
+module _ {keys heads next : List ℕ} {key : ℕ} {r : Option ℕ} (F : Finds keys heads next key r) where
+  pub nothing_meant : r ≡ None → Meant keys heads next key Nothing
   nothing_meant e = record { within = omega arith; is = λ I. sym (meaning_found keys key ∙ ap (by_first keys key) (sym (F.is I) ∙ e)) }
 
-  module _ {k : ℕ} (e : r ≡ found.At k) {q : Found} (C : Continues keys next k q) where
+  module _ {k : ℕ} (e : r ≡ Some k) {q : Option ℕ} (C : Continues keys next k q) where
     at : (k < length keys) × (get_or keys k 0 ≡ key)
-    at = let h : Holds keys key 0 (found.At k) = rw e at F.holds in (h.1, h.2)
+    at = let h : Holds keys key 0 (Some k) = rw e at F.holds in (h.1, h.2)
 
     first : Indexed keys heads next → express.meaning (numbers keys key) ≡ after_first k q
     first I =
@@ -74,10 +73,10 @@ module _ {keys heads next : List ℕ} {key : ℕ} {r : Found} (F : Finds keys he
         ∙ ap (λ (x : ℕ). after_first k (first_with keys x (k + 1))) (sym at.1)
         ∙ ap (after_first k) (sym (C.is heads I))
 
-    pub one_meant : q ≡ found.Nothing → Meant keys heads next key (One k)
+    pub one_meant : q ≡ None → Meant keys heads next key (One k)
     one_meant n = record { within = at.0; is = λ I. sym (first I ∙ ap (after_first k) n) }
 
-    pub several_meant : {j : ℕ} → q ≡ found.At j → Meant keys heads next key Several
+    pub several_meant : {j : ℕ} → q ≡ Some j → Meant keys heads next key Several
     several_meant n = record { within = omega arith; is = λ I. sym (first I ∙ ap (after_first k) n) }
 
 -- ---- under a sort, a scope and a symbol

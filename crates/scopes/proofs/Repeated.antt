@@ -13,7 +13,7 @@ use Rattle.relations.proofs.Select.{keep_same, mem_upto, upto_mem, mem_keep, any
 use Rattle.express.specs.Syntax.Tree.{Table, count, symbol}
 use Rattle.express.specs.Names.Fault.{sort, scope, alike}
 use Rattle.index.specs.Dictionary.{has, first_with}
-use Rattle.index.specs.declared.dictionary.Found.TheVariants.{At}
+use Rattle.std.specs.Prelude.{Some}
 use Rattle.scopes.specs.Entries.{own_key, entry_number}
 use Rattle.scopes.specs.Preparation.{Prepared}
 use Rattle.scopes.specs.LookUp.{numbers}
@@ -128,19 +128,19 @@ module _ {t : Table} {keys nodes heads' next : List ℕ} (P : Prepared t keys no
       (le_or (length keys) first_entry)
 
   -- STAGE 9: the look-up of its own key finds another entry exactly if an earlier node is alike
-  pub first_own : first_with keys key 0 ≡ At number → any (alike t n) (span 0 n) ≡ false
+  pub first_own : first_with keys key 0 ≡ Some number → any (alike t n) (span 0 n) ≡ false
   unfolding first_with
   first_own e =
-      let q : At first_entry ≡ At number = rw (lt-ltb first_entry (length keys) entry_low) at e in
+      let q : Some first_entry ≡ Some number = rw (lt-ltb first_entry (length keys) entry_low) at e in
       let w : first_entry ≡ number = cc in
       untrue _ (λ h. let r = any_mem (alike t n) (span 0 n) h in none r.0 (upto_mem n r.0 r.1) r.2 (own_first w))
     where
       none : (k : ℕ) → k < n → alike t n k ≡ true → first_node ≡ n → ⊥
       none k h e q = let F = first_is (alike t n) 0 (count t - 0) in false≢true (sym (F.none k (omega arith) (omega (arith, q))) ∙ e)
 
-  pub first_other : (first_with keys key 0 ≡ At number → ⊥) → any (alike t n) (span 0 n) ≡ true
+  pub first_other : (first_with keys key 0 ≡ Some number → ⊥) → any (alike t n) (span 0 n) ≡ true
   unfolding first_with
   first_other d =
       let F = first_is (alike t n) 0 (count t - 0) in
-      let h : first_node < n = other_first (λ w. d (rw (lt-ltb first_entry (length keys) entry_low) (ap At w))) in
+      let h : first_node < n = other_first (λ w. d (rw (lt-ltb first_entry (length keys) entry_low) (ap Some w))) in
       mem_any (alike t n) (span 0 n) (mem_upto n first_node h) (F.passes (omega arith))

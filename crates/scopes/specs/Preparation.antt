@@ -1,11 +1,10 @@
 -- The dictionary of a file, in lent columns.
-use Rattle.std.specs.Prelude.{◌≡◌, Bool, true, false, cond, List, [], ◌∷◌, map, ℕ, ◌≤◌, ◌<◌, eqb, leb, length, take}
+use Rattle.std.specs.Prelude.{◌≡◌, Bool, true, false, cond, List, [], ◌∷◌, map, ℕ, ◌≤◌, ◌<◌, eqb, leb, length, take, Result, Ok, Err}
 use Rattle.std.proofs.lemmas.List.Edits.{sets}
 use Rattle.express.specs.Syntax.Tree.{Table, count, token, symbol}
 use Rattle.index.specs.Dictionary.{Indexed}
 use Rattle.scopes.specs.Entries.{schemas, declared, sorts, radix, key_of, Entry, is_other, entries}
-use Rattle.scopes.specs.declared.dictionary.Preparation.{Preparation}
-use Rattle.scopes.specs.declared.dictionary.Preparation.TheVariants.{Done, Unfit}
+use Rattle.scopes.specs.declared.dictionary.Unfit.{Unfit}
 
 -- a token and a role for each node, tokens that are there, and nodes and symbols below the radix
 pub record Consistent (t : Table) : Type 0 where
@@ -49,9 +48,9 @@ pub record Refused (t : Table) (keys nodes heads next keys' nodes' heads' next' 
   pub heads_kept : heads' ≡ heads
   pub next_kept : next' ≡ next
 
-abbrev pub Answers : Table → List ℕ → List ℕ → List ℕ → List ℕ → Preparation → List ℕ → List ℕ → List ℕ → List ℕ → Type 0
-Answers t keys nodes heads next Done keys' nodes' heads' next' = Prepares t keys nodes keys' nodes' heads' next'
-Answers t keys nodes heads next Unfit keys' nodes' heads' next' = Refused t keys nodes heads next keys' nodes' heads' next'
+abbrev pub Answers : Table → List ℕ → List ℕ → List ℕ → List ℕ → Result (Unit {0}) Unfit → List ℕ → List ℕ → List ℕ → List ℕ → Type 0
+Answers t keys nodes heads next (Ok x) keys' nodes' heads' next' = Prepares t keys nodes keys' nodes' heads' next'
+Answers t keys nodes heads next (Err e) keys' nodes' heads' next' = Refused t keys nodes heads next keys' nodes' heads' next'
 
 -- ---- what the inner functions go by
 

@@ -4,9 +4,11 @@
 pub mod dictionary;
 pub mod look_ups;
 
-ghost use Rattle.std.specs.Prelude.{◌≡◌, ◌&&◌, ◌||◌, get_or};
+ghost use Rattle.std.specs.Prelude.{◌≡◌, ◌&&◌, ◌||◌};
 ghost use Rattle.scopes.specs.Standing.{declares, is_member};
 ghost use Rattle.scopes.specs.Range.{DeclarationAt};
+
+use columns::{get_or, index};
 
 // The sorts of keys, and a number above them all.
 pub const NO_SORT: u64 = 0;
@@ -47,75 +49,29 @@ pub struct Counts {
 pub fn both(a: bool, b: bool) -> bool
     ensures { result ≡ (a && b) }
 {
-    if a {
-        return b;
-    }
-    false
+    a & b
 }
 
 pub fn either(a: bool, b: bool) -> bool
     ensures { result ≡ (a || b) }
 {
-    if a {
-        return true;
-    }
-    b
+    a | b
 }
 
 // Is it a constant, a type or an entity?
 pub fn is_declaration(kind: u8) -> bool
     ensures { result ≡ declares kind }
 {
-    either(
-        either(kind == codes::nodes::CONSTANT, kind == codes::nodes::TYPE),
-        kind == codes::nodes::ENTITY,
-    )
+    (kind == codes::nodes::CONSTANT) | (kind == codes::nodes::TYPE) | (kind == codes::nodes::ENTITY)
 }
 
 // Is it an attribute or a rule with a label?
 pub fn is_scope_member(kind: u8, role: u32) -> bool
     ensures { result ≡ is_member kind role }
 {
-    if kind == codes::nodes::ATTRIBUTE_NAME {
-        return true;
-    }
-    if kind == codes::nodes::DERIVED_ATTRIBUTE {
-        return true;
-    }
-    if kind == codes::nodes::RULE {
-        return role == codes::roles::LABELLED;
-    }
-    false
-}
-
-// The number at an index; past the end of the column 0.
-pub fn at(column: &[u32], i: usize) -> u32
-    ensures { result ≡ get_or column.now i 0 }
-{
-    if i < column.len() {
-        return column[i];
-    }
-    0
-}
-
-// The same of a column of bytes.
-pub fn at8(column: &[u8], i: usize) -> u8
-    ensures { result ≡ get_or column.now i 0 }
-{
-    if i < column.len() {
-        return column[i];
-    }
-    0
-}
-
-// The number at an index of a column of keys; past its end 0.
-pub fn at64(column: &[u64], i: usize) -> u64
-    ensures { result ≡ get_or column.now i 0 }
-{
-    if i < column.len() {
-        return column[i];
-    }
-    0
+    kind == codes::nodes::ATTRIBUTE_NAME
+        || kind == codes::nodes::DERIVED_ATTRIBUTE
+        || kind == codes::nodes::RULE && role == codes::roles::LABELLED
 }
 
 // A constant, type or entity, by its number among these: its schema, its node, and the first node behind the declaration before it.
@@ -129,8 +85,8 @@ pub struct Extent {
 pub fn declaration(keys: &[u64], nodes: &[u32], vertex: usize) -> Extent
     ensures { DeclarationAt keys.now nodes.now vertex result }
 {
-    let schema = (at64(keys, vertex) / RADIX % RADIX) as usize;
-    let node = columns::index(at(nodes, vertex));
+    let schema = (get_or(keys, vertex, 0) / RADIX % RADIX) as usize;
+    let node = index(get_or(nodes, vertex, 0));
     if vertex == 0 {
         return Extent {
             schema,
@@ -138,6 +94,6 @@ pub fn declaration(keys: &[u64], nodes: &[u32], vertex: usize) -> Extent
             node,
         };
     }
-    let from = columns::index(at(nodes, vertex - 1)) + 1;
+    let from = index(get_or(nodes, vertex - 1, 0)) + 1;
     Extent { schema, from, node }
 }

@@ -7,10 +7,11 @@ ghost use Rattle.scopes.specs.LookUp.{Meant, Means, UnderKey};
 
 use crate::RADIX;
 use crate::dictionary::key;
-use index::dictionary::{Found, find, next_of};
+use index::dictionary::{find, next_of};
 
 // No entry, the only one, or more than one.
-#[derive(Clone, Copy)]
+// Form kept: what means nothing is looked up further in `use_meant` and is no error, so a Result<usize, ..> would stand for two of three cases.
+#[derive(Clone, Copy, Debug, PartialEq, Eq)]
 pub enum Meaning {
     Nothing,
     One(usize),
@@ -22,11 +23,11 @@ pub fn meant(keys: &[u64], heads: &[u32], next: &[u32], key: u64) -> Meaning
     ensures { Meant keys.now heads.now next.now key result }
 {
     let found = find(keys, heads, next, key);
-    let Found::At(e) = found else {
+    let Some(e) = found else {
         return Meaning::Nothing;
     };
     let more = next_of(keys, next, e);
-    let Found::At(_) = more else {
+    let Some(_) = more else {
         return Meaning::One(e);
     };
     Meaning::Several
@@ -44,10 +45,7 @@ fn looked_up(
     requires { sort < sorts }
     ensures { UnderKey keys.now heads.now next.now sort scope symbol result }
 {
-    if RADIX <= scope as u64 {
-        return Meaning::Nothing;
-    }
-    if RADIX <= symbol as u64 {
+    if RADIX <= scope as u64 || RADIX <= symbol as u64 {
         return Meaning::Nothing;
     }
     meant(keys, heads, next, key(sort, scope, symbol))

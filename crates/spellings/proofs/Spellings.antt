@@ -1,7 +1,7 @@
 -- Laws of spellings: the part of the bytes that a token has, its hash, and words that are spelled alike.
 use mathlib.Core.Path.{◌≡◌, refl, sym, ap, ◌∙◌}
-use mathlib.Core.Bool.{Bool, true, false, cond, ◌&&◌}
-use mathlib.Core.List.{List, ◌∷◌, map}
+use mathlib.Core.Bool.{Bool, true, false, cond, ◌&&◌, false≢true}
+use mathlib.Core.List.{List, [], ◌∷◌, map}
 use mathlib.Core.Logic.{by_cases}
 use Prim.Native.Nat.{ℕ, suc, ◌+◌, ◌*◌, ◌-◌, ◌/◌, ◌%◌, ◌≤◌, ◌<◌, min}
 use native.Mathlib.Decide.{dec_lt}
@@ -16,6 +16,8 @@ use Rattle.relations.proofs.Select.{untrue}
 use Rattle.express.proofs.Tokens.Spelling.{same_true, same_refl}
 use lib.Bits.{bit_and, and_block, and_mask}
 use lib.Dec.{leb}
+use borrow.Author.Tests.{le-leb, lt-leb, lt-ltb, le-ltb}
+use Rattle.std.specs.Char.{to_ascii_lowercase}
 use Rattle.spellings.specs.Hash.{block, joined, hash_blocks, hash_of, stirred, stirred_all, long_hash_of, Four, IsBlock, Joins, Hashes}
 
 abbrev pub folded : List ℕ → List ℕ
@@ -66,12 +68,29 @@ agree xs ys e h =
     same_is (folded xs) (folded ys)
     (ext_get_or 0 (folded xs) (folded ys) (simp length_folded e) (λ k l. folded_at xs k ∙ h k (rw length_folded at l) ∙ sym (folded_at ys k)))
 
-pub differ_length : (xs ys : List ℕ) → (length xs ≡ length ys → ⊥) → same (map lower xs) (map lower ys) ≡ false
-differ_length xs ys n = same_not (folded xs) (folded ys) (λ e. n (simp length_folded at (ap length e)))
+-- small letters as the library has them
+pub lower_is : (b : ℕ) → to_ascii_lowercase b ≡ lower b
+unfolding lower
+lower_is b = go (dec_lt b 65) (dec_lt 90 b)
+  where
+    go : Dec (b < 65) → Dec (90 < b) → to_ascii_lowercase b ≡ lower b
+    go (yes l) _ = rw (lt-ltb _ _ l, lt-leb _ _ l)
+    go (no g) (yes l) = let low : 65 ≤ b = omega (arith, g) in let high : 91 ≤ b = omega arith in rw (le-ltb _ _ low, le-ltb _ _ high, le-leb _ _ low, lt-leb _ _ l)
+    go (no g) (no f) =
+        let low : 65 ≤ b = omega (arith, g) in
+        let high : b ≤ 90 = omega (arith, f) in
+        let below : b < 91 = omega arith in
+        rw (le-ltb _ _ low, lt-ltb _ _ below, le-leb _ _ low, le-leb _ _ high)
 
-pub differ_at : (xs ys : List ℕ) (k : ℕ) → (lower (get_or xs k 0) ≡ lower (get_or ys k 0) → ⊥) → same (map lower xs) (map lower ys) ≡ false
-differ_at xs ys k n =
-    same_not (folded xs) (folded ys) (λ e. n (sym (folded_at xs k) ∙ ap (λ (l : List ℕ). get_or l k 0) e ∙ folded_at ys k))
+lowered : (xs : List ℕ) → map to_ascii_lowercase xs ≡ folded xs
+lowered [] = refl
+lowered (b ∷ xs) = rw (lower_is b, lowered xs)
+
+-- two words that are equal but for the case of letters
+pub alike_is : (xs ys : List ℕ) {r : Bool} → ((r ≡ true) → map to_ascii_lowercase xs ≡ map to_ascii_lowercase ys) × (map to_ascii_lowercase xs ≡ map to_ascii_lowercase ys → r ≡ true)
+    → r ≡ same (map lower xs) (map lower ys)
+alike_is xs ys {r = true} h = sym (same_is (folded xs) (folded ys) (sym (lowered xs) ∙ h.0 refl ∙ lowered ys))
+alike_is xs ys {r = false} h = sym (same_not (folded xs) (folded ys) (λ e. false≢true (h.1 (lowered xs ∙ e ∙ sym (lowered ys)))))
 
 -- a word that is spelled like a token was compared in its stead
 pub heard : (xs : List ℕ) {ys zs : List ℕ} {r t : Bool} → ys ≡ zs → r ≡ same xs ys → r ≡ t → same xs zs ≡ t

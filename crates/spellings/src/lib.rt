@@ -6,11 +6,6 @@ ghost use Rattle.express.specs.Tokens.Bytes.{lower, same};
 ghost use Rattle.spellings.specs.Blocks.{no_letters, Eight, Agrees, SurelyAlike};
 ghost use Rattle.spellings.specs.Hash.{Four, IsBlock, Joins, Hashes, stirred, long_hash_of};
 
-use columns::shorter;
-
-// What makes a capital letter small.
-const TO_LOWER: u8 = 32;
-
 // How many bytes a block has; what the second, the third and the fourth of them count; the low five bits of all four, and
 // of one.
 const BLOCK: usize = 4;
@@ -47,19 +42,6 @@ const CASE_TO_HIGH: u64 = 4;
 const BEFORE_A: u64 = 63 * EACH;
 
 const BEHIND_Z: u64 = 37 * EACH;
-
-// A letter in lower case.
-fn lower_case(b: u8) -> u8
-    ensures { result ≡ lower b }
-{
-    if b < b'A' {
-        return b;
-    }
-    if b'Z' < b {
-        return b;
-    }
-    b + TO_LOWER
-}
 
 fn wide(b: u8) -> u64
     ensures { (result ≡ b) × (result < 256) }
@@ -150,10 +132,8 @@ pub fn long_hash(word: &[u8]) -> u64
     ensures { result ≡ long_hash_of (map lower word.now) }
 {
     let mut h = 0;
-    let mut i = 0;
-    while i < word.len() {
-        h = stir(h, lower_case(word[i]));
-        i += 1;
+    for b in word {
+        h = stir(h, b.to_ascii_lowercase());
     }
     stir(stir(h, 0), 0)
 }
@@ -199,21 +179,15 @@ fn agree(a: u64, b: u64, n: usize) -> bool
 fn inside(length: usize, at: usize, n: usize) -> bool
     ensures { result ≡ true → at + n + 8 ≤ length }
 {
-    if length < EIGHT {
-        return false;
-    }
-    if length - EIGHT < n {
-        return false;
-    }
-    at <= length - EIGHT - n
+    length >= EIGHT && n <= length - EIGHT && at <= length - EIGHT - n
 }
 
 // The number of n bytes from a place on, as far as they are there.
 fn hash_clipped(s: &[u8], at: usize, n: usize) -> u64
     ensures { Hashes (take n (drop at s.now)) result }
 {
-    let from = shorter(at, s.len());
-    let to = from + shorter(n, s.len() - from);
+    let from = at.min(s.len());
+    let to = from + n.min(s.len() - from);
     hash(&s[from..to])
 }
 
@@ -221,10 +195,7 @@ fn hash_clipped(s: &[u8], at: usize, n: usize) -> u64
 pub fn hash_at(s: &[u8], at: usize, n: usize) -> u64
     ensures { Hashes (take n (drop at s.now)) result }
 {
-    if EIGHT < n {
-        return hash_clipped(s, at, n);
-    }
-    if !inside(s.len(), at, n) {
+    if EIGHT < n || !inside(s.len(), at, n) {
         return hash_clipped(s, at, n);
     }
     let x = first_bytes(eight(s, at), n) & LOW_OF_EACH;
@@ -235,10 +206,7 @@ pub fn hash_at(s: &[u8], at: usize, n: usize) -> u64
 pub fn surely_alike(s: &[u8], p: usize, q: usize, n: usize) -> bool
     ensures { SurelyAlike s.now p q n result }
 {
-    if !inside(s.len(), p, n) {
-        return false;
-    }
-    if !inside(s.len(), q, n) {
+    if !inside(s.len(), p, n) || !inside(s.len(), q, n) {
         return false;
     }
     let mut i = 0;
@@ -255,15 +223,5 @@ pub fn surely_alike(s: &[u8], p: usize, q: usize, n: usize) -> bool
 pub fn alike(a: &[u8], b: &[u8]) -> bool
     ensures { result ≡ same (map lower a.now) (map lower b.now) }
 {
-    if a.len() != b.len() {
-        return false;
-    }
-    let mut i = 0;
-    while i < a.len() {
-        if lower_case(a[i]) != lower_case(b[i]) {
-            return false;
-        }
-        i += 1;
-    }
-    true
+    a.eq_ignore_ascii_case(b)
 }

@@ -7,6 +7,7 @@ use native.Mathlib.Omega.{arith}
 use borrow.Author.Tests.{leb-true}
 use lib.Dec.{eqb, leb}
 use lib.ListN.{length}
+use Rattle.std.specs.Prelude.{Ok}
 use Rattle.ebnf.specs.Grammar.{Text}
 use Rattle.ebnf.specs.Rows.{Row, Rows, in_rows}
 use Rattle.ebnf.specs.Parse.{Result, at, refused, starved, bind, Verdict, accepted, verdict}
@@ -22,7 +23,6 @@ use Rattle.express.proofs.Tokens.TokenRows.{tokens_of}
 use Rattle.express.proofs.Syntax.Syntax.{express, accepted_iff, parsed_iff, whole_value}
 use Rattle.express.proofs.Syntax.Descent.{phrase, so, parse_is, phrase_placed}
 use Rattle.express.proofs.Syntax.Count.{Counted, phrase_counted}
-use Rattle.stages.specs.declared.Stage.TheVariants.{Done}
 use Rattle.stages.specs.Line.{of_reading, token_stage}
 
 -- 0 is not 1
@@ -44,13 +44,13 @@ tokens_few s = by (leb (length s) most) refl
     by false e = rw (too_long_is s e) (omega arith)
 
 -- a file whose tokens are read is not too long
-pub bytes_few : (s : List ℕ) (rows n : ℕ) → token_stage s rows ≡ Done n → length s ≤ most
+pub bytes_few : (s : List ℕ) (rows n : ℕ) → token_stage s rows ≡ Ok n → length s ≤ most
 unfolding tokens
 bytes_few s rows n e = by (leb (length s) most) refl
   where
     by : (b : Bool) → leb (length s) most ≡ b → length s ≤ most
     by true u = leb-true (length s) most u
-    by false u = let q : of_reading (counted (lexis.refused 1 most) 0 rows) ≡ Done n =
+    by false u = let q : of_reading (counted (lexis.refused 1 most) 0 rows) ≡ Ok n =
         ap (λ (l : Lexed). of_reading (counted l.stop (length l.rows) rows)) (sym (too_long_is s u)) ∙ e in
         clash (cc)
 

@@ -1,39 +1,52 @@
--- The constants among the nodes, counted from the first on.
+-- What is counted of a list, as the count of its places that pass the test.
 use mathlib.Core.Path.{◌≡◌, refl, sym, ap, ◌∙◌}
-use mathlib.Core.List.{List}
-use Prim.Native.Nat.{ℕ, zero, suc, ◌+◌, ◌≤◌, ◌<◌}
+use mathlib.Core.Bool.{Bool, true, false, cond}
+use mathlib.Core.List.{List, [], ◌∷◌}
+use Prim.Native.Nat.{ℕ, zero, suc, ◌+◌, ◌≤◌}
 use native.Mathlib.Omega.{arith}
 use lib.ListN.{length, get_or}
 use lib.Dec.{eqb}
-use Rattle.relations.specs.Select.{span}
+use Rattle.std.specs.List.{count_by}
+use Rattle.std.proofs.lemmas.List.Recursion.{is_count_by}
+use Rattle.relations.specs.Select.{span, keep}
 use Rattle.relations.proofs.Select.{keep_short}
 use Rattle.express.specs.Syntax.NodeKind as node
 use Rattle.constants.specs.Constants.{row_in}
 use Rattle.stages.specs.Reading.{Constants}
-use Rattle.constants.proofs.Numbering.{row_none, row_constant, row_other}
 
--- THE LOOP'S INVARIANT
-pub record Counting (kinds : List ℕ) (n rows : ℕ) : Type 0 where
-  pub low : n ≤ length kinds
-  pub few : rows ≤ n
-  pub is : rows ≡ row_in kinds n
+-- places counted from the second on
+shifted : (p : ℕ → Bool) (i d : ℕ) → length (keep p (span (suc i) d)) ≡ length (keep (λ m. p (suc m)) (span i d))
+unfolding keep span
+shifted p i zero = refl
+shifted p i (suc d) = by (p (suc i)) (shifted p (suc i) d)
+  where
+    by : (b : Bool) → length (keep p (span (suc (suc i)) d)) ≡ length (keep (λ m. p (suc m)) (span (suc i) d))
+        → length (cond b (suc i ∷ keep p (span (suc (suc i)) d)) (keep p (span (suc (suc i)) d)))
+        ≡ length (cond b (i ∷ keep (λ m. p (suc m)) (span (suc i) d)) (keep (λ m. p (suc m)) (span (suc i) d)))
+    by true e = ap suc e
+    by false e = e
 
-module _ {kinds : List ℕ} where
-  pub counting_starts : Counting kinds 0 0
-  counting_starts = record { low = omega arith; few = omega arith; is = sym (row_none kinds) }
+places : (ℕ → Bool) → List ℕ → ℕ
+places q xs = length (keep (λ m. q (get_or xs m 0)) (span 0 (length xs)))
 
-  pub counting_constant : {n rows : ℕ} → Counting kinds n rows → n < length kinds → get_or kinds n 0 ≡ node.constant → Counting kinds (n + 1) (rows + 1)
-  counting_constant {n} C l k =
-      let f = C.few in
-      record { low = omega arith; few = omega arith; is = ap (λ (x : ℕ). x + 1) C.is ∙ sym (row_constant kinds n k) }
+one_more : (q : ℕ → Bool) (x : ℕ) (xs : List ℕ) → places q (x ∷ xs) ≡ cond (q x) (1 + places q xs) (places q xs)
+unfolding places keep span
+one_more q x xs = by (q x) (keep (λ m. q (get_or (x ∷ xs) m 0)) (span (suc 0) (length xs))) (places q xs) (shifted (λ m. q (get_or (x ∷ xs) m 0)) 0 (length xs))
+  where
+    by : (b : Bool) (rest : List ℕ) (n : ℕ) → length rest ≡ n → length (cond b (0 ∷ rest) rest) ≡ cond b (1 + n) n
+    by true rest n e = omega (arith, e)
+    by false rest n e = e
 
-  pub counting_other : {n rows : ℕ} → Counting kinds n rows → n < length kinds → (get_or kinds n 0 ≡ node.constant → ⊥) → Counting kinds (n + 1) rows
-  counting_other {n} C l k =
-      let f = C.few in
-      record { low = omega arith; few = omega arith; is = C.is ∙ sym (row_other kinds n k) }
+none : (q : ℕ → Bool) → places q [] ≡ 0
+unfolding places keep span
+none q = refl
 
-  pub counting_ends : {n rows : ℕ} → Counting kinds n rows → length kinds ≤ n → Constants kinds rows
-  counting_ends {n} C h = let l = C.low in let e : n ≡ length kinds = omega arith in record { is = C.is ∙ ap (row_in kinds) e }
+pub counted_places : (q : ℕ → Bool) (xs : List ℕ) → count_by q xs ≡ length (keep (λ m. q (get_or xs m 0)) (span 0 (length xs)))
+unfolding places
+counted_places q xs = sym (is_count_by (places q) q (none q) (one_more q) xs)
+
+pub constants_counted : {kinds : List ℕ} {n : ℕ} → n ≡ count_by (λ k. eqb k node.constant) kinds → Constants kinds n
+constants_counted {kinds} e = record { is = e ∙ counted_places (λ k. eqb k node.constant) kinds }
 
 -- there are no more of them than nodes
 length_span : (i d : ℕ) → length (span i d) ≡ d

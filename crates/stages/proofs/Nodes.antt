@@ -6,6 +6,7 @@ use native.Mathlib.Omega.{arith}
 use borrow.Author.Tests.{le-leb}
 use lib.ListN.{length, take, length-map}
 use lib.Seq.{sets}
+use Rattle.std.specs.Prelude.{Ok, Err}
 use Rattle.columns.proofs.Laws.{take_rows}
 use Rattle.express.specs.Tokens.Lexis as lexis
 use Rattle.express.specs.Tokens.Lexis.{most, lexed, tokens}
@@ -17,9 +18,8 @@ use Rattle.express.specs.Syntax.Tree.{count}
 use Rattle.express.specs.Whole.Reply.{node_entries}
 use Rattle.express.proofs.Tokens.TokenRows.{terminals_by_rows}
 use Rattle.parsing.specs.Parsing.{rows_of}
-use Rattle.stages.specs.declared.Stage.{Stage}
-use Rattle.stages.specs.declared.Stage.TheVariants.{Done, Refused}
-use Rattle.stages.specs.Line.{then_stage, of_syntax, table_of, token_stage, node_stage}
+use Rattle.stages.specs.declared.Refusal.{Refusal}
+use Rattle.stages.specs.Line.{Stage, then_stage, of_syntax, table_of, token_stage, node_stage}
 use Rattle.stages.specs.Reading.{rows_after, left_after, ParsesTokens, TokenColumns, NodeColumns, NodesRead, ReadsNodes}
 use Rattle.stages.proofs.Bounds.{clash, tokens_few, bytes_few}
 use Rattle.stages.proofs.Straight.{token_done, node_done}
@@ -33,7 +33,7 @@ entries_le : (a b c d n : ℕ) → n ≤ min a (min b (min c d)) → (n ≤ a) �
 entries_le a b c d n h = (omega arith, omega arith, omega arith, omega arith)
 
 -- what is parsed of a file whose tokens are read: all of it
-rows_read : {before : Stage} {i : ℕ} (ts scratch : List ℕ) → before ≡ Done i → length ts ≤ most → length ts ≤ length scratch → rows_after before ts scratch ≡ rows_of (parsed file ts)
+rows_read : {before : Stage} {i : ℕ} (ts scratch : List ℕ) → before ≡ Ok i → length ts ≤ most → length ts ≤ length scratch → rows_after before ts scratch ≡ rows_of (parsed file ts)
 rows_read ts scratch q few room = rw (q, le-leb (length ts) most few, le-leb (length ts) (length scratch) room)
 
 abbrev syntax_of : List ℕ → ℕ → Stage
@@ -45,8 +45,8 @@ module _ (s : List ℕ) (before : Stage) (token_kinds starts lengths terms scrat
   entries = node_entries kinds tokens sizes roles
 
   -- after a refusal
-  refused_before : (tr : ℕ) → before ≡ token_stage s tr → (k p : ℕ) → before ≡ Refused k p → r ≡ Refused k p → NodesRead s tr entries r terms' kinds' tokens' sizes' roles'
-  refused_before tr b k p q v =
+  refused_before : (tr : ℕ) → before ≡ token_stage s tr → (f : Refusal) → before ≡ Err f → r ≡ Err f → NodesRead s tr entries r terms' kinds' tokens' sizes' roles'
+  refused_before tr b f q v =
       record {
         is = v ∙ ap (λ (x : Stage). then_stage x (λ _. syntax_of s entries)) (sym q ∙ b);
         terminals_are = λ i u. clash (cc);
@@ -76,7 +76,7 @@ module _ (s : List ℕ) (before : Stage) (token_kinds starts lengths terms scrat
       }
 
   module _ (P : ParsesTokens before (length s) starts (take n terms') scratch kinds tokens sizes roles r scratch' kinds' tokens' sizes' roles') (tr : ℕ) (b : before ≡ token_stage s tr)
-      (i : ℕ) (q : before ≡ Done i) (T : TokenColumns s i token_kinds starts lengths terms scratch) (W : Termed i) where
+      (i : ℕ) (q : before ≡ Ok i) (T : TokenColumns s i token_kinds starts lengths terms scratch) (W : Termed i) where
     ended : r ≡ node_stage s tr entries
     ended =
         let here : r ≡ of_syntax starts (length s) entries (parsed file (take n terms')) = P.is i q (bytes_few s tr i (sym b ∙ q)) (rw W.mine W.few) (rw W.mine W.room) in
@@ -114,7 +114,7 @@ module _ (s : List ℕ) (before : Stage) (token_kinds starts lengths terms scrat
         is = λ tr b lent. ends tr b lent before refl;
       }
     where
-      ends : (tr : ℕ) → before ≡ token_stage s tr → ((i : ℕ) → before ≡ Done i → TokenColumns s i token_kinds starts lengths terms scratch) → (x : Stage) → before ≡ x →
+      ends : (tr : ℕ) → before ≡ token_stage s tr → ((i : ℕ) → before ≡ Ok i → TokenColumns s i token_kinds starts lengths terms scratch) → (x : Stage) → before ≡ x →
           NodesRead s tr entries r terms' kinds' tokens' sizes' roles'
-      ends tr b lent (Refused j p) q = refused_before tr b j p q (P.passed_on j p q)
-      ends tr b lent (Done i) q = done_before P tr b i q (lent i q) (termed e m k i (token_done s tr i (sym b ∙ q)).is (lent i q))
+      ends tr b lent (Err f) q = refused_before tr b f q (P.passed_on f q)
+      ends tr b lent (Ok i) q = done_before P tr b i q (lent i q) (termed e m k i (token_done s tr i (sym b ∙ q)).is (lent i q))

@@ -7,6 +7,7 @@ use native.Mathlib.Omega.{arith}
 use borrow.Author.Tests.{eqb-true, leb-true}
 use lib.Dec.{eqb, leb}
 use lib.ListN.{length, length-map}
+use Rattle.std.specs.Prelude.{Ok, Err}
 use Rattle.ebnf.specs.Rows.{Row, Rows}
 use Rattle.ebnf.specs.Depth.{Outcome, good, unexpected, too_deep}
 use Rattle.express.specs.Tokens.Lexis as lexis
@@ -24,9 +25,7 @@ use Rattle.express.proofs.Names.Names.{names_passes}
 use Rattle.express.proofs.Syntax.Syntax.{read_good}
 use Rattle.parsing.specs.Parsing.{rows_of}
 use Rattle.constants.specs.Constants.{file_answers}
-use Rattle.stages.specs.declared.Stage.{Stage}
-use Rattle.stages.specs.declared.Stage.TheVariants.{Done, Refused}
-use Rattle.stages.specs.Line.{then_stage, of_reading, of_syntax, of_constants, of_names, of_kinds, of_room}
+use Rattle.stages.specs.Line.{Stage, refusal, then_stage, of_reading, of_syntax, of_constants, of_names, of_kinds, of_room}
 use Rattle.stages.proofs.Bounds.{clash, tokens_few, rows_few}
 use Rattle.stages.proofs.Counting.{row_short}
 use Rattle.stages.specs.Line.{table_of, token_stage, node_stage, constant_stage, name_stage, kind_stage, room_needed, room_stage, outcome_by}
@@ -35,8 +34,8 @@ use Rattle.stages.specs.Line.{table_of, token_stage, node_stage, constant_stage,
 
 -- a stage's end, once it is known which file it is of
 abbrev outcome_of : List ℕ → Table → Stage → Checked
-outcome_of s t (Done n) = accepted (record { tokens = (lexed s).rows; table = t; bindings = bindings t; answers = file_answers t })
-outcome_of s t (Refused k p) = refused k p
+outcome_of s t (Ok n) = accepted (record { tokens = (lexed s).rows; table = t; bindings = bindings t; answers = file_answers t })
+outcome_of s t (Err f) = refused f.reply f.number
 
 module _ (s : List ℕ) (t : Table) (room : ℕ) where
   -- the last two stages
@@ -46,7 +45,7 @@ module _ (s : List ℕ) (t : Table) (room : ℕ) where
   abbrev to_kinds : Stage → Stage
   to_kinds x = to_room (then_stage x (of_kinds t (typing t (bindings t))))
 
-  by_room : (b : Bool) (n : ℕ) → cond b (outcome_of s t (Done n)) (refused 20 room) ≡ outcome_of s t (cond b (Done n) (Refused 20 room))
+  by_room : (b : Bool) (n : ℕ) → cond b (outcome_of s t (Ok n)) (refused 20 room) ≡ outcome_of s t (cond b (Ok n) (refusal 20 room))
   by_room true n = refl
   by_room false n = refl
 
@@ -55,18 +54,18 @@ module _ (s : List ℕ) (t : Table) (room : ℕ) where
   by_kinds (ill_typed f m) n = refl
 
   by_names : (b : Bool) (n : ℕ) → cond b (after_kinds (lexed s).rows t room (typing t (bindings t))) (refused (names t).number (names t).place) ≡
-      outcome_of s t (to_kinds (cond b (Done n) (Refused (names t).number (names t).place)))
+      outcome_of s t (to_kinds (cond b (Ok n) (refusal (names t).number (names t).place)))
   by_names true n = by_kinds (typing t (bindings t)) n
   by_names false n = refl
 
   by_constants : (b : Bool) → cond b (after_names (lexed s).rows t room (names t)) (refused 8 (length (constants t))) ≡
-      outcome_of s t (to_kinds (then_stage (cond b (Done (length (constants t))) (Refused 8 (length (constants t)))) (of_names (names t))))
+      outcome_of s t (to_kinds (then_stage (cond b (Ok (length (constants t))) (refusal 8 (length (constants t)))) (of_names (names t))))
   by_constants true = by_names (eqb (names t).number 0) (length (constants t))
   by_constants false = refl
 
   by_rows : (entries ar : ℕ) (b : Bool) →
       cond b (cond (leb (length (constants t)) ar) (after_names (lexed s).rows t room (names t)) (refused 8 (length (constants t)))) (refused 7 entries) ≡
-      outcome_of s t (to_kinds (then_stage (then_stage (cond b (Done entries) (Refused 7 entries)) (λ _. of_constants t.kinds ar)) (of_names (names t))))
+      outcome_of s t (to_kinds (then_stage (then_stage (cond b (Ok entries) (refusal 7 entries)) (λ _. of_constants t.kinds ar)) (of_names (names t))))
   by_rows entries ar true = by_constants (leb (length (constants t)) ar)
   by_rows entries ar false = refl
 
@@ -82,7 +81,7 @@ module _ (s : List ℕ) (nr ar room : ℕ) where
   by_syntax (good r) =
       let t = table_by (good r) in
       by_rows s t room (count t) ar (leb (count t) nr)
-      ∙ ap (λ (e : ℕ). outcome_of s t (rest (good r) (cond (leb e nr) (Done e) (Refused 7 e)))) (length-map r.rows (λ (x : Row). x.kind))
+      ∙ ap (λ (e : ℕ). outcome_of s t (rest (good r) (cond (leb e nr) (Ok e) (refusal 7 e)))) (length-map r.rows (λ (x : Row). x.kind))
   by_syntax (unexpected j) = refl
   by_syntax (too_deep k) = refl
 
@@ -94,8 +93,8 @@ module _ (s : List ℕ) (nr ar room : ℕ) where
 
 -- THE WHOLE CHECK is what the last stage says
 same_outcome : (s : List ℕ) (x : Stage) → outcome_of s (table_of s) x ≡ outcome_by s x
-same_outcome s (Done n) = refl
-same_outcome s (Refused k p) = refl
+same_outcome s (Ok n) = refl
+same_outcome s (Err f) = refl
 
 pub straight : (s : List ℕ) (tr nr ar room : ℕ) → checked s tr nr ar room ≡ outcome_by s (room_stage s tr nr ar room)
 unfolding checked
@@ -103,14 +102,14 @@ straight s tr nr ar room = by_tokens s nr ar room (tokens (lexed s) tr) ∙ same
 
 -- ---- a stage that is done
 
-then_done : (x : Stage) (f : ℕ → Stage) (n : ℕ) → then_stage x f ≡ Done n → (m : ℕ) × (x ≡ Done m) × (f m ≡ Done n)
-then_done (Done m) f n e = (m, refl, e)
-then_done (Refused k p) f n e = clash (cc)
+then_done : (x : Stage) (f : ℕ → Stage) (n : ℕ) → then_stage x f ≡ Ok n → (m : ℕ) × (x ≡ Ok m) × (f m ≡ Ok n)
+then_done (Ok m) f n e = (m, refl, e)
+then_done (Err r) f n e = clash (cc)
 
-fits_done : (a b n : ℕ) (k : ℕ) → cond (leb a b) (Done a) (Refused k a) ≡ Done n → (n ≡ a) × (a ≤ b)
+fits_done : (a b n : ℕ) (k : ℕ) → cond (leb a b) (Ok a) (refusal k a) ≡ Ok n → (n ≡ a) × (a ≤ b)
 fits_done a b n k e = by (leb a b) refl e
   where
-    by : (x : Bool) → leb a b ≡ x → cond x (Done a) (Refused k a) ≡ Done n → (n ≡ a) × (a ≤ b)
+    by : (x : Bool) → leb a b ≡ x → cond x (Ok a) (refusal k a) ≡ Ok n → (n ≡ a) × (a ≤ b)
     by true q u = (cc, leb-true a b q)
     by false q u = clash (cc)
 
@@ -120,14 +119,14 @@ module _ (s : List ℕ) (tr : ℕ) where
     pub is : n ≡ length (lexed s).rows
     pub room : length (lexed s).rows ≤ tr
 
-  pub token_done : (n : ℕ) → token_stage s tr ≡ Done n → TokensDone n
+  pub token_done : (n : ℕ) → token_stage s tr ≡ Ok n → TokensDone n
   unfolding tokens
   token_done n e = by (lexed s).stop e
     where
-      by : (x : Reading) → of_reading (counted x (length (lexed s).rows) tr) ≡ Done n → TokensDone n
+      by : (x : Reading) → of_reading (counted x (length (lexed s).rows) tr) ≡ Ok n → TokensDone n
       by (lexis.at q) u = fit (leb (length (lexed s).rows) tr) refl u
         where
-          fit : (b : Bool) → leb (length (lexed s).rows) tr ≡ b → of_reading (cond b (lexis.at (length (lexed s).rows)) (lexis.refused 6 (length (lexed s).rows))) ≡ Done n → TokensDone n
+          fit : (b : Bool) → leb (length (lexed s).rows) tr ≡ b → of_reading (cond b (lexis.at (length (lexed s).rows)) (lexis.refused 6 (length (lexed s).rows))) ≡ Ok n → TokensDone n
           fit true v w = record { is = cc; room = leb-true _ _ v }
           fit false v w = clash (cc)
       by (lexis.refused k p) u = clash (cc)
@@ -135,7 +134,7 @@ module _ (s : List ℕ) (tr : ℕ) where
   module _ (nr : ℕ) where
     -- the tokens derive from the grammar, and the nodes fit
     pub record NodesDone (n : ℕ) : Type 0 where
-      pub tokens_done : token_stage s tr ≡ Done (length (lexed s).rows)
+      pub tokens_done : token_stage s tr ≡ Ok (length (lexed s).rows)
       pub token_room : length (lexed s).rows ≤ tr
       pub rows : Rows
       pub parsed_as : parsed file (token_table s).terminals ≡ good rows
@@ -143,19 +142,19 @@ module _ (s : List ℕ) (tr : ℕ) where
       pub is : n ≡ count (table_of s)
       pub room : count (table_of s) ≤ nr
 
-    pub node_done : (n : ℕ) → node_stage s tr nr ≡ Done n → NodesDone n
+    pub node_done : (n : ℕ) → node_stage s tr nr ≡ Ok n → NodesDone n
     node_done n e =
         let d = then_done (token_stage s tr) _ n e in
         let T = token_done d.0 d.1 in
         by T d.1 (parsed file (token_table s).terminals) refl d.2
       where
-        by : {m : ℕ} → TokensDone m → token_stage s tr ≡ Done m → (o : Outcome Rows) → parsed file (token_table s).terminals ≡ o →
-            of_syntax (lexis.starts (lexed s)) (length s) nr o ≡ Done n → NodesDone n
+        by : {m : ℕ} → TokensDone m → token_stage s tr ≡ Ok m → (o : Outcome Rows) → parsed file (token_table s).terminals ≡ o →
+            of_syntax (lexis.starts (lexed s)) (length s) nr o ≡ Ok n → NodesDone n
         by {m} T q (good r) p u =
             let f = fits_done (length r.rows) nr n 7 u in
             let c : count (with_rows (token_table s) r.rows) ≡ length r.rows = length-map r.rows (λ (x : Row). x.kind) in
             record {
-              tokens_done = q ∙ ap Done T.is;
+              tokens_done = q ∙ ap (λ (m : ℕ). Ok m) T.is;
               token_room = T.room;
               rows = r;
               parsed_as = p;
@@ -169,47 +168,47 @@ module _ (s : List ℕ) (tr : ℕ) where
     module _ (ar : ℕ) where
       -- and there is a row for each constant
       pub record ConstantsDone (n : ℕ) : Type 0 where
-        pub nodes_done : node_stage s tr nr ≡ Done (count (table_of s))
+        pub nodes_done : node_stage s tr nr ≡ Ok (count (table_of s))
         pub of_nodes : NodesDone (count (table_of s))
         pub is : n ≡ length (constants (table_of s))
         pub room : length (constants (table_of s)) ≤ ar
 
-      pub constant_done : (n : ℕ) → constant_stage s tr nr ar ≡ Done n → ConstantsDone n
+      pub constant_done : (n : ℕ) → constant_stage s tr nr ar ≡ Ok n → ConstantsDone n
       constant_done n e =
           let d = then_done (node_stage s tr nr) _ n e in
           let N = node_done d.0 d.1 in
           let f = fits_done (length (constants (table_of s))) ar n 8 d.2 in
-          record { nodes_done = d.1 ∙ ap Done N.is; of_nodes = subst NodesDone N.is N; is = f.0; room = f.1 }
+          record { nodes_done = d.1 ∙ ap (λ (m : ℕ). Ok m) N.is; of_nodes = subst NodesDone N.is N; is = f.0; room = f.1 }
 
       -- and no name is at fault
       pub record NamesDone (n : ℕ) : Type 0 where
-        pub constants_done : constant_stage s tr nr ar ≡ Done n
+        pub constants_done : constant_stage s tr nr ar ≡ Ok n
         pub named : WellNamed (table_of s)
 
-      pub name_done : (n : ℕ) → name_stage s tr nr ar ≡ Done n → NamesDone n
+      pub name_done : (n : ℕ) → name_stage s tr nr ar ≡ Ok n → NamesDone n
       name_done n e =
           let d = then_done (constant_stage s tr nr ar) _ n e in by d.0 d.1 (eqb (names (table_of s)).number 0) refl d.2
         where
-          by : (m : ℕ) → constant_stage s tr nr ar ≡ Done m → (b : Bool) → eqb (names (table_of s)).number 0 ≡ b →
-              cond b (Done m) (Refused (names (table_of s)).number (names (table_of s)).place) ≡ Done n → NamesDone n
+          by : (m : ℕ) → constant_stage s tr nr ar ≡ Ok m → (b : Bool) → eqb (names (table_of s)).number 0 ≡ b →
+              cond b (Ok m) (refusal (names (table_of s)).number (names (table_of s)).place) ≡ Ok n → NamesDone n
           by m q true u v = record { constants_done = q ∙ v; named = (names_passes (table_of s)).0 (eqb-true (names (table_of s)).number 0 u) }
           by m q false u v = clash (cc)
 
       -- and every kind fits
-      pub kind_done : (n : ℕ) → kind_stage s tr nr ar ≡ Done n → name_stage s tr nr ar ≡ Done n
+      pub kind_done : (n : ℕ) → kind_stage s tr nr ar ≡ Ok n → name_stage s tr nr ar ≡ Ok n
       kind_done n e =
           let d = then_done (name_stage s tr nr ar) _ n e in by d.0 d.1 (typing (table_of s) (bindings (table_of s))) d.2
         where
-          by : (m : ℕ) → name_stage s tr nr ar ≡ Done m → (y : Typing) → of_kinds (table_of s) y m ≡ Done n → name_stage s tr nr ar ≡ Done n
+          by : (m : ℕ) → name_stage s tr nr ar ≡ Ok m → (y : Typing) → of_kinds (table_of s) y m ≡ Ok n → name_stage s tr nr ar ≡ Ok n
           by m q (typed ks) v = q ∙ v
           by m q (ill_typed f k) v = clash (cc)
 
       -- and there is room for the strings
-      pub room_done : (room n : ℕ) → room_stage s tr nr ar room ≡ Done n → kind_stage s tr nr ar ≡ Done n
+      pub room_done : (room n : ℕ) → room_stage s tr nr ar room ≡ Ok n → kind_stage s tr nr ar ≡ Ok n
       room_done room n e =
           let d = then_done (kind_stage s tr nr ar) _ n e in by d.0 d.1 (leb (room_needed (table_of s)) room) d.2
         where
-          by : (m : ℕ) → kind_stage s tr nr ar ≡ Done m → (b : Bool) → cond b (Done m) (Refused 20 room) ≡ Done n → kind_stage s tr nr ar ≡ Done n
+          by : (m : ℕ) → kind_stage s tr nr ar ≡ Ok m → (b : Bool) → cond b (Ok m) (refusal 20 room) ≡ Ok n → kind_stage s tr nr ar ≡ Ok n
           by m q true v = q ∙ v
           by m q false v = clash (cc)
 

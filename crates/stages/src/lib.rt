@@ -6,23 +6,22 @@ ghost use Rattle.express.specs.Tokens.Lexis.{most};
 ghost use Rattle.stages.specs.Line.{count_of};
 ghost use Rattle.stages.specs.Reading.{ScansTokens, OfParse, ParsesTokens, ReadsNodes, Constants, FitsConstants};
 
-use blanks::Step;
-use parsing::Parsed;
+use parsing::{Failure, Parsed};
 
-// A stage that is done, with a count, or the refusal of it or of one before it: the reply and the number beside it.
-#[derive(Clone, Copy)]
-pub enum Stage {
-    Done(usize),
-    Refused(u8, u32),
+// Why a file is refused: the reply, and the number beside it.
+#[derive(Clone, Copy, Debug, PartialEq, Eq)]
+pub struct Refusal {
+    pub reply: u8,
+    pub number: u32,
 }
+
+// A stage that is done, with a count, or the refusal of it or of one before it.
+pub type Stage = Result<usize, Refusal>;
 
 pub fn count(stage: Stage) -> usize
     ensures { result ≡ count_of stage }
 {
-    match stage {
-        Stage::Done(n) => n,
-        Stage::Refused(_, _) => 0,
-    }
+    stage.unwrap_or(0)
 }
 
 // The tokens of a file: replies 1, 2, 3 and 6.
@@ -32,8 +31,11 @@ pub fn scan_tokens(src: &[u8], kinds: &mut [u8], starts: &mut [u32], lengths: &m
 {
     let step = scan::scan(src, codes::limits::BYTES, kinds, starts, lengths);
     match step {
-        Step::At(n) => Stage::Done(n),
-        Step::Refused(k, p) => Stage::Refused(k, columns::number(p)),
+        Ok(n) => Ok(n),
+        Err(e) => Err(Refusal {
+            reply: e.reply(),
+            number: columns::number(e.place()),
+        }),
     }
 }
 
@@ -41,10 +43,7 @@ pub fn scan_tokens(src: &[u8], kinds: &mut [u8], starts: &mut [u32], lengths: &m
 fn place_or_end(starts: &[u32], token: usize, size: usize) -> u32
     ensures { size ≤ most → result ≡ get_or starts.now token size }
 {
-    if token < starts.len() {
-        return starts[token];
-    }
-    columns::number(size)
+    columns::get_or(starts, token, columns::number(size))
 }
 
 // What a parse comes to. A list longer than any file, or than the scratch lent, is no file's.
@@ -52,16 +51,29 @@ fn of_parse(parsed: Parsed, starts: &[u32], size: usize) -> Stage
     ensures { OfParse starts.now size parsed result }
 {
     match parsed {
-        Parsed::Accepted(n) => Stage::Done(n),
-        Parsed::Unexpected(j) => {
-            Stage::Refused(codes::replies::UNEXPECTED, place_or_end(starts, j, size))
-        }
-        Parsed::TooDeep(k) => {
-            Stage::Refused(codes::replies::TOO_DEEP, place_or_end(starts, k, size))
-        }
-        Parsed::Short(n) => Stage::Refused(codes::replies::NODES_SHORT, columns::number(n)),
-        Parsed::Scratch(_) => Stage::Refused(codes::replies::TOO_LONG, codes::limits::BYTES),
-        Parsed::Long => Stage::Refused(codes::replies::TOO_LONG, codes::limits::BYTES),
+        Ok(n) => Ok(n),
+        Err(failure) => match failure {
+            Failure::Unexpected(j) => Err(Refusal {
+                reply: codes::replies::UNEXPECTED,
+                number: place_or_end(starts, j, size),
+            }),
+            Failure::TooDeep(k) => Err(Refusal {
+                reply: codes::replies::TOO_DEEP,
+                number: place_or_end(starts, k, size),
+            }),
+            Failure::Short(n) => Err(Refusal {
+                reply: codes::replies::NODES_SHORT,
+                number: columns::number(n),
+            }),
+            Failure::Scratch(_) => Err(Refusal {
+                reply: codes::replies::TOO_LONG,
+                number: codes::limits::BYTES,
+            }),
+            Failure::Long => Err(Refusal {
+                reply: codes::replies::TOO_LONG,
+                number: codes::limits::BYTES,
+            }),
+        },
     }
 }
 
@@ -81,13 +93,9 @@ pub fn parse_tokens(
         kinds.old tokens.old sizes.old roles.old result
         scratch.new kinds.new tokens.new sizes.new roles.new }
 {
-    match before {
-        Stage::Done(_) => {
-            let parsed = declarations::parse(terminals, scratch, kinds, tokens, sizes, roles);
-            of_parse(parsed, starts, size)
-        }
-        Stage::Refused(k, p) => Stage::Refused(k, p),
-    }
+    before?;
+    let parsed = declarations::parse(terminals, scratch, kinds, tokens, sizes, roles);
+    of_parse(parsed, starts, size)
 }
 
 // From the tokens of a file to its nodes: the terminals of the tokens, and the parse of these.
@@ -109,7 +117,7 @@ pub fn read_nodes(
         terminals.new scratch.new kinds.new tokens.new sizes.new roles.new }
 {
     terminals::terminals(src, token_kinds, starts, lengths, terminals);
-    let n = columns::shorter(token_kinds.len(), terminals.len());
+    let n = token_kinds.len().min(terminals.len());
     parse_tokens(
         before,
         src.len(),
@@ -127,31 +135,23 @@ pub fn read_nodes(
 fn count_constants(kinds: &[u8]) -> usize
     ensures { Constants kinds.now result }
 {
-    let mut rows: usize = 0;
-    let mut n: usize = 0;
-    while n < kinds.len() {
-        if kinds[n] == codes::nodes::CONSTANT {
-            rows += 1;
-            n += 1;
-        } else {
-            n += 1;
-        }
-    }
-    rows
+    kinds
+        .iter()
+        .filter(|kind| **kind == codes::nodes::CONSTANT)
+        .count()
 }
 
 // Room for a row for each constant: reply 8.
 pub fn fit_constants(before: Stage, kinds: &[u8], entries: usize) -> Stage
     ensures { FitsConstants before kinds.now entries result }
 {
-    match before {
-        Stage::Done(_) => {
-            let n = count_constants(kinds);
-            if n <= entries {
-                return Stage::Done(n);
-            }
-            Stage::Refused(codes::replies::ANSWERS_SHORT, columns::number(n))
-        }
-        Stage::Refused(k, p) => Stage::Refused(k, p),
+    before?;
+    let n = count_constants(kinds);
+    if n <= entries {
+        return Ok(n);
     }
+    Err(Refusal {
+        reply: codes::replies::ANSWERS_SHORT,
+        number: columns::number(n),
+    })
 }

@@ -1,13 +1,12 @@
 -- The bytes of nodes one after the other.
-use mathlib.Core.Path.{◌≡◌, sym, ap, subst}
-use mathlib.Core.List.{List, flat_map}
+use mathlib.Core.Path.{◌≡◌, sym, subst}
+use mathlib.Core.List.{List}
 use Prim.Native.Nat.{ℕ, min, ◌+◌, ◌-◌, ◌≤◌, ◌<◌}
 use native.Mathlib.Omega.{arith}
 use lib.IntN.{ℤ}
 use lib.ListN.{length}
-use Rattle.relations.specs.Select.{span}
-use Rattle.string_bytes.specs.Spelling.{Spells, WritesNode, SpellsNodes, node_bytes, nodes_bytes}
-use Rattle.string_bytes.proofs.Writing.{spells_none, spells_more, spells_long, spells_inside, nodes_none, nodes_more}
+use Rattle.string_bytes.specs.Spelling.{Spells, WritesNode, node_bytes, nodes_bytes}
+use Rattle.string_bytes.proofs.Writing.{spells_none, spells_more, nodes_none, nodes_more}
 
 -- THE LOOP'S INVARIANT
 pub record Going (bytes starts lengths terminals kinds tokens bindings file_kinds row_of : List ℕ) (first : ℕ) (aks : List ℕ) (azs : List ℤ) (als room : List ℕ) (lo hi : ℕ)
@@ -26,12 +25,6 @@ module _ {bytes starts lengths terminals kinds tokens bindings file_kinds row_of
       record { from = omega arith; upto = omega arith; is = spells_same (sym (nodes_none f lo)) (spells_none out) }
 
   module _ {out₀ out : List ℕ} {at n : ℕ} (G : Going bytes starts lengths terminals kinds tokens bindings file_kinds row_of first aks azs als room lo hi out₀ out at n) where
-    pub going_long : length out ≡ length out₀
-    going_long = spells_long G.is
-
-    pub going_inside : at ≤ length out
-    going_inside = spells_inside G.is
-
     pub going_on :
         n < hi → {out' : List ℕ} {size k : ℕ} →
         WritesNode bytes starts lengths terminals kinds tokens bindings file_kinds row_of first aks azs als room n at out out' size → k ≡ min size (length out' - at) →
@@ -44,9 +37,3 @@ module _ {bytes starts lengths terminals kinds tokens bindings file_kinds row_of
           upto = omega (arith, G.from);
           is = spells_same (sym (nodes_more f lo n G.from)) (spells_more G.is W.is h);
         }
-
-    pub going_ends : hi ≤ n → SpellsNodes bytes starts lengths terminals kinds tokens bindings file_kinds row_of first aks azs als room lo hi out₀ out at
-    going_ends l =
-        let f = node_bytes bytes starts lengths terminals kinds tokens bindings file_kinds row_of first aks azs als room in
-        let h : n - lo ≡ hi - lo = omega (arith, G.from, G.upto) in
-        record { is = spells_same (ap (λ (k : ℕ). flat_map f (span lo k)) h) G.is }

@@ -6,7 +6,7 @@ use native.Mathlib.Decide.{dec_lt}
 use native.Mathlib.Omega.{arith}
 use native.Mathlib.Numerals.{add-one}
 use lib.ListN.{length, get_or, set, take, drop, length-set, length-take, length-drop, length-append}
-use lib.Seq.{sets, length-sets, length-take-le, take-suc, take_all, get_or-take, get_or-drop}
+use lib.Seq.{sets, length-sets, length-take-le, take-suc, get_or-take, get_or-drop}
 use Rattle.columns.proofs.Laws.{sets_out, sets_append, sets_snoc}
 use Rattle.relations.specs.Select.{span}
 use Rattle.relations.proofs.Select.{span_append}
@@ -30,9 +30,6 @@ module _ (from : List ℕ) (start size : ℕ) where
     pub low : i ≤ length part
     pub is : out ≡ sets out₀ at (take i part)
     pub len : length out ≡ length out₀
-
-  pub copied_none : (out : List ℕ) (at : ℕ) → Copied out at out 0
-  copied_none out at = record { low = omega arith; is = refl; len = refl }
 
   module _ {first end : ℕ} (first_is : first ≡ min start (length from)) (end_is : end ≡ min size (length from - first)) where
     pub all_of : end ≡ length part
@@ -61,11 +58,6 @@ module _ (from : List ℕ) (start size : ℕ) where
           len = ap length e ∙ length-set out (at + i) (get_or from (first + i) 0) ∙ C.len;
         }
 
-    pub copied_all : {out₀ : List ℕ} {at : ℕ} {out : List ℕ} {i : ℕ} → Copied out₀ at out i → end ≤ i → Writes part at out₀ out i
-    copied_all {out₀} {at} {out} {i} C l =
-        let n : i ≡ length part = omega (arith, all_of, C.low) in
-        record { many = n; is = C.is ∙ ap (sets out₀ at) (take_all i part (omega arith)) }
-
 -- ---- one piece after the other
 
 pub spells_none : (out : List ℕ) → Spells [] out out 0
@@ -73,9 +65,6 @@ spells_none out = record { ends = omega arith; is = refl }
 
 pub spells_long : {bytes out out' : List ℕ} {at : ℕ} → Spells bytes out out' at → length out' ≡ length out
 spells_long {bytes} {out} S = ap length S.is ∙ length-sets out 0 bytes
-
-pub spells_inside : {bytes out out' : List ℕ} {at : ℕ} → Spells bytes out out' at → at ≤ length out'
-spells_inside S = let e = S.ends in let l = spells_long S in omega arith
 
 pub spells_more : {bytes piece out₀ out out' : List ℕ} {at size k : ℕ} → Spells bytes out₀ out at → Writes piece at out out' size → k ≡ min size (length out - at) →
     Spells (bytes ++ piece) out₀ out' (at + k)

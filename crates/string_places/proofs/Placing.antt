@@ -20,33 +20,31 @@ start_next : (kinds lengths : List ℕ) (i : ℕ) → start_in kinds lengths (i 
 unfolding start_in
 start_next kinds lengths i = ap (start_in kinds lengths) (add-one i)
 
-pub record Placing (kinds lengths : List ℕ) (end : ℕ) (was numbers : List ℤ) (start i : ℕ) : Type 0 where
+pub record Placing (kinds lengths : List ℕ) (was numbers : List ℤ) (start i : ℕ) : Type 0 where
   pub len : length numbers ≡ length was
-  pub low : i ≤ end
   pub few : start ≤ 255 * i
   pub is : start ≡ start_in kinds lengths i
   pub strings_are : (j : ℕ) → j < i → j < length was → get_or kinds j 0 ≡ 5 → get_or numbers j (pos 0) ≡ pos (start_in kinds lengths j)
   pub rest : (j : ℕ) → (i ≤ j) ⊎ (get_or kinds j 0 ≡ 5 → ⊥) → get_or numbers j (pos 0) ≡ get_or was j (pos 0)
 
-module _ {kinds lengths : List ℕ} {end : ℕ} {was : List ℤ} where
-  pub placing_starts : Placing kinds lengths end was was 0 0
+module _ {kinds lengths : List ℕ} {was : List ℤ} where
+  pub placing_starts : Placing kinds lengths was was 0 0
   unfolding start_in
   placing_starts =
-      record { len = refl; low = omega arith; few = omega arith; is = refl; strings_are = λ j h. absurd (omega arith); rest = λ j h. refl }
+      record { len = refl; few = omega arith; is = refl; strings_are = λ j h. absurd (omega arith); rest = λ j h. refl }
 
-  module _ {numbers : List ℤ} {start i : ℕ} (P : Placing kinds lengths end was numbers start i) (l : i < end) where
+  module _ {numbers : List ℤ} {start i : ℕ} (P : Placing kinds lengths was numbers start i) where
     -- a string is placed where those before it end
     pub placing_string :
-        {k size : ℕ} {numbers' : List ℤ} → k ≡ get_or kinds i 0 → k ≡ 5 → numbers' ≡ set numbers i (to_z w64 start) → end ≤ 4294967296 → size ≡ get_or lengths i 0 → size ≤ 255 →
-        Placing kinds lengths end was numbers' (start + size) (i + 1)
-    placing_string {k} {size} {numbers'} a b e₀ most s w =
+        {k size : ℕ} {numbers' : List ℤ} {start' : ℕ} → i < 4294967296 → k ≡ get_or kinds i 0 → k ≡ 5 → numbers' ≡ set numbers i (to_z w64 start) → start' ≡ start + size →
+        size ≡ get_or lengths i 0 → size ≤ 255 → Placing kinds lengths was numbers' start' (i + 1)
+    placing_string {k} {size} {numbers'} {start'} l a b e₀ t s w =
         record {
           len = ap length e ∙ length-set numbers i (pos start) ∙ P.len;
-          low = omega arith;
           few = omega (arith, P.few);
           is =
               let q : size_in kinds lengths i ≡ get_or lengths i 0 = rw (eq-eqb (get_or kinds i 0) 5 (sym a ∙ b)) in
-              omega (arith, P.is, s, q, start_next kinds lengths i);
+              omega (arith, P.is, s, t, q, start_next kinds lengths i);
           strings_are = λ j h m f. by j h m f (ℕ_discrete j i);
           rest = λ j o.
               let n : j ≡ i → ⊥ = λ q. ⊎_elim (λ (x : i + 1 ≤ j). omega arith) (λ (x : get_or kinds j 0 ≡ 5 → ⊥). x (ap (λ (y : ℕ). get_or kinds y 0) q ∙ sym a ∙ b)) o in
@@ -67,26 +65,28 @@ module _ {kinds lengths : List ℕ} {end : ℕ} {was : List ℤ} where
         by j h m f (no q) = rw e (get_or-set_other numbers i j (pos start) (pos 0) q ∙ P.strings_are j (omega arith) m f)
 
     -- a row of another kind takes nothing
-    pub placing_other : {k : ℕ} → k ≡ get_or kinds i 0 → (k ≡ 5 → ⊥) → Placing kinds lengths end was numbers start (i + 1)
-    placing_other {k} a b =
+    pub placing_other :
+        {k : ℕ} {numbers' : List ℤ} {start' : ℕ} → k ≡ get_or kinds i 0 → (k ≡ 5 → ⊥) → numbers' ≡ numbers → start' ≡ start → Placing kinds lengths was numbers' start' (i + 1)
+    placing_other {k} {numbers'} {start'} a b e t =
         record {
-          len = P.len;
-          low = omega arith;
+          len = ap length e ∙ P.len;
           few = omega (arith, P.few);
           is =
               let q : size_in kinds lengths i ≡ 0 = rw (ne_eqb (get_or kinds i 0) 5 other) in
-              omega (arith, P.is, q, start_next kinds lengths i);
-          strings_are = λ j h m f. P.strings_are j (⊎_elim (λ (x : i ≤ j). let q : j ≡ i = omega arith in absurd (other (ap (λ (y : ℕ). get_or kinds y 0) (sym q) ∙ f))) (λ (x : j < i). x) (le_or i j)) m f;
-          rest = λ j o. P.rest j (⊎_elim (λ (x : i + 1 ≤ j). inl (omega arith)) (λ (x : get_or kinds j 0 ≡ 5 → ⊥). inr x) o);
+              omega (arith, P.is, t, q, start_next kinds lengths i);
+          strings_are = λ j h m f. rw e (P.strings_are j (⊎_elim (λ (x : i ≤ j). let q : j ≡ i = omega arith in absurd (other (ap (λ (y : ℕ). get_or kinds y 0) (sym q) ∙ f))) (λ (x : j < i). x) (le_or i j)) m f);
+          rest = λ j o. rw e (P.rest j (⊎_elim (λ (x : i + 1 ≤ j). inl (omega arith)) (λ (x : get_or kinds j 0 ≡ 5 → ⊥). inr x) o));
         }
       where
         other : get_or kinds i 0 ≡ 5 → ⊥
         other q = b (a ∙ q)
 
-  pub placing_ends : {numbers : List ℤ} {start i rows : ℕ} → Placing kinds lengths end was numbers start i → end ≤ i → end ≡ min rows 4294967296 → PlacesStrings kinds was lengths rows numbers start
-  placing_ends {numbers} {start} {i} {rows} P l e =
+  pub placing_ends :
+      {numbers : List ℤ} {start i end rows : ℕ} → Placing kinds lengths was numbers start i → i ≤ end → end ≤ i → end ≡ min rows 4294967296 →
+      PlacesStrings kinds was lengths rows numbers start
+  placing_ends {numbers} {start} {i} {end} {rows} P u l e =
       record {
-        needs = λ h. let q : i ≡ rows = omega (arith, P.low) in P.is ∙ ap (start_in kinds lengths) q;
+        needs = λ h. let q : i ≡ rows = omega arith in P.is ∙ ap (start_in kinds lengths) q;
         strings_are = λ h j a. P.strings_are j (omega arith);
-        rest = λ j o. P.rest j (⊎_elim (λ (x : rows ≤ j). inl (omega (arith, P.low))) (λ (x : get_or kinds j 0 ≡ 5 → ⊥). inr x) o);
+        rest = λ j o. P.rest j (⊎_elim (λ (x : rows ≤ j). inl (omega arith)) (λ (x : get_or kinds j 0 ≡ 5 → ⊥). inr x) o);
       }

@@ -3,8 +3,6 @@
 
 ghost use Rattle.string_places.specs.Places.{PlacesStrings};
 
-use tree::at8;
-
 // Rows are numbered with 32 bits; the bytes of so many strings can be counted.
 const MOST: usize = 4294967296;
 
@@ -12,16 +10,11 @@ const MOST: usize = 4294967296;
 pub fn place_strings(kinds: &[u8], numbers: &mut [i64], lengths: &[u8], rows: usize) -> usize
     ensures { PlacesStrings kinds.now numbers.old lengths.now rows numbers.new result }
 {
-    let end = columns::shorter(rows, MOST);
     let mut start: usize = 0;
-    let mut i: usize = 0;
-    while i < end {
-        if at8(kinds, i) == codes::answers::STRING {
-            columns::put64(numbers, i, start as i64);
-            start += columns::byte_index(at8(lengths, i));
-            i += 1;
-        } else {
-            i += 1;
+    for i in 0..rows.min(MOST) {
+        if columns::get_or(kinds, i, 0) == codes::answers::STRING {
+            columns::put(numbers, i, start as i64);
+            start += columns::byte_index(columns::get_or(lengths, i, 0));
         }
     }
     start

@@ -13,7 +13,7 @@ use Rattle.express.specs.Semantics.Shape.{Operator, plus, arithmetic, relation, 
 use Rattle.express.specs.Semantics.Operate.{combined}
 use Rattle.express.specs.Semantics.Evaluate.{answer_at}
 use Rattle.values.specs.Meaning.{ordering_of, relation_of}
-use Rattle.values.specs.declared.order.Order.{Order}
+use Rattle.std.specs.declared.cmp.Ordering.{Ordering}
 use Rattle.values.specs.declared.order.Relation as code
 use Rattle.operations.specs.Meaning.{sized}
 use Rattle.operations.specs.declared.Answer as operations
@@ -36,7 +36,7 @@ module _ (bytes starts lengths terminals kinds tokens sizes bindings file_kinds 
     pub is : a < length kinds → Spells (bytes_of_node a) out out' r
 
   -- the order of the strings of nodes a and b
-  pub record OrdersNodes (a b : ℕ) (r : Order) : Type 0 where
+  pub record OrdersNodes (a b : ℕ) (r : Ordering) : Type 0 where
     pub is :
         a < length kinds → b < length kinds → length (bytes_of_node a) ≤ most_bytes → length (bytes_of_node b) ≤ most_bytes →
         ordering_of r ≡ compare_bytes (bytes_of_node a) (bytes_of_node b)

@@ -6,45 +6,20 @@ ghost use Rattle.express.specs.Semantics.Strings.{join_strings, compare_bytes};
 ghost use Rattle.values.specs.Meaning.{ordering_of};
 ghost use Rattle.strings.specs.Meaning.{joined_answer};
 
+use std::cmp::Ordering;
 use values::End;
-use values::order::Order;
 
-// The most bytes of a string.
-const MOST: u64 = codes::limits::STRING_BYTES as u64;
-
-// What joining gives: the length of a string, or the end that it comes to.
-#[derive(Clone, Copy)]
-pub enum Joined {
-    Whole(u8),
-    Ended(End),
-}
-
-// Two strings by their lengths: whether they can be joined does not depend on their bytes.
-pub fn join(a: u8, b: u8) -> Joined
+// Two strings joined, by their lengths: whether they can be joined does not depend on their bytes. A string has at
+// most 255 bytes, as many as a `u8` counts.
+pub fn join(a: u8, b: u8) -> Result<u8, End>
     ensures { joined_answer result ≡ join_strings (replicate a 0) (replicate b 0) }
 {
-    if MOST < (a as u64) + (b as u64) {
-        return Joined::Ended(End::OutOfRange);
-    }
-    Joined::Whole(a + b)
+    a.checked_add(b).ok_or(End::OutOfRange)
 }
 
 // From the left as far as both go; then the shorter is less.
-pub fn compare(a: &[u8], b: &[u8]) -> Order
+pub fn compare(a: &[u8], b: &[u8]) -> Ordering
     ensures { ordering_of result ≡ compare_bytes a.now b.now }
 {
-    let l = columns::shorter(a.len(), b.len());
-    let mut i = 0;
-    while i < l {
-        let x = a[i];
-        let y = b[i];
-        if x < y {
-            return Order::Less;
-        }
-        if y < x {
-            return Order::More;
-        }
-        i += 1;
-    }
-    Order::of(a.len() as u64, b.len() as u64)
+    a.cmp(b)
 }

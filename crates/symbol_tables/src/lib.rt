@@ -6,8 +6,7 @@ ghost use Rattle.std.specs.Prelude.{◌≡◌, ◌+◌, ◌*◌, ◌<◌};
 ghost use Rattle.symbol_tables.specs.Entry.{code_count, stamp_count, node_limit, held, joined, says};
 ghost use Rattle.symbol_tables.specs.Table.{Adds, AddsRange, either_kind};
 
-use columns::{index, number, put32, shorter};
-use scopes::at;
+use columns::{get_or, index, number, put};
 
 // Several meanings; one meaning is one more than a node, and 0 is none.
 pub const SEVERAL: u32 = 4294967295;
@@ -24,9 +23,10 @@ fn held(stamp: u32, entry: u32) -> u32
     ensures { result ≡ held stamp entry }
 {
     if entry / CODES == stamp {
-        return entry % CODES;
+        entry % CODES
+    } else {
+        0
     }
-    0
 }
 
 // An entry of a stamp and a code.
@@ -41,20 +41,18 @@ fn more(code: u32, node: u32) -> u32
     ensures { node < node_limit → result ≡ joined code node }
 {
     if code == 0 {
-        return node % CODES + 1;
+        node % CODES + 1
+    } else {
+        SEVERAL_CODE
     }
-    SEVERAL_CODE
 }
 
 // What a symbol means under a stamp.
 pub fn meaning_of(table: &[u32], stamp: u32, symbol: u32) -> u32
     ensures { result ≡ says table.now stamp symbol }
 {
-    let code = held(stamp, at(table, index(symbol)));
-    if code == SEVERAL_CODE {
-        return SEVERAL;
-    }
-    code
+    let code = held(stamp, get_or(table, index(symbol), 0));
+    if code == SEVERAL_CODE { SEVERAL } else { code }
 }
 
 // One node more among the meanings of a symbol under a stamp.
@@ -62,18 +60,15 @@ pub fn add(table: &mut [u32], stamp: u32, symbol: u32, node: usize)
     ensures { Adds table.old stamp symbol node table.new }
 {
     let s = index(symbol);
-    let code = held(stamp, at(table, s));
-    put32(table, s, entry(stamp, more(code, number(node))));
+    let code = held(stamp, get_or(table, s, 0));
+    put(table, s, entry(stamp, more(code, number(node))));
 }
 
 // Is it one of two kinds?
 fn is_either(kind: u8, one: u8, other: u8) -> bool
     ensures { result ≡ either_kind one other kind }
 {
-    if kind == one {
-        return true;
-    }
-    kind == other
+    kind == one || kind == other
 }
 
 // The nodes from lo up to hi that are of one of two kinds, each under its symbol, as far as they have a kind and a token. Indices are
@@ -91,11 +86,10 @@ pub fn add_range(
 )
     ensures { AddsRange kinds.now tokens.now symbols.now one other lo hi stamp table.old table.new }
 {
-    let mut i = shorter(hi, shorter(kinds.len(), tokens.len()));
-    while lo < i {
-        i -= 1;
+    let end = hi.min(kinds.len().min(tokens.len()));
+    for i in (lo..end).rev() {
         if is_either(kinds[i], one, other) {
-            add(table, stamp, at(symbols, index(tokens[i])), i);
+            add(table, stamp, get_or(symbols, index(tokens[i]), 0), i);
         }
     }
 }

@@ -29,10 +29,8 @@ use Rattle.chains.specs.declared.Place.TheVariants.{Known, Free}
 use Rattle.symbols.specs.Interning.{Interns, spells, symbol_of_word, SpelledLike, FindsSymbol}
 use Rattle.symbols.specs.Steps.{symbol_by, next_by, heads_by, ReadyToEnter, Enters, Fills, ReadyToFill}
 use Rattle.index.specs.Dictionary.{among}
-use Rattle.index.specs.declared.dictionary.Found.{Found}
-use Rattle.index.specs.declared.dictionary.Found.TheVariants.{At, Nothing}
-use Rattle.index.specs.declared.Outcome.{Outcome}
-use Rattle.index.specs.declared.Outcome.TheVariants.{Done, Short}
+use Rattle.std.specs.Prelude.{Option, Some, None, Result, Ok, Err}
+use Rattle.index.specs.declared.Short.{Short}
 use Rattle.index.proofs.Search.{last_next, last_none_yet, last_le, last_passes, last_none, at_set}
 use Rattle.spellings.proofs.Spellings.{same_is}
 use Rattle.index.proofs.Entries.{fits_parts, zeros_at}
@@ -65,7 +63,7 @@ module _ (bytes starts lengths : List ℕ) where
 
   -- ---- the symbol of a word
 
-  pub no_heads : {heads next word : List ℕ} → length heads ≡ 0 → FindsSymbol bytes starts lengths heads next word Nothing
+  pub no_heads : {heads next word : List ℕ} → length heads ≡ 0 → FindsSymbol bytes starts lengths heads next word None
   no_heads z = record { holds = tt; is = λ t C. absurd (omega (arith, C.some)) }
 
   module _ (t word : List ℕ) where
@@ -73,7 +71,7 @@ module _ (bytes starts lengths : List ℕ) where
     meant j = is_identifier t j && alike word j
 
     -- the first identifier that is spelled so
-    first_alike : (k : ℕ) → k < length starts → is_identifier t k ≡ true → symbol t k ≡ k → spelt k ≡ map lower word → symbol_of_word bytes starts lengths t word ≡ At k
+    first_alike : (k : ℕ) → k < length starts → is_identifier t k ≡ true → symbol t k ≡ k → spelt k ≡ map lower word → symbol_of_word bytes starts lengths t word ≡ Some k
     unfolding symbol_of_word
     first_alike k l h f s =
         let n = length starts in
@@ -84,9 +82,9 @@ module _ (bytes starts lengths : List ℕ) where
         (λ y.
         omega (arith, f, symbol_least bytes starts lengths t k j h (and_fst (named t j) (alike word j) y) (same_true _ _ (and_snd (named t j) (alike word j) y) ∙ sym s)))) in
         let z : n ≡ n - 0 = omega arith in
-        ap (λ (d : ℕ). among n (first_from meant 0 d)) z ∙ ap (among n) q ∙ ap (λ (y : Bool). cond y (At k) Nothing) (lt-ltb k n l)
+        ap (λ (d : ℕ). among n (first_from meant 0 d)) z ∙ ap (among n) q ∙ ap (λ (y : Bool). cond y (Some k) None) (lt-ltb k n l)
 
-    no_alike : ((j : ℕ) → j < length starts → is_identifier t j ≡ true → spelt j ≡ map lower word → ⊥) → symbol_of_word bytes starts lengths t word ≡ Nothing
+    no_alike : ((j : ℕ) → j < length starts → is_identifier t j ≡ true → spelt j ≡ map lower word → ⊥) → symbol_of_word bytes starts lengths t word ≡ None
     unfolding symbol_of_word
     no_alike none =
         let n = length starts in
@@ -98,12 +96,12 @@ module _ (bytes starts lengths : List ℕ) where
         let y = F.passes (omega (arith, l)) in
         absurd (none k l (and_fst (named t k) (alike word k) y) (same_true _ _ (and_snd (named t k) (alike word k) y))))
         (λ l. omega (arith, l)) in
-        ap (λ (z : Bool). cond z (At k) Nothing) (le-ltb k n past)
+        ap (λ (z : Bool). cond z (Some k) None) (le-ltb k n past)
 
   -- the token of a place, if it is one
-  abbrev found_by : Place → Found
-  found_by (Known k) = At k
-  found_by (Free b) = Nothing
+  abbrev found_by : Place → Option ℕ
+  found_by (Known k) = Some k
+  found_by (Free b) = None
 
   holds_found : (word : List ℕ) (limit m : ℕ) (p : Place) → limit ≤ length starts → PlacedAlike bytes starts lengths (map lower word) limit m p
       → SpelledLike bytes starts lengths word (length starts) (found_by p)
@@ -157,10 +155,10 @@ module _ (bytes starts lengths : List ℕ) where
     found : FindsSymbol bytes starts lengths heads next word (found_by p)
     found = finds_symbol p (omega arith) (λ a b. omega (arith, a, b)) (W.is (omega (arith, some)))
 
-    pub finds_known : {k : ℕ} → p ≡ Known k → FindsSymbol bytes starts lengths heads next word (At k)
+    pub finds_known : {k : ℕ} → p ≡ Known k → FindsSymbol bytes starts lengths heads next word (Some k)
     finds_known e = rw (← ap found_by e) found
 
-    pub finds_free : {b : ℕ} → p ≡ Free b → FindsSymbol bytes starts lengths heads next word Nothing
+    pub finds_free : {b : ℕ} → p ≡ Free b → FindsSymbol bytes starts lengths heads next word None
     finds_free e = rw (← ap found_by e) found
 
 -- ---- an identifier is entered
@@ -407,7 +405,7 @@ module _ (bytes starts lengths terminals : List ℕ) where
 -- ---- the answer of `intern`
 
 module _ {bytes starts lengths terminals symbols heads next : List ℕ} {b : Bool} (e : b ≡ enough (length starts) (length lengths) (length symbols) (length heads) (length next)) where
-  pub interns_short : not b ≡ true → Interns bytes starts lengths terminals symbols heads next Short symbols heads next
+  pub interns_short : {e : Short} → not b ≡ true → Interns bytes starts lengths terminals symbols heads next (Err e) symbols heads next
   interns_short t =
       record {
         answer = sym (not-true b t) ∙ e;
@@ -419,7 +417,7 @@ module _ {bytes starts lengths terminals symbols heads next : List ℕ} {b : Boo
       }
 
   pub interns_done : {symbols' heads' next' : List ℕ} → not b ≡ false → Fills bytes starts lengths terminals symbols next symbols' heads' next'
-      → Interns bytes starts lengths terminals symbols heads next Done symbols' heads' next'
+      → Interns bytes starts lengths terminals symbols heads next (Ok tt) symbols' heads' next'
   interns_done t F =
       record {
         answer = sym (not-false b t) ∙ e;
@@ -431,7 +429,7 @@ module _ {bytes starts lengths terminals symbols heads next : List ℕ} {b : Boo
       }
 
 -- what a caller has of it: the column begins with the symbols
-pub interned : {bytes starts lengths terminals symbols heads next symbols' heads' next' : List ℕ} {r : Outcome}
+pub interned : {bytes starts lengths terminals symbols heads next symbols' heads' next' : List ℕ} {r : Result (Unit {0}) Short}
     → Interns bytes starts lengths terminals symbols heads next r symbols' heads' next' → done r ≡ true
     → take (length starts) symbols' ≡ symbols_of bytes starts lengths terminals
 interned {bytes} {starts} {lengths} {terminals} {symbols} {heads} {next} {symbols'} {r = r} I d =

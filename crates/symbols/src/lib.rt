@@ -1,15 +1,14 @@
 // Interning: for each identifier the least identifier that is spelled alike, letters without case.
 #![tactic(auto)]
 
-ghost use Rattle.std.specs.Prelude.{◌≡◌, length, get_or};
+ghost use Rattle.std.specs.Prelude.{◌≡◌};
 ghost use Rattle.index.specs.Room.{enough};
 ghost use Rattle.symbols.specs.Interning.{Interns, FindsSymbol};
 ghost use Rattle.symbols.specs.Steps.{ReadyToEnter, Enters, Fills, ReadyToFill};
 
-use chains::{Place, token_place, word_place};
-use columns::{clear32, number};
-use index::dictionary::Found;
-use index::{Outcome, scratch};
+use chains::{Names, Place};
+use columns::{clear, get_or, number};
+use index::{Short, scratch};
 
 // Stores the symbol of an identifier. Only the first of a spelling goes on a chain, so that a chain is no longer than the
 // spellings of its bucket.
@@ -26,8 +25,14 @@ fn enter(
     ensures { Enters bytes.now starts.now lengths.now i symbols.old heads.old next.old
         symbols.new heads.new next.new }
 {
-    let place = token_place(bytes, starts, lengths, heads, next, i);
-    match place {
+    let names = Names {
+        bytes,
+        starts,
+        lengths,
+        heads,
+        next,
+    };
+    match names.token_place(i) {
         Place::Known(k) => {
             symbols[i] = number(k);
         }
@@ -38,16 +43,6 @@ fn enter(
             heads[b] = number(i + 1);
         }
     }
-}
-
-// The terminal of a token; past the column's end 0, which is none.
-fn terminal_at(terminals: &[u8], i: usize) -> u8
-    ensures { result ≡ get_or terminals.now i 0 }
-{
-    if i < terminals.len() {
-        return terminals[i];
-    }
-    codes::NONE
 }
 
 // The symbol of each token, in text order; what is no identifier has its own number, and is on no chain.
@@ -64,14 +59,13 @@ fn fill(
     ensures { Fills bytes.now starts.now lengths.now terminals.now symbols.old next.old
         symbols.new heads.new next.new }
 {
-    let mut i = 0;
-    while i < starts.len() {
-        if terminal_at(terminals, i) == codes::IDENTIFIER {
+    for i in 0..starts.len() {
+        // Past the end of the column of terminals is no identifier.
+        if get_or(terminals, i, codes::NONE) == codes::IDENTIFIER {
             enter(bytes, starts, lengths, i, symbols, heads, next);
         } else {
             symbols[i] = number(i);
         }
-        i += 1;
     }
 }
 
@@ -79,13 +73,7 @@ fn fill(
 fn room(starts: usize, lengths: usize, symbols: usize, heads: usize, next: usize) -> bool
     ensures { result ≡ enough starts lengths symbols heads next }
 {
-    if lengths < starts {
-        return false;
-    }
-    if symbols < starts {
-        return false;
-    }
-    scratch(starts, heads, next)
+    starts <= lengths && starts <= symbols && scratch(starts, heads, next)
 }
 
 // Stores each token's symbol, and leaves the chains in `heads` and `next`, for `symbol_of`.
@@ -97,7 +85,7 @@ pub fn intern(
     symbols: &mut [u32],
     heads: &mut [u32],
     next: &mut [u32],
-) -> Outcome
+) -> Result<(), Short>
     ensures { Interns bytes.now starts.now lengths.now terminals.now symbols.old heads.old
         next.old result symbols.new heads.new next.new }
 {
@@ -108,11 +96,11 @@ pub fn intern(
         heads.len(),
         next.len(),
     ) {
-        return Outcome::Short;
+        return Err(Short);
     }
-    clear32(heads, 0);
+    clear(heads, 0, 0);
     fill(bytes, starts, lengths, terminals, symbols, heads, next);
-    Outcome::Done
+    Ok(())
 }
 
 // The symbol of a word, by the chains that `intern` left: the least identifier that is spelled like it.
@@ -123,15 +111,21 @@ pub fn symbol_of(
     heads: &[u32],
     next: &[u32],
     word: &[u8],
-) -> Found
+) -> Option<usize>
     ensures { FindsSymbol bytes.now starts.now lengths.now heads.now next.now word.now result }
 {
-    if heads.len() == 0 {
-        return Found::Nothing;
+    if heads.is_empty() {
+        return None;
     }
-    let place = word_place(bytes, starts, lengths, heads, next, word);
-    match place {
-        Place::Known(k) => Found::At(k),
-        Place::Free(_) => Found::Nothing,
+    let names = Names {
+        bytes,
+        starts,
+        lengths,
+        heads,
+        next,
+    };
+    match names.word_place(word) {
+        Place::Known(k) => Some(k),
+        Place::Free(_) => None,
     }
 }

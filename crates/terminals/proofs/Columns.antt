@@ -1,8 +1,10 @@
 -- The terminal of a token by its kind, and the loop over the tokens.
 use mathlib.Core.Path.{◌≡◌, refl, sym, ap, ◌∙◌}
 use mathlib.Core.List.{List, [], ◌∷◌}
-use Prim.Native.Nat.{ℕ, ◌+◌, ◌≤◌, ◌<◌}
+use Prim.Native.Nat.{ℕ, ◌+◌, ◌≤◌, ◌<◌, min}
 use native.Mathlib.Numerals.{add-one}
+use native.Mathlib.Omega.{arith}
+use native.Mathlib.Decide.{dec_lt}
 use lib.ListN.{length, take, drop, get_or, set, length-set, drop_of_length-le}
 use lib.Seq.{sets, drop-cons}
 use borrow.Author.Tests.{eq-eqb, ne_eqb, le-leb, lt-leb}
@@ -70,3 +72,12 @@ module _ {src ks ps ns c₀ c : List ℕ} {i : ℕ} (p : Progress src ks ps ns c
           let step : sets c i (terminals src (drop i ks) (drop i ps) (drop i ns)) ≡ sets (set c i v) (i + 1) (terminals src (drop (i + 1) ks) (drop (i + 1) ps) (drop (i + 1) ns)) =
           rw (cut ks k, cut ps s, cut ns n, ← t, add-one) in
           rw c_is (record { kept = length-set c i v ∙ p.kept; is = sym step ∙ p.is })
+
+  -- past the end of a column there is none
+  pub no_more : min (length ks) (min (length ps) (length ns)) ≤ i → c ≡ sets c₀ 0 (terminals src ks ps ns)
+  no_more h = by (dec_lt i (length ks)) (dec_lt i (length ps))
+    where
+      by : Dec (i < length ks) → Dec (i < length ps) → c ≡ sets c₀ 0 (terminals src ks ps ns)
+      by (no k) _ = no_kind (omega (arith, k))
+      by (yes k) (no s) = no_start k (omega (arith, s))
+      by (yes k) (yes s) = no_size k s (omega arith)

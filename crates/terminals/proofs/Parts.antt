@@ -9,11 +9,26 @@ use native.Mathlib.Nat.{add-zero}
 use native.Mathlib.Numerals.{add-one}
 use lib.ListN.{length, take, drop, get_or, length-take, length-drop, length-map, drop_of_length-le, get_or-eq_default, get_or-map}
 use lib.Seq.{drop-cons, get_or-take, get_or-drop, take_all}
-use borrow.Author.Tests.{eq-eqb, ne_eqb, le-leb, lt-leb}
+use borrow.Author.Tests.{eq-eqb, ne_eqb, le-leb, lt-leb, lt-ltb, le-ltb}
+use Rattle.std.specs.Char.{to_ascii_uppercase}
 use Rattle.express.specs.Tokens.Bytes.{upper, same}
 use Rattle.terminals.specs.Lookup.{folded, hash}
 use Rattle.terminals.specs.Spellings.{mixed, text_size, text, ending_count}
 use Rattle.terminals.proofs.Entries.{ending, ending_of}
+
+-- the library's capital letters
+pub upper_is : (b : ℕ) → to_ascii_uppercase b ≡ upper b
+unfolding upper
+upper_is b = go (dec_lt b 97) (dec_lt 122 b)
+  where
+    go : Dec (b < 97) → Dec (122 < b) → to_ascii_uppercase b ≡ upper b
+    go (yes l) _ = rw (lt-ltb _ _ l, lt-leb _ _ l)
+    go (no g) (yes l) = let low : 97 ≤ b = omega (arith, g) in let high : 123 ≤ b = omega arith in rw (le-ltb _ _ low, le-ltb _ _ high, le-leb _ _ low, lt-leb _ _ l)
+    go (no g) (no f) =
+        let low : 97 ≤ b = omega (arith, g) in
+        let high : b ≤ 122 = omega (arith, f) in
+        let below : b < 123 = omega arith in
+        rw (le-ltb _ _ low, lt-ltb _ _ below, le-leb _ _ low, le-leb _ _ high)
 
 -- a letter and its capital are the same to the table of endings
 upper_mod : (b : ℕ) → upper b % ending_count ≡ b % ending_count

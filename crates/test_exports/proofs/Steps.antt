@@ -4,13 +4,14 @@ use mathlib.Core.Path.{◌≡◌, ap, ◌∙◌}
 use mathlib.Core.List.{List}
 use Rattle.blanks.specs.Step.{reading}
 use Rattle.scan.specs.Scan.{ScanResult}
-use Rattle.blanks.specs.declared.Step.{Step}
+use Rattle.std.specs.Prelude.{Result}
+use Rattle.blanks.specs.declared.Refusal.{Refusal}
 use Rattle.express.specs.Syntax.Grammar.{file}
-use Rattle.parsing.specs.declared.Parsed.{Parsed}
 use Rattle.parsing.specs.Parsing as Parsing
+use Rattle.parsing.specs.Parsing.{Parsed}
 use Rattle.test_exports.specs.Reply.{reply, number, Scans, Parses}
 
-pub scans : {limit : ℕ} {src k₀ s₀ z₀ k s z : List ℕ} {step : Step} {r n : ℕ} → ScanResult limit src k₀ s₀ z₀ step k s z
+pub scans : {limit : ℕ} {src k₀ s₀ z₀ k s z : List ℕ} {step : Result ℕ Refusal} {r n : ℕ} → ScanResult limit src k₀ s₀ z₀ step k s z
     → n ≡ number (reading step) → r ≡ reply (reading step) → Scans limit src k₀ s₀ z₀ r n k s z
 scans whole counted replied =
     record {

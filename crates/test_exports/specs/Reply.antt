@@ -1,13 +1,12 @@
 -- A reading step or a typing as two numbers: its reply, and the number beside it.
-use Rattle.std.specs.Prelude.{ℕ, ◌≡◌, List}
+use Rattle.std.specs.Prelude.{ℕ, ◌≡◌, List, Result, Ok, Err}
 use Rattle.std.proofs.lemmas.List.Edits.{sets}
 use Rattle.express.specs.Tokens.Lexis as Lexis
 use Rattle.express.specs.Syntax.Grammar.{file}
 use Rattle.express.specs.Whole.Reply.{token_entries}
-use Rattle.parsing.specs.declared.Parsed.{Parsed}
 use Rattle.parsing.specs.Parsing as Parsing
-use Rattle.typing.specs.declared.Typing.{Typing}
-use Rattle.typing.specs.declared.Typing.TheVariants.{Typed, Fault}
+use Rattle.parsing.specs.Parsing.{Parsed}
+use Rattle.typing.specs.declared.IllTyped.{IllTyped}
 use Rattle.typing.specs.Typings.{TypesConstants}
 use Rattle.express.specs.Tokens.Lexis.{Reading, at, refused, lexed_to, tokens}
 
@@ -37,17 +36,17 @@ pub record Parses (ts : List ℕ) (r n : ℕ) (s k t z o s' k' t' z' o' : List �
   pub counts : n ≡ Parsing.token_or_count answer
 
 -- 0 where all is typed, else the number of the fault, and its node
-abbrev pub typing_reply : Typing → ℕ
-typing_reply Typed = 0
-typing_reply (Fault f n) = f
+abbrev pub typing_reply : Result (Unit {0}) IllTyped → ℕ
+typing_reply (Ok _) = 0
+typing_reply (Err i) = i.reply
 
-abbrev pub typing_node : Typing → ℕ
-typing_node Typed = 0
-typing_node (Fault f n) = n
+abbrev pub typing_node : Result (Unit {0}) IllTyped → ℕ
+typing_node (Ok _) = 0
+typing_node (Err i) = i.node
 
 -- what `woffulent_type_constants` answers and leaves: the promise of `type_constants`, its answer as two numbers
 pub record Types (terminals kinds tokens sizes bindings declared scratch scratch' : List ℕ) (r n : ℕ) : Type 0 where
-  pub answer : Typing
+  pub answer : Result (Unit {0}) IllTyped
   pub types : TypesConstants terminals kinds tokens sizes bindings declared scratch scratch' answer
   pub replies : r ≡ typing_reply answer
   pub names : n ≡ typing_node answer

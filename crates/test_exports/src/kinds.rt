@@ -4,23 +4,23 @@ ghost use Rattle.declared_types.specs.Promise.{Declares};
 ghost use Rattle.constants.specs.Constants.{EvaluatesConstants};
 ghost use Rattle.test_exports.specs.Reply.{typing_reply, typing_node, Types};
 
-use typing::Typing;
+use typing::IllTyped;
 
-fn typing_reply(typing: Typing) -> u8
+fn typing_reply(typing: Result<(), IllTyped>) -> u8
     ensures { result ≡ typing_reply typing }
 {
     match typing {
-        Typing::Typed => codes::replies::ACCEPTED,
-        Typing::Fault(f, _) => f,
+        Ok(()) => codes::replies::ACCEPTED,
+        Err(fault) => fault.reply,
     }
 }
 
-fn typing_node(typing: Typing) -> usize
+fn typing_node(typing: Result<(), IllTyped>) -> usize
     ensures { result ≡ typing_node typing }
 {
     match typing {
-        Typing::Typed => 0,
-        Typing::Fault(_, n) => n,
+        Ok(()) => 0,
+        Err(fault) => fault.node,
     }
 }
 

@@ -21,21 +21,21 @@ ghost use Rattle.blanks.specs.Step.{reading};
 ghost use Rattle.parsing.specs.Parsing as Parsing;
 ghost use Rattle.test_exports.specs.Reply.{reply, number, Scans, Parses};
 
-fn reply_of(step: blanks::Step) -> u8
+fn reply_of(step: Result<usize, blanks::Refusal>) -> u8
     ensures { result ≡ reply (reading step) }
 {
     match step {
-        blanks::Step::At(_) => codes::replies::ACCEPTED,
-        blanks::Step::Refused(k, _) => k,
+        Ok(_) => codes::replies::ACCEPTED,
+        Err(e) => e.reply(),
     }
 }
 
-fn number_of(step: blanks::Step) -> usize
+fn number_of(step: Result<usize, blanks::Refusal>) -> usize
     ensures { result ≡ number (reading step) }
 {
     match step {
-        blanks::Step::At(p) => p,
-        blanks::Step::Refused(_, p) => p,
+        Ok(p) => p,
+        Err(e) => e.place(),
     }
 }
 
@@ -111,12 +111,14 @@ fn parse_reply(parsed: parsing::Parsed) -> u8
     ensures { result ≡ Parsing.reply parsed }
 {
     match parsed {
-        parsing::Parsed::Accepted(_) => codes::replies::ACCEPTED,
-        parsing::Parsed::Unexpected(_) => codes::replies::UNEXPECTED,
-        parsing::Parsed::TooDeep(_) => codes::replies::TOO_DEEP,
-        parsing::Parsed::Short(_) => codes::replies::NODES_SHORT,
-        parsing::Parsed::Scratch(_) => SCRATCH_SHORT,
-        parsing::Parsed::Long => codes::replies::TOO_LONG,
+        Ok(_) => codes::replies::ACCEPTED,
+        Err(failure) => match failure {
+            parsing::Failure::Unexpected(_) => codes::replies::UNEXPECTED,
+            parsing::Failure::TooDeep(_) => codes::replies::TOO_DEEP,
+            parsing::Failure::Short(_) => codes::replies::NODES_SHORT,
+            parsing::Failure::Scratch(_) => SCRATCH_SHORT,
+            parsing::Failure::Long => codes::replies::TOO_LONG,
+        },
     }
 }
 
@@ -124,12 +126,14 @@ fn parse_number(parsed: parsing::Parsed) -> usize
     ensures { result ≡ Parsing.token_or_count parsed }
 {
     match parsed {
-        parsing::Parsed::Accepted(n) => n,
-        parsing::Parsed::Unexpected(j) => j,
-        parsing::Parsed::TooDeep(k) => k,
-        parsing::Parsed::Short(n) => n,
-        parsing::Parsed::Scratch(n) => n,
-        parsing::Parsed::Long => parsing::MOST,
+        Ok(n) => n,
+        Err(failure) => match failure {
+            parsing::Failure::Unexpected(j) => j,
+            parsing::Failure::TooDeep(k) => k,
+            parsing::Failure::Short(n) => n,
+            parsing::Failure::Scratch(n) => n,
+            parsing::Failure::Long => parsing::MOST,
+        },
     }
 }
 

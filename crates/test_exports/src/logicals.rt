@@ -6,26 +6,27 @@ ghost use Rattle.express.specs.Semantics.Relation.{related};
 ghost use Rattle.values.specs.Meaning.{logical_of, ordering_of, relation_of};
 ghost use Rattle.test_exports.specs.Places.{logical_at, relation_at, order_place};
 
+use std::cmp::Ordering;
 use values::logical::Logical;
-use values::order::{Order, Relation};
+use values::order::Relation;
 
 fn logical(n: u8) -> Logical
     ensures { logical_of result ≡ logical_at n }
 {
     match n {
-        codes::answers::FALSE => Logical::FALSE,
-        codes::answers::UNKNOWN => Logical::UNKNOWN,
-        _ => Logical::TRUE,
+        codes::answers::FALSE => Logical::False,
+        codes::answers::UNKNOWN => Logical::Unknown,
+        _ => Logical::True,
     }
 }
 
-pub fn order_place(order: Order) -> u8
+pub fn order_place(order: Ordering) -> u8
     ensures { result ≡ order_place (ordering_of order) }
 {
     match order {
-        Order::Less => 0,
-        Order::Same => 1,
-        Order::More => 2,
+        Ordering::Less => 0,
+        Ordering::Equal => 1,
+        Ordering::Greater => 2,
     }
 }
 
@@ -48,33 +49,33 @@ pub fn relation(n: u8) -> Relation
 pub extern "C" fn woffulent_and(a: u8, b: u8) -> u8
     ensures { result ≡ rank (AND (logical_at a) (logical_at b)) }
 {
-    logical(a).and(logical(b)).rank()
+    u8::from(logical(a).and(logical(b)))
 }
 
 #[unsafe(no_mangle)]
 pub extern "C" fn woffulent_or(a: u8, b: u8) -> u8
     ensures { result ≡ rank (OR (logical_at a) (logical_at b)) }
 {
-    logical(a).or(logical(b)).rank()
+    u8::from(logical(a).or(logical(b)))
 }
 
 #[unsafe(no_mangle)]
 pub extern "C" fn woffulent_xor(a: u8, b: u8) -> u8
     ensures { result ≡ rank (XOR (logical_at a) (logical_at b)) }
 {
-    logical(a).xor(logical(b)).rank()
+    u8::from(logical(a).xor(logical(b)))
 }
 
 #[unsafe(no_mangle)]
 pub extern "C" fn woffulent_not(a: u8) -> u8
     ensures { result ≡ rank (NOT (logical_at a)) }
 {
-    logical(a).not().rank()
+    u8::from(logical(a).not())
 }
 
 #[unsafe(no_mangle)]
 pub extern "C" fn woffulent_relate(a: u8, by: u8, b: u8) -> u8
     ensures { result ≡ rank (related (relation_at by) (compare_logical (logical_at a) (logical_at b))) }
 {
-    logical(a).compare(logical(b)).relate(relation(by)).rank()
+    u8::from(relation(by).holds(logical(a).compare(logical(b))))
 }

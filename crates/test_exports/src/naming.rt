@@ -6,29 +6,22 @@ ghost use Rattle.index.specs.Dictionary.{Builds, Finds, Continues};
 ghost use Rattle.names.specs.Resolution.{Resolves};
 ghost use Rattle.test_exports.specs.Encoded.{Encoded, Encodes, entry, resolution_reply, resolution_place};
 
-use index::Outcome;
-use index::dictionary::Found;
-use resolutions::Resolution;
+use index::Short;
+use resolutions::Refusal;
 
-fn is_done(outcome: Outcome) -> bool
+fn is_done(outcome: Result<(), Short>) -> bool
     ensures { result ≡ done outcome }
 {
-    match outcome {
-        Outcome::Done => true,
-        Outcome::Short => false,
-    }
+    outcome.is_ok()
 }
 
 // What is answered where there is no entry.
 const NOTHING: usize = 18446744073709551615;
 
-fn entry_of(found: Found) -> usize
+fn entry_of(found: Option<usize>) -> usize
     ensures { result ≡ entry found }
 {
-    match found {
-        Found::At(i) => i,
-        Found::Nothing => NOTHING,
-    }
+    found.unwrap_or(NOTHING)
 }
 
 #[unsafe(no_mangle)]
@@ -85,23 +78,23 @@ pub extern "C" fn woffulent_next_of(keys: &[u64], next: &[u32], at: usize) -> us
 // Room that is lacking is no reply of the checker.
 const ROOM_SHORT: u8 = 255;
 
-fn resolution_reply(resolution: Resolution) -> u8
+fn resolution_reply(resolution: Result<(), Refusal>) -> u8
     ensures { result ≡ resolution_reply resolution }
 {
     match resolution {
-        Resolution::Bound => codes::replies::ACCEPTED,
-        Resolution::Faulty(k, _) => k,
-        Resolution::Unfit => ROOM_SHORT,
+        Ok(()) => codes::replies::ACCEPTED,
+        Err(Refusal::Faulty(fault)) => fault.reply.number(),
+        Err(Refusal::Unfit) => ROOM_SHORT,
     }
 }
 
-fn resolution_place(resolution: Resolution) -> u32
+fn resolution_place(resolution: Result<(), Refusal>) -> u32
     ensures { result ≡ resolution_place resolution }
 {
     match resolution {
-        Resolution::Bound => 0,
-        Resolution::Faulty(_, p) => p,
-        Resolution::Unfit => 0,
+        Ok(()) => 0,
+        Err(Refusal::Faulty(fault)) => fault.place,
+        Err(Refusal::Unfit) => 0,
     }
 }
 

@@ -1,41 +1,32 @@
 -- A block in which no node passes the test is passed over: the first that passes stands behind it.
-use mathlib.Core.Path.{◌≡◌, refl, sym, ap, ap₂, ◌∙◌}
+use mathlib.Core.Path.{◌≡◌, refl, sym, ap, ◌∙◌}
 use mathlib.Core.Logic.{⊎_elim}
 use mathlib.Core.Bool.{Bool, true, false, ◌||◌, false≢true}
 use Prim.Native.Nat.{ℕ, zero, suc, ◌+◌, ◌-◌, ◌≤◌, ◌<◌}
 use native.Mathlib.Omega.{arith}
 use Rattle.relations.specs.Select.{span, first_from, any}
-use Rattle.relations.proofs.Select.{untrue, le_or, mem_any, mem_span, first_is, first_of, first_step}
+use Rattle.relations.proofs.Select.{untrue, le_or, mem_any, mem_span, first_is, first_of, first_step, span_step, span_end}
 use Rattle.tree.specs.Blocks.{Skips}
 
 -- ---- one block: what was found, or is still to come
-pub record Looking (p : ℕ → Bool) (from block i : ℕ) (found : Bool) : Type 0 where
-  pub is : found || any p (span (from + i) (block - i)) ≡ any p (span from block)
+pub record Looking (p : ℕ → Bool) (from block n : ℕ) (found : Bool) : Type 0 where
+  pub is : found || any p (span n (from + block - n)) ≡ any p (span from block)
 
 module _ {p : ℕ → Bool} {from block : ℕ} where
-  pub looking_starts : Looking p from block 0 false
-  looking_starts = let q : from + 0 ≡ from = omega arith in let z : block - 0 ≡ block = omega arith in record { is = ap₂ (λ (x y : ℕ). any p (span x y)) q z }
+  pub looking_starts : Looking p from block from false
+  looking_starts = let z : from + block - from ≡ block = omega arith in record { is = ap (λ (d : ℕ). any p (span from d)) z }
 
-  module _ {i : ℕ} (l : i < block) {found : Bool} (L : Looking p from block i found) where
-    step : any p (span (from + i) (block - i)) ≡ p (from + i) || any p (span (from + (i + 1)) (block - (i + 1)))
-    unfolding any span
-    step =
-        let e : block - i ≡ suc (block - (i + 1)) = omega arith in
-        let f : from + (i + 1) ≡ suc (from + i) = omega arith in rw (e, f)
+  pub looking_on : {n : ℕ} {found : Bool} → n < from + block → Looking p from block n found → Looking p from block (n + 1) (found || p n)
+  unfolding any
+  looking_on {n} {found} l L = record { is = or_assoc found (p n) (any p (span (n + 1) (from + block - (n + 1)))) ∙ (rw (span_step (from + block) n l) at L.is) }
+    where
+      or_assoc : (a b c : Bool) → (a || b) || c ≡ a || (b || c)
+      or_assoc true b c = refl
+      or_assoc false b c = refl
 
-    or_true : (b : Bool) → b || true ≡ true
-    or_true true = refl
-    or_true false = refl
-
-    pub looking_found : p (from + i) ≡ true → Looking p from block (i + 1) true
-    looking_found h = record { is = sym (or_true found) ∙ rw (← L.is, step, h) }
-
-    pub looking_on : p (from + i) ≡ false → Looking p from block (i + 1) found
-    looking_on h = record { is = rw (← L.is, step, h) }
-
-  pub looking_ends : {i : ℕ} {found : Bool} → block ≤ i → Looking p from block i found → found ≡ any p (span from block)
-  unfolding any span
-  looking_ends {i} {found} l L = let e : block - i ≡ 0 = omega arith in or_false found ∙ (rw e at L.is)
+  pub looking_ends : {n : ℕ} {found : Bool} → from + block ≤ n → Looking p from block n found → found ≡ any p (span from block)
+  unfolding any
+  looking_ends {n} {found} l L = or_false found ∙ (rw (span_end (from + block) n l) at L.is)
     where
       or_false : (b : Bool) → b ≡ b || false
       or_false true = refl

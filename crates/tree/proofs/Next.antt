@@ -1,14 +1,15 @@
 -- What is kept from a node on is what is kept from the next node that passes the test on.
 use mathlib.Core.Path.{◌≡◌, refl, sym, ◌∙◌}
+use mathlib.Core.Logic.{⊎_elim}
 use mathlib.Core.Bool.{Bool, true, false, cond}
 use mathlib.Core.List.{List, [], ◌∷◌}
-use Prim.Native.Nat.{ℕ, ◌+◌, ◌-◌, ◌≤◌, ◌<◌}
+use Prim.Native.Nat.{ℕ, max, ◌+◌, ◌-◌, ◌≤◌, ◌<◌}
 use native.Mathlib.Omega.{arith}
 use borrow.Author.Tests.{eqb-true, ltb-true, ltb-false}
 use lib.Dec.{eqb, ltb}
 use lib.ListN.{length, get_or}
 use Rattle.relations.specs.Select.{span, first_from, keep}
-use Rattle.relations.proofs.Select.{first_is, keep_first, span_end, span_step}
+use Rattle.relations.proofs.Select.{le_or, first_is, first_end, keep_first, span_end, span_step}
 
 module _ (p : ℕ → Bool) (n i : ℕ) where
   abbrev next : ℕ
@@ -33,3 +34,11 @@ next_is kinds k i {f} e l =
 
 pub next_beyond : (p : ℕ → Bool) (i d : ℕ) → {f : ℕ} → f ≡ first_from p i d → i ≤ f
 next_beyond p i d e = let F = first_is p i d in rw e F.from
+
+-- a loop from i up to e that found none answers the later of both
+pub first_max :
+    (p : ℕ → Bool) {i e n : ℕ} → (i ≤ e → n ≤ e) → e ≤ n → first_from p n (e - n) ≡ first_from p i (e - i) → max i e ≡ first_from p i (e - i)
+first_max p {i} {e} {n} a l h =
+    ⊎_elim (λ (b : i ≤ e). let m : max i e ≡ n = omega (arith, a b) in m ∙ sym (first_end p e n l) ∙ h)
+    (λ (b : e < i). let m : max i e ≡ i = omega arith in m ∙ sym (first_end p e i (omega arith)))
+    (le_or i e)

@@ -7,42 +7,24 @@ ghost use Rattle.express.specs.Syntax.Tree as Tree;
 ghost use Rattle.tree.specs.Children.{Child};
 ghost use Rattle.tree.specs.Blocks.{Skips};
 
-// The number at an index; past the end of the column 0.
-pub fn at8(column: &[u8], i: usize) -> u8
-    ensures { result ≡ get_or column.now i 0 }
-{
-    if i < column.len() {
-        return column[i];
-    }
-    0
-}
-
-pub fn at32(column: &[u32], i: usize) -> u32
-    ensures { result ≡ get_or column.now i 0 }
-{
-    if i < column.len() {
-        return column[i];
-    }
-    0
-}
-
+// The number at an index, as an index; past the end of the column 0.
 pub fn index_at(column: &[u32], i: usize) -> usize
     ensures { result ≡ get_or column.now i 0 }
 {
-    columns::index(at32(column, i))
+    columns::index(columns::get_or(column, i, 0))
 }
 
 // The last child of a node stands just before it, each other child just before the tree of the next.
 pub fn last(n: usize) -> usize
     ensures { result ≡ n - 1 }
 {
-    columns::saturating_sub(n, 1)
+    n.saturating_sub(1)
 }
 
 pub fn before(sizes: &[u32], n: usize) -> usize
     ensures { Child Tree.before sizes.now n result }
 {
-    columns::saturating_sub(n, index_at(sizes, n))
+    n.saturating_sub(index_at(sizes, n))
 }
 
 pub fn left(sizes: &[u32], n: usize) -> usize
@@ -82,14 +64,12 @@ fn next_before(kinds: &[u8], kind: u8, from: usize, end: usize) -> usize
     requires { end ≤ length kinds.now }
     ensures { result ≡ first_from (λ n. eqb (get_or kinds.now n 0) kind) from (end - from) }
 {
-    let mut n = from;
-    while n < end {
+    for n in from..end {
         if kinds[n] == kind {
             return n;
         }
-        n += 1;
     }
-    n
+    from.max(end)
 }
 
 // Is one of the block from a node on of a kind? All are looked at, without a jump, which the compiler does at once.
@@ -98,14 +78,8 @@ fn in_block(kinds: &[u8], kind: u8, from: usize, block: usize) -> bool
     ensures { result ≡ any (λ n. eqb (get_or kinds.now n 0) kind) (span from block) }
 {
     let mut found = false;
-    let mut i: usize = 0;
-    while i < block {
-        if kinds[from + i] == kind {
-            found = true;
-            i += 1;
-        } else {
-            i += 1;
-        }
+    for n in from..from + block {
+        found |= kinds[n] == kind;
     }
     found
 }
@@ -115,8 +89,9 @@ fn skip_blocks(kinds: &[u8], kind: u8, from: usize, block: usize) -> usize
     requires { 0 < block }
     ensures { Skips (λ n. eqb (get_or kinds.now n 0) kind) (length kinds.now) from result }
 {
-    let whole = columns::saturating_sub(kinds.len(), block - 1);
+    let whole = kinds.len().saturating_sub(block - 1);
     let mut at = from;
+    // Form kept: (d) a `for` with steps does not tell where the last block ends, which is the answer.
     while at < whole {
         if in_block(kinds, kind, at, block) {
             return at;
@@ -130,8 +105,8 @@ fn skip_blocks(kinds: &[u8], kind: u8, from: usize, block: usize) -> usize
 pub fn next_of_kind(kinds: &[u8], kind: u8, from: usize) -> usize
     ensures { result ≡ first_from (λ n. eqb (get_or kinds.now n 0) kind) from (length kinds.now - from) }
 {
-    let left = columns::saturating_sub(kinds.len(), from);
-    let near = kinds.len() - columns::saturating_sub(left, NEAR);
+    let left = kinds.len().saturating_sub(from);
+    let near = kinds.len() - left.saturating_sub(NEAR);
     let first = next_before(kinds, kind, from, near);
     if first < near {
         return first;

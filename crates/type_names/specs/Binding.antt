@@ -1,5 +1,5 @@
 -- The names of types and supertypes of a file are bound: stage 2 of N19.
-use Rattle.std.specs.Prelude.{◌≡◌, List, ℕ, ◌≤◌, length}
+use Rattle.std.specs.Prelude.{◌≡◌, List, ℕ, ◌≤◌, length, Option}
 use Rattle.express.specs.Syntax.Tree.{Table, count, schema_of}
 use Rattle.scopes.specs.Range.{node_of}
 use Rattle.faults.specs.declared.Fault.{Fault}
@@ -26,5 +26,5 @@ module _ (kinds tokens roles symbols starts keys nodes heads next : List ℕ) wh
     pub graph_room : Room t (type_target t) first to
 
   -- `bind_type_names`: the fault of stage 2, the bindings of the names of types and zeros for all other nodes, and the graph of N7
-  pub record BindsTypeNames (bound first to : List ℕ) (r : Fault) (bound' first' to' : List ℕ) : Type 0 where
+  pub record BindsTypeNames (bound first to : List ℕ) (r : Option Fault) (bound' first' to' : List ℕ) : Type 0 where
     pub is : (t : Table) → FileAsked (length bound) (length first) (length to) t → PassedAll t (type_names t) r bound' first' to'

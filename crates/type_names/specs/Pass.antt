@@ -1,6 +1,6 @@
 -- A pass over the nodes of a file, from the last to the first, declaration by declaration: of each node there is a fault or none, an arc or none, and
 -- an entry of a column.
-use Rattle.std.specs.Prelude.{◌≡◌, true, cond, List, ℕ, ◌-◌, ◌≤◌, ◌<◌, leb, length, get_or, set}
+use Rattle.std.specs.Prelude.{◌≡◌, true, cond, List, ℕ, ◌-◌, ◌≤◌, ◌<◌, leb, length, get_or, set, Option}
 use Rattle.relations.specs.Select.{span}
 use Rattle.express.specs.Syntax.Tree.{Table, count, is_declaration, nodes}
 use Rattle.express.specs.Names.Fault.{Fault, fine}
@@ -73,7 +73,7 @@ pub record PassingFrom (t : Table) (p : Pass) (was : List ℕ) (v : ℕ) (first 
   pub building : Building t p.target was v first so_far.arcs to
 
 -- ALL NODES are passed: the fault of the stage with the smallest place (N19), an entry for each node, and the graph
-pub record PassedAll (t : Table) (p : Pass) (r : code.Fault) (bound first to : List ℕ) : Type 0 where
+pub record PassedAll (t : Table) (p : Pass) (r : Option code.Fault) (bound first to : List ℕ) : Type 0 where
   pub reply : fault_of r ≡ least p.stage (nodes t)
   pub entries : (n : ℕ) → n < count t → get_or bound n 0 ≡ p.entry n
   pub graph : GraphOf t p.target first to

@@ -3,20 +3,20 @@
 #![tactic(auto)]
 
 ghost use Rattle.std.specs.Prelude.{◌≡◌, ◌<◌};
+ghost use Rattle.faults.specs.Meaning.{number_of};
 ghost use Rattle.type_names.specs.Pass.{Stored};
 ghost use Rattle.type_names.specs.TypeName.{is_type_name_by, suits_by, makes_arc, target_by, Unbound, BoundTo, TypeNameMeant, FoundTypeName};
 ghost use Rattle.type_names.specs.Binding.{BindsRange, BindsTypeNames};
 
-use columns::{index, number, put32, shorter};
-use faults::Fault;
+use columns::{get_or, index, number, put};
+use faults::{Fault, Reply};
 use scopes::look_ups::{Meaning, declaration_meant};
-use scopes::{at, at8};
 
 // What is found of a node: its fault, its binding (one more than a node, or 0), and the target of its arc (one more than a
 // vertex, or 0).
 #[derive(Clone, Copy)]
 pub struct Finding {
-    pub fault: Fault,
+    pub fault: Option<Fault>,
     pub binding: u32,
     pub target: u32,
 }
@@ -25,7 +25,7 @@ pub struct Finding {
 #[derive(Clone, Copy)]
 pub struct Progress {
     pub arcs: usize,
-    pub least: Fault,
+    pub least: Option<Fault>,
 }
 
 // Stores what is found of a node, before what is found of the nodes behind it.
@@ -38,7 +38,7 @@ pub fn store(
 ) -> Progress
     ensures { Stored node found before bound.old to.old result bound.new to.new }
 {
-    put32(bound, node, found.binding);
+    put(bound, node, found.binding);
     let arcs = dependencies::add_arc(to, before.arcs, found.target);
     let least = faults::sooner(found.fault, before.least);
     Progress { arcs, least }
@@ -48,58 +48,42 @@ pub fn store(
 fn suits(role: u32, kind: u8) -> bool
     ensures { result ≡ suits_by role kind }
 {
-    if role == codes::roles::RENAMED_TYPE {
-        return kind == codes::nodes::TYPE;
+    match role {
+        codes::roles::RENAMED_TYPE => kind == codes::nodes::TYPE,
+        codes::roles::SUPERTYPE_NAME => kind == codes::nodes::ENTITY,
+        _ => kind == codes::nodes::TYPE || kind == codes::nodes::ENTITY,
     }
-    if role == codes::roles::SUPERTYPE_NAME {
-        return kind == codes::nodes::ENTITY;
-    }
-    if kind == codes::nodes::TYPE {
-        return true;
-    }
-    kind == codes::nodes::ENTITY
 }
 
 // Does a name in this role make an arc?
 fn makes_arc(role: u32) -> bool
     ensures { result ≡ makes_arc role }
 {
-    if role == codes::roles::RENAMED_TYPE {
-        return true;
-    }
-    if role == codes::roles::SELECT_NAME {
-        return true;
-    }
-    role == codes::roles::SUPERTYPE_NAME
+    role == codes::roles::RENAMED_TYPE
+        || role == codes::roles::SELECT_NAME
+        || role == codes::roles::SUPERTYPE_NAME
 }
 
 // The target of the arc that a name makes: one more than a vertex, or 0.
 fn arc_target(role: u32, vertex: u32) -> u32
     ensures { result ≡ target_by role vertex }
 {
-    if makes_arc(role) {
-        return vertex;
-    }
-    0
+    if makes_arc(role) { vertex } else { 0 }
 }
 
 // Is it the name of a type or of a supertype?
 pub fn is_type_name(kind: u8, role: u32) -> bool
     ensures { result ≡ is_type_name_by kind role }
 {
-    scopes::both(
-        kind == codes::nodes::NAME,
-        role != codes::roles::IN_EXPRESSION,
-    )
+    (kind == codes::nodes::NAME) & (role != codes::roles::IN_EXPRESSION)
 }
 
 // A name that means no declaration, or several.
-fn unbound(number: u8, place: u32) -> Finding
-    ensures { Unbound number place result }
+fn unbound(reply: Reply, place: u32) -> Finding
+    ensures { Unbound (number_of reply) place result }
 {
-    let fault = faults::fault_at(number, place);
     Finding {
-        fault,
+        fault: faults::fault_at(reply, place),
         binding: 0,
         target: 0,
     }
@@ -110,8 +94,8 @@ fn bound_to(kinds: &[u8], nodes: &[u32], role: u32, vertex: usize, place: u32) -
     requires { vertex < 18446744073709551615 }
     ensures { BoundTo kinds.now nodes.now role vertex place result }
 {
-    let node = index(at(nodes, vertex));
-    let fault = faults::wrong_sort(suits(role, at8(kinds, node)), place);
+    let node = index(get_or(nodes, vertex, 0));
+    let fault = faults::wrong_sort(suits(role, get_or(kinds, node, 0)), place);
     let binding = number(node + 1);
     let target = arc_target(role, number(vertex + 1));
     Finding {
@@ -137,9 +121,9 @@ fn type_name(
 {
     let meaning = declaration_meant(keys, heads, next, schema, symbol);
     match meaning {
-        Meaning::Nothing => unbound(codes::replies::NOT_FOUND, place),
+        Meaning::Nothing => unbound(Reply::NotFound, place),
         Meaning::One(vertex) => bound_to(kinds, nodes, role, vertex, place),
-        Meaning::Several => unbound(codes::replies::AMBIGUOUS, place),
+        Meaning::Several => unbound(Reply::Ambiguous, place),
     }
 }
 
@@ -160,17 +144,17 @@ fn node_finding(
     ensures { FoundTypeName kinds.now tokens.now roles.now symbols.now starts.now
         keys.now nodes.now heads.now next.now schema node result }
 {
-    let token = index(at(tokens, node));
+    let token = index(get_or(tokens, node, 0));
     type_name(
         kinds,
         keys,
         nodes,
         heads,
         next,
-        at8(roles, node) as u32,
+        get_or(roles, node, 0) as u32,
         schema,
-        at(symbols, token),
-        at(starts, token),
+        get_or(symbols, token, 0),
+        get_or(starts, token, 0),
     )
 }
 
@@ -197,9 +181,8 @@ fn bind_range(
         before bound.old to.old lo result bound.new to.new }
 {
     let mut so_far = before;
-    let mut i = shorter(hi, shorter(kinds.len(), roles.len()));
-    while lo < i {
-        i -= 1;
+    let end = hi.min(kinds.len().min(roles.len()));
+    for i in (lo..end).rev() {
         if is_type_name(kinds[i], roles[i] as u32) {
             let found = node_finding(
                 kinds, tokens, roles, symbols, starts, keys, nodes, heads, next, schema, i,
@@ -224,26 +207,24 @@ pub fn bind_type_names(
     bound: &mut [u32],
     first: &mut [u32],
     to: &mut [u32],
-) -> Fault
+) -> Option<Fault>
     ensures { BindsTypeNames kinds.now tokens.now roles.now symbols.now starts.now
         keys.now nodes.now heads.now next.now
         bound.old first.old to.old result bound.new first.new to.new }
 {
-    columns::clear32(bound, 0);
+    columns::clear(bound, 0, 0);
     let mut so_far = Progress {
         arcs: to.len(),
-        least: faults::fine(),
+        least: None,
     };
-    let mut v = columns::saturating_sub(first.len(), 1);
-    while 0 < v {
-        put32(first, v, number(so_far.arcs));
-        v -= 1;
+    for v in (0..first.len().saturating_sub(1)).rev() {
+        put(first, v + 1, number(so_far.arcs));
         let d = scopes::declaration(keys, nodes, v);
         so_far = bind_range(
             kinds, tokens, roles, symbols, starts, keys, nodes, heads, next, d.schema, d.from,
             d.node, so_far, bound, to,
         );
     }
-    put32(first, 0, number(so_far.arcs));
+    put(first, 0, number(so_far.arcs));
     so_far.least
 }

@@ -13,12 +13,13 @@ use Rattle.express.specs.Semantics.Shape.{operator_of, sign_of}
 use Rattle.express.specs.Semantics.Operate.{logicals, comparable}
 use Rattle.express.specs.Semantics.Kind.{kind_number, of_number, common, of_kind, if_fits, if_evaluated, kind_at}
 use Rattle.kind_rules.specs.declared.Class.{Class}
-use Rattle.kind_rules.specs.declared.Finding.{Finding}
-use Rattle.kind_rules.specs.declared.Finding.TheVariants.{OfKind, Fault}
+use Rattle.std.specs.Prelude.{Result, Ok, Err}
+use Rattle.kind_rules.specs.declared.Fault.{Fault}
+use Rattle.kind_rules.specs.declared.Fault.TheVariants.{NotEvaluated}
 use Rattle.kind_rules.specs.Findings.{finding_of, class_of, class_of_sign, applied, leaf_found, KindOfType, Evaluated, Held}
 use Rattle.typing.specs.Typings.{kinds_of, Against, Named, Operates, Finds}
 use Rattle.tree.specs.Children.{Child}
-use Rattle.kind_rules.proofs.Numbered.{common_kind}
+use Rattle.express.proofs.Semantics.KindNumbers.{number_back}
 use Rattle.typing.proofs.Nodes.{known, kind_held, at_sign, at_operator, at_interval, at_simple_type, at_leaf, at_constant, at_name, at_item}
 use Rattle.typing.proofs.Nodes.{unbound, bound_item, bound_constant, bound_type, bound_other}
 
@@ -28,7 +29,7 @@ use Rattle.typing.proofs.Nodes.{unbound, bound_item, bound_constant, bound_type,
 held : (scratch : List ℕ) {v m x : ℕ} → m ≡ x → v ≡ get_or scratch m 0 → of_number v ≡ kind_at (kinds_of scratch) x
 held scratch {v} {m} {x} p q = ap of_number (q ∙ ap (λ (y : ℕ). get_or scratch y 0) p) ∙ sym (kind_held scratch x)
 
-module _ {k w n : ℕ} {sizes scratch : List ℕ} {v m : ℕ} (M : m ≡ n - 1) (E : v ≡ get_or scratch m 0) {r : Finding} where
+module _ {k w n : ℕ} {sizes scratch : List ℕ} {v m : ℕ} (M : m ≡ n - 1) (E : v ≡ get_or scratch m 0) {r : Result ℕ Fault} where
   pub operates_sign : k ≡ node.unary → {o : Class} → o ≡ class_of_sign (sign_of w) → finding_of r ≡ applied o (of_number v) → Operates k w sizes scratch n r
   operates_sign h {o} S A =
       record {
@@ -43,7 +44,7 @@ module _ {k w n : ℕ} {sizes scratch : List ℕ} {v m : ℕ} (M : m ≡ n - 1) 
       record {
         is = λ t b e c q i j p.
             A ∙ ap₂ applied (S ∙ ap (λ (z : ℕ). class_of (operator_of z)) (sym j))
-            (common_kind x v y C ∙ ap₂ common (held scratch (L.is e q) X) (held scratch M E)) ∙ at_operator t b e c (kind_at (kinds_of scratch)) n (i ∙ h);
+            (ap of_number C ∙ number_back (common (of_number x) (of_number v)) ∙ ap₂ common (held scratch (L.is e q) X) (held scratch M E)) ∙ at_operator t b e c (kind_at (kinds_of scratch)) n (i ∙ h);
       }
 
   pub operates_interval :
@@ -56,7 +57,7 @@ module _ {k w n : ℕ} {sizes scratch : List ℕ} {v m : ℕ} (M : m ≡ n - 1) 
             A ∙ rw (held scratch (L.is e q) X, held scratch (D.is e q) Y, held scratch M E) (at_interval t b e c (kind_at (kinds_of scratch)) n (i ∙ h));
       }
 
-module _ {k w n : ℕ} {sizes scratch : List ℕ} {r : Finding} where
+module _ {k w n : ℕ} {sizes scratch : List ℕ} {r : Result ℕ Fault} where
   pub operates_type : k ≡ node.simple_type → {x : ℕ} → x ≡ declared_number (simple w) → Evaluated x 0 r → Operates k w sizes scratch n r
   operates_type h X A =
       record {
@@ -77,17 +78,17 @@ module _ {k w n : ℕ} {sizes scratch : List ℕ} {r : Finding} where
 -- ---- names
 
 module _ {kinds file_kinds declared : List ℕ} {x : ℕ} where
-  pub named_unbound : x ≡ 0 → Named kinds x file_kinds declared (Fault 14)
+  pub named_unbound : x ≡ 0 → Named kinds x file_kinds declared (Err NotEvaluated)
   named_unbound z = record { is = λ t b e c k n N q l s. unbound t b e c k n kinds file_kinds declared N l s x q z }
 
   module _ (z : x ≡ 0 → ⊥) {y k : ℕ} (Y : y ≡ get_or declared (x - 1) 0) (K : k ≡ get_or file_kinds (x - 1) 0) where
-    pub named_item : k ≡ node.enumeration_item → Named kinds x file_kinds declared (OfKind y)
+    pub named_item : k ≡ node.enumeration_item → Named kinds x file_kinds declared (Ok y)
     named_item h =
         record {
           is = λ t b e c g n N q l s. ap (λ (u : ℕ). of_kind (of_number u)) Y ∙ bound_item t b e c g n kinds file_kinds declared N l s x q z (sym K ∙ h);
         }
 
-    pub named_constant : k ≡ node.constant → {v : ℕ} {r : Finding} → KindOfType y v → Evaluated y v r → Named kinds x file_kinds declared r
+    pub named_constant : k ≡ node.constant → {v : ℕ} {r : Result ℕ Fault} → KindOfType y v → Evaluated y v r → Named kinds x file_kinds declared r
     named_constant h {v} {r} T E =
         record {
           is = λ t b e c g n N q l s.
@@ -96,14 +97,14 @@ module _ {kinds file_kinds declared : List ℕ} {x : ℕ} where
         }
 
     module _ (u : k ≡ node.enumeration_item → ⊥) (w : k ≡ node.constant → ⊥) {j : ℕ} (J : j ≡ get_or kinds (x - 1) 0) where
-      pub named_type : j ≡ node.type → {r : Finding} → Evaluated y 0 r → Named kinds x file_kinds declared r
+      pub named_type : j ≡ node.type → {r : Result ℕ Fault} → Evaluated y 0 r → Named kinds x file_kinds declared r
       named_type h {r} E =
           record {
             is = λ t b e c g n N q l s.
                 bound_type t b e c g n kinds file_kinds declared N l s x q z (λ i. u (K ∙ i)) (λ i. w (K ∙ i)) (sym J ∙ h) (λ d i. E.is d (Y ∙ i));
           }
 
-      pub named_other : (j ≡ node.type → ⊥) → Named kinds x file_kinds declared (Fault 14)
+      pub named_other : (j ≡ node.type → ⊥) → Named kinds x file_kinds declared (Err NotEvaluated)
       named_other h =
           record {
             is = λ t b e c g n N q l s. bound_other t b e c g n kinds file_kinds declared N l s x q z (λ i. u (K ∙ i)) (λ i. w (K ∙ i)) (λ i. h (J ∙ i));
@@ -117,7 +118,7 @@ own :
     k ≡ get_or kinds n 0 → Against t b e terminals kinds tokens sizes bindings file_kinds declared → kind e n ≡ k
 own n K A = ap (λ (l : List ℕ). get_or l n 0) A.names.own_kinds ∙ sym K
 
-module _ {terminals kinds tokens sizes bindings file_kinds declared scratch : List ℕ} {n k : ℕ} (K : k ≡ get_or kinds n 0) {r : Finding} where
+module _ {terminals kinds tokens sizes bindings file_kinds declared scratch : List ℕ} {n k : ℕ} (K : k ≡ get_or kinds n 0) {r : Result ℕ Fault} where
   module _ {x : ℕ} (X : x ≡ get_or bindings n 0) (N : Named kinds x file_kinds declared r) where
     pub finds_name : k ≡ node.name → Finds terminals kinds tokens sizes bindings file_kinds declared scratch n r
     finds_name h =

@@ -22,8 +22,8 @@ use Rattle.express.proofs.Syntax.Formed.{Formed}
 use Rattle.express.proofs.Syntax.FormedRows.{formed_rows}
 use Rattle.express.proofs.Semantics.Scratch.{Same, both_typed, both_ill, type_any}
 use Rattle.express.proofs.Semantics.Backward.{keep_step}
-use Rattle.typing.specs.declared.Typing.{Typing}
-use Rattle.typing.specs.declared.Typing.TheVariants.{Typed, Fault}
+use Rattle.std.specs.Prelude.{Result, Ok, Err}
+use Rattle.typing.specs.declared.IllTyped.{IllTyped}
 use Rattle.typing.specs.Typings.{kinds_of, typing_of, outcome, Against, TypesNodes, OfFile, TypesConstants}
 
 -- ---- as many kinds afterwards as before
@@ -121,7 +121,7 @@ module _ {terminals kinds tokens sizes bindings declared : List ℕ} where
     passing_starts = record { kept = refl; is = λ t O l. starts t O was l }
 
     module _ {scratch : List ℕ} {n : ℕ} (P : Passing terminals kinds tokens sizes bindings declared was scratch n) where
-      pub passing_ends : length kinds ≤ n → TypesConstants terminals kinds tokens sizes bindings declared was scratch Typed
+      pub passing_ends : length kinds ≤ n → TypesConstants terminals kinds tokens sizes bindings declared was scratch (Ok tt)
       unfolding type_constants keep
       passing_ends h =
           record {
@@ -148,7 +148,7 @@ module _ {terminals kinds tokens sizes bindings declared : List ℕ} where
 
       module _ (h : n < length kinds) where
         -- a constant
-        module _ (i : get_or kinds n 0 ≡ node.constant) {s lo : ℕ} (S : s ≡ get_or sizes n 0) (L : lo ≡ n + 1 - s) {after : List ℕ} {r : Typing}
+        module _ (i : get_or kinds n 0 ≡ node.constant) {s lo : ℕ} (S : s ≡ get_or sizes n 0) (L : lo ≡ n + 1 - s) {after : List ℕ} {r : Result (Unit {0}) IllTyped}
             (T : TypesNodes terminals kinds tokens sizes bindings lo (n + 1) kinds declared scratch after r) where
           nodes_of : (t : Table) → OfFile t terminals kinds tokens sizes bindings declared → type_expression_in t bindings t bindings n (kinds_of scratch) ≡ typing_of r after
           nodes_of t O =
@@ -167,14 +167,14 @@ module _ {terminals kinds tokens sizes bindings declared : List ℕ} where
               let o : is t node.constant n ≡ true = eq-eqb (kind t n) node.constant (rw O.kinds_are i) in
               rw (keep_step (count t) (is t node.constant) n m, o, nodes_of t O)
 
-          pub passing_constant : r ≡ Typed → Passing terminals kinds tokens sizes bindings declared was after (n + 1)
+          pub passing_constant : r ≡ Ok tt → Passing terminals kinds tokens sizes bindings declared was after (n + 1)
           passing_constant e =
               record {
                 kept = T.kept ∙ P.kept;
                 is = λ t O l. P.is t O l ∙ ap outcome (rw e at (here t O));
               }
 
-          pub passing_stops : {f m : ℕ} → r ≡ Fault f m → TypesConstants terminals kinds tokens sizes bindings declared was after (Fault f m)
+          pub passing_stops : {i : IllTyped} → r ≡ Err i → TypesConstants terminals kinds tokens sizes bindings declared was after (Err i)
           passing_stops e =
               record {
                 kept = T.kept ∙ P.kept;

@@ -9,11 +9,9 @@ use Rattle.express.specs.Syntax.Tree.{Table}
 use Rattle.express.specs.Semantics.Shape.{shape_in}
 use Rattle.express.specs.Semantics.Kind.{of_number, Finding, of_kind, finding_in, kind_at, typed, if_found, type_nodes_in}
 use Rattle.express.specs.Semantics.Kind as express
-use Rattle.kind_rules.specs.declared.Finding as found
-use Rattle.kind_rules.specs.declared.Finding.TheVariants.{OfKind}
-use Rattle.kind_rules.specs.declared.Finding.TheVariants as variants
-use Rattle.typing.specs.declared.Typing.TheVariants.{Typed, Fault}
-use Rattle.kind_rules.specs.Findings.{finding_of}
+use Rattle.std.specs.Prelude.{Result, Ok, Err}
+use Rattle.kind_rules.specs.declared.Fault.{Fault}
+use Rattle.kind_rules.specs.Findings.{reply_of, finding_of}
 use Rattle.typing.specs.Typings.{kinds_of, Against, Finds, TypesNodes}
 
 pub map_set : {A B : Type 0} (f : A → B) (xs : List A) (n : ℕ) (y : A) → map f (set xs n y) ≡ set (map f xs) n (f y)
@@ -52,8 +50,8 @@ module _ {terminals kinds tokens sizes bindings : List ℕ} {lo hi : ℕ} {file_
   going_starts = record { kept = refl; is = λ t b e A. refl }
 
   module _ {scratch : List ℕ} {n : ℕ} (G : Going terminals kinds tokens sizes bindings lo hi file_kinds declared was scratch n) where
-    module _ (l : n < hi) {f : found.Finding} (F : Finds terminals kinds tokens sizes bindings file_kinds declared scratch n f) where
-      pub going_on : {k : ℕ} {after : List ℕ} → f ≡ OfKind k → after ≡ set scratch n k → Going terminals kinds tokens sizes bindings lo hi file_kinds declared was after (n + 1)
+    module _ (l : n < hi) {f : Result ℕ Fault} (F : Finds terminals kinds tokens sizes bindings file_kinds declared scratch n f) where
+      pub going_on : {k : ℕ} {after : List ℕ} → f ≡ Ok k → after ≡ set scratch n k → Going terminals kinds tokens sizes bindings lo hi file_kinds declared was after (n + 1)
       going_on {k} {after} e s =
           rw s
           (record {
@@ -64,13 +62,13 @@ module _ {terminals kinds tokens sizes bindings : List ℕ} {lo hi : ℕ} {file_
           })
 
       pub going_stops :
-          {g : ℕ} → f ≡ variants.Fault g → TypesNodes terminals kinds tokens sizes bindings lo hi file_kinds declared was scratch (Fault g n)
-      going_stops {g} e =
-          record {
+          {g : Fault} {k : ℕ} → f ≡ Err g → k ≡ reply_of g → TypesNodes terminals kinds tokens sizes bindings lo hi file_kinds declared was scratch (Err (record { reply = k; node = n }))
+      going_stops {g} e r =
+          rw r (record {
             kept = G.kept;
             is = λ t b o A.
                 G.is t b o A ∙ here t b o bindings hi n scratch l ∙ ap (at_node t b o bindings hi n scratch) (sym (F.is t b o A) ∙ ap finding_of e);
-          }
+          })
 
-    pub going_ends : hi ≤ n → TypesNodes terminals kinds tokens sizes bindings lo hi file_kinds declared was scratch Typed
+    pub going_ends : hi ≤ n → TypesNodes terminals kinds tokens sizes bindings lo hi file_kinds declared was scratch (Ok tt)
     going_ends l = record { kept = G.kept; is = λ t b e A. G.is t b e A ∙ over t b e bindings hi n scratch l }

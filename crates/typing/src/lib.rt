@@ -5,59 +5,60 @@
 ghost use Rattle.std.specs.Prelude.{◌≡◌};
 ghost use Rattle.typing.specs.Typings.{Named, Operates, Finds, TypesNodes, TypesConstants};
 
+use columns::get_or;
 use kind_rules::{
-    Finding, UNTYPED, apply, common, constant, evaluated, interval, kind_of_type, leaf,
+    Fault, UNTYPED, apply, common, constant, evaluated, interval, kind_of_type, leaf,
     operator_class, sign_class, simple,
 };
-use tree::{at8, at32, index_at, last, left, low, middle, next_of_kind};
+use tree::{index_at, last, left, low, middle, next_of_kind};
 
-// What the typing of some nodes comes to: the reply and the node of the first fault.
-#[derive(Clone, Copy)]
-pub enum Typing {
-    Typed,
-    Fault(u8, usize),
+// The reply and the node of the first fault.
+#[derive(Clone, Copy, Debug, PartialEq, Eq)]
+pub struct IllTyped {
+    pub reply: u8,
+    pub node: usize,
 }
 
 // A name by what it is bound to: an item, a constant, or else a type.
-fn named(kinds: &[u8], binding: usize, file_kinds: &[u8], declared: &[u32]) -> Finding
+fn named(kinds: &[u8], binding: usize, file_kinds: &[u8], declared: &[u32]) -> Result<u32, Fault>
     ensures { Named kinds.now binding file_kinds.now declared.now result }
 {
     if binding == 0 {
-        return Finding::Fault(codes::replies::NOT_EVALUATED);
+        return Err(Fault::NotEvaluated);
     }
     let d = binding - 1;
-    let number = at32(declared, d);
-    let kind = at8(file_kinds, d);
+    let number = get_or(declared, d, 0);
+    let kind = get_or(file_kinds, d, 0);
     if kind == codes::nodes::ITEM {
-        return Finding::OfKind(number);
+        return Ok(number);
     }
     if kind == codes::nodes::CONSTANT {
         return evaluated(number, kind_of_type(number));
     }
-    if at8(kinds, d) == codes::nodes::TYPE {
+    if get_or(kinds, d, 0) == codes::nodes::TYPE {
         return evaluated(number, UNTYPED);
     }
-    Finding::Fault(codes::replies::NOT_EVALUATED)
+    Err(Fault::NotEvaluated)
 }
 
 // A node that is neither a name nor a constant.
-fn operation(kind: u8, terminal: u8, sizes: &[u32], scratch: &[u32], n: usize) -> Finding
+fn operation(kind: u8, terminal: u8, sizes: &[u32], scratch: &[u32], n: usize) -> Result<u32, Fault>
     ensures { Operates kind terminal sizes.now scratch.now n result }
 {
-    let value = at32(scratch, last(n));
+    let value = get_or(scratch, last(n), 0);
     if kind == codes::nodes::UNARY {
         return apply(sign_class(terminal), value);
     }
     if kind == codes::nodes::TWO_OPERAND {
         return apply(
             operator_class(terminal),
-            common(at32(scratch, left(sizes, n)), value),
+            common(get_or(scratch, left(sizes, n), 0), value),
         );
     }
     if kind == codes::nodes::INTERVAL {
         return interval(
-            at32(scratch, low(sizes, n)),
-            at32(scratch, middle(sizes, n)),
+            get_or(scratch, low(sizes, n), 0),
+            get_or(scratch, middle(sizes, n), 0),
             value,
         );
     }
@@ -78,11 +79,11 @@ fn found_at(
     declared: &[u32],
     scratch: &[u32],
     n: usize,
-) -> Finding
+) -> Result<u32, Fault>
     ensures { Finds terminals.now kinds.now tokens.now sizes.now bindings.now
         file_kinds.now declared.now scratch.now n result }
 {
-    let kind = at8(kinds, n);
+    let kind = get_or(kinds, n, 0);
     if kind == codes::nodes::NAME {
         return named(kinds, index_at(bindings, n), file_kinds, declared);
     }
@@ -90,9 +91,15 @@ fn found_at(
         return named(kinds, index_at(bindings, n), file_kinds, declared);
     }
     if kind == codes::nodes::CONSTANT {
-        return constant(at32(declared, n), at32(scratch, last(n)));
+        return constant(get_or(declared, n, 0), get_or(scratch, last(n), 0));
     }
-    operation(kind, at8(terminals, index_at(tokens, n)), sizes, scratch, n)
+    operation(
+        kind,
+        get_or(terminals, index_at(tokens, n), 0),
+        sizes,
+        scratch,
+        n,
+    )
 }
 
 // Types the nodes from lo up to hi, hi itself not, of an expression against a file; the kind of each is kept for its parent.
@@ -107,22 +114,25 @@ pub fn type_expression(
     file_kinds: &[u8],
     declared: &[u32],
     scratch: &mut [u32],
-) -> Typing
+) -> Result<(), IllTyped>
     ensures { TypesNodes terminals.now kinds.now tokens.now sizes.now bindings.now
         lo hi file_kinds.now declared.now scratch.old scratch.new result }
 {
-    let mut n = lo;
-    while n < hi {
+    for n in lo..hi {
         let found = found_at(
             terminals, kinds, tokens, sizes, bindings, file_kinds, declared, scratch, n,
         );
         match found {
-            Finding::OfKind(k) => columns::put32(scratch, n, k),
-            Finding::Fault(f) => return Typing::Fault(f, n),
+            Ok(k) => columns::put(scratch, n, k),
+            Err(f) => {
+                return Err(IllTyped {
+                    reply: u8::from(f),
+                    node: n,
+                });
+            }
         }
-        n += 1;
     }
-    Typing::Typed
+    Ok(())
 }
 
 // Types the constants of a file, in the order of the text.
@@ -134,14 +144,14 @@ pub fn type_constants(
     bindings: &[u32],
     declared: &[u32],
     scratch: &mut [u32],
-) -> Typing
+) -> Result<(), IllTyped>
     ensures { TypesConstants terminals.now kinds.now tokens.now sizes.now
         bindings.now declared.now scratch.old scratch.new result }
 {
     let mut n = next_of_kind(kinds, codes::nodes::CONSTANT, 0);
     while n < kinds.len() {
-        let first = columns::saturating_sub(n + 1, index_at(sizes, n));
-        let typing = type_expression(
+        let first = (n + 1).saturating_sub(index_at(sizes, n));
+        type_expression(
             terminals,
             kinds,
             tokens,
@@ -152,11 +162,8 @@ pub fn type_constants(
             kinds,
             declared,
             scratch,
-        );
-        match typing {
-            Typing::Typed => n = next_of_kind(kinds, codes::nodes::CONSTANT, n + 1),
-            Typing::Fault(f, m) => return Typing::Fault(f, m),
-        }
+        )?;
+        n = next_of_kind(kinds, codes::nodes::CONSTANT, n + 1);
     }
-    Typing::Typed
+    Ok(())
 }

@@ -1,4 +1,5 @@
 -- What the stage of expressions finds of each node, and of which nodes it finds nothing.
+use Rattle.std.specs.Prelude.{None}
 use mathlib.Core.Path.{◌≡◌, refl, sym, ap, ap₂, ◌∙◌}
 use mathlib.Core.Logic.{⊎_elim, by_cases}
 use mathlib.Core.Bool.{Bool, true, false, cond, not, ◌&&◌, ◌||◌, false≢true}
@@ -189,7 +190,7 @@ module _ (t : Table) (n : ℕ) where
       record { fault_none = sym F.fault_is; target_none = sym F.target_is; entry_kept = sym F.binding_is ∙ sym w }
     where
       nothing : Finding
-      nothing = record { fault = record { number = 0; place = 0 }; binding = 0; target = 0 }
+      nothing = record { fault = None; binding = 0; target = 0 }
 
       none_empty : (ks : List ℕ) → code (meaning ks) ≡ 0 → express.fine ≡ cond (not (empty ks)) (express.fault 12 (place t n)) express.fine
       none_empty [] q = refl
@@ -426,11 +427,11 @@ pub record PassingUses (kinds tokens sizes roles symbols starts keys nodes heads
 module _ {kinds tokens sizes roles symbols starts keys nodes heads next bound₀ first₀ to₀ : List ℕ} where
   pub uses_start :
       {v : ℕ} {so_far : Progress} {tabled : Tabled} {items : List ℕ} → v ≡ length first₀ - 1 → so_far.arcs ≡ length to₀ → fault_of so_far.least ≡ express.fine →
-      Begins (length kinds) tabled items → PassingUses kinds tokens sizes roles symbols starts keys nodes heads next bound₀ first₀ to₀ (length items) v first₀ so_far bound₀ to₀ tabled items
+      Begins tabled items → PassingUses kinds tokens sizes roles symbols starts keys nodes heads next bound₀ first₀ to₀ (length items) v first₀ so_far bound₀ to₀ tabled items
   uses_start {v} e a f B = record {
     passing = file_starts within_file e a f (λ t A. A.file.graph_room) (λ t A. A.file.bound_room) (λ t A n l. A.file.bound_is n l);
     items_long = refl;
-    tabling = λ t A. B.is t (ap length A.file.of_file.columns.kinds_are) v;
+    tabling = λ t A. B.is t v;
   }
 
   module _ {slots v : ℕ} {first : List ℕ} {so_far : Progress} {bound to : List ℕ} {tabled : Tabled} {items : List ℕ}

@@ -1,5 +1,5 @@
 -- The names in expressions of a file are bound: stage 4 of N19.
-use Rattle.std.specs.Prelude.{◌≡◌, Bool, true, false, cond, not, ◌&&◌, ◌||◌, List, ℕ, ◌≤◌, ◌<◌, eqb, leb, ltb, length, get_or}
+use Rattle.std.specs.Prelude.{◌≡◌, Bool, true, false, cond, not, ◌&&◌, ◌||◌, List, ℕ, ◌≤◌, ◌<◌, eqb, leb, ltb, length, get_or, Option}
 use Rattle.express.specs.Syntax.NodeKind.{name, qualified_item, self, in_expression}
 use Rattle.express.specs.Syntax.NodeKind as node
 use Rattle.express.specs.Syntax.Grammar.{file}
@@ -88,5 +88,5 @@ module _ (kinds tokens sizes roles symbols starts keys nodes heads next : List �
     pub stamp_room : vertex_count t < stamp_count
 
   -- `bind_uses`: the fault of the stage of expressions, the bindings of all names, and the graph of N17
-  pub record BindsUses (bound first to items : List ℕ) (r : Fault) (bound' first' to' : List ℕ) : Type 0 where
+  pub record BindsUses (bound first to items : List ℕ) (r : Option Fault) (bound' first' to' : List ℕ) : Type 0 where
     pub is : (t : Table) → Scanned t → FileAsked bound (length first) (length to) (length items) t → PassedAll t (uses t) r bound' first' to'

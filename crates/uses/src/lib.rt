@@ -6,11 +6,10 @@ ghost use Rattle.std.specs.Prelude.{◌≡◌, ◌≤◌, length};
 ghost use Rattle.scopes.specs.NoneFrom.{NoneFrom};
 ghost use Rattle.uses.specs.Binding.{finds_by, may_find, may_find_at, Decodes, FindingAt, BindsRange, BindsUses};
 
-use columns::{index, number, put32, shorter};
+use columns::{get_or, index, number, put};
 use faults::Fault;
 use meanings::Use;
 use schema_items::{item_at, turn_to};
-use scopes::{at, at8, both, either};
 use type_names::{Finding, Progress, store};
 
 // Is there something to find of a node: a name in an expression, `type.item`, SELF, or an attribute or label that is inherited too, as its
@@ -18,35 +17,21 @@ use type_names::{Finding, Progress, store};
 fn has_finding(kind: u8, role: u32, code: u32) -> bool
     ensures { result ≡ finds_by kind role code }
 {
-    if kind == codes::nodes::NAME {
-        return role == codes::roles::IN_EXPRESSION;
+    match kind {
+        codes::nodes::NAME => role == codes::roles::IN_EXPRESSION,
+        codes::nodes::QUALIFIED_ITEM | codes::nodes::SELF_REFERENCE => true,
+        _ => code != 0 && scopes::is_scope_member(kind, role),
     }
-    if kind == codes::nodes::QUALIFIED_ITEM {
-        return true;
-    }
-    if kind == codes::nodes::SELF_REFERENCE {
-        return true;
-    }
-    if code != 0 {
-        return scopes::is_scope_member(kind, role);
-    }
-    false
 }
 
 // May something be found of a node? Most are literals and operators, or attributes that are not inherited too.
 fn may_find(kind: u8, role: u8, code: u32) -> bool
     ensures { result ≡ may_find kind role code }
 {
-    let used = both(
-        kind == codes::nodes::NAME,
-        role as u32 == codes::roles::IN_EXPRESSION,
-    );
-    let other = both(
-        codes::nodes::NAME < kind,
-        kind <= codes::nodes::SELF_REFERENCE,
-    );
-    let inherited = both(codes::nodes::ATTRIBUTE_NAME <= kind, code != 0);
-    either(used, either(other, inherited))
+    let used = (kind == codes::nodes::NAME) & (role as u32 == codes::roles::IN_EXPRESSION);
+    let other = (codes::nodes::NAME < kind) & (kind <= codes::nodes::SELF_REFERENCE);
+    let inherited = (codes::nodes::ATTRIBUTE_NAME <= kind) & (code != 0);
+    used | (other | inherited)
 }
 
 // The nodes from lo up to an end, without the last ones, of which nothing can be found.
@@ -54,14 +39,12 @@ fn found_before(kinds: &[u8], roles: &[u8], bound: &[u32], lo: usize, end: usize
     requires { (end ≤ length kinds.now) × (end ≤ length roles.now) }
     ensures { NoneFrom (may_find_at kinds.now roles.now bound.now) lo end result }
 {
-    let mut i = end;
-    while lo < i {
-        if may_find(kinds[i - 1], roles[i - 1], at(bound, i - 1)) {
-            return i;
+    for i in (lo..end).rev() {
+        if may_find(kinds[i], roles[i], get_or(bound, i, 0)) {
+            return i + 1;
         }
-        i -= 1;
     }
-    i
+    lo.min(end)
 }
 
 // What is inherited, or meant among the items of a schema, from its code.
@@ -99,7 +82,7 @@ fn finding_at(
     ensures { FindingAt kinds.now tokens.now sizes.now symbols.now starts.now
         keys.now nodes.now heads.now next.now items.now stamp owner schema code node result }
 {
-    let kind = at8(kinds, node);
+    let kind = get_or(kinds, node, 0);
     let inherited = decoded(code);
     let item = decoded(item_at(tokens, symbols, items, stamp, node));
     findings::nodes::node_finding(
@@ -134,12 +117,12 @@ fn bind_range(
         before bound.old to.old lo result bound.new to.new }
 {
     let mut so_far = before;
-    let reach = shorter(hi, shorter(kinds.len(), roles.len()));
+    let reach = hi.min(kinds.len().min(roles.len()));
     let mut i = found_before(kinds, roles, bound, lo, reach);
     while lo < i {
         let n = i - 1;
         i = found_before(kinds, roles, bound, lo, n);
-        let code = at(bound, n);
+        let code = get_or(bound, n, 0);
         if has_finding(kinds[n], roles[n] as u32, code) {
             let found = finding_at(
                 kinds, tokens, sizes, symbols, starts, keys, nodes, heads, next, items, stamp, hi,
@@ -169,21 +152,19 @@ pub fn bind_uses(
     first: &mut [u32],
     to: &mut [u32],
     items: &mut [u32],
-) -> Fault
+) -> Option<Fault>
     ensures { BindsUses kinds.now tokens.now sizes.now roles.now symbols.now starts.now
         keys.now nodes.now heads.now next.now
         bound.old first.old to.old items.old result bound.new first.new to.new }
 {
     let mut so_far = Progress {
         arcs: to.len(),
-        least: faults::fine(),
+        least: None,
     };
-    let mut tabled = schema_items::begin(kinds.len(), items);
-    let mut v = columns::saturating_sub(first.len(), 1);
-    while 0 < v {
-        put32(first, v, number(so_far.arcs));
-        let stamp = number(v);
-        v -= 1;
+    let mut tabled = schema_items::begin(items);
+    for v in (0..first.len().saturating_sub(1)).rev() {
+        put(first, v + 1, number(so_far.arcs));
+        let stamp = number(v + 1);
         let d = scopes::declaration(keys, nodes, v);
         tabled = turn_to(
             kinds, tokens, sizes, symbols, d.schema, stamp, tabled, items,
@@ -209,6 +190,6 @@ pub fn bind_uses(
             to,
         );
     }
-    put32(first, 0, number(so_far.arcs));
+    put(first, 0, number(so_far.arcs));
     so_far.least
 }

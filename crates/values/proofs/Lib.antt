@@ -1,1 +1,1 @@
-pub mod Connectives
+pub mod Orders

@@ -1,20 +1,12 @@
 ghost use Rattle.std.specs.Prelude.{◌≡◌};
-ghost use Prim.Native.Nat.{compare};
-ghost use Rattle.express.specs.Semantics.Relation.{by, related};
+ghost use Rattle.express.specs.Semantics.Relation.{related};
 ghost use Rattle.values.specs.Meaning.{logical_of, ordering_of, relation_of};
 
 use crate::logical::Logical;
-
-// How a first operand stands to a second.
-#[derive(Clone, Copy)]
-pub enum Order {
-    Less,
-    Same,
-    More,
-}
+use std::cmp::Ordering;
 
 // `<`, `>`, `<=`, `>=`, `<>`, `=`, `:<>:`, `:=:`
-#[derive(Clone, Copy)]
+#[derive(Clone, Copy, Debug, PartialEq, Eq)]
 pub enum Relation {
     LessThan,
     GreaterThan,
@@ -26,44 +18,19 @@ pub enum Relation {
     InstanceEqual,
 }
 
-impl Order {
-    // That of two numbers.
-    pub fn of(m: u64, n: u64) -> Order
-        ensures { ordering_of result ≡ compare m n }
+impl Relation {
+    // Whether it holds of two operands, by how the first stands to the second.
+    pub fn holds(self, order: Ordering) -> Logical
+        ensures { logical_of result ≡ related (relation_of self) (ordering_of order) }
     {
-        if m < n {
-            return Order::Less;
-        }
-        if n < m {
-            return Order::More;
-        }
-        Order::Same
-    }
-
-    // One of three logicals.
-    fn choose(self, less: Logical, same: Logical, more: Logical) -> Logical
-        ensures { logical_of result ≡ by (ordering_of self) (logical_of less) (logical_of same) (logical_of more) }
-    {
-        match self {
-            Order::Less => less,
-            Order::Same => same,
-            Order::More => more,
-        }
-    }
-
-    // Whether a relation holds of two operands in this order.
-    pub fn relate(self, relation: Relation) -> Logical
-        ensures { logical_of result ≡ related (relation_of relation) (ordering_of self) }
-    {
-        match relation {
-            Relation::LessThan => self.choose(Logical::TRUE, Logical::FALSE, Logical::FALSE),
-            Relation::GreaterThan => self.choose(Logical::FALSE, Logical::FALSE, Logical::TRUE),
-            Relation::AtMost => self.choose(Logical::TRUE, Logical::TRUE, Logical::FALSE),
-            Relation::AtLeast => self.choose(Logical::FALSE, Logical::TRUE, Logical::TRUE),
-            Relation::Unequal => self.choose(Logical::TRUE, Logical::FALSE, Logical::TRUE),
-            Relation::Equal => self.choose(Logical::FALSE, Logical::TRUE, Logical::FALSE),
-            Relation::InstanceUnequal => self.choose(Logical::TRUE, Logical::FALSE, Logical::TRUE),
-            Relation::InstanceEqual => self.choose(Logical::FALSE, Logical::TRUE, Logical::FALSE),
-        }
+        let is_met = match self {
+            Relation::LessThan => order.is_lt(),
+            Relation::GreaterThan => order.is_gt(),
+            Relation::AtMost => order.is_le(),
+            Relation::AtLeast => order.is_ge(),
+            Relation::Unequal | Relation::InstanceUnequal => order.is_ne(),
+            Relation::Equal | Relation::InstanceEqual => order.is_eq(),
+        };
+        Logical::from(is_met)
     }
 }

@@ -9,7 +9,7 @@ ghost use Rattle.parsing.specs.Outcome.{Judging, Parses};
 use expressions::expression_at;
 use layout::lay_out;
 use nesting::{end_of, first_deep, judged};
-use parsing::{Judgement, MOST, Parsed};
+use parsing::{Failure, Judgement, MOST, Parsed, Position};
 
 // One whole expression, its rows in words.
 fn whole(terminals: &[u8], rows: &mut [u64]) -> Judgement
@@ -18,7 +18,7 @@ fn whole(terminals: &[u8], rows: &mut [u64]) -> Judgement
 {
     let deep = first_deep(terminals);
     let end = end_of(deep, terminals.len());
-    let read = expression_at(&terminals[..end], rows, 0, 0);
+    let read = expression_at(&terminals[..end], rows, Position { token: 0, row: 0 });
     judged(read, deep, end)
 }
 
@@ -53,10 +53,10 @@ pub fn parse_expression(
 {
     let n = terminals.len();
     if n > MOST {
-        return Parsed::Long;
+        return Err(Failure::Long);
     }
     if scratch.len() < n {
-        return Parsed::Scratch(n);
+        return Err(Failure::Scratch(n));
     }
     parse_in(terminals, &mut scratch[..n], kinds, tokens, sizes, roles)
 }

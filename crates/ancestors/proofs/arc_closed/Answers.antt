@@ -1,39 +1,22 @@
 -- `ancestors::arc_closed` meets its contract. Assumes nothing.
-use borrow.Author.Rules.{rules}
-use native.Mathlib.Omega.{arith}
-use Rattle.ancestors.proofs.Steps.{rows_low, arc_no, arc_without, arc_as}
 use mathlib.Core.Path.{sym, ◌∙◌}
+use mathlib.Core.Bool.{false≢true}
+use Rattle.ancestors.proofs.Steps.{arc_no, arc_without, arc_as}
+use Rattle.ancestors.proofs.arc_closed.Goals.{then-has, else-has}
 use Rattle.ancestors.proofs.arc_closed.Goals as goal
 
-pub returns-then-not-has : goal.returns-then-not-has
-returns-then-not-has c = let a = c.args in
-    arc_no a.width a.rank a.other a.rows.now (sym c.has.ensures ∙ c.if-not-has.true)
+pub returns-then-has-2 : goal.returns-then-has-2
+returns-then-has-2 c = let a = c.args in
+    elim c.if-has.branch [
+      | then-has w ↦ arc_as a.width a.rank a.other a.rows.now (sym c.has.ensures ∙ w.if-has.true)
+          (sym w.has-then-has.ensures ∙ sym w.value-is ∙ c.if-has-2.true) c.contains.ensures
+      | else-has w ↦ absurd (false≢true (sym w.if-has.false ∙ sym w.value-is ∙ c.if-has-2.true))
+    ]
 
-pub overflow_mul-rank : goal.overflow_mul-rank
-overflow_mul-rank c = omega (arith, rows_low c.requires)
-
-pub overflow_mul-rank-2 : goal.overflow_mul-rank-2
-overflow_mul-rank-2 c = omega (arith, rows_low c.requires)
-
-pub overflow_add-rank : goal.overflow_add-rank
-overflow_add-rank c = omega (arith, rows_low c.requires)
-
-pub returns-then-not-has-2 : goal.returns-then-not-has-2
-returns-then-not-has-2 c = let a = c.args in
-    let h = sym c.has.ensures ∙ c.if-not-has.false in
-    arc_without a.width a.rank a.other a.rows.now h (sym c.has-2.ensures ∙ c.if-not-has-2.true)
-
-pub overflow_mul-rank-3 : goal.overflow_mul-rank-3
-overflow_mul-rank-3 c = omega (arith, rows_low c.requires)
-
-pub overflow_mul-other : goal.overflow_mul-other
-overflow_mul-other c = omega (arith, rows_low c.requires)
-
-pub contains-requires : goal.contains-requires
-contains-requires c = search (rules, rows_low c.requires)
-
-pub returns : goal.returns
-returns c = let a = c.args in
-    let h = sym c.has.ensures ∙ c.if-not-has.false in
-    let p = sym c.has-2.ensures ∙ c.if-not-has-2.false in
-    arc_as a.width a.rank a.other a.rows.now h p c.contains.ensures
+pub returns-else-has-2 : goal.returns-else-has-2
+returns-else-has-2 c = let a = c.args in
+    elim c.if-has.branch [
+      | then-has w ↦ c.if-has-2.false ∙ arc_without a.width a.rank a.other a.rows.now (sym c.has.ensures ∙ w.if-has.true)
+          (sym w.has-then-has.ensures ∙ sym w.value-is ∙ c.if-has-2.false)
+      | else-has w ↦ w.value-is ∙ w.if-has.false ∙ arc_no a.width a.rank a.other a.rows.now (sym c.has.ensures ∙ w.if-has.false)
+    ]

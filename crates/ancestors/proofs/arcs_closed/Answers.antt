@@ -9,13 +9,13 @@ loop-e-init c = closing_start
 
 pub returns-then-not-arc_closed : goal.returns-then-not-arc_closed
 returns-then-not-arc_closed c = let t = c.loop-e-test.true in
-    let w = c.index.ensures ∙ c.at.ensures in
-    closing_no c.loop-e.invariant t w c.rank_of-other.ensures.0 c.arc_closed.ensures (ap not c.if-not-arc_closed.true)
+    let w = c.index.ensures ∙ c.get_or.ensures in
+    closing_no c.loop-e.invariant t w (c.index-other.ensures ∙ c.get_or-in-loop-e.ensures) c.arc_closed.ensures (ap not c.if-not-arc_closed.true)
 
 pub loop-e-preserved : goal.loop-e-preserved
 loop-e-preserved c = let t = c.loop-e-test.true in
-    let w = c.index.ensures ∙ c.at.ensures in
-    closing_step c.loop-e.invariant t w c.rank_of-other.ensures.0 c.arc_closed.ensures (ap not c.if-not-arc_closed.false)
+    let w = c.index.ensures ∙ c.get_or.ensures in
+    closing_step c.loop-e.invariant t w (c.index-other.ensures ∙ c.get_or-in-loop-e.ensures) c.arc_closed.ensures (ap not c.if-not-arc_closed.false)
 
 pub returns : goal.returns
 returns c = closing_end c.loop-e.invariant c.loop-e-test.false

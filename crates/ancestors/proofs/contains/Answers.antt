@@ -6,11 +6,11 @@ use Rattle.ancestors.proofs.contains.Goals as goal
 pub loop-k-init : goal.loop-k-init
 loop-k-init c = containing_start
 
-pub returns-then-word-at : goal.returns-then-word-at
-returns-then-word-at c = containing_no c.loop-k.invariant (omega arith) c.at-word.ensures c.at.ensures c.if-word-at.true
+pub returns-then-word-get_or : goal.returns-then-word-get_or
+returns-then-word-get_or c = containing_no c.loop-k.invariant (omega arith) c.get_or-word.ensures c.get_or.ensures c.if-word-get_or.true
 
 pub loop-k-preserved : goal.loop-k-preserved
-loop-k-preserved c = containing_step c.loop-k.invariant (omega arith) c.at-word.ensures c.at.ensures c.if-word-at.false
+loop-k-preserved c = containing_step c.loop-k.invariant (omega arith) c.get_or-word.ensures c.get_or.ensures c.if-word-get_or.false
 
 pub returns : goal.returns
 returns c = containing_end c.loop-k.invariant (omega arith)

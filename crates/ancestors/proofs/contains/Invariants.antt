@@ -3,6 +3,3 @@ use Rattle.ancestors.proofs.contains.Given as goal
 
 abbrev pub invariant-loop-k : goal.invariant-loop-k
 invariant-loop-k l = Containing l.rows l.into l.from l.width l.k
-
-abbrev pub decreases-loop-k : goal.decreases-loop-k
-decreases-loop-k l = l.k

@@ -8,8 +8,8 @@ loop-e-init c = joining_start
 
 pub loop-e-preserved : goal.loop-e-preserved
 loop-e-preserved c = joining_step c.loop-e.invariant c.loop-e-test.true c.join_arc.auto.rows
-    (c.index.ensures ∙ c.at.ensures)
-    c.rank_of-other.ensures.0 c.join_arc.ensures
+    (c.index.ensures ∙ c.get_or.ensures)
+    (c.index-other.ensures ∙ c.get_or-in-loop-e.ensures) c.join_arc.ensures
 
 pub shape_of-rows : goal.shape_of-rows
 shape_of-rows c = c.loop-e.invariant.long

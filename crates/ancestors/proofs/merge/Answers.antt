@@ -7,7 +7,7 @@ loop-k-init c = merging_start
 
 pub loop-k-preserved : goal.loop-k-preserved
 loop-k-preserved c = let t = c.loop-k-test.true in
-    merging_step c.loop-k.invariant t c.put32.auto.column c.at.ensures c.at-in-loop-k.ensures c.put32.ensures
+    merging_step c.loop-k.invariant t c.put.auto.column c.get_or.ensures c.get_or-in-loop-k.ensures c.put.ensures
 
 pub shape_of-rows : goal.shape_of-rows
 shape_of-rows c = c.loop-k.invariant.long

@@ -6,5 +6,5 @@ pub returns-then-width-gt-WIDEST : goal.returns-then-width-gt-WIDEST
 returns-then-width-gt-WIDEST c = relates_not c.if-width-gt-WIDEST.true
 
 pub returns : goal.returns
-returns c = relates c.if-width-gt-WIDEST.false c.clear32.ensures
+returns c = relates c.if-width-gt-WIDEST.false c.clear.ensures
     c.join_vertices.ensures c.vertices_closed.ensures

@@ -8,7 +8,7 @@ pub loop-link-init : goal.loop-link-init
 loop-link-init c = walking_starts (omega (arith, c.ranges.head)) c.index-link.ensures
 
 pub loop-link-preserved : goal.loop-link-preserved
-loop-link-preserved c = walking_goes c.loop-link.invariant c.loop-link-test.true c.shorter-offset.ensures (c.index-pair.ensures ∙ c.at.ensures) (bit_chosen c.loop-link.code c.has.ensures c.at-in-loop-link.ensures c.more-counted.ensures c.chosen-code.ensures) c.shorter-link.ensures
+loop-link-preserved c = walking_goes c.loop-link.invariant c.loop-link-test.true c.min-offset.ensures (c.index-pair.ensures ∙ c.get_or.ensures) (bit_chosen c.loop-link.code c.has.ensures c.get_or-in-loop-link.ensures c.more-counted.ensures c.chosen-code.ensures) c.min-link.ensures
 
 pub returns : goal.returns
 returns c = walking_ends c.loop-link.invariant c.loop-link-test.false

@@ -3,6 +3,3 @@ use Rattle.attributes.proofs.back.Given as goal
 
 abbrev pub invariant-loop-e : goal.invariant-loop-e
 invariant-loop-e l = Backing l.entry_nodes l.low l.hi l.from l.e
-
-abbrev pub decreases-loop-e : goal.decreases-loop-e
-decreases-loop-e l = l.e

@@ -2,7 +2,4 @@ use Rattle.attributes.proofs.Collecting.{Adding}
 use Rattle.attributes.proofs.collect_entries.Given as goal
 
 abbrev pub invariant-loop-e : goal.invariant-loop-e
-invariant-loop-e l = Adding l.kinds l.entry_keys l.entry_nodes l.lo l.hi l.stamp l.initial.table l.table l.e
-
-abbrev pub decreases-loop-e : goal.decreases-loop-e
-decreases-loop-e l = l.e
+invariant-loop-e l = Adding l.entries.kinds.now l.entries.keys.now l.entries.nodes.now l.lo l.hi l.stamp l.initial.table l.table l.e

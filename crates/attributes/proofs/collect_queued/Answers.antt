@@ -7,8 +7,8 @@ pub loop-k-init : goal.loop-k-init
 loop-k-init c = collecting_starts
 
 pub loop-k-preserved : goal.loop-k-preserved
-loop-k-preserved c = collecting_goes c.loop-k.invariant c.loop-k-test.true c.saturating_sub-base.ensures (c.index.ensures ∙ c.at.ensures) (c.index-lo.ensures ∙ c.at-in-loop-k.ensures)
-    (c.index-hi.ensures ∙ c.at-in-loop-k-2.ensures) c.collect_entries.ensures
+loop-k-preserved c = collecting_goes c.loop-k.invariant c.loop-k-test.true c.saturating_sub-base.ensures (c.index.ensures ∙ c.get_or.ensures) (c.index-lo.ensures ∙ c.get_or-in-loop-k.ensures)
+    (c.index-hi.ensures ∙ c.get_or-in-loop-k-2.ensures) c.collect_entries.ensures
     c.collect_entries.auto.table
 
 pub shape_of-table : goal.shape_of-table

@@ -7,4 +7,4 @@ use Rattle.bit_rows.proofs.has.Goals as goal
 
 pub returns : goal.returns
 unfolding bit
-returns c = ap (λ (w : ℕ). eqb (w / 2 ^ (c.args.i % 32) % 2) 1) c.at.ensures
+returns c = ap (λ (w : ℕ). eqb (w / 2 ^ (c.args.i % 32) % 2) 1) c.get_or.ensures

@@ -6,7 +6,7 @@ use Rattle.bit_rows.proofs.set.Goals as goal
 
 pub returns : goal.returns
 unfolding with_bit
-returns c = c.put32.ensures ∙ rw (
+returns c = c.put.ensures ∙ rw (
   shifted c.args.i,
-  c.at.ensures,
+  c.get_or.ensures,
 )

@@ -1,5 +1,5 @@
-use Rattle.bits.proofs.Strings.{none_high}
+use Rattle.bits.proofs.Strings.{shifted_or}
 use Rattle.bits.proofs.high.Goals as goal
 
-pub returns-then-k-ge-WORD : goal.returns-then-k-ge-WORD
-returns-then-k-ge-WORD c = search none_high
+pub returns : goal.returns
+returns c = shifted_or c.args.n c.args.k _ c.ranges.n c.checked_shr.ensures c.unwrap_or.ensures

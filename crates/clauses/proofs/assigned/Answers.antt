@@ -1,107 +1,80 @@
 -- By its rule in Clauses, which takes each step's answer.
-use native.Mathlib.Omega.{arith}
-use Rattle.parsing.proofs.Laws.{ready_of, token_small}
+use Rattle.parsing.proofs.Laws.{handed_on}
 use Rattle.parsing.proofs.Steps.{expect_ready}
-use Rattle.clauses.proofs.Laws.{sound_ready, assigned_small}
+use Rattle.clauses.proofs.Laws.{sound_ready}
 use Rattle.clauses.proofs.Clauses.{assigned_name, assigned_colon, assigned_type, assigned_becomes, assigned_value, assigned_reads}
 use Rattle.clauses.proofs.assigned.Goals as goal
 
-pub returns-in_default : goal.returns-in_default
-returns-in_default c = assigned_name c.requires.0 c.args.label
-    c.requires.1 c.expect-name.ensures c.in_default.is
+pub returns-in_err-name : goal.returns-in_err-name
+returns-in_err-name c = rw (handed_on c.from_residual.ensures.1 c.in_err-name.was) (assigned_name c.requires.0 c.args.label
+    c.requires.1 c.expect.ensures c.in_err-name.was)
 
-pub returns-in_default-colon : goal.returns-in_default-colon
-returns-in_default-colon c = assigned_colon c.requires.0
+pub returns-in_err-colon : goal.returns-in_err-colon
+returns-in_err-colon c = rw (handed_on c.from_residual-in_err-colon.ensures.1 c.in_err-colon.was) (assigned_colon c.requires.0
     c.args.label c.requires.1
-    c.expect-name.ensures c.in-At.is c.expect-colon.ensures
-    c.in_default-colon.is
+    c.expect.ensures c.in_ok-name.was c.expect-2.ensures
+    c.in_err-colon.was)
 
-pub base-kind-requires : goal.base-kind-requires
-base-kind-requires c = (
-  expect_ready c.expect-colon.ensures (expect_ready
-      c.expect-name.ensures
-      c.requires.0 c.in-At.is)
-      c.in-At-colon.is,
-  omega arith,
-)
-
-pub returns-in_default-kind : goal.returns-in_default-kind
-returns-in_default-kind c = let g = expect_ready c.expect-colon.ensures (expect_ready
-    c.expect-name.ensures
+pub returns-in_err-kind : goal.returns-in_err-kind
+returns-in_err-kind c = rw (handed_on c.from_residual-in_err-kind.ensures.1 c.in_err-kind.was) (let g = expect_ready c.expect-2.ensures (expect_ready
+    c.expect.ensures
     c.requires.0
-    c.in-At.is)
-    c.in-At-colon.is in
+    c.in_ok-name.was)
+    c.in_ok-colon.was in
     assigned_type c.requires.0
     c.args.label
     c.requires.1
-    c.expect-name.ensures
-    c.in-At.is
-    c.expect-colon.ensures
-    c.in-At-colon.is g c.base-kind.ensures c.in_default-kind.is
+    c.expect.ensures
+    c.in_ok-name.was
+    c.expect-2.ensures
+    c.in_ok-colon.was g c.base.ensures c.in_err-kind.was)
 
-pub returns-in_default-becomes : goal.returns-in_default-becomes
-returns-in_default-becomes c = let g = expect_ready c.expect-colon.ensures (expect_ready
-    c.expect-name.ensures
-    c.requires.0 c.in-At.is)
-    c.in-At-colon.is in
-    assigned_becomes c.requires.0 c.args.label c.requires.1 c.expect-name.ensures c.in-At.is
-    c.expect-colon.ensures
-    c.in-At-colon.is g
-    c.base-kind.ensures
-    c.in-At-kind.is c.expect-becomes.ensures c.in_default-becomes.is
+pub returns-in_err-becomes : goal.returns-in_err-becomes
+returns-in_err-becomes c = rw (handed_on c.from_residual-in_err-becomes.ensures.1 c.in_err-becomes.was) (let g = expect_ready c.expect-2.ensures (expect_ready
+    c.expect.ensures
+    c.requires.0 c.in_ok-name.was)
+    c.in_ok-colon.was in
+    assigned_becomes c.requires.0 c.args.label c.requires.1 c.expect.ensures c.in_ok-name.was
+    c.expect-2.ensures
+    c.in_ok-colon.was g
+    c.base.ensures
+    c.in_ok-kind.was c.expect-3.ensures c.in_err-becomes.was)
 
-pub returns-in_default-given : goal.returns-in_default-given
-returns-in_default-given c = let g = expect_ready c.expect-colon.ensures (expect_ready c.expect-name.ensures
-    c.requires.0 c.in-At.is)
-    c.in-At-colon.is in
-    let h = expect_ready c.expect-becomes.ensures (sound_ready
-    c.base-kind.result
-    c.base-kind.ensures.sound
-    c.in-At-kind.is)
-    c.in-At-becomes.is in
+pub returns-in_err-given : goal.returns-in_err-given
+returns-in_err-given c = rw (handed_on c.from_residual-in_err-given.ensures.1 c.in_err-given.was) (let g = expect_ready c.expect-2.ensures (expect_ready c.expect.ensures
+    c.requires.0 c.in_ok-name.was)
+    c.in_ok-colon.was in
+    let h = expect_ready c.expect-3.ensures (sound_ready
+    c.base.result
+    c.base.ensures.sound
+    c.in_ok-kind.was)
+    c.in_ok-becomes.was in
     assigned_value c.requires.0
     c.args.label
-    c.requires.1 c.expect-name.ensures
-    c.in-At.is c.expect-colon.ensures c.in-At-colon.is g c.base-kind.ensures
-    c.in-At-kind.is
-    c.expect-becomes.ensures
-    c.in-At-becomes.is (c.expression_at-given.ensures.reads h)
-    c.in_default-given.is
-
-pub closed-requires : goal.closed-requires
-closed-requires c = let h = expect_ready c.expect-becomes.ensures (sound_ready
-    c.base-kind.result
-    c.base-kind.ensures.sound
-    c.in-At-kind.is)
-    c.in-At-becomes.is in (
-      ready_of h (c.expression_at-given.ensures.reads h).ahead c.in-At-given.is,
-      assigned_small
-          c.args.label
-          c.requires.1,
-      omega (
-        arith,
-        token_small
-            c.requires.0,
-      ),
-    )
+    c.requires.1 c.expect.ensures
+    c.in_ok-name.was c.expect-2.ensures c.in_ok-colon.was g c.base.ensures
+    c.in_ok-kind.was
+    c.expect-3.ensures
+    c.in_ok-becomes.was (c.expression_at.ensures.reads h)
+    c.in_err-given.was)
 
 pub returns : goal.returns
-returns c = let g = expect_ready c.expect-colon.ensures (expect_ready
-    c.expect-name.ensures
+returns c = let g = expect_ready c.expect-2.ensures (expect_ready
+    c.expect.ensures
     c.requires.0
-    c.in-At.is)
-    c.in-At-colon.is in
-    let h = expect_ready c.expect-becomes.ensures (sound_ready
-    c.base-kind.result c.base-kind.ensures.sound c.in-At-kind.is) c.in-At-becomes.is in
+    c.in_ok-name.was)
+    c.in_ok-colon.was in
+    let h = expect_ready c.expect-3.ensures (sound_ready
+    c.base.result c.base.ensures.sound c.in_ok-kind.was) c.in_ok-becomes.was in
     assigned_reads c.requires.0
     c.args.label
     c.requires.1
-    c.expect-name.ensures
-    c.in-At.is
-    c.expect-colon.ensures c.in-At-colon.is g
-    c.base-kind.ensures
-    c.in-At-kind.is
-    c.expect-becomes.ensures
-    c.in-At-becomes.is
-    (c.expression_at-given.ensures.reads h) c.in-At-given.is
+    c.expect.ensures
+    c.in_ok-name.was
+    c.expect-2.ensures c.in_ok-colon.was g
+    c.base.ensures
+    c.in_ok-kind.was
+    c.expect-3.ensures
+    c.in_ok-becomes.was
+    (c.expression_at.ensures.reads h) c.in_ok-given.was
     c.closed.ensures

@@ -1,53 +1,39 @@
 -- By its rule in Clauses, which takes each step's answer.
-use mathlib.Core.Logic.{inl}
-use mathlib.Core.Path.{refl}
-use native.Mathlib.Omega.{arith}
 use Rattle.parsing.proofs.Terminals.{seen_one, seen_other}
-use Rattle.parsing.proofs.Laws.{token_small}
-use Rattle.parsing.proofs.Steps.{onward, one_inside}
+use Rattle.parsing.proofs.Laws.{handed_on}
 use Rattle.clauses.proofs.Laws.{opt_absent, opt_reads}
 use Rattle.clauses.proofs.Clauses.{constants_list, constants_end, constants_reads}
 use Rattle.clauses.proofs.constants.Goals as goal
 
-pub returns-then-token-ne-CONSTANT : goal.returns-then-token-ne-CONSTANT
-returns-then-token-ne-CONSTANT c = opt_absent c.requires (seen_other c.args.terminals.now
-    c.args.p 53 c.token.ensures c.if-token-ne-CONSTANT.true)
+pub returns-then-get_or-ne-CONSTANT : goal.returns-then-get_or-ne-CONSTANT
+returns-then-get_or-ne-CONSTANT c = opt_absent c.requires (seen_other c.args.terminals.now
+    c.args.from.token 53 c.get_or.ensures c.if-get_or-ne-CONSTANT.true)
 
-pub overflow_add-p : goal.overflow_add-p
-overflow_add-p c = omega (arith, token_small c.requires)
-
-pub assignments-list-requires : goal.assignments-list-requires
-assignments-list-requires c = (
-  onward c.requires (one_inside c.args.terminals.now
-      c.args.p c.token.result 53 c.token.ensures c.if-token-ne-CONSTANT.false (omega arith)),
-  inl refl,
-)
-
-pub returns-in_default : goal.returns-in_default
-returns-in_default c = let t = seen_one c.args.terminals.now
-    c.args.p 53
-    c.token.ensures c.if-token-ne-CONSTANT.false in
+pub returns-in_err-list : goal.returns-in_err-list
+returns-in_err-list c = rw (handed_on c.from_residual.ensures.1 c.in_err-list.was) (let t = seen_one c.args.terminals.now
+    c.args.from.token 53
+    c.get_or.ensures c.if-get_or-ne-CONSTANT.false in
     opt_reads c.requires t (constants_list
-    c.requires t c.assignments-list.ensures
-    c.in_default.is)
+    c.requires t c.assignments.ensures
+    c.in_err-list.was))
 
-pub returns-in_default-end : goal.returns-in_default-end
-returns-in_default-end c = let t = seen_one c.args.terminals.now
-    c.args.p 53
-    c.token.ensures
-    c.if-token-ne-CONSTANT.false in
+pub returns-in_err-end : goal.returns-in_err-end
+returns-in_err-end c = rw (handed_on c.from_residual-in_err-end.ensures.1 c.in_err-end.was) (let t = seen_one c.args.terminals.now
+    c.args.from.token 53
+    c.get_or.ensures
+    c.if-get_or-ne-CONSTANT.false in
     opt_reads c.requires t (constants_end
     c.requires t
-    c.assignments-list.ensures c.in-At.is
-    c.expect-end.ensures c.in_default-end.is)
+    c.assignments.ensures c.in_ok-list.was
+    c.expect.ensures c.in_err-end.was))
 
 pub returns : goal.returns
 returns c = let t = seen_one c.args.terminals.now
-    c.args.p 53
-    c.token.ensures
-    c.if-token-ne-CONSTANT.false in
+    c.args.from.token 53
+    c.get_or.ensures
+    c.if-get_or-ne-CONSTANT.false in
     opt_reads c.requires t (constants_reads
     c.requires t
-    c.assignments-list.ensures
-    c.in-At.is c.expect-end.ensures c.in-At-end.is
-    c.expect.ensures)
+    c.assignments.ensures
+    c.in_ok-list.was c.expect.ensures c.in_ok-end.was
+    c.expect-2.ensures)

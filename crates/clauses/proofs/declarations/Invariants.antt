@@ -1,15 +1,14 @@
 use Prim.Native.Nat.{◌-◌}
 use mathlib.Core.Path.{◌≡◌}
 use lib.ListN.{length}
-use Rattle.parsing.specs.declared.Read.TheVariants.{At}
-use Rattle.parsing.specs.Reading.{Ready}
+use Rattle.parsing.specs.Reading.{At, Ready}
 use Rattle.ebnf.specs.Grammar.{nt}
 use Rattle.express.specs.Syntax.Grammar.{type_declaration as type_declaration', entity as entity', ◌∣◌}
 use Rattle.clauses.proofs.Laws.{Loops}
 use Rattle.clauses.proofs.declarations.Given as goal
 
 abbrev pub invariant-loop-rows : goal.invariant-loop-rows
-invariant-loop-rows l = (length l.rows ≡ length l.initial.rows) × Ready l.terminals l.q l.m × Loops (nt type_declaration' ∣ nt entity') l.terminals l.p l.n (At l.q l.m) l.initial.rows l.rows
+invariant-loop-rows l = (length l.rows ≡ length l.initial.rows) × Ready l.terminals l.at.token l.at.row × Loops (nt type_declaration' ∣ nt entity') l.terminals l.initial.at.token l.initial.at.row (At l.at.token l.at.row) l.initial.rows l.rows
 
 abbrev pub decreases-loop-rows : goal.decreases-loop-rows
-decreases-loop-rows l = length l.terminals - l.q
+decreases-loop-rows l = length l.terminals - l.at.token

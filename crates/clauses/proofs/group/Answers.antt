@@ -1,24 +1,13 @@
-use native.Mathlib.Omega.{arith}
-use Rattle.clauses.proofs.Laws.{sound_ready, groups_refused, groups_closed}
+use Rattle.clauses.proofs.Laws.{groups_refused, groups_closed}
+use Rattle.parsing.proofs.Laws.{handed_on}
 use Rattle.clauses.proofs.group.Goals as goal
 
-pub base-kind-requires : goal.base-kind-requires
-base-kind-requires c = (c.requires.0, omega arith)
-
-pub returns-in_default : goal.returns-in_default
-returns-in_default c = groups_refused c.args.first
-    c.requires.0 c.base-kind.ensures c.in_default.is
-
-pub closed-requires : goal.closed-requires
-closed-requires c = (
-  sound_ready c.base-kind.result c.base-kind.ensures.sound
-      c.in-At.is,
-  c.requires.1,
-  c.requires.2,
-)
+pub returns-in_err-kind : goal.returns-in_err-kind
+returns-in_err-kind c = rw (handed_on c.from_residual.ensures.1 c.in_err-kind.was) (groups_refused c.args.first
+    c.requires.0 c.base.ensures c.in_err-kind.was)
 
 pub returns : goal.returns
 returns c = groups_closed c.args.first
     c.requires.0
-    c.base-kind.ensures c.in-At.is
+    c.base.ensures c.in_ok-kind.was
     c.closed.ensures

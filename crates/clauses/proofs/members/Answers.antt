@@ -1,24 +1,17 @@
-use Rattle.clauses.proofs.Laws.{sound_ready, list_refused, list_then}
+use Rattle.clauses.proofs.Laws.{list_refused, list_then}
+use Rattle.parsing.proofs.Laws.{handed_on}
 use Rattle.clauses.proofs.members.Goals as goal
 
-pub returns-in_default : goal.returns-in_default
-returns-in_default c = list_refused c.groups-grouped.ensures.goes c.in_default.is
+pub returns-in_err-grouped : goal.returns-in_err-grouped
+returns-in_err-grouped c = rw (handed_on c.from_residual.ensures.1 c.in_err-grouped.was) (list_refused c.groups.ensures.goes c.in_err-grouped.was)
 
-pub derivations-values-requires : goal.derivations-values-requires
-derivations-values-requires c = sound_ready c.groups-grouped.result
-    c.groups-grouped.ensures.sound c.in-At.is
-
-pub returns-in_default-values : goal.returns-in_default-values
-returns-in_default-values c = list_then c.groups-grouped.ensures.goes
-    c.in-At.is (list_refused c.derivations-values.ensures.goes
-    c.in_default-values.is)
-
-pub rules-requires : goal.rules-requires
-rules-requires c = sound_ready c.derivations-values.result
-    c.derivations-values.ensures.sound c.in-At-values.is
+pub returns-in_err-values : goal.returns-in_err-values
+returns-in_err-values c = rw (handed_on c.from_residual-in_err-values.ensures.1 c.in_err-values.was) (list_then c.groups.ensures.goes
+    c.in_ok-grouped.was (list_refused c.derivations.ensures.goes
+    c.in_err-values.was))
 
 pub returns : goal.returns
-returns c = list_then c.groups-grouped.ensures.goes
-    c.in-At.is (list_then
-    c.derivations-values.ensures.goes c.in-At-values.is
+returns c = list_then c.groups.ensures.goes
+    c.in_ok-grouped.was (list_then
+    c.derivations.ensures.goes c.in_ok-values.was
     c.rules.ensures)

@@ -1,33 +1,15 @@
 -- By its rule in Clauses, which takes each step's answer.
-use native.Mathlib.Omega.{arith}
-use Rattle.parsing.proofs.Laws.{ready_of, token_small}
+use Rattle.parsing.proofs.Laws.{handed_on}
 use Rattle.clauses.proofs.Clauses.{label_ready, labelled_refused, labelled_reads, plain_refused, plain_reads}
 use Rattle.clauses.proofs.rule.Goals as goal
 
-pub is_labelled-requires : goal.is_labelled-requires
-is_labelled-requires c = token_small c.requires
-
-pub overflow_add-p : goal.overflow_add-p
-overflow_add-p c = omega (arith, token_small c.requires)
-
-pub returns-in_default : goal.returns-in_default
-returns-in_default c = let g = label_ready c.requires
+pub returns-in_err-named : goal.returns-in_err-named
+returns-in_err-named c = rw (handed_on c.from_residual.ensures.1 c.in_err-named.was) (let g = label_ready c.requires
     c.is_labelled.result c.is_labelled.ensures
     c.if-is_labelled.true in
     labelled_refused c.requires
     c.is_labelled.result c.is_labelled.ensures
-    c.if-is_labelled.true (c.expression_at-named.ensures.reads g) c.in_default.is
-
-pub closed-requires : goal.closed-requires
-closed-requires c = let g = label_ready c.requires
-    c.is_labelled.result
-    c.is_labelled.ensures
-    c.if-is_labelled.true in (
-      ready_of g (c.expression_at-named.ensures.reads g).ahead c.in-At.is,
-      omega arith,
-      omega
-          (arith, token_small c.requires),
-    )
+    c.if-is_labelled.true (c.expression_at.ensures.reads g) c.in_err-named.was)
 
 pub returns-then-is_labelled : goal.returns-then-is_labelled
 returns-then-is_labelled c = let g = label_ready c.requires
@@ -38,30 +20,20 @@ returns-then-is_labelled c = let g = label_ready c.requires
     c.is_labelled.result
     c.is_labelled.ensures
     c.if-is_labelled.true
-    (c.expression_at-named.ensures.reads g) c.in-At.is
+    (c.expression_at.ensures.reads g) c.in_ok-named.was
     c.closed.ensures
 
-pub returns-in_default-plain : goal.returns-in_default-plain
-returns-in_default-plain c = plain_refused c.requires
+pub returns-in_err-plain : goal.returns-in_err-plain
+returns-in_err-plain c = rw (handed_on c.from_residual-in_err-plain.ensures.1 c.in_err-plain.was) (plain_refused c.requires
     c.is_labelled.result c.is_labelled.ensures
-    c.if-is_labelled.false (c.expression_at-plain.ensures.reads
-    c.requires) c.in_default-plain.is
-
-pub closed-requires-2 : goal.closed-requires-2
-closed-requires-2 c = (
-  ready_of c.requires
-      (c.expression_at-plain.ensures.reads
-      c.requires).ahead c.in-At-plain.is,
-  omega arith,
-  omega
-      (arith, token_small c.requires),
-)
+    c.if-is_labelled.false (c.expression_at-2.ensures.reads
+    c.requires) c.in_err-plain.was)
 
 pub returns : goal.returns
 returns c = plain_reads c.requires
     c.is_labelled.result
     c.is_labelled.ensures
     c.if-is_labelled.false
-    (c.expression_at-plain.ensures.reads
+    (c.expression_at-2.ensures.reads
     c.requires)
-    c.in-At-plain.is c.closed-2.ensures
+    c.in_ok-plain.was c.closed-2.ensures

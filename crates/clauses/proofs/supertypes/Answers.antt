@@ -1,38 +1,24 @@
 -- By its rule in Clauses, which takes each step's answer.
-use native.Mathlib.Omega.{arith}
 use Rattle.parsing.proofs.Terminals.{seen_one, seen_other}
-use Rattle.parsing.proofs.Laws.{token_small}
-use Rattle.parsing.proofs.Steps.{onward, one_inside, expect_ready}
+use Rattle.parsing.proofs.Laws.{handed_on}
 use Rattle.clauses.proofs.Laws.{refused_sound, opt_absent, opt_present}
 use Rattle.clauses.proofs.Clauses.{supertypes_stopped, supertypes_go}
 use Rattle.clauses.proofs.supertypes.Goals as goal
 
-pub returns-then-token : goal.returns-then-token
-returns-then-token c = opt_absent c.requires (seen_other c.args.terminals.now
-    c.args.p 134 c.token.ensures c.if-token.true)
+pub returns-then-get_or : goal.returns-then-get_or
+returns-then-get_or c = opt_absent c.requires (seen_other c.args.terminals.now
+    c.args.from.token 134 c.get_or.ensures c.if-get_or.true)
 
-pub overflow_add-p : goal.overflow_add-p
-overflow_add-p c = omega (arith, token_small c.requires)
-
-pub returns-in_default : goal.returns-in_default
-returns-in_default c = let t = seen_one c.args.terminals.now c.args.p 134
-    c.token.ensures c.if-token.false in
-    opt_present t (refused_sound c.args.terminals.now c.expect-of.result c.in_default.is)
-    (supertypes_stopped t c.expect-of.ensures c.in_default.is)
-
-pub ids-requires : goal.ids-requires
-ids-requires c = let l = one_inside c.args.terminals.now
-    c.args.p c.token.result 134
-    c.token.ensures c.if-token.false (omega arith) in (
-      expect_ready c.expect-of.ensures (onward c.requires l)
-          c.in-At.is,
-      omega arith,
-    )
+pub returns-in_err-of : goal.returns-in_err-of
+returns-in_err-of c = rw (handed_on c.from_residual.ensures.1 c.in_err-of.was) (let t = seen_one c.args.terminals.now c.args.from.token 134
+    c.get_or.ensures c.if-get_or.false in
+    opt_present t (refused_sound c.args.terminals.now c.expect.result c.in_err-of.was)
+    (supertypes_stopped t c.expect.ensures c.in_err-of.was))
 
 pub returns : goal.returns
 returns c = let t = seen_one c.args.terminals.now
-    c.args.p 134
-    c.token.ensures
-    c.if-token.false in
-    opt_present t c.ids.ensures.sound (supertypes_go t c.expect-of.ensures
-    c.in-At.is c.ids.ensures)
+    c.args.from.token 134
+    c.get_or.ensures
+    c.if-get_or.false in
+    opt_present t c.ids.ensures.sound (supertypes_go t c.expect.ensures
+    c.in_ok-of.was c.ids.ensures)

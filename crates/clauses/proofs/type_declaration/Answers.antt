@@ -1,99 +1,55 @@
 -- By its rule in Clauses, which takes each step's answer.
-use native.Mathlib.Omega.{arith}
-use Rattle.parsing.proofs.Laws.{ready_of, token_small}
-use Rattle.parsing.proofs.Steps.{expect_ready}
-use Rattle.clauses.proofs.Laws.{sound_ready}
+use Rattle.parsing.proofs.Laws.{handed_on}
 use Rattle.clauses.proofs.Clauses.{type_1, type_2, type_3, type_4, type_5, type_6, type_reads}
-use mathlib.Core.Path.{◌∙◌}
 use Rattle.clauses.proofs.type_declaration.Goals as goal
 
-pub head-name-requires : goal.head-name-requires
-head-name-requires c = (c.requires, omega arith)
+pub returns-in_err-name : goal.returns-in_err-name
+returns-in_err-name c = rw (handed_on c.from_residual.ensures.1 c.in_err-name.was) (type_1 c.requires c.head.ensures c.in_err-name.was)
 
-pub returns-in_default : goal.returns-in_default
-returns-in_default c = type_1 c.requires c.head-name.ensures c.in_default.is
+pub returns-in_err-equal : goal.returns-in_err-equal
+returns-in_err-equal c = rw (handed_on c.from_residual-in_err-equal.ensures.1 c.in_err-equal.was) (type_2 c.requires c.head.ensures
+    c.in_ok-name.was c.expect.ensures c.in_err-equal.was)
 
-pub returns-in_default-equal : goal.returns-in_default-equal
-returns-in_default-equal c = type_2 c.requires c.head-name.ensures
-    c.in-At.is c.expect-equal.ensures c.in_default-equal.is
+pub returns-in_err-under : goal.returns-in_err-under
+returns-in_err-under c = rw (handed_on c.from_residual-in_err-under.ensures.1 c.in_err-under.was) (type_3 c.requires
+    c.head.ensures
+    c.in_ok-name.was
+    c.expect.ensures c.in_ok-equal.was
+    c.underlying.ensures c.in_err-under.was)
 
-pub underlying-under-requires : goal.underlying-under-requires
-underlying-under-requires c = expect_ready c.expect-equal.ensures (sound_ready
-    c.head-name.result c.head-name.ensures.sound
-    c.in-At.is) c.in-At-equal.is
+pub returns-in_err-semicolon : goal.returns-in_err-semicolon
+returns-in_err-semicolon c = rw (handed_on c.from_residual-in_err-semicolon.ensures.1 c.in_err-semicolon.was) (type_4 c.requires c.head.ensures
+    c.in_ok-name.was
+    c.expect.ensures
+    c.in_ok-equal.was
+    c.underlying.ensures c.in_ok-under.was
+    c.expect-2.ensures c.in_err-semicolon.was)
 
-pub returns-in_default-under : goal.returns-in_default-under
-returns-in_default-under c = type_3 c.requires
-    c.head-name.ensures
-    c.in-At.is
-    c.expect-equal.ensures c.in-At-equal.is
-    c.underlying-under.ensures c.in_default-under.is
+pub returns-in_err-ruled : goal.returns-in_err-ruled
+returns-in_err-ruled c = rw (handed_on c.from_residual-in_err-ruled.ensures.1 c.in_err-ruled.was) (type_5 c.requires
+    c.head.ensures c.in_ok-name.was
+    c.expect.ensures c.in_ok-equal.was c.underlying.ensures
+    c.in_ok-under.was
+    c.expect-2.ensures
+    c.in_ok-semicolon.was c.rules.ensures c.in_err-ruled.was)
 
-pub returns-in_default-semicolon : goal.returns-in_default-semicolon
-returns-in_default-semicolon c = type_4 c.requires c.head-name.ensures
-    c.in-At.is
-    c.expect-equal.ensures
-    c.in-At-equal.is
-    c.underlying-under.ensures c.in-At-under.is
-    c.expect-semicolon.ensures c.in_default-semicolon.is
-
-pub rules-ruled-requires : goal.rules-ruled-requires
-rules-ruled-requires c = let g = expect_ready c.expect-equal.ensures (sound_ready
-    c.head-name.result
-    c.head-name.ensures.sound c.in-At.is)
-    c.in-At-equal.is in
-    expect_ready c.expect-semicolon.ensures (ready_of g
-    c.underlying-under.ensures.ahead
-    c.in-At-under.is) c.in-At-semicolon.is
-
-pub returns-in_default-ruled : goal.returns-in_default-ruled
-returns-in_default-ruled c = type_5 c.requires
-    c.head-name.ensures c.in-At.is
-    c.expect-equal.ensures c.in-At-equal.is c.underlying-under.ensures
-    c.in-At-under.is
-    c.expect-semicolon.ensures
-    c.in-At-semicolon.is c.rules-ruled.ensures c.in_default-ruled.is
-
-pub returns-in_default-end : goal.returns-in_default-end
-returns-in_default-end c = type_6 c.requires
-    c.head-name.ensures
-    c.in-At.is c.expect-equal.ensures
-    c.in-At-equal.is c.underlying-under.ensures c.in-At-under.is c.expect-semicolon.ensures
-    c.in-At-semicolon.is
-    c.rules-ruled.ensures c.in-At-ruled.is
-    c.expect-end.ensures c.in_default-end.is
-
-pub overflow_add-p : goal.overflow_add-p
-overflow_add-p c = omega (
-  arith,
-  token_small c.requires,
-)
-
-pub closed-requires : goal.closed-requires
-closed-requires c = (
-  expect_ready c.expect-end.ensures (sound_ready
-      c.rules-ruled.result
-      c.rules-ruled.ensures.sound
-      c.in-At-ruled.is) c.in-At-end.is,
-  omega arith,
-  omega (
-    arith,
-    token_small
-        c.requires,
-  ),
-)
-
-pub shape_of-rows : goal.shape_of-rows
-shape_of-rows c = c.closed.auto.rows ∙ (c.rules-ruled.auto.rows ∙ c.underlying-under.auto.rows)
+pub returns-in_err-end : goal.returns-in_err-end
+returns-in_err-end c = rw (handed_on c.from_residual-in_err-end.ensures.1 c.in_err-end.was) (type_6 c.requires
+    c.head.ensures
+    c.in_ok-name.was c.expect.ensures
+    c.in_ok-equal.was c.underlying.ensures c.in_ok-under.was c.expect-2.ensures
+    c.in_ok-semicolon.was
+    c.rules.ensures c.in_ok-ruled.was
+    c.expect-3.ensures c.in_err-end.was)
 
 pub returns : goal.returns
 returns c = type_reads c.requires
-    c.head-name.ensures
-    c.in-At.is
-    c.expect-equal.ensures
-    c.in-At-equal.is
-    c.underlying-under.ensures c.in-At-under.is c.expect-semicolon.ensures
-    c.in-At-semicolon.is
-    c.rules-ruled.ensures
-    c.in-At-ruled.is c.expect-end.ensures
-    c.in-At-end.is c.closed.ensures
+    c.head.ensures
+    c.in_ok-name.was
+    c.expect.ensures
+    c.in_ok-equal.was
+    c.underlying.ensures c.in_ok-under.was c.expect-2.ensures
+    c.in_ok-semicolon.was
+    c.rules.ensures
+    c.in_ok-ruled.was c.expect-3.ensures
+    c.in_ok-end.was c.closed.ensures

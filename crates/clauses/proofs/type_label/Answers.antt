@@ -8,5 +8,5 @@ returns-then-is_simple c = rw (sym c.is_simple.ensures ∙ c.if-is_simple.true) 
 pub returns-then-c-eq-IDENTIFIER : goal.returns-then-c-eq-IDENTIFIER
 returns-then-c-eq-IDENTIFIER c = rw (sym c.is_simple.ensures ∙ c.if-is_simple.false, is_one c.args.c 1 c.if-c-eq-IDENTIFIER.true) refl
 
-pub returns : goal.returns
-returns c = rw (sym c.is_simple.ensures ∙ c.if-is_simple.false, not_one c.args.c 1 c.if-c-eq-IDENTIFIER.false) refl
+pub returns-else-c-eq-IDENTIFIER : goal.returns-else-c-eq-IDENTIFIER
+returns-else-c-eq-IDENTIFIER c = rw (sym c.is_simple.ensures ∙ c.if-is_simple.false, not_one c.args.c 1 c.if-c-eq-IDENTIFIER.false) refl

@@ -13,7 +13,7 @@ pub overflow_sub-kinds : goal.overflow_sub-kinds
 overflow_sub-kinds c = omega (arith, c.loop-n-test.true)
 
 pub overflow_add-end : goal.overflow_add-end
-overflow_add-end c = omega (arith, c.shorter-end.ensures, c.well_formed)
+overflow_add-end c = omega (arith, c.min-end.ensures, c.well_formed)
 
 pub overflow_add-rows : goal.overflow_add-rows
 overflow_add-rows c = omega (
@@ -27,12 +27,12 @@ pub loop-n-smaller : goal.loop-n-smaller
 loop-n-smaller c = let h = next_beyond _ _ _ c.next_of_kind-constant.ensures in omega (
   arith,
   h,
-  c.shorter-end.ensures,
+  c.min-end.ensures,
   c.loop-n-test.true,
 )
 
 pub loop-n-preserved : goal.loop-n-preserved
-loop-n-preserved c = numbering_run c.loop-n.invariant c.loop-n-test.true c.next_of_kind-constant.ensures c.shorter-end.ensures
+loop-n-preserved c = numbering_run c.loop-n.invariant c.loop-n-test.true c.next_of_kind-constant.ensures c.min-end.ensures
     refl c.number.ensures c.fill.ensures (search rules)
 
 pub shape_of-row_of : goal.shape_of-row_of

@@ -16,7 +16,7 @@ pub shape_of-answer_numbers : goal.shape_of-answer_numbers
 shape_of-answer_numbers c = c.evaluate_schemas.auto.answer_numbers ∙ c.place_constants-needed.auto.answer_numbers
 
 pub returns : goal.returns
-returns c = file_evaluated c.number_rows.ensures c.place_constants-needed.ensures c.evaluate_schemas.ensures c.if-needed-room.false c.clear8.ensures
+returns c = file_evaluated c.number_rows.ensures c.place_constants-needed.ensures c.evaluate_schemas.ensures c.if-needed-room.false c.clear.ensures
     c.place_constants-needed.auto.answer_kinds c.place_constants-needed.auto.answer_numbers c.place_constants-needed.auto.answer_lengths
     c.place_constants-needed.auto.value_kinds c.place_constants-needed.auto.value_numbers c.place_constants-needed.auto.value_lengths
     c.evaluate_schemas.auto.answer_kinds c.evaluate_schemas.auto.answer_numbers c.evaluate_schemas.auto.answer_lengths

@@ -9,22 +9,22 @@ use borrow.Author.Rules.{rules}
 use native.Mathlib.Omega.{arith}
 use Rattle.constants.proofs.evaluate_schemas.Goals as goal
 
-low : (c : goal.After-shorter-c) → c.loop-n.from ≤ c.part_end-to.result
+low : (c : goal.After-min-c) → c.loop-n.from ≤ c.part_end-to.result
 low c = to_from c.loop-n.invariant.filling.begun c.loop-n.n c.has_parts-are_parted.result (omega (
   arith,
   c.loop-n.invariant.filling.ahead,
-)) c.next_part-next.ensures c.args.kinds.now (grouped_parts c.args.kinds.now c.args.order.now (c.next_of_kind-n.result + 1) c.has_parts-are_parted.ensures) c.part_end-to.ensures
+)) c.next_part-next.ensures c.args.file.now.kinds.now (grouped_parts c.args.file.now.kinds.now c.args.order.now (c.next_of_kind-n.result + 1) c.has_parts-are_parted.ensures) c.part_end-to.ensures
 
-high : (c : goal.After-shorter-c) → c.part_end-to.result ≤ length c.args.order.now
+high : (c : goal.After-min-c) → c.part_end-to.result ≤ length c.args.order.now
 high c = to_upto c.loop-n.invariant.filling.begun c.loop-n.n c.has_parts-are_parted.result (omega (
   arith,
   c.loop-n.invariant.filling.ahead,
-)) c.next_part-next.ensures c.args.kinds.now (grouped_parts c.args.kinds.now c.args.order.now (c.next_of_kind-n.result + 1) c.has_parts-are_parted.ensures) c.part_end-to.ensures
+)) c.next_part-next.ensures c.args.file.now.kinds.now (grouped_parts c.args.file.now.kinds.now c.args.order.now (c.next_of_kind-n.result + 1) c.has_parts-are_parted.ensures) c.part_end-to.ensures
 
 pub overflow_add-n : goal.overflow_add-n
 overflow_add-n c = omega (
   arith,
-  schema_among c.args.kinds.now c.next_of_kind-n.ensures,
+  schema_among c.args.file.now.kinds.now c.next_of_kind-n.ensures,
   c.well_formed,
 )
 
@@ -51,7 +51,7 @@ slice_bounds-evaluate_schema-end c = high c
 pub offset_bounds-answer_numbers-b : goal.offset_bounds-answer_numbers-b
 offset_bounds-answer_numbers-b c = omega (
   arith,
-  c.shorter-b.ensures,
+  c.min-b.ensures,
   c.loop-n.invariant.filling.numbers_kept,
   c.well_formed,
 )
@@ -71,8 +71,8 @@ loop-n-smaller c = let h = next_beyond _ _ _ c.next_of_kind-n-in-loop-n.ensures 
 )
 
 pub loop-n-preserved : goal.loop-n-preserved
-loop-n-preserved c = filling_next (filling_schema c.loop-n.invariant.filling c.loop-n-test.true (c.loop-n.invariant.stands c.loop-n-test.true) c.shorter-a.ensures c.shorter-b.ensures c.shorter-c.ensures c.index_at-at.ensures
-    c.has_parts-are_parted.result c.next_part-next.ensures (grouped_parts c.args.kinds.now c.args.order.now (c.next_of_kind-n.result + 1) c.has_parts-are_parted.ensures) c.part_end-to.ensures _ _ _ c.evaluate_schema.ensures (search rules)
+loop-n-preserved c = filling_next (filling_schema c.loop-n.invariant.filling c.loop-n-test.true (c.loop-n.invariant.stands c.loop-n-test.true) c.min-a.ensures c.min-b.ensures c.min-c.ensures c.index_at-at.ensures
+    c.has_parts-are_parted.result c.next_part-next.ensures (grouped_parts c.args.file.now.kinds.now c.args.order.now (c.next_of_kind-n.result + 1) c.has_parts-are_parted.ensures) c.part_end-to.ensures _ _ _ c.evaluate_schema.ensures (search rules)
     (search rules) (search rules) (search rules) (search rules) (search rules) (search rules) (search rules) (search rules) (search rules)) c.next_of_kind-n-in-loop-n.ensures
 
 pub shape_of-answer_kinds : goal.shape_of-answer_kinds

@@ -7,4 +7,4 @@ pub returns : goal.returns
 returns c = constants_placed
     c.measure_constants.ensures
     (search rules) (search rules) c.last.ensures c.index_at.ensures
-    c.shorter-rows.ensures c.place_strings.ensures
+    c.min-rows.ensures c.place_strings.ensures

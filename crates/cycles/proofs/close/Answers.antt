@@ -6,24 +6,12 @@ use Rattle.cycles.proofs.close.Goals as goal
 pub loop-i-init : goal.loop-i-init
 loop-i-init c = closes_start c.requires
 
-pub get-v-requires : goal.get-v-requires
-get-v-requires c = omega (arith, c.loop-i-test.true, c.loop-i.invariant.closable.stack_room, c.loop-i.invariant.closed.long)
-
-pub overflow_add-finished : goal.overflow_add-finished
-overflow_add-finished c = omega (arith, c.loop-i.invariant.closable.small)
-
 pub put-requires : goal.put-requires
 put-requires c = (
   omega (arith, closes_room c.loop-i.invariant c.loop-i-test.true c.get-v.ensures),
   omega
       (arith, c.loop-i.invariant.closable.small),
 )
-
-pub overflow_sub-i : goal.overflow_sub-i
-overflow_sub-i c = c.loop-i.invariant.low
-
-pub overflow_add-finished-in-loop-i : goal.overflow_add-finished-in-loop-i
-overflow_add-finished-in-loop-i c = omega (arith, c.loop-i-test.true, c.loop-i.invariant.closable.small)
 
 pub put-requires-in-loop-i : goal.put-requires-in-loop-i
 put-requires-in-loop-i c = (
@@ -39,16 +27,6 @@ put-requires-in-loop-i c = (
     c.loop-i.invariant.closable.small,
   ),
 )
-
-pub overflow_add-i : goal.overflow_add-i
-overflow_add-i c = omega (
-  arith,
-  c.loop-i-test.true,
-  c.loop-i.invariant.closable.small,
-)
-
-pub loop-i-smaller : goal.loop-i-smaller
-loop-i-smaller c = omega (arith, c.loop-i-test.true)
 
 pub loop-i-preserved : goal.loop-i-preserved
 loop-i-preserved c = closes_step c.loop-i.invariant

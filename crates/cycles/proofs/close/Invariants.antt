@@ -1,9 +1,5 @@
 use Rattle.cycles.proofs.ClosingLoop.{Closes}
-use Prim.Native.Nat.{◌-◌}
 use Rattle.cycles.proofs.close.Given as goal
 
 abbrev pub invariant-loop-i : goal.invariant-loop-i
 invariant-loop-i l = Closes l.initial.s l.from l.height l.finished l.s l.i
-
-abbrev pub decreases-loop-i : goal.decreases-loop-i
-decreases-loop-i l = l.height - l.i

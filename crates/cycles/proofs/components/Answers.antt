@@ -2,20 +2,13 @@
 use Rattle.cycles.proofs.Use.{ready, used, groups_front}
 use lib.Seq.{length-take-le}
 use mathlib.Core.Path.{refl, sym, ◌∙◌}
-use native.Mathlib.Omega.{arith}
 use Rattle.cycles.proofs.components.Goals as goal
 
 pub returns-then-not-valid : goal.returns-then-not-valid
 returns-then-not-valid c = record { no = λ g. c.valid.ensures.no c.if-not-valid.true g; kept = refl }
 
-pub overflow_sub-n : goal.overflow_sub-n
-overflow_sub-n c = let g = c.valid.ensures.yes c.if-not-valid.false in omega (arith, g.some)
-
 pub returns-then-column-n : goal.returns-then-column-n
 returns-then-column-n c = record { graph = c.valid.ensures.yes c.if-not-valid.false; needs = refl; short = c.if-column-n.true; kept = refl }
-
-pub overflow_mul-needed : goal.overflow_mul-needed
-overflow_mul-needed c = let g = c.valid.ensures.yes c.if-not-valid.false in omega (arith, g.small)
 
 pub returns-then-scratch-needed : goal.returns-then-scratch-needed
 returns-then-scratch-needed c = record { graph = c.valid.ensures.yes c.if-not-valid.false; needs = refl; short = c.if-scratch-needed.true; kept = refl }

@@ -5,19 +5,16 @@ use Rattle.cycles.proofs.Use.{ready_after}
 use mathlib.Core.Path.{◌∙◌}
 use Rattle.cycles.proofs.cycle_in.Goals as goal
 
-pub search-requires : goal.search-requires
-search-requires c = c.requires
-
-pub least-v-requires : goal.least-v-requires
-least-v-requires c = ready_after c.requires c.search.auto.s
+pub least-cycle-requires : goal.least-cycle-requires
+least-cycle-requires c = ready_after c.requires c.search.auto.s
 
 pub shape_of-s : goal.shape_of-s
-shape_of-s c = c.clear32.auto.column ∙ c.search.auto.s
+shape_of-s c = c.clear.auto.column ∙ c.search.auto.s
 
 pub returns : goal.returns
 returns c = record {
   found = found c.requires.graph
-      c.search.ensures c.least-v.ensures;
-  zeros = all_zeros c.search.new.s c.clear32.ensures
+      c.search.ensures _ c.least-cycle.ensures;
+  zeros = all_zeros c.search.new.s c.clear.ensures
       c.search.auto.s;
 }

@@ -3,14 +3,7 @@ use Rattle.graph.proofs.Store.{all_zeros}
 use Rattle.cycles.proofs.End.{groups_are}
 use Rattle.cycles.proofs.Use.{ready_after, numbered}
 use mathlib.Core.Path.{◌∙◌}
-use native.Mathlib.Omega.{arith}
 use Rattle.cycles.proofs.groups_in.Goals as goal
-
-pub search-requires : goal.search-requires
-search-requires c = c.requires.0
-
-pub overflow_sub-first : goal.overflow_sub-first
-overflow_sub-first c = omega (arith, c.requires.0.graph.some)
 
 pub number_groups-requires : goal.number_groups-requires
 number_groups-requires c = numbered c.args.group.now (ready_after
@@ -21,7 +14,7 @@ pub shape_of-group : goal.shape_of-group
 shape_of-group c = c.number_groups.auto.group
 
 pub shape_of-s : goal.shape_of-s
-shape_of-s c = c.clear32.auto.column ∙ c.search.auto.s
+shape_of-s c = c.clear.auto.column ∙ c.search.auto.s
 
 pub returns : goal.returns
 returns c = record {
@@ -30,6 +23,6 @@ returns c = record {
       c.search.ensures
       c.number_groups.ensures;
   zeros = all_zeros
-      c.search.new.s c.clear32.ensures
+      c.search.new.s c.clear.ensures
       c.search.auto.s;
 }

@@ -1,14 +1,8 @@
 -- `cycles::next` meets its contract: the end of the path and its next arc decide, by the laws of `Following`. Assumes nothing.
-use Rattle.cycles.proofs.Following.{small, open_count, path_count, bound_count, followable, followed, read_place, read_vertex, read_next, read_leave, read_close}
+use Rattle.cycles.proofs.Following.{open_count, path_count, bound_count, followable, followed, read_place, read_next, read_leave, read_close}
 use mathlib.Core.Path.{sym, ◌∙◌}
 use native.Mathlib.Omega.{arith}
 use Rattle.cycles.proofs.next.Goals as goal
-
-pub overflow_sub-first : goal.overflow_sub-first
-overflow_sub-first c = omega (arith, c.requires.search.graph.some)
-
-pub get-requires : goal.get-requires
-get-requires c = omega (arith, c.if-first-root.false, c.requires.room)
 
 pub returns-then-get-eq-NEW : goal.returns-then-get-eq-NEW
 returns-then-get-eq-NEW c = record {
@@ -42,37 +36,6 @@ get-v-requires c = omega (
   c.requires.room,
 )
 
-pub get-e-requires : goal.get-e-requires
-get-e-requires c = omega (
-  arith,
-  read_vertex c.requires.search c.if-depth-eq0.false c.get-p.ensures
-      c.get-v.ensures,
-  c.requires.room,
-)
-
-pub overflow_add-v : goal.overflow_add-v
-overflow_add-v c = omega (
-  arith,
-  read_vertex c.requires.search c.if-depth-eq0.false
-      c.get-p.ensures c.get-v.ensures,
-  small c.requires.search,
-)
-
-pub offset_bounds-first-v : goal.offset_bounds-first-v
-offset_bounds-first-v c = omega (
-  arith,
-  read_vertex c.requires.search c.if-depth-eq0.false
-      c.get-p.ensures c.get-v.ensures,
-  small c.requires.search,
-)
-
-pub bounds-first-v : goal.bounds-first-v
-bounds-first-v c = omega (
-  arith,
-  read_vertex c.requires.search c.if-depth-eq0.false
-      c.get-p.ensures c.get-v.ensures,
-)
-
 pub follow-requires : goal.follow-requires
 follow-requires c = followable c.requires.search
     c.requires.room (read_next
@@ -90,15 +53,6 @@ returns-then-e-index c = followed c.requires.search (read_next
       c.index.ensures,
     ))) c.follow.result c.follow.ensures
 
-pub overflow_sub-groups : goal.overflow_sub-groups
-overflow_sub-groups c = omega (
-  arith,
-  c.requires.search.line.bound_some (omega (
-    arith,
-    c.if-depth-eq0.false,
-  )),
-)
-
 pub get-requires-2 : goal.get-requires-2
 get-requires-2 c = omega (
   arith,
@@ -114,9 +68,6 @@ get-requires-2 c = omega (
       c.requires.search,
   c.requires.room,
 )
-
-pub overflow_sub-depth-2 : goal.overflow_sub-depth-2
-overflow_sub-depth-2 c = omega (arith, c.if-depth-eq0.false)
 
 pub returns-then-get-depth : goal.returns-then-get-depth
 returns-then-get-depth c = read_close c.requires.search

@@ -6,24 +6,6 @@ use Rattle.cycles.proofs.number_groups.Goals as goal
 pub loop-v-init : goal.loop-v-init
 loop-v-init c = numbering_start c.requires
 
-pub get-requires : goal.get-requires
-get-requires c = omega (arith, c.loop-v-test.true, c.requires.scratch_room)
-
-pub overflow_sub-get : goal.overflow_sub-get
-overflow_sub-get c = omega (arith, c.get.ensures, c.requires.closed _ c.loop-v-test.true)
-
-pub offset_bounds-group-v : goal.offset_bounds-group-v
-offset_bounds-group-v c = omega (arith, c.loop-v-test.true, c.requires.small)
-
-pub bounds-group-v : goal.bounds-group-v
-bounds-group-v c = omega (arith, c.loop-v-test.true, c.requires.group_room, c.loop-v.invariant.long)
-
-pub overflow_add-v : goal.overflow_add-v
-overflow_add-v c = omega (arith, c.loop-v-test.true, c.requires.small)
-
-pub loop-v-smaller : goal.loop-v-smaller
-loop-v-smaller c = omega (arith, c.loop-v-test.true)
-
 pub loop-v-preserved : goal.loop-v-preserved
 loop-v-preserved c = let q = c.number.ensures (omega (
   arith,

@@ -1,9 +1,5 @@
 use Rattle.cycles.proofs.Scan.{Numbering}
-use Prim.Native.Nat.{◌-◌}
 use Rattle.cycles.proofs.number_groups.Given as goal
 
 abbrev pub invariant-loop-v : goal.invariant-loop-v
 invariant-loop-v l = Numbering l.initial.group l.s l.n l.group l.v
-
-abbrev pub decreases-loop-v : goal.decreases-loop-v
-decreases-loop-v l = l.n - l.v

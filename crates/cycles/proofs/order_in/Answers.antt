@@ -3,57 +3,31 @@ use Rattle.graph.proofs.Store.{all_zeros}
 use Rattle.cycles.proofs.End.{found, placed}
 use Rattle.cycles.proofs.Scan.{arrangeable, ordered}
 use Rattle.cycles.proofs.Use.{ready_after}
-use mathlib.Core.Path.{refl, ◌∙◌}
-use native.Mathlib.Omega.{arith}
+use Rattle.std.specs.Prelude.{◌≡◌, Bool, true, false, not, List, ℕ, Option, Some, None, is_some}
+use Rattle.cycles.specs.Answer.{Smallest, Ordered, OrderIf}
+use Rattle.cycles.proofs.order_in.Goals.{then-is_none, else-is_none}
 use Rattle.cycles.proofs.order_in.Goals as goal
 
-pub search-requires : goal.search-requires
-search-requires c = c.requires.0
+pub least-cycle-requires : goal.least-cycle-requires
+least-cycle-requires c = ready_after c.requires.0 c.search.auto.s
 
-pub overflow_sub-n : goal.overflow_sub-n
-overflow_sub-n c = omega (arith, c.requires.0.graph.some)
+none : {P : ℕ → Type 0} {n : ℕ} (first to order order' : List ℕ) (r : Option ℕ) {b : Bool} → is_some r ≡ not b → b ≡ true → Smallest P n r
+    → (Smallest P n None → Ordered first to order') → OrderIf first to order order' r
+none first to order order' None e q s h = h s
+none first to order order' (Some v) e q s h = absurd (let z = rw q at e in cc)
 
-pub least-v-requires : goal.least-v-requires
-least-v-requires c = ready_after c.requires.0 c.search.auto.s
-
-pub shape_of-s-then-v-n : goal.shape_of-s-then-v-n
-shape_of-s-then-v-n c = c.clear32.auto.column ∙ c.search.auto.s
-
-pub returns-then-v-n : goal.returns-then-v-n
-returns-then-v-n c = record {
-  found =
-      found c.requires.0.graph
-      c.search.ensures
-      c.least-v.ensures;
-  kept = λ _. refl;
-  ordered = λ l. absurd (omega (arith, c.if-v-n.true));
-  zeros =
-      all_zeros c.search.new.s c.clear32.ensures
-      c.search.auto.s;
-}
-
-pub shape_of-order : goal.shape_of-order
-shape_of-order c = c.arrange.auto.order
-
-pub shape_of-s : goal.shape_of-s
-shape_of-s c = c.clear32-2.auto.column ∙ c.search.auto.s
+some : (first to order order' : List ℕ) (r : Option ℕ) {b : Bool} → is_some r ≡ not b → b ≡ false → order' ≡ order → OrderIf first to order order' r
+some first to order order' (Some v) e q h = h
+some first to order order' None e q h = absurd (let z = rw q at e in cc)
 
 pub returns : goal.returns
-returns c = let places = placed c.requires.0.graph c.search.ensures c.least-v.ensures c.if-v-n.false in
-    record {
-      found =
-          record {
-            within = omega arith;
-            cycle = λ l. absurd (omega arith);
-            none = λ _. (found
-                c.requires.0.graph c.search.ensures c.least-v.ensures).none c.if-v-n.false;
-          };
-      kept = λ l. absurd (omega arith);
-      ordered =
-          λ _. ordered places (c.arrange.ensures (arrangeable c.args.order.now (ready_after c.requires.0 c.search.auto.s) places
-          c.requires.1));
-      zeros =
-          all_zeros c.search.new.s
-          c.clear32-2.ensures
-          c.search.auto.s;
-    }
+returns c = record {
+  found = found c.requires.0.graph c.search.ensures _ c.least-cycle.ensures;
+  ordered = elim c.if-is_none.branch [
+    | then-is_none w ↦ none _ _ _ _ c.least-cycle.result c.is_none.ensures w.if-is_none.true c.least-cycle.ensures (λ s.
+        let places = placed c.requires.0.graph c.search.ensures s in
+        rw w.order-is (ordered places (w.arrange.ensures (arrangeable c.args.order.now (ready_after c.requires.0 c.search.auto.s) places c.requires.1))))
+    | else-is_none w ↦ some _ _ _ _ c.least-cycle.result c.is_none.ensures w.if-is_none.false w.order-is
+  ];
+  zeros = all_zeros c.search.new.s c.clear.ensures c.search.auto.s;
+}

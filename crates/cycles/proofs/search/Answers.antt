@@ -5,7 +5,7 @@ use native.Mathlib.Omega.{arith}
 use Rattle.cycles.proofs.search.Goals as goal
 
 pub loop-then-init : goal.loop-then-init
-loop-then-init c = running_start c.requires c.clear32.ensures c.clear32.auto.column
+loop-then-init c = running_start c.requires c.clear.ensures c.clear.auto.column
 
 pub next-step-requires : goal.next-step-requires
 next-step-requires c = c.loop-then.invariant.going
@@ -23,7 +23,7 @@ counted-requires c = countable c.loop-then.invariant.going c.next-step.result
 
 pub shape_of-s-in_default : goal.shape_of-s-in_default
 shape_of-s-in_default c = c.store.auto.s ∙ c.loop-then.invariant.long ∙
-    c.clear32.auto.column
+    c.clear.auto.column
 
 pub returns-in_default : goal.returns-in_default
 returns-in_default c = running_end c.loop-then.invariant.going
@@ -34,7 +34,7 @@ returns-in_default c = running_end c.loop-then.invariant.going
 pub loop-then-smaller : goal.loop-then-smaller
 loop-then-smaller c = less c.loop-then.invariant
     c.store.new.s c.next-step.result
-    c.next-step.ensures (sym c.counted.ensures ∙ c.in-On.is)
+    c.next-step.ensures (sym c.counted.ensures ∙ c.in-Some.is)
     c.store.ensures (λ i. omega (
       arith,
       c.type_inv.first i,
@@ -43,6 +43,6 @@ loop-then-smaller c = less c.loop-then.invariant
 pub loop-then-preserved : goal.loop-then-preserved
 loop-then-preserved c = running_on c.loop-then.invariant
     c.store.new.s c.next-step.result
-    c.next-step.ensures (sym c.counted.ensures ∙ c.in-On.is)
+    c.next-step.ensures (sym c.counted.ensures ∙ c.in-Some.is)
     c.store.ensures
     c.store.auto.s

@@ -1,22 +1,15 @@
 -- `cycles::topological_order` meets its contract: the first entries of the column and of scratch are lent on. Assumes nothing.
-use Rattle.cycles.proofs.Use.{ready, replies_cycle, replies_none, used, kept_front, ordered_front}
+use Rattle.cycles.proofs.Use.{ready, order_replied, used, kept_front, ordered_front}
 use Rattle.graph.specs.Graph.{vertices}
 use lib.Seq.{length-take-le}
 use mathlib.Core.Path.{refl, sym, ◌∙◌}
-use native.Mathlib.Omega.{arith}
 use Rattle.cycles.proofs.topological_order.Goals as goal
 
 pub returns-then-not-valid : goal.returns-then-not-valid
 returns-then-not-valid c = record { no = λ g. c.valid.ensures.no c.if-not-valid.true g; kept = refl }
 
-pub overflow_sub-n : goal.overflow_sub-n
-overflow_sub-n c = let g = c.valid.ensures.yes c.if-not-valid.false in omega (arith, g.some)
-
 pub returns-then-column-n : goal.returns-then-column-n
 returns-then-column-n c = record { graph = c.valid.ensures.yes c.if-not-valid.false; needs = refl; short = c.if-column-n.true; kept = refl }
-
-pub overflow_mul-needed : goal.overflow_mul-needed
-overflow_mul-needed c = let g = c.valid.ensures.yes c.if-not-valid.false in omega (arith, g.small)
 
 pub returns-then-scratch-needed : goal.returns-then-scratch-needed
 returns-then-scratch-needed c = record { graph = c.valid.ensures.yes c.if-not-valid.false; needs = refl; short = c.if-scratch-needed.true; kept = refl }
@@ -33,35 +26,18 @@ slice_bounds-order_in-end-3 c = c.if-scratch-needed.false
 pub slice_bounds-order_in-end-4 : goal.slice_bounds-order_in-end-4
 slice_bounds-order_in-end-4 c = sym (length-take-le _ c.args.scratch.now c.if-scratch-needed.false)
 
-pub order_in-v-requires : goal.order_in-v-requires
-order_in-v-requires c = (
+pub order_in-requires : goal.order_in-requires
+order_in-requires c = (
   ready c.args.scratch.now (c.valid.ensures.yes c.if-not-valid.false) c.if-scratch-needed.false,
   length-take-le _ c.args.column.now
       c.if-column-n.false,
 )
 
-pub returns-then-v-n : goal.returns-then-v-n
-returns-then-v-n c = record {
-  used =
-      used (c.valid.ensures.yes c.if-not-valid.false)
-      c.if-scratch-needed.false c.order_in-v.ensures.zeros
-      c.args.column.now c.order_in-v.new.order c.if-column-n.false c.order_in-v.auto.order;
-  replies = replies_cycle (c.order_in-v.ensures.found.cycle c.if-v-n.true);
-  kept =
-      kept_front (vertices
-      c.args.first.now) c.args.column.now c.order_in-v.new.order
-      (c.order_in-v.ensures.kept c.if-v-n.true);
-}
-
 pub returns : goal.returns
-returns c = record {
-  used =
-      used (c.valid.ensures.yes c.if-not-valid.false)
-      c.if-scratch-needed.false c.order_in-v.ensures.zeros
-      c.args.column.now c.order_in-v.new.order c.if-column-n.false c.order_in-v.auto.order;
-  replies = replies_none (c.order_in-v.ensures.found.none c.if-v-n.false);
-  ordered =
-      ordered_front c.order_in-v.new.order _
-      (c.order_in-v.auto.order ∙ length-take-le _
-      c.args.column.now c.if-column-n.false) (c.order_in-v.ensures.ordered c.if-v-n.false);
-}
+returns c = order_replied _ c.order_in.ensures.found
+    (used (c.valid.ensures.yes c.if-not-valid.false)
+    c.if-scratch-needed.false c.order_in.ensures.zeros
+    c.args.column.now c.order_in.new.order c.if-column-n.false c.order_in.auto.order)
+    c.order_in.ensures.ordered
+    (kept_front (vertices c.args.first.now) c.args.column.now c.order_in.new.order)
+    (ordered_front c.order_in.new.order _ (c.order_in.auto.order ∙ length-take-le _ c.args.column.now c.if-column-n.false))

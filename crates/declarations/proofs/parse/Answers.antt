@@ -1,8 +1,6 @@
 -- The words lent are the first part of scratch; the rest is not touched.
-use mathlib.Core.Path.{refl, sym}
+use mathlib.Core.Path.{refl}
 use native.Mathlib.Omega.{arith}
-use lib.ListN.{length}
-use lib.Seq.{length-take-le}
 use Rattle.express.specs.Syntax.Grammar.{file as file'}
 use Rattle.parsing.proofs.Columns.{parsing, too_long, too_little}
 use Rattle.declarations.proofs.parse.Goals as goal
@@ -12,22 +10,6 @@ returns-then-n-gt-MOST c = too_long file' c.if-n-gt-MOST.true
 
 pub returns-then-scratch-n : goal.returns-then-scratch-n
 returns-then-scratch-n c = too_little file' (omega (arith, c.if-n-gt-MOST.false)) c.if-scratch-n.true
-
-pub slice_bounds-parse_in-end : goal.slice_bounds-parse_in-end
-slice_bounds-parse_in-end c = omega (arith, c.if-scratch-n.false)
-
-pub slice_bounds-parse_in-end-2 : goal.slice_bounds-parse_in-end-2
-slice_bounds-parse_in-end-2 c = sym (length-take-le (length c.args.terminals.now)
-    c.args.scratch.now (omega (arith, c.if-scratch-n.false)))
-
-pub parse_in-requires : goal.parse_in-requires
-parse_in-requires c = (
-  omega (arith, c.if-n-gt-MOST.false),
-  length-take-le (length
-      c.args.terminals.now)
-      c.args.scratch.now (omega
-      (arith, c.if-scratch-n.false)),
-)
 
 pub returns : goal.returns
 returns c = parsing refl (omega (

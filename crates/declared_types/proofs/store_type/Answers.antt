@@ -2,8 +2,8 @@
 use Rattle.declared_types.proofs.Passing.{type_of_other, type_after_items}
 use Rattle.declared_types.proofs.store_type.Goals as goal
 
-pub returns-then-at8-ne-TYPE : goal.returns-then-at8-ne-TYPE
-returns-then-at8-ne-TYPE c = type_of_other _ _ _ _ _ _ c.index.ensures c.at8.ensures c.if-at8-ne-TYPE.true
+pub returns-then-get_or-ne-TYPE : goal.returns-then-get_or-ne-TYPE
+returns-then-get_or-ne-TYPE c = type_of_other _ _ _ _ _ _ c.index.ensures c.get_or.ensures c.if-get_or-ne-TYPE.true
 
 pub returns : goal.returns
-returns c = type_after_items _ _ _ _ _ _ c.index.ensures c.at8.ensures c.if-at8-ne-TYPE.false c.store_items_of.ensures c.underlying-number.ensures c.index-2.ensures c.put32.ensures
+returns c = type_after_items _ _ _ _ _ _ c.index.ensures c.get_or.ensures c.if-get_or-ne-TYPE.false c.store_items_of.ensures c.underlying-number.ensures c.index-2.ensures c.put.ensures

@@ -7,4 +7,4 @@ pub returns-then-target-eq0 : goal.returns-then-target-eq0
 returns-then-target-eq0 c = adds_none c.if-target-eq0.true
 
 pub returns : goal.returns
-returns c = adds_one c.if-target-eq0.false c.saturating_sub-at.ensures refl c.put32.ensures
+returns c = adds_one c.if-target-eq0.false c.saturating_sub-at.ensures refl c.put.ensures

@@ -3,6 +3,3 @@ use Rattle.duplicates.proofs.least_duplicate.Given as goal
 
 abbrev pub invariant-loop-e : goal.invariant-loop-e
 invariant-loop-e l = LeastFrom l.tokens l.starts l.keys l.nodes l.next l.e l.least
-
-abbrev pub decreases-loop-e : goal.decreases-loop-e
-decreases-loop-e l = l.e

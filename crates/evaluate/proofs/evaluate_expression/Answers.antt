@@ -1,21 +1,10 @@
 -- `evaluate::evaluate_expression` meets its contract: what is left to evaluate comes to the same at every turn. Assumes nothing.
 use borrow.Author.Rules.{rules}
-use native.Mathlib.Omega.{arith}
 use Rattle.evaluate.proofs.Walking.{going_starts, going_on, going_ends}
 use Rattle.evaluate.proofs.evaluate_expression.Goals as goal
 
 pub loop-n-init : goal.loop-n-init
 loop-n-init c = going_starts
-
-pub overflow_add-n : goal.overflow_add-n
-overflow_add-n c = omega (
-  arith,
-  c.loop-n-test.true,
-  c.ranges.hi,
-)
-
-pub loop-n-smaller : goal.loop-n-smaller
-loop-n-smaller c = omega (arith, c.loop-n-test.true)
 
 pub loop-n-preserved : goal.loop-n-preserved
 loop-n-preserved c = going_on c.loop-n.invariant c.loop-n-test.true c.evaluate_node.ensures (search

@@ -6,8 +6,8 @@ pub returns-then-binding-eq0 : goal.returns-then-binding-eq0
 returns-then-binding-eq0 c = named_unbound c.if-binding-eq0.true c.put_answer.ensures
 
 pub returns-then-kind-eq-CONSTANT : goal.returns-then-kind-eq-CONSTANT
-returns-then-kind-eq-CONSTANT c = named_constant c.if-binding-eq0.false c.index.ensures c.at8-kind.ensures c.if-kind-eq-CONSTANT.true c.index-then-kind-eq-CONSTANT.ensures c.index_at.ensures c.saturating_sub-row.ensures
+returns-then-kind-eq-CONSTANT c = named_constant c.if-binding-eq0.false c.index.ensures c.get_or-kind.ensures c.if-kind-eq-CONSTANT.true c.index-then-kind-eq-CONSTANT.ensures c.index_at.ensures c.saturating_sub-row.ensures
     c.copy_row.ensures
 
 pub returns : goal.returns
-returns c = named_other c.if-binding-eq0.false c.index.ensures c.at8-kind.ensures c.if-kind-eq-CONSTANT.false c.item.ensures c.put_answer-2.ensures
+returns c = named_other c.if-binding-eq0.false c.index.ensures c.get_or-kind.ensures c.if-kind-eq-CONSTANT.false c.item.ensures c.put_answer-2.ensures

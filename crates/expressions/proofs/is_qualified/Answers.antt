@@ -1,9 +1,11 @@
+use mathlib.Core.Path.{◌∙◌}
+use borrow.Author.Tests.{ne_eqb}
 use Rattle.parsing.proofs.Steps.{two_there, two_not}
 use Rattle.expressions.proofs.is_qualified.Goals as goal
 
-pub returns-then-token-eq-IDENTIFIER : goal.returns-then-token-eq-IDENTIFIER
-returns-then-token-eq-IDENTIFIER c = two_there c.args.terminals.now c.args.p c.token.result
-    c.token-then-token-eq-IDENTIFIER.result 1 7 c.token.ensures c.if-token-eq-IDENTIFIER.true c.token-then-token-eq-IDENTIFIER.ensures
+pub returns-then-get_or-eq-IDENTIFIER : goal.returns-then-get_or-eq-IDENTIFIER
+returns-then-get_or-eq-IDENTIFIER c = two_there c.args.terminals.now c.args.p c.get_or.result
+    c.get_or-then-get_or-eq-IDENTIFIER.result 1 7 c.get_or.ensures c.if-get_or-eq-IDENTIFIER.true c.get_or-then-get_or-eq-IDENTIFIER.ensures
 
-pub returns : goal.returns
-returns c = two_not c.args.terminals.now c.args.p c.token.result 1 7 c.token.ensures c.if-token-eq-IDENTIFIER.false
+pub returns-else-get_or-eq-IDENTIFIER : goal.returns-else-get_or-eq-IDENTIFIER
+returns-else-get_or-eq-IDENTIFIER c = ne_eqb _ _ c.if-get_or-eq-IDENTIFIER.false ∙ two_not c.args.terminals.now c.args.p c.get_or.result 1 7 c.get_or.ensures c.if-get_or-eq-IDENTIFIER.false

@@ -12,7 +12,7 @@ pub returns-then-first-u : goal.returns-then-first-u
 returns-then-first-u c = expands_none c.requires c.if-first-u.true
 
 pub loop-e-init : goal.loop-e-init
-loop-e-init c = going_start c.requires (c.index-e.ensures ∙ c.entry.ensures) (c.index-end.ensures ∙ c.entry-2.ensures)
+loop-e-init c = going_start c.requires (c.index-start.ensures ∙ c.get_or.ensures) (c.index-end.ensures ∙ c.get_or-2.ensures)
 
 pub overflow_add-t : goal.overflow_add-t
 overflow_add-t c = omega (
@@ -23,12 +23,12 @@ overflow_add-t c = omega (
 )
 
 pub loop-e-preserved : goal.loop-e-preserved
-loop-e-preserved c = going_step c.loop-e.invariant c.loop-e-test.true c.index-w.result (c.index-w.ensures ∙ c.entry-target.ensures) c.if-is_unstamped.mark c.if-is_unstamped.queue c.if-is_unstamped.t
+loop-e-preserved c = going_step c.loop-e.invariant c.loop-e-test.true c.index-w.result (c.index-w.ensures ∙ c.get_or-target.ensures) c.if-is_unstamped.mark c.if-is_unstamped.queue c.if-is_unstamped.t
     (elim c.if-is_unstamped.branch [
       | then-is_unstamped w ↦ inl (
         sym c.is_unstamped.ensures ∙ w.if-is_unstamped.true,
-        w.mark-is ∙ w.put32.ensures,
-        w.queue-is ∙ w.put32-then-is_unstamped.ensures ∙ ap (λ (x : ℕ). set c.loop-e.queue c.loop-e.t x) (sym c.index-w.ensures),
+        w.mark-is ∙ w.put.ensures,
+        w.queue-is ∙ w.put-then-is_unstamped.ensures ∙ ap (λ (x : ℕ). set c.loop-e.queue c.loop-e.t x) (sym c.index-w.ensures),
         w.t-is,
       )
       | else-is_unstamped w ↦ inr (sym c.is_unstamped.ensures ∙ w.if-is_unstamped.false, w.mark-is, w.queue-is, w.t-is)

@@ -24,7 +24,7 @@ loop-head-smaller c = omega (
 )
 
 pub loop-head-preserved : goal.loop-head-preserved
-loop-head-preserved c = front_step c.loop-head.invariant _ c.loop-head-test.true (c.index-u.ensures ∙ c.entry.ensures) c.expand-tail-in-loop-head.ensures c.expand-tail-in-loop-head.auto.mark c.expand-tail-in-loop-head.auto.queue
+loop-head-preserved c = front_step c.loop-head.invariant _ c.loop-head-test.true (c.index-u.ensures ∙ c.get_or.ensures) c.expand-tail-in-loop-head.ensures c.expand-tail-in-loop-head.auto.mark c.expand-tail-in-loop-head.auto.queue
 
 pub shape_of-mark : goal.shape_of-mark
 shape_of-mark c = c.loop-head.invariant.mark_long ∙ c.expand-tail.auto.mark

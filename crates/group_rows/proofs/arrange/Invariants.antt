@@ -1,9 +1,5 @@
 use Rattle.group_rows.proofs.Scan.{Arranging}
-use Prim.Native.Nat.{◌-◌}
 use Rattle.group_rows.proofs.arrange.Given as goal
 
 abbrev pub invariant-loop-v : goal.invariant-loop-v
 invariant-loop-v l = Arranging l.initial.order l.s l.n l.order l.v
-
-abbrev pub decreases-loop-v : goal.decreases-loop-v
-decreases-loop-v l = l.n - l.v

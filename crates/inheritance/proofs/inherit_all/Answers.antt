@@ -8,13 +8,13 @@ use Rattle.inheritance.proofs.inherit_all.Goals as goal
 pub slice_bounds-inherit_declarations-end-2 : goal.slice_bounds-inherit_declarations-end-2
 slice_bounds-inherit_declarations-end-2 c = sym (length-take-le _ c.args.table.now (omega (
   arith,
-  c.shorter-named.ensures,
+  c.min-named.ensures,
   c.saturating_sub.ensures,
-  c.shorter.ensures,
+  c.min.ensures,
 )))
 
 pub slice_bounds-inherit_declarations-end-4 : goal.slice_bounds-inherit_declarations-end-4
-slice_bounds-inherit_declarations-end-4 c = sym (length-take-le _ c.args.mark.now (omega (arith, c.shorter-marks.ensures)))
+slice_bounds-inherit_declarations-end-4 c = sym (length-take-le _ c.args.mark.now (omega (arith, c.min-marks.ensures)))
 
 pub returns : goal.returns
-returns c = inherits_in_parts c.shorter-named.ensures c.saturating_sub.ensures c.shorter.ensures c.shorter-marks.ensures c.inherit_declarations.ensures
+returns c = inherits_in_parts c.min-named.ensures c.saturating_sub.ensures c.min.ensures c.min-marks.ensures c.inherit_declarations.ensures

@@ -2,7 +2,4 @@ use Rattle.inheritance.specs.Steps.{NoneInherits}
 use Rattle.inheritance.proofs.inheriting.Given as goal
 
 abbrev pub invariant-loop-v : goal.invariant-loop-v
-invariant-loop-v l = NoneInherits l.kinds l.entry_nodes l.first l.v
-
-abbrev pub decreases-loop-v : goal.decreases-loop-v
-decreases-loop-v l = l.v
+invariant-loop-v l = NoneInherits l.file.entries.kinds.now l.file.entries.nodes.now l.file.first.now l.v

@@ -5,4 +5,4 @@ use lib.ListN.{get_or}
 use Rattle.inheritance.proofs.symbol.Goals as goal
 
 pub returns : goal.returns
-returns c = c.at-2.ensures ∙ ap (λ (i : ℕ). get_or c.args.symbols.now i 0) (c.index.ensures ∙ c.at.ensures)
+returns c = c.get_or-2.ensures ∙ ap (λ (i : ℕ). get_or c.args.symbols.now i 0) (c.index.ensures ∙ c.get_or.ensures)

@@ -1,11 +1,7 @@
-use Rattle.integers.proofs.Sums.{negate_ends, negate_is}
+use Rattle.express.specs.Semantics.Integer.{negation}
+use Rattle.integers.proofs.Calls.{own_one}
+use Rattle.integers.proofs.Exact.{checked_is}
 use Rattle.integers.proofs.negate.Goals as goal
 
-pub overflow_sub-result : goal.overflow_sub-result
-overflow_sub-result c = (negate_is c.ranges.a c.if-a-ne-LEAST.true).fits
-
-pub returns-then-a-ne-LEAST : goal.returns-then-a-ne-LEAST
-returns-then-a-ne-LEAST c = (negate_is c.ranges.a c.if-a-ne-LEAST.true).value
-
 pub returns : goal.returns
-returns c = negate_ends c.ranges.a c.if-a-ne-LEAST.false
+returns c = own_one negation c.ranges.a (checked_is _ _ c.checked_neg.ensures c.ok_or.ensures.value)

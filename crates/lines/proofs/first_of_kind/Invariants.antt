@@ -9,6 +9,3 @@ use Rattle.lines.proofs.first_of_kind.Given as goal
 
 abbrev pub invariant-loop-node : goal.invariant-loop-node
 invariant-loop-node l = first_from (is (table_of [] [] [] l.kinds []) l.kind) l.node (length l.kinds - l.node) ≡ first_from (is (table_of [] [] [] l.kinds []) l.kind) l.from (length l.kinds - l.from)
-
-abbrev pub decreases-loop-node : goal.decreases-loop-node
-decreases-loop-node l = length l.kinds - l.node

@@ -1,7 +1,8 @@
--- `listing_io::print` is safe and ends: the first part ends in the buffer. Assumes nothing.
-use mathlib.Core.Path.{sym}
-use lib.Seq.{length-take-le}
+-- `listing_io::print` meets its contract: the first part, and the others behind it. Assumes nothing.
+use Rattle.std.proofs.lemmas.Result.{on_ok_weaker}
+use Rattle.listing_io.proofs.Writing.{all_written}
 use Rattle.listing_io.proofs.print.Goals as goal
 
-pub slice_bounds-write_all-end-2 : goal.slice_bounds-write_all-end-2
-slice_bounds-write_all-end-2 g c = sym (length-take-le _ _ c.first_part-first.ensures.within)
+pub returns : goal.returns
+returns g c = on_ok_weaker c.print_rest.result (all_written c.args.listing.now c.args.reply c.args.number _ _ _ c.first_part-first.ensures c.if-end-eq0.false
+    c.in_ok-write_all.ensures.bytes) c.print_rest.ensures

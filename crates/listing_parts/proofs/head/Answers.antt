@@ -7,7 +7,7 @@ returns-then-reply-eq-ACCEPTED c = head_accepted c.args.reply
     c.args.number c.args.constants
     c.if-reply-eq-ACCEPTED.true c.accepted.ensures
 
-pub returns : goal.returns
-returns c = head_refused c.args.reply
+pub returns-else-reply-eq-ACCEPTED : goal.returns-else-reply-eq-ACCEPTED
+returns-else-reply-eq-ACCEPTED c = head_refused c.args.reply
     c.args.number c.args.constants
     c.if-reply-eq-ACCEPTED.false c.refused.ensures

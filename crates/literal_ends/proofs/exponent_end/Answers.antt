@@ -16,11 +16,11 @@ returns-then-not-is_either c = sym (exponent_none _ _ (sym c.is_either.ensures �
 pub returns-then-not-is_within : goal.returns-then-not-is_within
 returns-then-not-is_within c = sym
     (exponent_bare _ _
-    (sym (c.is_within.ensures ∙ ap (within 48 57) (c.byte.ensures ∙ ap (λ g. get_or c.args.s.now g 0) c.exponent_digits-digits.ensures))
+    (sym (c.is_within.ensures ∙ ap (within 48 57) (c.get_or.ensures ∙ ap (λ g. get_or c.args.s.now g 0) c.exponent_digits-digits.ensures))
     ∙ c.if-not-is_within.true))
 
 pub returns : goal.returns
 returns c = c.run_end.ensures ∙ ap (λ g. run (member Digit) c.args.s.now g) c.exponent_digits-digits.ensures ∙ sym
     (exponent_is _ _ (sym c.is_either.ensures ∙ c.if-not-is_either.false)
-    (sym (c.is_within.ensures ∙ ap (within 48 57) (c.byte.ensures ∙ ap (λ g. get_or c.args.s.now g 0) c.exponent_digits-digits.ensures)) ∙
+    (sym (c.is_within.ensures ∙ ap (within 48 57) (c.get_or.ensures ∙ ap (λ g. get_or c.args.s.now g 0) c.exponent_digits-digits.ensures)) ∙
     c.if-not-is_within.false))

@@ -21,33 +21,33 @@ overflow_sub-n c = let g = c.valid.ensures.yes c.if-not-valid.false in omega (ar
 pub returns-then-n-from : goal.returns-then-n-from
 returns-then-n-from c = record { no = λ g l. omega (arith, l, c.if-n-from.true); kept = refl }
 
-pub returns-then-shorter-n : goal.returns-then-shorter-n
-returns-then-shorter-n c = record {
+pub returns-then-min-n : goal.returns-then-min-n
+returns-then-min-n c = record {
   graph = c.valid.ensures.yes c.if-not-valid.false;
   source = omega (
     arith,
     c.if-n-from.false,
   );
-  short = omega (arith, c.shorter.ensures, c.if-shorter-n.true);
+  short = omega (arith, c.min.ensures, c.if-min-n.true);
   needs = refl;
   kept = refl;
 }
 
 pub slice_bounds-spread-end : goal.slice_bounds-spread-end
-slice_bounds-spread-end c = omega (arith, c.shorter.ensures, c.if-shorter-n.false)
+slice_bounds-spread-end c = omega (arith, c.min.ensures, c.if-min-n.false)
 
 pub slice_bounds-spread-end-2 : goal.slice_bounds-spread-end-2
-slice_bounds-spread-end-2 c = sym (length-take-le _ c.args.mark.now (room (c.valid.ensures.yes c.if-not-valid.false) c.if-n-from.false c.shorter.ensures c.if-shorter-n.false).mark_room)
+slice_bounds-spread-end-2 c = sym (length-take-le _ c.args.mark.now (room (c.valid.ensures.yes c.if-not-valid.false) c.if-n-from.false c.min.ensures c.if-min-n.false).mark_room)
 
 pub slice_bounds-spread-end-3 : goal.slice_bounds-spread-end-3
-slice_bounds-spread-end-3 c = omega (arith, c.shorter.ensures, c.if-shorter-n.false)
+slice_bounds-spread-end-3 c = omega (arith, c.min.ensures, c.if-min-n.false)
 
 pub slice_bounds-spread-end-4 : goal.slice_bounds-spread-end-4
-slice_bounds-spread-end-4 c = sym (length-take-le _ c.args.queue.now (room (c.valid.ensures.yes c.if-not-valid.false) c.if-n-from.false c.shorter.ensures c.if-shorter-n.false).queue_room)
+slice_bounds-spread-end-4 c = sym (length-take-le _ c.args.queue.now (room (c.valid.ensures.yes c.if-not-valid.false) c.if-n-from.false c.min.ensures c.if-min-n.false).queue_room)
 
 pub spread-requires : goal.spread-requires
-spread-requires c = markable_front (room (c.valid.ensures.yes c.if-not-valid.false) c.if-n-from.false c.shorter.ensures c.if-shorter-n.false)
+spread-requires c = markable_front (room (c.valid.ensures.yes c.if-not-valid.false) c.if-n-from.false c.min.ensures c.if-min-n.false)
 
 pub returns : goal.returns
-returns c = marked_all (room (c.valid.ensures.yes c.if-not-valid.false) c.if-n-from.false c.shorter.ensures c.if-shorter-n.false) c.spread.auto.mark
+returns c = marked_all (room (c.valid.ensures.yes c.if-not-valid.false) c.if-n-from.false c.min.ensures c.if-min-n.false) c.spread.auto.mark
     c.spread.ensures

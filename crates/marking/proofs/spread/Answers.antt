@@ -6,7 +6,7 @@ use Rattle.marking.proofs.spread.Goals as goal
 
 pub returns : goal.returns
 returns c = (
-  ones (markable_set c.requires _ _ c.clear32.auto.column
-      refl) (zeros c.args.mark.now _ c.clear32.ensures) c.search.ensures,
-  all_zeros c.search.new.queue c.clear32-2.ensures c.search.auto.queue,
+  ones (markable_set c.requires _ _ c.clear.auto.column
+      refl) (zeros c.args.mark.now _ c.clear.ensures) c.search.ensures,
+  all_zeros c.search.new.queue c.clear-2.ensures c.search.auto.queue,
 )

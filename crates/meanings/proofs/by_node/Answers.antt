@@ -3,4 +3,4 @@ use Rattle.meanings.proofs.Nearest.{by_one}
 use Rattle.meanings.proofs.by_node.Goals as goal
 
 pub returns-in-One : goal.returns-in-One
-returns-in-One c = by_one c.in-One.is c.at.ensures c.index.ensures
+returns-in-One c = by_one c.in-One.is c.get_or.ensures c.index.ensures

@@ -4,12 +4,3 @@ use Rattle.meanings.proofs.inherited_or_value.Goals as goal
 
 pub returns-in-Nothing : goal.returns-in-Nothing
 returns-in-Nothing c = search meanings
-
-pub returns-in-Several : goal.returns-in-Several
-returns-in-Several c = search meanings
-
-pub returns-in-Node : goal.returns-in-Node
-returns-in-Node c = search meanings
-
-pub returns-in-Declaration : goal.returns-in-Declaration
-returns-in-Declaration c = search meanings

@@ -1,4 +1,4 @@
-use Prim.Native.Nat.{◌≤◌, ◌-◌}
+use Prim.Native.Nat.{◌≤◌}
 use mathlib.Core.Path.{◌≡◌}
 use lib.ListN.{length}
 use Rattle.express.specs.Syntax.Syntax.{nesting}
@@ -8,6 +8,3 @@ use Rattle.nesting.proofs.first_deep.Given as goal
 
 abbrev pub invariant-loop-i : goal.invariant-loop-i
 invariant-loop-i l = (l.steps ≡ step_list) × (l.i ≤ length l.terminals) × (l.depth ≤ nesting) × (deep_from l.terminals l.i l.depth ≡ deep_or_end l.terminals)
-
-abbrev pub decreases-loop-i : goal.decreases-loop-i
-decreases-loop-i l = length l.terminals - l.i

@@ -11,4 +11,4 @@ pub returns-then-kind-gt-OTHER : goal.returns-then-kind-gt-OTHER
 returns-then-kind-gt-OTHER c = others_leaf c.if-kind-eq-CONSTANT.false refl refl refl (leaf_none c.if-kind-gt-OTHER.true)
 
 pub returns : goal.returns
-returns c = others_leaf c.if-kind-eq-CONSTANT.false c.at8.ensures c.index_at.ensures c.index_at-2.ensures c.leaf.ensures
+returns c = others_leaf c.if-kind-eq-CONSTANT.false c.get_or.ensures c.index_at.ensures c.index_at-2.ensures c.leaf.ensures

@@ -5,6 +5,6 @@ use mir.ValLaws.{to_z-of_z}
 use Rattle.node_answers.proofs.put_answer.Goals as goal
 
 pub returns : goal.returns
-returns c = stores c.row_of-row.ensures c.put8.ensures (to_z-of_z w64 _ (record {
+returns c = stores c.row_of-row.ensures c.put.ensures (to_z-of_z w64 _ (record {
   sfits = c.struct_told-1.given.1.0.1;
-})) c.put64.ensures c.put8-2.ensures
+})) c.put-2.ensures c.put-3.ensures

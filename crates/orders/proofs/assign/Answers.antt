@@ -1,13 +1,7 @@
 -- `orders::assign` meets its contract. Assumes nothing.
-use mathlib.Core.Path.{refl, ◌∙◌}
+use mathlib.Core.Path.{◌∙◌}
 use native.Mathlib.Omega.{arith}
 use Rattle.orders.proofs.assign.Goals as goal
-
-pub loop-v-init : goal.loop-v-init
-loop-v-init c = (refl, omega arith)
-
-pub overflow_sub-v : goal.overflow_sub-v
-overflow_sub-v c = omega (arith, c.loop-v-test.true)
 
 pub place_free-then-requires : goal.place_free-then-requires
 place_free-then-requires c = (
@@ -34,9 +28,6 @@ follow-taken-requires c = (
     c.requires,
   ),
 )
-
-pub loop-v-smaller : goal.loop-v-smaller
-loop-v-smaller c = omega (arith, c.loop-v-test.true)
 
 pub loop-v-preserved : goal.loop-v-preserved
 loop-v-preserved c = (

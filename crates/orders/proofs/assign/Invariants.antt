@@ -5,6 +5,3 @@ use Rattle.orders.proofs.assign.Given as goal
 
 abbrev pub invariant-loop-v : goal.invariant-loop-v
 invariant-loop-v l = (length l.s ≡ length l.initial.s) × (l.taken ≤ l.n)
-
-abbrev pub decreases-loop-v : goal.decreases-loop-v
-decreases-loop-v l = l.v

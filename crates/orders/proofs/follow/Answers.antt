@@ -6,15 +6,6 @@ use Rattle.orders.proofs.follow.Goals as goal
 pub loop-taken-init : goal.loop-taken-init
 loop-taken-init c = (refl, omega arith, omega arith)
 
-pub overflow_sub-p : goal.overflow_sub-p
-overflow_sub-p c = omega (arith, c.loop-taken-test.true)
-
-pub overflow_add-n : goal.overflow_add-n
-overflow_add-n c = omega (arith, c.loop-taken.invariant.2, c.requires.0, c.requires.1)
-
-pub overflow_add-v : goal.overflow_add-v
-overflow_add-v c = omega (arith, c.at-v.ensures.1)
-
 pub release-taken-requires : goal.release-taken-requires
 release-taken-requires c = (
   c.requires.0,
@@ -24,9 +15,6 @@ release-taken-requires c = (
     c.requires.2,
   ),
 )
-
-pub loop-taken-smaller : goal.loop-taken-smaller
-loop-taken-smaller c = omega (arith, c.loop-taken-test.true)
 
 pub loop-taken-preserved : goal.loop-taken-preserved
 loop-taken-preserved c = (

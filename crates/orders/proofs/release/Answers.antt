@@ -1,10 +1,7 @@
 -- `orders::release` meets its contract. Assumes nothing.
-use mathlib.Core.Path.{refl, ◌∙◌}
+use mathlib.Core.Path.{◌∙◌}
 use native.Mathlib.Omega.{arith}
 use Rattle.orders.proofs.release.Goals as goal
-
-pub loop-e-init : goal.loop-e-init
-loop-e-init c = (refl, omega arith)
 
 pub place_free-taken-requires : goal.place_free-taken-requires
 place_free-taken-requires c = (
@@ -18,7 +15,7 @@ place_free-taken-requires c = (
 
 pub loop-e-preserved : goal.loop-e-preserved
 loop-e-preserved c = (
-  c.place_free-taken.auto.s ∙ c.put32.auto.column ∙ c.loop-e.invariant.0,
+  c.place_free-taken.auto.s ∙ c.put.auto.column ∙ c.loop-e.invariant.0,
   omega (
     arith,
     c.place_free-taken.ensures,

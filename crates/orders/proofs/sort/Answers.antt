@@ -9,17 +9,8 @@ use Rattle.orders.proofs.sort.Goals as goal
 pub returns-then-not-valid : goal.returns-then-not-valid
 returns-then-not-valid c = (refl, inl refl)
 
-pub overflow_sub-n : goal.overflow_sub-n
-overflow_sub-n c = let g = c.valid.ensures.yes c.if-not-valid.false in omega (arith, g.some)
-
-pub overflow_mul-needed : goal.overflow_mul-needed
-overflow_mul-needed c = let g = c.valid.ensures.yes c.if-not-valid.false in omega (arith, g.small)
-
 pub returns-then-column-n : goal.returns-then-column-n
 returns-then-column-n c = (refl, inl refl)
-
-pub returns-then-scratch-needed : goal.returns-then-scratch-needed
-returns-then-scratch-needed c = (refl, inl refl)
 
 pub slice_bounds-sort_in-end : goal.slice_bounds-sort_in-end
 slice_bounds-sort_in-end c = c.if-column-n.false

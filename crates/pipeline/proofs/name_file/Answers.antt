@@ -1,45 +1,12 @@
 -- `pipeline::name_file` meets its contract: the names are resolved, or a refusal passed on. Assumes nothing.
+use Rattle.std.proofs.lemmas.Result.{err_from_is_err_and}
 use Rattle.pipeline.proofs.Naming.{named_file, passed_names}
 use Rattle.pipeline.proofs.name_file.Goals as goal
 
-pub shape_of-bindings : goal.shape_of-bindings
-shape_of-bindings c = c.resolve-resolution.auto.bindings
+pub returns-in_err-n : goal.returns-in_err-n
+returns-in_err-n c =
+    let p = err_from_is_err_and c.from_residual.result c.from_residual.ensures.1 in
+    rw (p.1, p.2) (passed_names c.in_err-n.was)
 
-pub shape_of-roles : goal.shape_of-roles
-shape_of-roles c = c.resolve-resolution.auto.roles
-
-pub shape_of-symbols : goal.shape_of-symbols
-shape_of-symbols c = c.resolve-resolution.auto.symbols
-
-pub shape_of-keys : goal.shape_of-keys
-shape_of-keys c = c.resolve-resolution.auto.keys
-
-pub shape_of-nodes : goal.shape_of-nodes
-shape_of-nodes c = c.resolve-resolution.auto.nodes
-
-pub shape_of-heads : goal.shape_of-heads
-shape_of-heads c = c.resolve-resolution.auto.heads
-
-pub shape_of-next : goal.shape_of-next
-shape_of-next c = c.resolve-resolution.auto.next
-
-pub shape_of-first : goal.shape_of-first
-shape_of-first c = c.resolve-resolution.auto.first
-
-pub shape_of-to : goal.shape_of-to
-shape_of-to c = c.resolve-resolution.auto.to
-
-pub shape_of-types : goal.shape_of-types
-shape_of-types c = c.resolve-resolution.auto.types
-
-pub shape_of-constants : goal.shape_of-constants
-shape_of-constants c = c.resolve-resolution.auto.constants
-
-pub shape_of-scratch : goal.shape_of-scratch
-shape_of-scratch c = c.resolve-resolution.auto.scratch
-
-pub returns-in-Done : goal.returns-in-Done
-returns-in-Done c = named_file c.in-Done.is c.resolve-resolution.ensures c.of_resolution.ensures
-
-pub returns-in-Refused : goal.returns-in-Refused
-returns-in-Refused c = passed_names c.in-Refused.is
+pub returns : goal.returns
+returns c = named_file c.in_ok-n.was c.resolve-resolution.ensures c.of_resolution.ensures

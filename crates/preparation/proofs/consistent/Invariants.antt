@@ -6,6 +6,3 @@ use Rattle.preparation.proofs.consistent.Given as goal
 
 abbrev pub invariant-loop-i : goal.invariant-loop-i
 invariant-loop-i l = Passing (table_of l.kinds l.tokens l.roles l.symbols) l.i
-
-abbrev pub decreases-loop-i : goal.decreases-loop-i
-decreases-loop-i l = length l.kinds - l.i

@@ -25,7 +25,7 @@ pub loop-i-preserved : goal.loop-i-preserved
 loop-i-preserved c = (
   omega (arith, c.loop-i-test.true),
   counting_class
-      c.loop-i.invariant.1 (rw c.at8.ensures at c.class.ensures) c.more-so_far.ensures,
+      c.loop-i.invariant.1 (rw c.get_or.ensures at c.class.ensures) c.more-so_far.ensures,
 )
 
 pub returns : goal.returns

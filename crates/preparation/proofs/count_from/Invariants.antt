@@ -5,6 +5,3 @@ use Rattle.preparation.proofs.count_from.Given as goal
 
 abbrev pub invariant-loop-i : goal.invariant-loop-i
 invariant-loop-i l = (l.i ≤ length l.kinds) × CountedTo l.kinds l.roles l.i l.so_far
-
-abbrev pub decreases-loop-i : goal.decreases-loop-i
-decreases-loop-i l = length l.kinds - l.i

@@ -1,5 +1,6 @@
 -- `preparation::declaring_before` meets its contract. Assumes nothing.
-use mathlib.Core.Path.{sym, ◌∙◌}
+use mathlib.Core.Path.{◌≡◌, sym, ◌∙◌}
+use Prim.Native.Nat.{◌+◌, ◌-◌}
 use native.Mathlib.Omega.{arith}
 use Rattle.scopes.proofs.NoneFrom.{none_yet, none_more}
 use Rattle.preparation.proofs.declaring_before.Goals as goal
@@ -19,13 +20,10 @@ bounds-roles-i c = omega (
 )
 
 pub returns-then-may_declare : goal.returns-then-may_declare
-returns-then-may_declare c = c.loop-i.invariant
-
-pub loop-i-smaller : goal.loop-i-smaller
-loop-i-smaller c = omega (arith, c.loop-i-test.true)
+returns-then-may_declare c = let e : c.loop-i.i - 1 + 1 ≡ c.loop-i.i = omega (arith, c.loop-i-test.true) in rw e c.loop-i.invariant
 
 pub loop-i-preserved : goal.loop-i-preserved
 loop-i-preserved c = none_more _ c.loop-i.invariant c.loop-i-test.true (sym c.may_declare.ensures ∙ c.if-may_declare.false)
 
 pub returns : goal.returns
-returns c = c.loop-i.invariant
+returns c = let e : c.loop-i.i ≡ 0 = omega (arith, c.loop-i-test.false) in rw e at c.loop-i.invariant

@@ -5,6 +5,3 @@ use Rattle.preparation.proofs.declaring_before.Given as goal
 
 abbrev pub invariant-loop-i : goal.invariant-loop-i
 invariant-loop-i l = NoneFrom (λ n. may_declare (get_or l.kinds n 0) (get_or l.roles n 0)) 0 l.end l.i
-
-abbrev pub decreases-loop-i : goal.decreases-loop-i
-decreases-loop-i l = l.i

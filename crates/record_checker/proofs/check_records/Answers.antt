@@ -4,10 +4,10 @@ use Rattle.record_demands.proofs.Theorem.{by_bytes, of_any}
 use Rattle.record_checker.proofs.check_records.Goals as goal
 
 pub returns-then-src-le-SMALL : goal.returns-then-src-le-SMALL
-returns-then-src-le-SMALL c = by_bytes (omega arith) c.records_small.ensures
+returns-then-src-le-SMALL c = by_bytes (omega arith) c.records_within.ensures
 
 pub returns-then-src-le-MIDDLE : goal.returns-then-src-le-MIDDLE
-returns-then-src-le-MIDDLE c = by_bytes (omega arith) c.records_middle.ensures
+returns-then-src-le-MIDDLE c = by_bytes (omega arith) c.records_within-then-src-le-MIDDLE.ensures
 
 pub returns : goal.returns
-returns c = of_any c.records_large.ensures
+returns c = of_any c.records_within-2.ensures

@@ -5,5 +5,5 @@ use Rattle.records.proofs.fill.Goals as goal
 
 pub loop-i-preserved : goal.loop-i-preserved
 loop-i-preserved c = let a = c.args in let n = length a.out.now in
-    filling_goes_on (length_filled a.kinds.now a.numbers.now a.lengths.now a.count n) c.loop-i.invariant (omega arith) c.record_at.result
-    (c.record_at.ensures ∙ sym (filled_at a.kinds.now a.numbers.now a.lengths.now a.count n c.loop-i.i (omega arith)))
+    filling_goes_on (length_filled a.kinds.now a.numbers.now a.lengths.now a.count n) c.loop-i.invariant (omega arith) c.at.result
+    (c.at.ensures ∙ sym (filled_at a.kinds.now a.numbers.now a.lengths.now a.count n c.loop-i.i (omega arith)))

@@ -2,8 +2,8 @@
 use Rattle.reports.proofs.Reporting.{done_report, refused_report}
 use Rattle.reports.proofs.summary.Goals as goal
 
-pub returns-in-Done : goal.returns-in-Done
-returns-in-Done c = done_report c.in-Done.is c.number.ensures c.number-in-Done.ensures c.number-in-Done-2.ensures
+pub returns-in-Ok : goal.returns-in-Ok
+returns-in-Ok c = done_report c.in-Ok.is c.number.ensures c.number-in-Ok.ensures c.number-in-Ok-2.ensures
 
-pub returns-in-Refused : goal.returns-in-Refused
-returns-in-Refused c = refused_report c.in-Refused.is
+pub returns-in-Err : goal.returns-in-Err
+returns-in-Err c = refused_report c.in-Err.is

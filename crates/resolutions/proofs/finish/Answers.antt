@@ -2,8 +2,8 @@
 use Rattle.resolutions.proofs.Finishing.{finishes_faulty, finishes_bound}
 use Rattle.resolutions.proofs.finish.Goals as goal
 
-pub returns-then-fault-eq-ACCEPTED : goal.returns-then-fault-eq-ACCEPTED
-returns-then-fault-eq-ACCEPTED c = finishes_bound c.if-fault-eq-ACCEPTED.true
+pub returns-in-None : goal.returns-in-None
+returns-in-None c = finishes_bound c.in-None.is
 
-pub returns : goal.returns
-returns c = finishes_faulty c.if-fault-eq-ACCEPTED.false c.widen.ensures
+pub returns-in-Some : goal.returns-in-Some
+returns-in-Some c = finishes_faulty c.in-Some.is c.widen.ensures

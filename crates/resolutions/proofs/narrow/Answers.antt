@@ -18,9 +18,6 @@ overflow_cast-bytes c = omega arith
 pub bounds-bytes-i : goal.bounds-bytes-i
 bounds-bytes-i c = omega (arith, c.loop-i-test.true, c.loop-i.invariant.len, c.if-bytes-roles.false)
 
-pub loop-i-smaller : goal.loop-i-smaller
-loop-i-smaller c = omega (arith, c.loop-i-test.true)
-
 pub loop-i-preserved : goal.loop-i-preserved
 loop-i-preserved c = gathering_goes_on (omega (arith, c.if-bytes-roles.false)) c.loop-i-test.true c.loop-i.invariant
 

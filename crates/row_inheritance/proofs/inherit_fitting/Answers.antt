@@ -4,7 +4,7 @@ use native.Mathlib.Omega.{arith}
 use Prim.Native.Nat.{◌-◌}
 use lib.ListN.{length}
 use Rattle.row_inheritance.proofs.Ranking.{before_few}
-use Rattle.row_inheritance.proofs.Inheriting.{by_rows, by_none, some_width}
+use Rattle.row_inheritance.proofs.Inheriting.{by_rows, by_none}
 use Rattle.row_inheritance.proofs.inherit_fitting.Goals as goal
 
 pub overflow_sub-n : goal.overflow_sub-n
@@ -30,12 +30,12 @@ rank_declarations-entities-requires c = (
   ),
 )
 
-pub relate_entities-width-requires : goal.relate_entities-width-requires
-relate_entities-width-requires c = (
+pub relate_entities-requires : goal.relate_entities-requires
+relate_entities-requires c = (
   omega (
     arith,
     c.rank_declarations-entities.ensures.total,
-    before_few c.args.kinds.now c.args.entry_nodes.now (length c.args.first.now - 1),
+    before_few c.args.file.entries.kinds.now c.args.file.entries.nodes.now (length c.args.file.first.now - 1),
   ),
   omega (
     arith,
@@ -50,11 +50,11 @@ relate_entities-width-requires c = (
   ),
 )
 
-pub shape_of-table-then-width-eq0 : goal.shape_of-table-then-width-eq0
-shape_of-table-then-width-eq0 c = c.rank_declarations-entities.auto.table ∙ c.order_declarations.auto.table
+pub shape_of-table-in_default : goal.shape_of-table-in_default
+shape_of-table-in_default c = c.rank_declarations-entities.auto.table ∙ c.order_declarations.auto.table
 
-pub returns-then-width-eq0 : goal.returns-then-width-eq0
-returns-then-width-eq0 c = by_none
+pub returns-in_default : goal.returns-in_default
+returns-in_default c = by_none
 
 pub clear_heads-requires : goal.clear_heads-requires
 clear_heads-requires c = omega (
@@ -84,7 +84,7 @@ shape_of-table c = c.chain_attributes-chained.auto.table ∙ c.clear_heads.auto.
 
 pub returns : goal.returns
 returns c = by_rows c.requires refl (c.rank_declarations-entities.auto.table ∙ c.order_declarations.auto.table) c.rank_declarations-entities.ensures
-    c.relate_entities-width.ensures (some_width c.if-width-eq0.false) c.clear_heads.ensures c.clear_heads.auto.table
+    c.in-Some.ensures c.clear_heads.ensures c.clear_heads.auto.table
     c.chain_attributes-chained.ensures (omega (
       arith,
       c.if-pairs-chained.false,

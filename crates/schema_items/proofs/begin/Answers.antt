@@ -4,4 +4,4 @@ use Rattle.schema_items.proofs.Tabling.{begins}
 use Rattle.schema_items.proofs.begin.Goals as goal
 
 pub returns : goal.returns
-returns c = begins c.args.table.now c.clear32.ensures refl
+returns c = begins c.args.table.now c.clear.ensures refl

@@ -3,4 +3,4 @@ use Rattle.schema_items.proofs.Tabling.{tabulates}
 use Rattle.schema_items.proofs.tabulate_items.Goals as goal
 
 pub returns : goal.returns
-returns c = tabulates c.at.ensures c.index.ensures c.saturating_sub.ensures c.saturating_sub-from.ensures c.add_range.ensures
+returns c = tabulates c.get_or.ensures c.index.ensures c.saturating_sub.ensures c.saturating_sub-from.ensures c.add_range.ensures

@@ -6,5 +6,5 @@ pub returns : goal.returns
 returns c = one_constant c.index_at.ensures c.saturating_sub-nodes.ensures c.saturating_sub-first.ensures c.evaluate_expression.ensures
     c.index_at-2.ensures
     c.saturating_sub-row.ensures
-    c.at32.ensures
+    c.get_or.ensures
     c.held_answer-answer.ensures c.put_answer.ensures

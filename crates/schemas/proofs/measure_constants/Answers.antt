@@ -1,57 +1,24 @@
 -- `schemas::measure_constants` meets its contract: what each string names has passed before it. Assumes nothing.
 use borrow.Author.Rules.{rules}
-use Rattle.schemas.proofs.Measuring.{measuring_starts, measuring_other, measuring_due, measuring_ends}
+use Rattle.schemas.proofs.Measuring.{measuring_starts, measuring_same, measuring_other, measuring_due, measuring_ends}
 use mathlib.Core.Path.{refl}
-use native.Mathlib.Omega.{arith}
 use Rattle.schemas.proofs.measure_constants.Goals as goal
+use Rattle.schemas.proofs.measure_constants.Goals.{then-is_due, else-is_due}
 
-pub loop-i-init : goal.loop-i-init
-loop-i-init c = measuring_starts
+pub loop-declaration-init : goal.loop-declaration-init
+loop-declaration-init c = measuring_starts
 
-pub overflow_add-i : goal.overflow_add-i
-overflow_add-i c = omega (
-  arith,
-  c.loop-i-test.true,
-  c.well_formed,
-)
-
-pub loop-i-smaller-then-is_due : goal.loop-i-smaller-then-is_due
-loop-i-smaller-then-is_due c = omega (arith, c.loop-i-test.true)
-
-pub loop-i-preserved-then-is_due : goal.loop-i-preserved-then-is_due
-loop-i-preserved-then-is_due c = measuring_due c.loop-i.invariant c.loop-i-test.true
-    c.index-d.ensures refl
-    c.is_due.ensures
-    c.if-is_due.true
-    c.measure_constant.ensures (search rules) (search rules) (search rules) (search rules) (search rules)
-    (search rules)
-
-pub overflow_add-i-else-is_due : goal.overflow_add-i-else-is_due
-overflow_add-i-else-is_due c = omega (arith, c.loop-i-test.true, c.well_formed)
-
-pub loop-i-smaller : goal.loop-i-smaller
-loop-i-smaller c = omega (arith, c.loop-i-test.true)
-
-pub loop-i-preserved : goal.loop-i-preserved
-loop-i-preserved c = measuring_other c.loop-i.invariant c.loop-i-test.true c.index-d.ensures refl c.is_due.ensures c.if-is_due.false
-
-pub shape_of-answer_kinds : goal.shape_of-answer_kinds
-shape_of-answer_kinds c = c.loop-i.invariant.kinds_kept
-
-pub shape_of-answer_numbers : goal.shape_of-answer_numbers
-shape_of-answer_numbers c = c.loop-i.invariant.numbers_kept
-
-pub shape_of-answer_lengths : goal.shape_of-answer_lengths
-shape_of-answer_lengths c = c.loop-i.invariant.lengths_kept
-
-pub shape_of-value_kinds : goal.shape_of-value_kinds
-shape_of-value_kinds c = c.loop-i.invariant.value_kinds_kept
-
-pub shape_of-value_numbers : goal.shape_of-value_numbers
-shape_of-value_numbers c = c.loop-i.invariant.value_numbers_kept
-
-pub shape_of-value_lengths : goal.shape_of-value_lengths
-shape_of-value_lengths c = c.loop-i.invariant.value_lengths_kept
+pub loop-declaration-preserved : goal.loop-declaration-preserved
+loop-declaration-preserved c =
+    elim c.if-is_due.branch [
+      | then-is_due w ↦
+          measuring_same w.answer_kinds-is w.answer_numbers-is w.answer_lengths-is w.value_kinds-is w.value_numbers-is w.value_lengths-is
+          (measuring_due c.loop-declaration.invariant c.loop-declaration-test.true c.index-d.ensures refl c.is_due.ensures w.if-is_due.true w.measure_constant.ensures
+          (search rules) (search rules) (search rules) (search rules) (search rules) (search rules))
+      | else-is_due w ↦
+          measuring_same w.answer_kinds-is w.answer_numbers-is w.answer_lengths-is w.value_kinds-is w.value_numbers-is w.value_lengths-is
+          (measuring_other c.loop-declaration.invariant c.loop-declaration-test.true c.index-d.ensures refl c.is_due.ensures w.if-is_due.false)
+    ]
 
 pub returns : goal.returns
-returns c = measuring_ends c.loop-i.invariant c.loop-i-test.false
+returns c = measuring_ends c.loop-declaration.invariant c.loop-declaration-test.false

@@ -4,15 +4,15 @@ use Rattle.scopes.proofs.Ranges.{declaration_first, declaration_later}
 use Rattle.scopes.proofs.declaration.Goals as goal
 
 pub returns-then-vertex-eq0 : goal.returns-then-vertex-eq0
-returns-then-vertex-eq0 c = declaration_first c.at64.ensures refl c.at.ensures c.index-node.ensures c.if-vertex-eq0.true refl
+returns-then-vertex-eq0 c = declaration_first c.get_or.ensures refl c.get_or-2.ensures c.index-node.ensures c.if-vertex-eq0.true refl
 
 pub returns : goal.returns
 returns c = declaration_later
-    c.at64.ensures
+    c.get_or.ensures
     refl
-    c.at.ensures
+    c.get_or-2.ensures
     c.index-node.ensures
     c.if-vertex-eq0.false
-    c.at-2.ensures
+    c.get_or-3.ensures
     c.index-from.ensures
     refl

@@ -1,10 +1,7 @@
 -- `spellings::hash_at` meets its contract: a short word is the first of eight bytes. Assumes nothing.
-use Rattle.spellings.proofs.Blocks.{short_blocks, short_hashes, told}
+use Rattle.spellings.proofs.Blocks.{short_blocks, short_hashes}
 use native.Mathlib.Omega.{arith}
 use Rattle.spellings.proofs.hash_at.Goals as goal
-
-pub eight-requires : goal.eight-requires
-eight-requires c = omega (arith, c.inside.ensures (told c.inside.result c.if-not-inside.false-raw))
 
 pub join-requires-2 : goal.join-requires-2
 join-requires-2 c = (

@@ -5,4 +5,4 @@ use Rattle.spellings.proofs.hash_clipped.Goals as goal
 
 pub returns : goal.returns
 returns c = clipped_hash c.args.s.now c.args.at
-    c.args.n c.shorter-from.ensures c.shorter.ensures refl c.hash.ensures
+    c.args.n c.min-from.ensures c.min.ensures refl c.hash.ensures

@@ -1,10 +1,5 @@
 use Rattle.spellings.proofs.Spellings.{Stirring}
-use lib.ListN.{length}
-use Prim.Native.Nat.{◌-◌}
 use Rattle.spellings.proofs.long_hash.Given as goal
 
-abbrev pub invariant-loop-i : goal.invariant-loop-i
-invariant-loop-i l = Stirring l.word l.h l.i
-
-abbrev pub decreases-loop-i : goal.decreases-loop-i
-decreases-loop-i l = length l.word - l.i
+abbrev pub invariant-loop-b : goal.invariant-loop-b
+invariant-loop-b l = Stirring l.word l.h l.b-index

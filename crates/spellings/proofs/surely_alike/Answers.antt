@@ -6,33 +6,12 @@ use Rattle.spellings.proofs.surely_alike.Goals as goal
 pub returns-then-not-inside : goal.returns-then-not-inside
 returns-then-not-inside c = alike_not
 
-pub returns-then-not-inside-2 : goal.returns-then-not-inside-2
-returns-then-not-inside-2 c = alike_not
-
 pub loop-i-init : goal.loop-i-init
 loop-i-init c = comparing_starts (c.inside.ensures (told c.inside.result c.if-not-inside.false-raw))
-    (c.inside-2.ensures (told c.inside-2.result c.if-not-inside-2.false-raw))
-
-pub overflow_add-p : goal.overflow_add-p
-overflow_add-p c = omega (arith, c.loop-i.invariant.one, c.loop-i.invariant.other, c.loop-i-test.true)
-
-pub eight-requires : goal.eight-requires
-eight-requires c = omega (arith, c.loop-i.invariant.one, c.loop-i.invariant.other, c.loop-i-test.true)
-
-pub overflow_add-q : goal.overflow_add-q
-overflow_add-q c = omega (arith, c.loop-i.invariant.one, c.loop-i.invariant.other, c.loop-i-test.true)
-
-pub eight-requires-in-loop-i : goal.eight-requires-in-loop-i
-eight-requires-in-loop-i c = omega (arith, c.loop-i.invariant.one, c.loop-i.invariant.other, c.loop-i-test.true)
+    (c.inside-else-not-inside.ensures (told c.inside-else-not-inside.result c.if-not-inside-2.false-raw))
 
 pub returns-then-not-agree : goal.returns-then-not-agree
 returns-then-not-agree c = alike_not
-
-pub overflow_add-i : goal.overflow_add-i
-overflow_add-i c = omega (arith, c.loop-i.invariant.one, c.loop-i-test.true)
-
-pub loop-i-smaller : goal.loop-i-smaller
-loop-i-smaller c = omega (arith, c.loop-i-test.true)
 
 pub loop-i-preserved : goal.loop-i-preserved
 loop-i-preserved c = comparing_goes_on (λ j. omega (arith, c.type_inv.s j))

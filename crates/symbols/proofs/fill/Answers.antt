@@ -3,7 +3,7 @@ use Rattle.symbols.proofs.Interning.{filling_starts, ready_to_enter, filling_ent
 use mathlib.Core.Path.{sym, ◌∙◌}
 use borrow.Author.Tests.{eq-eqb, ne_eqb}
 use native.Mathlib.Omega.{arith}
-use Rattle.symbols.proofs.fill.Goals.{then-terminal_at-eq-IDENTIFIER, else-terminal_at-eq-IDENTIFIER}
+use Rattle.symbols.proofs.fill.Goals.{then-get_or-eq-IDENTIFIER, else-get_or-eq-IDENTIFIER}
 use Rattle.symbols.proofs.fill.Goals as goal
 
 pub loop-i-init : goal.loop-i-init
@@ -12,24 +12,15 @@ loop-i-init c = filling_starts _ _ _ _ c.requires
 pub enter-requires : goal.enter-requires
 enter-requires c = ready_to_enter _ _ _ _ c.loop-i.invariant c.loop-i-test.true
 
-pub bounds-symbols-i : goal.bounds-symbols-i
-bounds-symbols-i c = omega (arith, c.loop-i.invariant.fits, c.loop-i.invariant.symbols_long, c.loop-i-test.true)
-
-pub overflow_add-i : goal.overflow_add-i
-overflow_add-i c = omega (arith, c.loop-i.invariant.small, c.loop-i-test.true)
-
-pub loop-i-smaller : goal.loop-i-smaller
-loop-i-smaller c = omega (arith, c.loop-i-test.true)
-
 pub loop-i-preserved : goal.loop-i-preserved
 loop-i-preserved c = let here = c.loop-i.invariant in
     let l = c.loop-i-test.true in
-    let is = c.terminal_at.ensures in
-    elim c.if-terminal_at-eq-IDENTIFIER.branch [
-      | then-terminal_at-eq-IDENTIFIER w ↦ filling_same _ _ _ _ w.symbols-is w.heads-is w.next-is
-          (filling_enters _ _ _ _ here l (eq-eqb _ _ (sym is ∙ w.if-terminal_at-eq-IDENTIFIER.true)) w.enter.ensures)
-      | else-terminal_at-eq-IDENTIFIER w ↦ filling_same _ _ _ _ w.symbols-is w.heads-is w.next-is
-          (filling_passes _ _ _ _ here l _ (ne_eqb _ _ (λ q. w.if-terminal_at-eq-IDENTIFIER.false (is ∙ q))) (w.number.ensures (omega (arith, here.small, l))))
+    let is = c.get_or.ensures in
+    elim c.if-get_or-eq-IDENTIFIER.branch [
+      | then-get_or-eq-IDENTIFIER w ↦ filling_same _ _ _ _ w.symbols-is w.heads-is w.next-is
+          (filling_enters _ _ _ _ here l (eq-eqb _ _ (sym is ∙ w.if-get_or-eq-IDENTIFIER.true)) w.enter.ensures)
+      | else-get_or-eq-IDENTIFIER w ↦ filling_same _ _ _ _ w.symbols-is w.heads-is w.next-is
+          (filling_passes _ _ _ _ here l _ (ne_eqb _ _ (λ q. w.if-get_or-eq-IDENTIFIER.false (is ∙ q))) (w.number.ensures (omega (arith, here.small, l))))
     ]
 
 pub shape_of-symbols : goal.shape_of-symbols

@@ -8,14 +8,14 @@ pub returns-then-not-room : goal.returns-then-not-room
 returns-then-not-room c = interns_short c.room.ensures (ap not c.if-not-room.true)
 
 pub fill-requires : goal.fill-requires
-fill-requires c = ready_to_fill c.args.heads.now (sym c.room.ensures ∙ c.if-not-room.false) c.clear32.ensures
+fill-requires c = ready_to_fill c.args.heads.now (sym c.room.ensures ∙ c.if-not-room.false) c.clear.ensures
 
 pub shape_of-symbols : goal.shape_of-symbols
 shape_of-symbols c = c.fill.auto.symbols
 
 pub shape_of-heads : goal.shape_of-heads
 shape_of-heads c = c.fill.auto.heads ∙
-    c.clear32.auto.column
+    c.clear.auto.column
 
 pub shape_of-next : goal.shape_of-next
 shape_of-next c = c.fill.auto.next

@@ -7,6 +7,3 @@ use Rattle.tree.proofs.next_before.Given as goal
 
 abbrev pub invariant-loop-n : goal.invariant-loop-n
 invariant-loop-n l = first_from (λ m. eqb (get_or l.kinds m 0) l.kind) l.n (l.end - l.n) ≡ first_from (λ m. eqb (get_or l.kinds m 0) l.kind) l.from (l.end - l.from)
-
-abbrev pub decreases-loop-n : goal.decreases-loop-n
-decreases-loop-n l = l.end - l.n

@@ -8,13 +8,13 @@ use Rattle.type_names.proofs.bind_range.Goals as goal
 
 pub loop-i-init : goal.loop-i-init
 loop-i-init c = (
-  range_starts (omega (arith, c.shorter-i.ensures)) (range_reached c.shorter.ensures c.shorter-i.ensures),
+  range_starts (omega (arith, c.min-end.ensures)) (range_reached c.min.ensures c.min-end.ensures),
   omega (
     arith,
-    c.shorter.ensures,
-    c.shorter-i.ensures,
+    c.min.ensures,
+    c.min-end.ensures,
   ),
-  omega (arith, c.shorter.ensures, c.shorter-i.ensures),
+  omega (arith, c.min.ensures, c.min-end.ensures),
 )
 
 pub bounds-kinds-i : goal.bounds-kinds-i

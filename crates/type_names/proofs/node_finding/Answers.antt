@@ -3,5 +3,5 @@ use Rattle.type_names.proofs.TypeNames.{type_name_found}
 use Rattle.type_names.proofs.node_finding.Goals as goal
 
 pub returns : goal.returns
-returns c = type_name_found c.at.ensures c.index-token.ensures
-    c.at8.ensures c.at-2.ensures c.at-3.ensures c.type_name.ensures
+returns c = type_name_found c.get_or.ensures c.index-token.ensures
+    c.get_or-2.ensures c.get_or-3.ensures c.get_or-4.ensures c.type_name.ensures

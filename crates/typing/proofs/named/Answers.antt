@@ -6,19 +6,19 @@ pub returns-then-binding-eq0 : goal.returns-then-binding-eq0
 returns-then-binding-eq0 c = named_unbound c.if-binding-eq0.true
 
 pub returns-then-kind-eq-ITEM : goal.returns-then-kind-eq-ITEM
-returns-then-kind-eq-ITEM c = named_item c.if-binding-eq0.false c.at32-number.ensures c.at8-kind.ensures c.if-kind-eq-ITEM.true
+returns-then-kind-eq-ITEM c = named_item c.if-binding-eq0.false c.get_or-number.ensures c.get_or-kind.ensures c.if-kind-eq-ITEM.true
 
 pub returns-then-kind-eq-CONSTANT : goal.returns-then-kind-eq-CONSTANT
-returns-then-kind-eq-CONSTANT c = named_constant c.if-binding-eq0.false c.at32-number.ensures
-    c.at8-kind.ensures c.if-kind-eq-CONSTANT.true c.kind_of_type.ensures c.evaluated.ensures
+returns-then-kind-eq-CONSTANT c = named_constant c.if-binding-eq0.false c.get_or-number.ensures
+    c.get_or-kind.ensures c.if-kind-eq-CONSTANT.true c.kind_of_type.ensures c.evaluated.ensures
 
-pub returns-then-at8-eq-TYPE : goal.returns-then-at8-eq-TYPE
-returns-then-at8-eq-TYPE c = named_type c.if-binding-eq0.false
-    c.at32-number.ensures c.at8-kind.ensures
-    c.if-kind-eq-ITEM.false c.if-kind-eq-CONSTANT.false c.at8.ensures c.if-at8-eq-TYPE.true
-    c.evaluated-then-at8-eq-TYPE.ensures
+pub returns-then-get_or-eq-TYPE : goal.returns-then-get_or-eq-TYPE
+returns-then-get_or-eq-TYPE c = named_type c.if-binding-eq0.false
+    c.get_or-number.ensures c.get_or-kind.ensures
+    c.if-kind-eq-ITEM.false c.if-kind-eq-CONSTANT.false c.get_or.ensures c.if-get_or-eq-TYPE.true
+    c.evaluated-then-get_or-eq-TYPE.ensures
 
 pub returns : goal.returns
-returns c = named_other c.if-binding-eq0.false c.at32-number.ensures
-    c.at8-kind.ensures c.if-kind-eq-ITEM.false c.if-kind-eq-CONSTANT.false c.at8.ensures
-    c.if-at8-eq-TYPE.false
+returns c = named_other c.if-binding-eq0.false c.get_or-number.ensures
+    c.get_or-kind.ensures c.if-kind-eq-ITEM.false c.if-kind-eq-CONSTANT.false c.get_or.ensures
+    c.if-get_or-eq-TYPE.false

@@ -8,18 +8,18 @@ use Rattle.uses.proofs.bind_range.Goals as goal
 
 pub found_before-i-requires : goal.found_before-i-requires
 found_before-i-requires c = (
-  omega (arith, c.shorter.ensures, c.shorter-reach.ensures),
+  omega (arith, c.min.ensures, c.min-reach.ensures),
   omega (
     arith,
-    c.shorter.ensures,
-    c.shorter-reach.ensures,
+    c.min.ensures,
+    c.min-reach.ensures,
   ),
 )
 
 pub loop-i-init : goal.loop-i-init
 loop-i-init c = let N = c.found_before-i.ensures in
-    let r = c.shorter-reach.ensures in
-    let w = c.shorter.ensures in (
+    let r = c.min-reach.ensures in
+    let w = c.min.ensures in (
       range_leaves_out (range_starts (omega (arith, r)) (range_reached w r)) c.args.bound.now (λ n l. refl) N,
       omega (arith, w, r, N.low),
       omega (arith, w, r, N.low),
@@ -53,8 +53,8 @@ loop-i-preserved-then-has_finding c = let I = c.loop-i.invariant in
     let N = c.found_before-i-in-loop-i.ensures in (
       range_leaves_out
           (range_stores I.0 c.loop-i-test.true
-          (range_use c.loop-i.i c.at-code.result refl refl c.has_finding.ensures c.loop-i.bound c.loop-i-test.true I.0.upto
-          c.if-has_finding.true c.at-code.ensures c.finding_at-found.ensures) c.store-so_far.ensures)
+          (range_use c.loop-i.i c.get_or-code.result refl refl c.has_finding.ensures c.loop-i.bound c.loop-i-test.true I.0.upto
+          c.if-has_finding.true c.get_or-code.ensures c.finding_at-found.ensures) c.store-so_far.ensures)
           c.loop-i.bound (stored_below c.store-so_far.ensures) N,
       omega (arith, I.1, N.low),
       omega (arith, I.2, N.low),
@@ -72,7 +72,7 @@ loop-i-preserved c = let I = c.loop-i.invariant in
     let N = c.found_before-i-in-loop-i.ensures in (
       range_leaves_out
           (range_passes I.0 c.loop-i-test.true
-          (range_other c.loop-i.i c.at-code.result refl refl c.has_finding.ensures c.loop-i.bound c.if-has_finding.false c.at-code.ensures))
+          (range_other c.loop-i.i c.get_or-code.result refl refl c.has_finding.ensures c.loop-i.bound c.if-has_finding.false c.get_or-code.ensures))
           c.loop-i.bound (λ n h. refl) N,
       omega (arith, I.1, N.low),
       omega (arith, I.2, N.low),

@@ -1,6 +1,8 @@
 -- `uses::found_before` meets its contract. Assumes nothing.
-use mathlib.Core.Path.{sym, ap, ◌∙◌}
-use Prim.Native.Nat.{◌-◌}
+use mathlib.Core.Path.{◌≡◌, sym, ap, ◌∙◌}
+use mathlib.Core.Logic.{⊎_elim}
+use Prim.Native.Nat.{◌+◌, ◌-◌, ◌≤◌, ◌<◌}
+use Rattle.relations.proofs.Select.{le_or}
 use lib.ListN.{get_or}
 use native.Mathlib.Omega.{arith}
 use Rattle.scopes.proofs.NoneFrom.{none_yet, none_more}
@@ -22,14 +24,13 @@ bounds-roles-i c = omega (
 )
 
 pub returns-then-may_find : goal.returns-then-may_find
-returns-then-may_find c = c.loop-i.invariant
-
-pub loop-i-smaller : goal.loop-i-smaller
-loop-i-smaller c = omega (arith, c.loop-i-test.true)
+returns-then-may_find c = let e : c.loop-i.i - 1 + 1 ≡ c.loop-i.i = omega (arith, c.loop-i-test.true) in rw e c.loop-i.invariant
 
 pub loop-i-preserved : goal.loop-i-preserved
 loop-i-preserved c = none_more _ c.loop-i.invariant c.loop-i-test.true
-    (ap (may_find (get_or c.args.kinds.now (c.loop-i.i - 1) 0) (get_or c.args.roles.now (c.loop-i.i - 1) 0)) (sym c.at.ensures) ∙ sym c.may_find.ensures ∙ c.if-may_find.false)
+    (ap (may_find (get_or c.args.kinds.now (c.loop-i.i - 1) 0) (get_or c.args.roles.now (c.loop-i.i - 1) 0)) (sym c.get_or.ensures) ∙ sym c.may_find.ensures ∙ c.if-may_find.false)
 
 pub returns : goal.returns
-returns c = c.loop-i.invariant
+returns c = let N = c.loop-i.invariant in
+    let e : c.loop-i.i ≡ c.min.result = ⊎_elim (λ (h : c.args.end ≤ c.loop-i.i). omega (arith, c.loop-i-test.false, N.low))
+    (λ (h : c.loop-i.i < c.args.end). omega (arith, c.loop-i-test.false, N.from h)) (le_or c.args.end c.loop-i.i) in rw e at N

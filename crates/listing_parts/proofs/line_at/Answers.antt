@@ -1,6 +1,0 @@
--- `listing_parts::line_at` meets its contract: the record that is read is the answer at the index. Assumes nothing.
-use Rattle.listing_parts.proofs.Parting.{recorded}
-use Rattle.listing_parts.proofs.line_at.Goals as goal
-
-pub returns : goal.returns
-returns c = recorded c.record_at-answer.ensures c.constant.ensures
