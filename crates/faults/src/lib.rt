@@ -6,11 +6,12 @@ ghost use Rattle.express.specs.Names.Fault as express;
 ghost use Rattle.express.specs.Names.Names as stages;
 ghost use Rattle.express.specs.Names.Scope.{one};
 ghost use Rattle.scopes.specs.LookUp.{entry_meant};
-ghost use Rattle.faults.specs.Meaning.{number_of, fault_of};
+ghost use Rattle.faults.specs.Meaning.{number_of, fault_of, is_fine};
 
 use scopes::look_ups::Meaning;
 
-// Declared twice; not found; found, but of the wrong sort; of two meanings; or on a cycle.
+// Declared twice; not found; found, but of the wrong sort; of two meanings; or on a cycle. No stage here answers another number, but a caller may
+// have a stage that does; 0 is no fault.
 #[derive(Clone, Copy, Debug, PartialEq, Eq)]
 pub enum Reply {
     Repeated,
@@ -18,6 +19,7 @@ pub enum Reply {
     WrongSort,
     Ambiguous,
     Cycle,
+    Other(u8),
 }
 
 impl Reply {
@@ -31,6 +33,7 @@ impl Reply {
             Reply::WrongSort => codes::replies::WRONG_SORT,
             Reply::Ambiguous => codes::replies::AMBIGUOUS,
             Reply::Cycle => codes::replies::CYCLE,
+            Reply::Other(number) => number,
         }
     }
 }
@@ -47,10 +50,26 @@ pub fn fault_at(reply: Reply, place: u32) -> Option<Fault>
     Some(Fault { reply, place })
 }
 
+// Is there no fault?
+pub fn is_fine(fault: Option<Fault>) -> bool
+    ensures { result ≡ is_fine fault }
+{
+    match fault {
+        None => true,
+        Some(fault) => fault.reply.number() == codes::replies::ACCEPTED,
+    }
+}
+
 // Of two faults of one stage the one with the smaller place.
 pub fn sooner(a: Option<Fault>, b: Option<Fault>) -> Option<Fault>
     ensures { fault_of result ≡ stages.sooner (fault_of a) (fault_of b) }
 {
+    if is_fine(a) {
+        return b;
+    }
+    if is_fine(b) {
+        return a;
+    }
     match (a, b) {
         (None, _) => b,
         (_, None) => a,
@@ -62,7 +81,7 @@ pub fn sooner(a: Option<Fault>, b: Option<Fault>) -> Option<Fault>
 pub fn or_later(a: Option<Fault>, later: Option<Fault>) -> Option<Fault>
     ensures { fault_of result ≡ express.or_later (fault_of a) (fault_of later) }
 {
-    a.or(later)
+    if is_fine(a) { later } else { a }
 }
 
 // Of something that is found at a place: it is right, or of the wrong sort.

@@ -40,6 +40,18 @@ pub checked_is : (z : ℤ) (o : Option ℤ) {r : Result ℤ End} → SomeIff o (
 checked_is z None h e = rw e (sym (exact_over z (fits_or z h)))
 checked_is z (Some x) h e = rw (e, h.1) (sym (exact_fits z h.0.sfits))
 
+-- the same for the check's tactics, whatever is done with the `Option`: an operand is what its bits read as, and a result is exact or the end 16
+pub own_is : (z : ℤ) → SFits w64 z → to_z w64 (of_z w64 z) ≡ z
+own_is z f = to_z-of_z f
+
+pub fits_exact : (z : ℤ) → SFits w64 z → exact z ≡ integer z
+fits_exact z f = exact_fits z f.sfits
+
+pub over_exact : (z : ℤ) → (SFits w64 z → ⊥) → exact z ≡ end 16
+over_exact z h = exact_over z (fits_or z h)
+
+pub ruleset checked = (own_is, fits_exact, over_exact)
+
 -- ---- what an answer tells of the exact result
 is_integer : (t : Bool) (z w : ℤ) → cond t (integer z) (end 16) ≡ integer w → z ≡ w
 is_integer true z w e = cc

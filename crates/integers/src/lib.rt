@@ -10,12 +10,14 @@ ghost use Rattle.integers.specs.Meaning.{integer_answer};
 use std::cmp::Ordering;
 use values::End;
 
+#[tactic(auto, using(crate::proofs::Exact::checked))]
 pub fn add(a: i64, b: i64) -> Result<i64, End>
     ensures { integer_answer result ≡ sum a b }
 {
     a.checked_add(b).ok_or(End::OutOfRange)
 }
 
+#[tactic(auto, using(crate::proofs::Exact::checked))]
 pub fn subtract(a: i64, b: i64) -> Result<i64, End>
     ensures { integer_answer result ≡ difference a b }
 {
@@ -23,6 +25,7 @@ pub fn subtract(a: i64, b: i64) -> Result<i64, End>
 }
 
 // The least integer alone has its opposite out of the range.
+#[tactic(auto, using(crate::proofs::Exact::checked))]
 pub fn negate(a: i64) -> Result<i64, End>
     ensures { integer_answer result ≡ negation a }
 {

@@ -2,12 +2,12 @@
 use Rattle.std.specs.Prelude.{Option, Some, None, Result, Ok, Err, IsOk, IsErr, is_none, is_err}
 use mathlib.Core.Path.{◌≡◌, refl, sym, ap, subst, ◌∙◌}
 use mathlib.Core.Logic.{◌≢◌, by_cases}
-use mathlib.Core.Bool.{Bool, true, false, false≢true, cond, not}
+use mathlib.Core.Bool.{Bool, true, false, false≢true, true≢false, cond, not}
 use mathlib.Core.List.{List, [], map}
 use Prim.Native.Nat.{ℕ, zero, suc, ◌+◌, ◌*◌, ◌≤◌, ◌<◌, min}
 use native.Mathlib.Omega.{arith}
 use native.Mathlib.Decide.{ℕ_discrete}
-use borrow.Author.Tests.{eq-eqb, ne_eqb, not-true, not-false}
+use borrow.Author.Tests.{eqb-true, eq-eqb, ne_eqb, not-true, not-false}
 use lib.ListN.{length, get_or, take, length-map, length-take}
 use lib.Seq.{sets, length-sets, take_all, get_or-take, ext_get_or, length-take-le}
 use Rattle.columns.proofs.Laws.{take_rows}
@@ -27,15 +27,13 @@ use Rattle.scopes.specs.declared.Counts.{Counts}
 use Rattle.scopes.specs.declared.dictionary.Unfit as dictionary
 use Rattle.preparation.proofs.Preparing.{entries_total, total_small}
 use Rattle.scopes.proofs.Tables.{columns_of, counted_for}
-use Rattle.faults.specs.Meaning.{number_of}
-use Rattle.faults.specs.declared.Reply.{Reply}
-use Rattle.faults.specs.declared.Reply.TheVariants.{Repeated, NotFound, WrongSort, Ambiguous, Cycle}
+use Rattle.faults.specs.Meaning.{number_of, fault_of, is_fine}
 use Rattle.faults.specs.declared.Fault.{Fault}
 use Rattle.type_names.specs.TypeName.{FileColumns}
 use Rattle.name_binding.proofs.Preparing.{as_many, length_span}
 use Rattle.name_binding.specs.Prepared.{FilePrepared, PreparesFile}
 use Rattle.name_binding.specs.Binding.{NamesBound}
-use Rattle.resolutions.specs.Answer.{Narrows, StageRoom, Finishes}
+use Rattle.resolutions.specs.Answer.{Narrows, StageRoom, Finishes, answer_to}
 use Rattle.names.specs.Resolution.{FileRead, NamesRoom, Resolved, Resolves, BindsPrepared, ResolvesRoles}
 use Rattle.resolutions.specs.declared.Refusal.{Refusal}
 use Rattle.resolutions.specs.declared.Refusal.TheVariants.{Faulty, Unfit}
@@ -162,13 +160,14 @@ is_unfit (Ok x) = false
 is_unfit (Err (Faulty f)) = false
 is_unfit (Err Unfit) = true
 
--- no reply has the number of an acceptance
-replied : (k : Reply) → number_of k ≢ 0
-replied Repeated e = omega (arith, e)
-replied NotFound e = omega (arith, e)
-replied WrongSort e = omega (arith, e)
-replied Ambiguous e = omega (arith, e)
-replied Cycle e = omega (arith, e)
+-- the answer to no fault, and to one
+answer_fine : (f : Option Fault) → is_fine f ≡ true → answer_to f ≡ Ok tt
+answer_fine None e = refl
+answer_fine (Some x) e = ap (λ b. cond b (Ok tt) (Err (Faulty x))) e
+
+at_fault : (f : Option Fault) → is_fine f ≡ false → (x : Fault) × (f ≡ Some x) × (answer_to f ≡ Err (Faulty x)) × (number_of x.reply ≢ 0)
+at_fault None e = absurd (true≢false e)
+at_fault (Some x) e = (x, refl, ap (λ b. cond b (Ok tt) (Err (Faulty x))) e, λ z. true≢false (sym (eq-eqb (number_of x.reply) 0 z) ∙ e))
 
 as_long :
     {src starts lengths terminals kinds tokens sizes roles : List ℕ} {a b : ℕ} → a ≡ b →
@@ -217,29 +216,40 @@ module _ {src starts lengths terminals kinds tokens sizes roles bindings symbols
         BindsPrepared kinds tokens sizes roles (take (length starts) symbols') starts keys' nodes' heads' next' bindings c.declarations (c.declarations + c.others) f bound' types' constants' →
         length bound' ≡ length bindings → Finishes f roles bound' r bindings' →
         ResolvesRoles src starts lengths terminals kinds tokens sizes roles bindings symbols keys nodes heads next first to types constants scratch r bindings' types' constants'
-    file_resolved None {r} {bound'} {types'} {constants'} {bindings'} B l E = record {
-      kept = λ w. absurd (false≢true (ap is_unfit (sym E.answer ∙ w)));
-      put_back = λ x w o. absurd (false≢true (ap is_err (sym E.answer ∙ w)));
-      is = λ t F o.
-          let N = names_of P C q B l t F o in
-          let m : length bound' ≡ count t = as_long l t F o in
-          subst (λ (x : Result (Unit {0}) Refusal). Resolved t x bindings' types' constants') (sym E.answer) (
-            ap (λ (x : express.Fault). x.number) (sym N.reply),
-            E.bindings_are ∙ sym (take_all (count t) bound' (omega (arith, m))) ∙ bound_all t bound' (omega (arith, m)) (N.entries refl),
-            N.types_arranged refl,
-            N.constants_arranged refl,
-          );
-      unfit = λ w t F R. false≢true (ap is_unfit (sym E.answer ∙ w));
-    }
-    file_resolved (Some x) {r} {bound'} {types'} {constants'} {bindings'} B l E = record {
-      kept = λ w. absurd (false≢true (ap is_unfit (sym E.answer ∙ w)));
-      put_back = λ y w o.
-          let all : take (min (length roles) (length bound')) roles ≡ roles = take_all (min (length roles) (length bound')) roles (omega (arith, o, l)) in
-          E.bindings_are ∙ ap (sets bound' 0) all ∙ sets_over bound' roles (omega (arith, o, l));
-      is = λ t F o.
-          subst (λ (y : Result (Unit {0}) Refusal). Resolved t y bindings' types' constants') (sym E.answer) (sym (names_of P C q B l t F o).reply, replied x.reply);
-      unfit = λ w t F R. false≢true (ap is_unfit (sym E.answer ∙ w));
-    }
+    file_resolved f {r} {bound'} {types'} {constants'} {bindings'} B l E = by (is_fine f) refl
+      where
+        by : (b : Bool) → is_fine f ≡ b → ResolvesRoles src starts lengths terminals kinds tokens sizes roles bindings symbols keys nodes heads next first to types constants scratch r bindings' types' constants'
+        by true e =
+            let answer : r ≡ Ok tt = E.answer ∙ answer_fine f e in
+            let bound_are : bindings' ≡ bound' = E.bindings_are ∙ ap (λ b. cond b bound' (sets bound' 0 (take (min (length roles) (length bound')) roles))) e in
+            record {
+              kept = λ w. absurd (false≢true (ap is_unfit (sym answer ∙ w)));
+              put_back = λ x w o. absurd (false≢true (ap is_err (sym answer ∙ w)));
+              is = λ t F o.
+                  let N = names_of P C q B l t F o in
+                  let m : length bound' ≡ count t = as_long l t F o in
+                  let none : (fault_of f).number ≡ 0 = eqb-true (fault_of f).number 0 e in
+                  subst (λ (x : Result (Unit {0}) Refusal). Resolved t x bindings' types' constants') (sym answer) (
+                    ap (λ (x : express.Fault). x.number) (sym N.reply) ∙ none,
+                    bound_are ∙ sym (take_all (count t) bound' (omega (arith, m))) ∙ bound_all t bound' (omega (arith, m)) (N.entries none),
+                    N.types_arranged none,
+                    N.constants_arranged none,
+                  );
+              unfit = λ w t F R. false≢true (ap is_unfit (sym answer ∙ w));
+            }
+        by false e =
+            let A = at_fault f e in
+            let answer : r ≡ Err (Faulty A.0) = E.answer ∙ A.2 in
+            let put : bindings' ≡ sets bound' 0 (take (min (length roles) (length bound')) roles) = E.bindings_are ∙ ap (λ b. cond b bound' (sets bound' 0 (take (min (length roles) (length bound')) roles))) e in
+            record {
+              kept = λ w. absurd (false≢true (ap is_unfit (sym answer ∙ w)));
+              put_back = λ y w o.
+                  let all : take (min (length roles) (length bound')) roles ≡ roles = take_all (min (length roles) (length bound')) roles (omega (arith, o, l)) in
+                  put ∙ ap (sets bound' 0) all ∙ sets_over bound' roles (omega (arith, o, l));
+              is = λ t F o.
+                  subst (λ (y : Result (Unit {0}) Refusal). Resolved t y bindings' types' constants') (sym answer) (sym (names_of P C q B l t F o).reply ∙ ap fault_of A.1, A.3);
+              unfit = λ w t F R. false≢true (ap is_unfit (sym answer ∙ w));
+            }
 
 -- ---- roles in bytes
 

@@ -9,17 +9,17 @@ use lib.IntN.{ℤ, pos, negsuc, neg_ℤ, nat_abs, ◌*ℤ◌, pow, one, *ℤ-zer
 use lib.Pow.{pow_mono}
 use lib.Signed.{mag, lt_z, non_neg}
 use mir.Syntax.{w64}
-use mir.Val.{SFits, Fits}
+use mir.Val.{SFits, Fits, of_z}
 use mir.Facts.{to_z-of_z}
 use Rattle.std.specs.Int.{int_pow}
 use Rattle.std.specs.Prelude.{Option, Result, SomeIff}
 use Rattle.std.specs.Option.{ok_or}
-use Rattle.express.specs.Semantics.Answer.{end}
+use Rattle.express.specs.Semantics.Answer.{integer, end}
 use Rattle.express.specs.Semantics.Integer.{exact, negative, signed, power}
 use Rattle.values.specs.declared.End.{End}
 use Rattle.values.specs.declared.End.TheVariants.{OutOfRange}
 use Rattle.integers.specs.Meaning.{integer_answer}
-use Rattle.integers.proofs.Exact.{own, exact_over, checked_is, sign_is, abs_neg}
+use Rattle.integers.proofs.Exact.{own, exact_fits, exact_over, checked_is, sign_is, bits_are, abs_neg}
 
 -- ---- the magnitude of a power
 abs_times : (a b : ℤ) → nat_abs (a *ℤ b) ≡ nat_abs a * nat_abs b
@@ -130,6 +130,30 @@ at_natural : (a b : ℤ) → negative b ≡ false → exact (pow a (nat_abs b)) 
 unfolding power
 at_natural a (pos n) s = refl
 at_natural a (negsuc n) s = absurd (true≢false s)
+
+module _ {a b : ℤ} (f : SFits w64 a) (g : SFits w64 b) (s : lt_z (own b) (pos 0) ≡ false) where
+  natural : {z : ℤ} → z ≡ pow a (nat_abs (own b)) → mag z < 2 ^ 63 → integer z ≡ power a b
+  natural {z} e h = sym (exact_fits z h) ∙ ap exact e ∙ rw (to_z-of_z g) (at_natural a b (sign_is g s))
+
+  pub power_of_none : nat_abs (own b) ≡ 0 → integer (pos 1) ≡ power a b
+  unfolding pow one
+  power_of_none n = natural (rw n) (omega arith)
+
+  pub power_zero : (nat_abs (own b) ≡ 0 → ⊥) → of_z w64 a ≡ 0 → integer (pos 0) ≡ power a b
+  power_zero n e = natural (sym (rw (bits_are f e) (of_zero (nat_abs (own b)) n))) (omega arith)
+
+  pub power_one : of_z w64 a ≡ 1 → integer (pos 1) ≡ power a b
+  power_one e = natural (sym (rw (bits_are f e) (of_one (nat_abs (own b))))) (omega arith)
+
+  module _ (e : of_z w64 a ≡ 18446744073709551615) where
+    minus_one : (r : ℕ) → nat_abs (own b) % 2 ≡ r → signed (eqb r 1) (pos 1) ≡ pow a (nat_abs (own b))
+    minus_one r p = rw (bits_are f e, ← p) (sym (of_minus_one (nat_abs (own b))))
+
+    pub power_even : nat_abs (own b) % 2 ≡ 0 → integer (pos 1) ≡ power a b
+    power_even p = natural (minus_one 0 p) (omega arith)
+
+    pub power_odd : (nat_abs (own b) % 2 ≡ 0 → ⊥) → integer (negsuc 0) ≡ power a b
+    power_odd p = natural (minus_one 1 (omega arith)) (omega arith)
 
 pub power_answer :
     {a b : ℤ} {n : ℕ} {r : Result ℤ End} → SFits w64 a → SFits w64 b → lt_z (own b) (pos 0) ≡ false → Stands (nat_abs (own b)) n → (o : Option ℤ) →

@@ -1,13 +1,11 @@
 -- DIV and MOD from the quotient of which the rest is not below 0, and that rest.
 use mathlib.Core.Path.{◌≡◌, refl, sym, ◌∙◌, ap}
-use mathlib.Core.Bool.{Bool, true, false, not, true≢false}
-use Prim.Native.Nat.{ℕ, zero, suc, ◌+◌, ◌-◌, ◌*◌, ◌/◌, ◌%◌, ◌<◌, ◌≤◌, ◌^◌}
+use mathlib.Core.Bool.{Bool, true, false}
+use Prim.Native.Nat.{ℕ, zero, suc, ◌*◌, ◌/◌, ◌<◌, ◌≤◌, ◌^◌}
 use native.Mathlib.Nat.{mod-lt, div-le_self, div-mul-le_self, mul-le-mul, le_refl}
-use native.Mathlib.Numerals.{add-one}
 use native.Mathlib.Omega.{arith}
-use borrow.Author.Tests.{ltb-false, ne_eqb}
-use lib.Arith.{digits_div, digits_mod}
-use lib.IntN.{ℤ, pos, negsuc, neg_ℤ, nat_abs, ◌+ℤ◌, ◌-ℤ◌, +ℤ_idl}
+use borrow.Author.Tests.{ne_eqb}
+use lib.IntN.{ℤ, pos, negsuc, neg_ℤ, nat_abs, ◌-ℤ◌, +ℤ_idl}
 use lib.Signed.{lt_z, mag, nat_abs-le, quot_z, mag_shr}
 use mir.Facts.{to_z-of_z}
 use mir.Syntax.{w64}
@@ -15,12 +13,12 @@ use mir.Val.{SFits, of_z}
 use Rattle.std.specs.Int.{CanDivide, int_div_euclid, int_rem_euclid}
 use Rattle.std.specs.Prelude.{Option, None, Some, Result, SomeIff}
 use Rattle.std.specs.Option.{ok_or}
-use Rattle.express.specs.Semantics.Answer.{Answer, integer, end}
-use Rattle.express.specs.Semantics.Integer.{exact, negation, negative, signed, rest, quotient, remainder, DIV, MOD}
+use Rattle.express.specs.Semantics.Answer.{integer, end}
+use Rattle.express.specs.Semantics.Integer.{exact, negative, signed, rest, quotient, remainder, DIV, MOD}
 use Rattle.values.specs.declared.End.{End}
 use Rattle.values.specs.declared.End.TheVariants.{OutOfRange}
 use Rattle.integers.specs.Meaning.{integer_answer}
-use Rattle.integers.proofs.Exact.{own, Gives, gives, exact_fits, checked_is, sign_is, bits_are}
+use Rattle.integers.proofs.Exact.{own, own_is, Gives, gives, exact_fits, checked_is, sign_is, bits_are}
 
 neg_mag : (n k : ℕ) → n ≤ k → 0 < k → mag (neg_ℤ (pos n)) < k
 neg_mag zero k h g = g
@@ -111,6 +109,13 @@ module _ {a b : ℤ} (f : SFits w64 a) (g : SFits w64 b) (n : of_z w64 b ≡ 0 �
       told_as o (λ c. record { sfits = fits_there a b f.sfits c.1.sfits }) (λ c. (omega (arith, n), record { sfits = fits_back a b f.sfits c.sfits })) (div_is a b) k in
       rw (ne_eqb (nat_abs b) 0 (λ z. absurd (omega (arith, not_none b n)))) (checked_is (quotient a b) o s e)
 
+  -- for the check's tactics, whatever is done with the `Option`
+  pub div_fits : CanDivide w64 a b → DIV a b ≡ integer (int_div_euclid a b)
+  div_fits h = sym (div_answer (Some (int_div_euclid a b)) (rw (to_z-of_z f, to_z-of_z g) (h, refl)) refl)
+
+  pub div_over : (CanDivide w64 a b → ⊥) → DIV a b ≡ end 16
+  div_over h = sym (div_answer None (rw (to_z-of_z f, to_z-of_z g) h) refl)
+
   module _ {r : ℤ} (e : r ≡ int_rem_euclid (own a) (own b)) where
     rest_is : r ≡ pos (rest a (nat_abs b))
     rest_is = rw (to_z-of_z f, to_z-of_z g) at e ∙ rem_is a b
@@ -139,3 +144,5 @@ module _ {a b : ℤ} (f : SFits w64 a) (g : SFits w64 b) (n : of_z w64 b ≡ 0 �
     mod_same t =
         let p = signed_rest (sign_is g t) in
         rw (rest_own, p) (sym (mod_exact ∙ exact_fits (remainder a b) (remainder_small a b (not_none b n) g.sfits)))
+
+pub ruleset divided = (own_is, div_fits, div_over)

@@ -14,6 +14,7 @@ pub fn multiply(a: i64, b: i64) -> Result<i64, End>
 }
 
 // DIV: rounded down for a positive divisor, and -(a DIV -b) for a negative one.
+#[tactic(auto, using(crate::proofs::Quotients::divided))]
 pub fn div(a: i64, b: i64) -> Result<i64, End>
     ensures { integer_answer result ≡ DIV a b }
 {
@@ -34,7 +35,7 @@ pub fn modulo(a: i64, b: i64) -> Result<i64, End>
     if b < 0 { Ok(-r) } else { Ok(r) }
 }
 
-// From the exponent 64 on the power of 0, 1 and -1 goes by its parity alone, and any other is out of the range.
+// The powers of 0, 1 and -1 go by the exponent's parity alone: they take no product. From the exponent 64 on any other is out of the range.
 pub fn power(a: i64, b: i64) -> Result<i64, End>
     ensures { integer_answer result ≡ power a b }
 {
@@ -42,6 +43,18 @@ pub fn power(a: i64, b: i64) -> Result<i64, End>
         return Err(End::NegativePower);
     }
     let e = b as u64;
+    if e == 0 {
+        return Ok(1);
+    }
+    if a == 1 {
+        return Ok(1);
+    }
+    if a == 0 {
+        return Ok(0);
+    }
+    if a == -1 {
+        return if e % 2 == 0 { Ok(1) } else { Ok(-1) };
+    }
     let n = if e < 64 { e } else { 64 + e % 2 };
     a.checked_pow(n as u32).ok_or(End::OutOfRange)
 }

@@ -1,7 +1,8 @@
 -- What the names of a file come to (N19), and the room that the stages need.
-use Rattle.std.specs.Prelude.{◌≡◌, Bool, true, false, cond, List, ℕ, ◌+◌, ◌*◌, ◌≤◌, ◌<◌, min, length, get_or, take, is_none, Option, Some, None, Result, Ok, Err}
+use Rattle.std.specs.Prelude.{◌≡◌, Bool, true, false, cond, List, ℕ, ◌+◌, ◌*◌, ◌≤◌, ◌<◌, min, length, get_or, take, Option, Some, None, Result, Ok, Err}
 use Rattle.std.proofs.lemmas.List.Edits.{sets}
 use Rattle.faults.specs.declared.Fault.{Fault}
+use Rattle.faults.specs.Meaning.{is_fine}
 use Rattle.resolutions.specs.declared.Refusal.{Refusal}
 use Rattle.resolutions.specs.declared.Refusal.TheVariants.{Faulty}
 
@@ -26,8 +27,8 @@ pub record StageRoom (tokens vertices first to types constants scratch : ℕ) : 
 -- `finish`: the answer to a fault, and the roles back in the column of bindings
 abbrev pub answer_to : Option Fault → Result (Unit {0}) Refusal
 answer_to None = Ok tt
-answer_to (Some f) = Err (Faulty f)
+answer_to (Some f) = cond (is_fine (Some f)) (Ok tt) (Err (Faulty f))
 
 pub record Finishes (f : Option Fault) (roles bindings : List ℕ) (r : Result (Unit {0}) Refusal) (bindings' : List ℕ) : Type 0 where
   pub answer : r ≡ answer_to f
-  pub bindings_are : bindings' ≡ cond (is_none f) bindings (sets bindings 0 (take (min (length roles) (length bindings)) roles))
+  pub bindings_are : bindings' ≡ cond (is_fine f) bindings (sets bindings 0 (take (min (length roles) (length bindings)) roles))

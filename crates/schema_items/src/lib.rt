@@ -53,7 +53,7 @@ pub fn begin(table: &mut [u32]) -> Tabled
     }
 }
 
-// The items of a schema: they stand in the table, or are entered under a new stamp.
+// The items of a schema: they stand in the table, or are entered under a new stamp. Behind the last node is none: a table without entries has its items.
 pub fn turn_to(
     kinds: &[u8],
     tokens: &[u32],
@@ -66,7 +66,7 @@ pub fn turn_to(
 ) -> Tabled
     ensures { Turns kinds.now tokens.now sizes.now symbols.now schema stamp before table.old result table.new }
 {
-    if before.schema == Some(schema) {
+    if before.schema.unwrap_or(kinds.len()) == schema {
         return before;
     }
     tabulate_items(kinds, tokens, sizes, symbols, schema, stamp, table);

@@ -92,6 +92,15 @@ pub alike_is : (xs ys : List ℕ) {r : Bool} → ((r ≡ true) → map to_ascii_
 alike_is xs ys {r = true} h = sym (same_is (folded xs) (folded ys) (sym (lowered xs) ∙ h.0 refl ∙ lowered ys))
 alike_is xs ys {r = false} h = sym (same_not (folded xs) (folded ys) (λ e. false≢true (h.1 (lowered xs ∙ e ∙ sym (lowered ys)))))
 
+-- the same for the check's tactics, whatever is done with the answer
+pub alike_yes : (xs ys : List ℕ) → map to_ascii_lowercase xs ≡ map to_ascii_lowercase ys → same (map lower xs) (map lower ys) ≡ true
+alike_yes xs ys h = same_is (folded xs) (folded ys) (sym (lowered xs) ∙ h ∙ lowered ys)
+
+pub alike_no : (xs ys : List ℕ) → (map to_ascii_lowercase xs ≡ map to_ascii_lowercase ys → false ≡ true) → same (map lower xs) (map lower ys) ≡ false
+alike_no xs ys h = same_not (folded xs) (folded ys) (λ e. false≢true (h (lowered xs ∙ e ∙ sym (lowered ys))))
+
+pub ruleset alike = (alike_yes, alike_no)
+
 -- a word that is spelled like a token was compared in its stead
 pub heard : (xs : List ℕ) {ys zs : List ℕ} {r t : Bool} → ys ≡ zs → r ≡ same xs ys → r ≡ t → same xs zs ≡ t
 heard xs e f g = ap (same xs) (sym e) ∙ sym f ∙ g

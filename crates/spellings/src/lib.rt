@@ -220,6 +220,7 @@ pub fn surely_alike(s: &[u8], p: usize, q: usize, n: usize) -> bool
 }
 
 // Are two words spelled alike?
+#[tactic(auto, using(crate::proofs::Spellings::alike))]
 pub fn alike(a: &[u8], b: &[u8]) -> bool
     ensures { result ≡ same (map lower a.now) (map lower b.now) }
 {

@@ -17,9 +17,20 @@ pub fn join(a: u8, b: u8) -> Result<u8, End>
     a.checked_add(b).ok_or(End::OutOfRange)
 }
 
+// How many bytes are compared one by one: most strings that differ do so in their first bytes, and a comparison of slices takes as long to begin as these.
+const EARLY: usize = 8;
+
 // From the left as far as both go; then the shorter is less.
 pub fn compare(a: &[u8], b: &[u8]) -> Ordering
     ensures { ordering_of result ≡ compare_bytes a.now b.now }
 {
-    a.cmp(b)
+    let l = a.len().min(b.len());
+    for i in 0..l.min(EARLY) {
+        let x = a[i];
+        let y = b[i];
+        if x != y {
+            return x.cmp(&y);
+        }
+    }
+    a[..l].cmp(&b[..l]).then(a.len().cmp(&b.len()))
 }

@@ -61,7 +61,8 @@ fn fill(
 {
     for i in 0..starts.len() {
         // Past the end of the column of terminals is no identifier.
-        if get_or(terminals, i, codes::NONE) == codes::IDENTIFIER {
+        let terminal = get_or(terminals, i, codes::NONE);
+        if terminal == codes::IDENTIFIER {
             enter(bytes, starts, lengths, i, symbols, heads, next);
         } else {
             symbols[i] = number(i);

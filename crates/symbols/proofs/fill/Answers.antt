@@ -3,7 +3,7 @@ use Rattle.symbols.proofs.Interning.{filling_starts, ready_to_enter, filling_ent
 use mathlib.Core.Path.{sym, ◌∙◌}
 use borrow.Author.Tests.{eq-eqb, ne_eqb}
 use native.Mathlib.Omega.{arith}
-use Rattle.symbols.proofs.fill.Goals.{then-get_or-eq-IDENTIFIER, else-get_or-eq-IDENTIFIER}
+use Rattle.symbols.proofs.fill.Goals.{then-terminal-eq-IDENTIFIER, else-terminal-eq-IDENTIFIER}
 use Rattle.symbols.proofs.fill.Goals as goal
 
 pub loop-i-init : goal.loop-i-init
@@ -15,12 +15,12 @@ enter-requires c = ready_to_enter _ _ _ _ c.loop-i.invariant c.loop-i-test.true
 pub loop-i-preserved : goal.loop-i-preserved
 loop-i-preserved c = let here = c.loop-i.invariant in
     let l = c.loop-i-test.true in
-    let is = c.get_or.ensures in
-    elim c.if-get_or-eq-IDENTIFIER.branch [
-      | then-get_or-eq-IDENTIFIER w ↦ filling_same _ _ _ _ w.symbols-is w.heads-is w.next-is
-          (filling_enters _ _ _ _ here l (eq-eqb _ _ (sym is ∙ w.if-get_or-eq-IDENTIFIER.true)) w.enter.ensures)
-      | else-get_or-eq-IDENTIFIER w ↦ filling_same _ _ _ _ w.symbols-is w.heads-is w.next-is
-          (filling_passes _ _ _ _ here l _ (ne_eqb _ _ (λ q. w.if-get_or-eq-IDENTIFIER.false (is ∙ q))) (w.number.ensures (omega (arith, here.small, l))))
+    let is = c.get_or-terminal.ensures in
+    elim c.if-terminal-eq-IDENTIFIER.branch [
+      | then-terminal-eq-IDENTIFIER w ↦ filling_same _ _ _ _ w.symbols-is w.heads-is w.next-is
+          (filling_enters _ _ _ _ here l (eq-eqb _ _ (sym is ∙ w.if-terminal-eq-IDENTIFIER.true)) w.enter.ensures)
+      | else-terminal-eq-IDENTIFIER w ↦ filling_same _ _ _ _ w.symbols-is w.heads-is w.next-is
+          (filling_passes _ _ _ _ here l _ (ne_eqb _ _ (λ q. w.if-terminal-eq-IDENTIFIER.false (is ∙ q))) (w.number.ensures (omega (arith, here.small, l))))
     ]
 
 pub shape_of-symbols : goal.shape_of-symbols
