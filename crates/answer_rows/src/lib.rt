@@ -111,10 +111,14 @@ fn binary(n: u64, length: u8) -> Answer
     Answer::Binary(Binary { number: n, length })
 }
 
+// By `match`: with `map_or` the answer goes through memory, and files whose constants name each other took almost twice as long.
 fn item(n: u64) -> Answer
     ensures { answer_of result ≡ stored (item n) }
 {
-    u32::try_from(n).map_or(Answer::Indeterminate, Answer::Item)
+    match u32::try_from(n) {
+        Ok(m) => Answer::Item(m),
+        Err(_) => Answer::Indeterminate,
+    }
 }
 
 fn end(kind: u8) -> Answer

@@ -127,12 +127,12 @@ fn evaluate_node(
         );
         return;
     }
-    let values = Values {
-        kinds: value_kinds,
-        numbers: value_numbers,
-        lengths: value_lengths,
-    };
-    let answer = if compares(kind, expression, &values, n) {
+    let answer = if compares(kind, expression, value_kinds, n) {
+        let values = Values {
+            kinds: value_kinds,
+            numbers: value_numbers,
+            lengths: value_lengths,
+        };
         compared(kind, expression, known, &values, n)
     } else {
         answered(

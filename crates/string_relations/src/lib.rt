@@ -104,16 +104,16 @@ fn is_relation(terminal: u8) -> bool
 }
 
 // May a node compare strings? A relation whose right operand is a string, or an interval whose item is one.
-pub fn compares(kind: u8, expression: &Expression, values: &Values, n: usize) -> bool
-    ensures { Compares kind expression.now.terminals.now expression.now.tokens.now expression.now.sizes.now values.now.kinds.now n result }
+pub fn compares(kind: u8, expression: &Expression, value_kinds: &[u8], n: usize) -> bool
+    ensures { Compares kind expression.now.terminals.now expression.now.tokens.now expression.now.sizes.now value_kinds.now n result }
 {
     match kind {
         codes::nodes::TWO_OPERAND => {
-            columns::get_or(values.kinds, last(n), 0) == codes::answers::STRING
+            columns::get_or(value_kinds, last(n), 0) == codes::answers::STRING
                 && is_relation(terminal(expression, n))
         }
         codes::nodes::INTERVAL => {
-            columns::get_or(values.kinds, middle(expression.sizes, n), 0) == codes::answers::STRING
+            columns::get_or(value_kinds, middle(expression.sizes, n), 0) == codes::answers::STRING
         }
         _ => false,
     }
