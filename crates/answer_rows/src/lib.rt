@@ -111,7 +111,8 @@ fn binary(n: u64, length: u8) -> Answer
     Answer::Binary(Binary { number: n, length })
 }
 
-// By `match`: with `map_or` the answer goes through memory, and files whose constants name each other took almost twice as long.
+// By `match`: with `map_or` what reads a row grew so large that `node_answers::held_answer` got a call of its own, which hands its answer on through
+// memory, and files whose constants name each other took almost twice as long.
 fn item(n: u64) -> Answer
     ensures { answer_of result ≡ stored (item n) }
 {
